@@ -1,6 +1,6 @@
 //! The faults of an architecture file in words.
 
-use arch_file::{ArchFault, ArchFaultKind, Keyword};
+use arch_file::{ArchFault, ArchFaultKind, ArchKeyword};
 use line_text::{Failed, Sink};
 use text_parts::{Part, write_parts};
 
@@ -30,7 +30,7 @@ pub(crate) fn write_arch_fault<E: Sink>(
 }
 
 /// The keyword that a fault names.
-fn keyword_in(kind: ArchFaultKind) -> Option<Keyword> {
+fn keyword_in(kind: ArchFaultKind) -> Option<ArchKeyword> {
     match kind {
         ArchFaultKind::Missing(keyword) | ArchFaultKind::NotProfile(keyword) => Some(keyword),
         _ => None,
@@ -65,32 +65,32 @@ fn profile_of(kind: ArchFaultKind) -> &'static str {
         return "";
     };
     match keyword {
-        Keyword::ChanWidthIo => " must be 1",
-        Keyword::ChanWidthX | Keyword::ChanWidthY => " must be uniform 1",
-        Keyword::FcType => " must be absolute or fractional",
-        Keyword::SwitchBlockType => " must be subset",
-        Keyword::Segment => {
+        ArchKeyword::ChanWidthIo => " must be 1",
+        ArchKeyword::ChanWidthX | ArchKeyword::ChanWidthY => " must be uniform 1",
+        ArchKeyword::FcType => " must be absolute or fractional",
+        ArchKeyword::SwitchBlockType => " must be subset",
+        ArchKeyword::Segment => {
             " must be one line with frequency: 1 length: 1 Frac_cb: 1 Frac_sb: 1"
         }
         _ => "",
     }
 }
 
-fn text_of(keyword: Keyword) -> &'static str {
+fn text_of(keyword: ArchKeyword) -> &'static str {
     match keyword {
-        Keyword::IoRat => "io_rat",
-        Keyword::ChanWidthIo => "chan_width_io",
-        Keyword::ChanWidthX => "chan_width_x",
-        Keyword::ChanWidthY => "chan_width_y",
-        Keyword::Inpin => "inpin",
-        Keyword::Outpin => "outpin",
-        Keyword::SubblocksPerClb => "subblocks_per_clb",
-        Keyword::SubblockLutSize => "subblock_lut_size",
-        Keyword::FcType => "Fc_type",
-        Keyword::FcOutput => "Fc_output",
-        Keyword::FcInput => "Fc_input",
-        Keyword::FcPad => "Fc_pad",
-        Keyword::SwitchBlockType => "switch_block_type",
-        Keyword::Segment => "segment",
+        ArchKeyword::IoRat => "io_rat",
+        ArchKeyword::ChanWidthIo => "chan_width_io",
+        ArchKeyword::ChanWidthX => "chan_width_x",
+        ArchKeyword::ChanWidthY => "chan_width_y",
+        ArchKeyword::Inpin => "inpin",
+        ArchKeyword::Outpin => "outpin",
+        ArchKeyword::SubblocksPerClb => "subblocks_per_clb",
+        ArchKeyword::SubblockLutSize => "subblock_lut_size",
+        ArchKeyword::FcType => "Fc_type",
+        ArchKeyword::FcOutput => "Fc_output",
+        ArchKeyword::FcInput => "Fc_input",
+        ArchKeyword::FcPad => "Fc_pad",
+        ArchKeyword::SwitchBlockType => "switch_block_type",
+        ArchKeyword::Segment => "segment",
     }
 }

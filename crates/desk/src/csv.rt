@@ -1,14 +1,14 @@
 //! Fields of tables.
 ghost use Rattle.std.specs.List.{flat_map};
 ghost use Rattle.line_text.specs.Writing.{Writes};
-ghost use Rattle.desk.specs.Fields.{doubled, quote, quoted};
+ghost use Rattle.desk.specs.Fields.{doubled_quote, quote, quoted_field};
 
 use line_text::{Failed, Sink, write_all};
 use text_parts::{Part, write_parts};
 
 /// Writes a field of a CSV file: the bytes in quotes, each quote among them twice.
 pub(crate) fn write_quoted<K: Sink>(sink: &mut K, bytes: &[u8]) -> Result<(), Failed>
-    ensures { Writes K.contents K.has_failed sink.old sink.new (quoted bytes.now) result }
+    ensures { Writes K.contents K.has_failed sink.old sink.new (quoted_field bytes.now) result }
 {
     write_quote(sink)?;
     write_doubled(sink, bytes)?;
@@ -24,7 +24,8 @@ fn write_quote<K: Sink>(sink: &mut K) -> Result<(), Failed>
 
 /// Writes bytes, each quote among them twice.
 fn write_doubled<K: Sink>(sink: &mut K, bytes: &[u8]) -> Result<(), Failed>
-    ensures { Writes K.contents K.has_failed sink.old sink.new (flat_map doubled bytes.now) result }
+    ensures { Writes K.contents K.has_failed sink.old sink.new (flat_map doubled_quote bytes.now)
+        result }
 {
     for byte in bytes {
         write_byte(sink, *byte)?;
@@ -33,7 +34,7 @@ fn write_doubled<K: Sink>(sink: &mut K, bytes: &[u8]) -> Result<(), Failed>
 }
 
 fn write_byte<K: Sink>(sink: &mut K, byte: u8) -> Result<(), Failed>
-    ensures { Writes K.contents K.has_failed sink.old sink.new (doubled byte) result }
+    ensures { Writes K.contents K.has_failed sink.old sink.new (doubled_quote byte) result }
 {
     match byte {
         b'"' => write_all(sink, b"\"\""),

@@ -77,7 +77,7 @@ fn takes(tool: &str, option: &[u8]) -> bool {
     let routes = tool == "route" || tool == "check" || tool == "configure" || tool == "log";
     let shows = tool == "picture" || tool == "report";
     if option == b"--arch".as_slice() {
-        return routes || tool == "files" || tool == "page" || tool == "strip";
+        return routes || takes_script(tool) || tool == "strip";
     }
     if option == b"--rows".as_slice() {
         return routes || shows;
@@ -89,12 +89,17 @@ fn takes(tool: &str, option: &[u8]) -> bool {
     has_number && (routes || shows || tool == "page")
 }
 
+/// Returns whether a tool reads a script: with an architecture in a file, the script has none.
+fn takes_script(tool: &str) -> bool {
+    tool == "files" || tool == "page" || tool == "report"
+}
+
 /// Returns whether the option is among the words, or the one that asks for its least value.
 fn has_either(words: &[&str], option: &str) -> bool {
     has(words, option) || has(words, least_of(option))
 }
 
-/// The option that asks for the least value of this one, or the option itself if there is none.
+/// The option that asks for the least value of this one, or the option itself if no option does.
 fn least_of(option: &str) -> &str {
     let name = option.as_bytes();
     if name == b"--tracks".as_slice() {

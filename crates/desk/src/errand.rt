@@ -10,7 +10,7 @@ use device_lines::DeviceSize;
 use option_words::{Call, Toolbox, call_refusal, read_call};
 use std::alloc::Global;
 use std::convert::AsStr;
-use tenancy_script::Wishes;
+use tenancy_script::ScriptParameters;
 
 /// The beginning of the program's help.
 const ABOUT: &str = "Tools for fpgad: they write its scripts and read its output";
@@ -62,22 +62,11 @@ const LAYOUTS: Toolbox = Toolbox {
 /// Why the name of a tool is refused that the desk doesn't have.
 const NO_TOOL: &str = "unknown tool";
 
-/// What is shown of a device.
-#[derive(Clone, Copy)]
-pub(crate) enum View {
-    /// Who owns what, drawn.
-    Picture,
-    /// How full it is.
-    Report,
-    /// What its tenancies use, as a table.
-    Table,
-}
-
 /// What is asked of the desk.
 #[derive(Clone, Copy)]
 pub(crate) enum Errand<'a> {
     /// The script of a tenancy.
-    Script(Wishes<'a>),
+    Script(ScriptParameters<'a>),
     /// The files of a script.
     Files(files::Wishes<'a>),
     /// A netlist on a device of its own.
@@ -88,8 +77,10 @@ pub(crate) enum Errand<'a> {
     Configure(LayoutPaths<'a>),
     /// A picture of a tenancy.
     Strip(strip::Wishes<'a>),
-    /// What is shown of a device, and the device's size.
-    View(DeviceSize, View),
+    /// A picture of a device of that size.
+    Picture(DeviceSize),
+    /// How full a device is.
+    Report(report::Wishes<'a>),
     /// A page of a script and what was printed for it.
     Page(page_tool::Wishes<'a>),
     /// A script with random circuits.
@@ -151,12 +142,8 @@ fn errand_of<'a>(call: &Call<'a>) -> Result<Errand<'a>, &'static str> {
         "check" => Ok(Errand::Check(paths_of(&call.given)?)),
         "configure" => Ok(Errand::Configure(paths_of(&call.given)?)),
         "strip" => Ok(Errand::Strip(strip::wishes_of(&call.given)?)),
-        "picture" => Ok(Errand::View(size_of(&call.given)?, View::Picture)),
-        "report" => {
-            let is_table = call.given.is_given("csv");
-            let view = if is_table { View::Table } else { View::Report };
-            Ok(Errand::View(size_of(&call.given)?, view))
-        }
+        "picture" => Ok(Errand::Picture(size_of(&call.given)?)),
+        "report" => Ok(Errand::Report(report::wishes_of(&call.given)?)),
         "page" => Ok(Errand::Page(page_tool::wishes_of(&call.given)?)),
         "random" => Ok(Errand::Random(random::wanted_of(&call.given)?)),
         "log" => Ok(Errand::Log(log_tool::wishes_of(&call.given)?)),

@@ -1,19 +1,16 @@
 //! The tool that saves the files which the service printed.
-ghost use Rattle.std.specs.Prelude.{◌+◌, ◌<◌, ◌^◌, length};
-
 use crate::device_file::DEVICE;
 use crate::outcome::Outcome;
 use crate::paths::{FileRole, ResultFile, make_folder, read_file, tell_stale, write_file};
+use crate::script_input::{Lines, acts_of, lines_of, replies_of};
 use crate::tenants::save_replies;
 use crate::usages::print_usages;
 use crate::words::FOLDER;
 use line_text::{Failed, NameSet, Sink, Source, read_all};
 use option_words::{Given, OptionWord, Program, Takes};
-use printed_replies::{ReadError, Replies};
-use script_replies::{
-    ToldLine, file_of, read_replies, script_lines, session_names, told_lines, write_told,
-};
-use script_text::{Act, ScriptError, cut_text, read_script};
+use printed_replies::Replies;
+use script_replies::{ToldLine, file_of, script_lines, session_names, told_lines, write_told};
+use script_text::Act;
 use std::alloc::Global;
 use std::rt::Files;
 use tenant_slot::FileKind;
@@ -82,35 +79,6 @@ pub(crate) fn wishes_of<'a>(given: &Given<'a>) -> Result<Wishes<'a>, &'static st
     })
 }
 
-/// The lines of a script after its architecture.
-#[derive(Clone, Copy)]
-pub(crate) struct Lines<'t> {
-    pub(crate) text: &'t [u8],
-    /// The number of its first line.
-    pub(crate) number: usize,
-    ghost counted: { number + length text.now < 2 ^ 64 },
-}
-
-/// The lines of a script after its architecture, if it begins with one.
-pub(crate) fn lines_of(script: &[u8], has_architecture: bool) -> Lines<'_>
-    requires { length script.now < 2 ^ 63 }
-{
-    let whole = Lines {
-        text: script,
-        number: 1,
-    };
-    if !has_architecture {
-        return whole;
-    }
-    match cut_text(script, 1) {
-        Some(cut) => Lines {
-            text: cut.rest,
-            number: cut.number,
-        },
-        None => whole,
-    }
-}
-
 /// Reads the script, and what was printed for its lines. Writes the files, and prints the lines
 /// beside their replies.
 pub(crate) fn run<H: Files + AllocGlobal, R: Source, W: Sink, E: Sink>(
@@ -155,13 +123,8 @@ fn run_on_texts<H: Files + AllocGlobal, W: Sink, E: Sink>(
     writer: &mut W,
     teller: &mut E,
 ) -> Result<(), Outcome> {
-    let script = match read_script(rt.alloc(), lines.text, lines.number) {
-        Ok(script) => script,
-        Err(ScriptError::NoMemory) => return Err(Outcome::NoMemory),
-        Err(ScriptError::Fault(line)) => return Err(Outcome::ScriptRefused(line)),
-    };
-    let acts = script.into_acts();
-    let outcome = match read_replies(rt.alloc(), &acts, printed) {
+    let acts = acts_of(rt.alloc(), lines)?;
+    let outcome = match replies_of(rt.alloc(), &acts, printed) {
         Ok(replies) => {
             let saved = save_files(rt, wishes.folder, &acts, &replies, teller);
             let outcome = match saved {
@@ -171,8 +134,7 @@ fn run_on_texts<H: Files + AllocGlobal, W: Sink, E: Sink>(
             drop(replies);
             outcome
         }
-        Err(ReadError::NoMemory) => Err(Outcome::NoMemory),
-        Err(ReadError::Misfit(line)) => Err(Outcome::RepliesRefused(line)),
+        Err(outcome) => Err(outcome),
     };
     drop(acts);
     outcome

@@ -46,13 +46,13 @@ pub(crate) fn last_files<'a, 'p>(
 ) -> LastFiles<'a, 'p> {
     let mut files = LastFiles::none();
     for (act, line) in acts.iter().zip(replies.lines().iter()) {
-        files = after(files, act, *line, name);
+        files = files_after(files, act, *line, name);
     }
     files
 }
 
 /// The files after an act with that reply.
-fn after<'a, 'p>(
+fn files_after<'a, 'p>(
     files: LastFiles<'a, 'p>,
     act: &'a Act<&[u8]>,
     line: Answered<'_, 'p>,

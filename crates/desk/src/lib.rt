@@ -9,7 +9,8 @@
 //! - `check` says whether three files, whoever wrote them, implement a netlist.
 //! - `configure` prints what a device is loaded with so that it runs the netlist, from such files.
 //! - `strip` draws one tenancy from its three files.
-//! - `picture` draws the device from what the service printed, and `report` says how full it is.
+//! - `picture` draws the device from what the service printed. `report` says how full it is, and
+//!   the longest paths of its tenancies if it reads the script too.
 //! - `page` prints one HTML file with the device and its tenancies, for a browser.
 //! - `random` prints a script with random circuits, to measure the service with.
 //! - `log` makes the log of a live service shorter.
@@ -23,6 +24,7 @@ mod check;
 mod configure;
 mod csv;
 mod device_file;
+mod device_input;
 mod errand;
 mod files;
 mod last_files;
@@ -38,12 +40,14 @@ mod paths;
 mod picture;
 mod random;
 mod report;
+mod report_paths;
 mod route;
 mod route_size;
 mod route_wishes;
 mod routed_table;
 mod run;
 mod script;
+mod script_input;
 mod silence;
 mod size;
 mod strip;

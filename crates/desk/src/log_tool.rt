@@ -172,7 +172,7 @@ fn print_over<W: Sink>(
 ) -> Result<(), Outcome>
     requires { IsDevice (device_of options arch) }
 {
-    match shortened(alloc, options, arch, log) {
+    match shorten_log(alloc, options, arch, log) {
         Ok(short) => {
             let written = short.write(writer);
             drop(short);
@@ -183,7 +183,7 @@ fn print_over<W: Sink>(
 }
 
 /// The shorter log of a service with these options, over that architecture.
-fn shortened<'l>(
+fn shorten_log<'l>(
     alloc: Global,
     options: Options,
     arch: Arch,

@@ -19,7 +19,7 @@ pub(crate) struct MeasuredCircuit {
 
 /// The longest path of a netlist, with its wires if the netlist's files are given. `None` if the
 /// netlist has a fault or memory runs out.
-pub(crate) fn measured(
+pub(crate) fn measure(
     alloc: Global,
     netlist: &[u8],
     files: Option<StripTexts<'_>>,

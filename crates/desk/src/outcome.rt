@@ -9,7 +9,7 @@ use layout_files::LayoutFault;
 use line_text::{Failed, ReadError};
 use std::fmt;
 use strip_files::FileFault;
-use tenancy_script::Fault;
+use tenancy_script::ScriptFault;
 
 /// How an errand ended.
 #[derive(Clone, Copy)]
@@ -19,7 +19,7 @@ pub enum Outcome {
     InputFailed,
     OutputFailed,
     /// No script can contain the netlist.
-    TextRefused(Fault),
+    TextRefused(ScriptFault),
     /// The input isn't what the service printed for such a device.
     ReplyRefused(InputFault),
     /// That file can't be read, or nothing can be written into the folder.

@@ -1,5 +1,6 @@
 //! Where a netlist that was left without routes is overused.
 ghost use Rattle.std.specs.Prelude.{◌≤◌};
+ghost use Rattle.strip_place.specs.declared.placing.TheConstants.{MAX_EFFORT};
 
 use crate::route_wishes::{GivenSize, Tracks, Wishes};
 use line_text::Sink;
@@ -16,7 +17,7 @@ pub(crate) fn tell_overuse<E: Sink>(
     size: GivenSize,
     teller: &mut E,
 )
-    requires { request.effort ≤ 100 }
+    requires { request.effort ≤ MAX_EFFORT }
 {
     let Some(Tracks { number, .. }) = wishes.tracks else {
         return;

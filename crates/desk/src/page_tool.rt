@@ -1,14 +1,15 @@
 //! The tool that prints a page for a browser.
 use crate::device_file::DEVICE;
-use crate::files::{KINDS, Lines, lines_of};
+use crate::files::KINDS;
 use crate::outcome::Outcome;
 use crate::paths::{FileRole, read_file};
+use crate::script_input::{Lines, acts_of, lines_of, replies_of};
 use line_text::{Failed, MemorySink, NameSet, Sink, Source, read_all, write_all};
 use option_words::{Given, OptionWord, Program, Takes};
-use page::{Item, Viewer, viewer, write_page};
-use printed_replies::{ReadError, Replies};
-use script_replies::{file_of, read_replies, script_lines, session_names, told_lines, write_told};
-use script_text::{Act, ScriptError, read_script};
+use page::{PageItem, Viewer, viewer, write_page};
+use printed_replies::Replies;
+use script_replies::{file_of, script_lines, session_names, told_lines, write_told};
+use script_text::Act;
 use std::alloc::Global;
 use std::rt::Files;
 use text_parts::{Part, write_parts};
@@ -119,20 +120,14 @@ fn print<W: Sink>(
     printed: &[u8],
     writer: &mut W,
 ) -> Result<(), Outcome> {
-    let script = match read_script(alloc, lines.text, lines.number) {
-        Ok(script) => script,
-        Err(ScriptError::NoMemory) => return Err(Outcome::NoMemory),
-        Err(ScriptError::Fault(line)) => return Err(Outcome::ScriptRefused(line)),
-    };
-    let acts = script.into_acts();
-    let outcome = match read_replies(alloc, &acts, printed) {
+    let acts = acts_of(alloc, lines)?;
+    let outcome = match replies_of(alloc, &acts, printed) {
         Ok(replies) => {
             let outcome = print_acts(alloc, wishes, lines, &acts, &replies, writer);
             drop(replies);
             outcome
         }
-        Err(ReadError::NoMemory) => Err(Outcome::NoMemory),
-        Err(ReadError::Misfit(line)) => Err(Outcome::RepliesRefused(line)),
+        Err(outcome) => Err(outcome),
     };
     drop(acts);
     outcome
@@ -262,7 +257,7 @@ fn write_files<W: Sink>(
 
 /// Writes one text of a name, without a viewer around it.
 fn write_text<W: Sink>(kind: &str, name: &[u8], text: &[u8], writer: &mut W) -> Result<(), Failed> {
-    let item = Item { kind, name, text };
+    let item = PageItem { kind, name, text };
     let none = Viewer { head: "", tail: "" };
     write_page(writer, none, &[item])
 }

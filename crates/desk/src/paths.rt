@@ -1,6 +1,6 @@
 //! Files that tools read and write.
 use crate::outcome::Outcome;
-use line_text::{ReadError, Sink, StdSource, read_all, write_all, write_parts};
+use line_text::{ReadError, Sink, StdSource, read_all, write_all, write_slices};
 use std::alloc::Global;
 use std::fmt;
 use std::fs::{self, File};
@@ -64,7 +64,7 @@ fn read_open<H: Files + AllocGlobal, F: Read + Drop, E: Sink>(
         Ok(bytes) => Ok(bytes),
         Err(ReadError::NoMemory) => Err(Outcome::NoMemory),
         Err(ReadError::Failed) => {
-            let _ = write_parts(teller, &[path.as_bytes(), b": cannot be read\n"]);
+            let _ = write_slices(teller, &[path.as_bytes(), b": cannot be read\n"]);
             Err(Outcome::FileFailed(role))
         }
     }
@@ -133,7 +133,7 @@ pub(crate) fn tell_stale<H: Files + AllocGlobal, E: Sink>(
     if let Ok(path) = path_of(rt.alloc(), file) {
         if let Ok(old) = File::open(rt, path.as_str()) {
             drop(old);
-            let _ = write_parts(teller, &[path.as_bytes(), b": left from an earlier run\n"]);
+            let _ = write_slices(teller, &[path.as_bytes(), b": left from an earlier run\n"]);
         }
         drop(path);
     }

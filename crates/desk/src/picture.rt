@@ -1,7 +1,7 @@
 //! The tool that draws the device.
 use crate::outcome::Outcome;
 use crate::size::SIZES;
-use device_lines::Device;
+use device_lines::ListedDevice;
 use device_picture::{DrawError, draw};
 use line_text::Sink;
 use option_words::Program;
@@ -27,7 +27,7 @@ pub(crate) const TOOL: Program = Program {
 };
 
 /// Draws a device, and returns how the errand ended.
-pub(crate) fn print<W: Sink>(alloc: Global, device: &Device<'_>, writer: &mut W) -> Outcome {
+pub(crate) fn print<W: Sink>(alloc: Global, device: &ListedDevice<'_>, writer: &mut W) -> Outcome {
     match draw(alloc, device, writer) {
         Ok(()) => Outcome::Done,
         Err(DrawError::NoMemory) => Outcome::NoMemory,

@@ -2,7 +2,7 @@
 use crate::outcome::Outcome;
 use line_text::Sink;
 use option_words::{Given, OptionWord, Program, Takes};
-use random_script::{Phase, Plan, Wishes, write_netlist, write_script};
+use random_script::{LoadParameters, Phase, Plan, write_netlist, write_script};
 
 const NO_ROOM: &str =
     "the tenancies do not fit on the largest device: ask for fewer tenancies or fewer tables";
@@ -94,12 +94,12 @@ pub(crate) fn print<W: Sink>(wanted: Wanted, writer: &mut W) -> Outcome {
 
 /// The plan that the options give, or why they are refused.
 fn plan_of(given: &Given<'_>) -> Result<Plan, &'static str> {
-    let wishes = Wishes {
+    let wishes = LoadParameters {
         tables: given.number("tables")?,
         tenancies: given.number("tenancies")?,
         inputs: given.number("inputs")?,
         cluster: given.number("cluster")?,
-        seed: given.long("seed")?,
+        seed: given.long_number("seed")?,
         until: given.text("until").and_then(phase).ok_or(NO_PHASE)?,
     };
     Plan::new(wishes).ok_or(NO_ROOM)

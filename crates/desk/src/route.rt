@@ -1,5 +1,6 @@
 //! The tool that routes one netlist on a device of its own.
 ghost use Rattle.std.specs.Prelude.{◌≤◌};
+ghost use Rattle.strip_place.specs.declared.placing.TheConstants.{MAX_EFFORT};
 
 use crate::arch_words::write_arch_fault;
 use crate::latches::warn_of_latches;
@@ -11,9 +12,9 @@ use crate::route_wishes::{GivenSize, Tracks, Wishes};
 use crate::routed_table::{Routed, print_routed};
 use crate::silence::Silence;
 use arch_file::ArchError;
-use line_text::{MAX_TEXT, MemorySink, Sink, Text, TextError, split_line, write_all, write_parts};
+use line_text::{MAX_TEXT, MemorySink, Sink, Text, TextError, split_line, write_all, write_slices};
 use one_user::{
-    DevicePlan, Figures, Files as Results, Least, Outcome as End, Request, Run, Unrouted,
+    DevicePlan, Figures, Files as Results, FlowOutcome as End, Least, Request, Run, Unrouted,
     least_tracks, run_with,
 };
 use script_replies::advice_for;
@@ -85,7 +86,7 @@ fn run_on_size<H: Files + AllocGlobal, W: Sink, E: Sink>(
     teller: &mut E,
     is_told: bool,
 ) -> Result<(), Outcome>
-    requires { request.effort ≤ 100 }
+    requires { request.effort ≤ MAX_EFFORT }
 {
     let trial = if is_told {
         trial_with(rt.alloc(), wishes, arch, request, size, teller)
@@ -97,7 +98,7 @@ fn run_on_size<H: Files + AllocGlobal, W: Sink, E: Sink>(
             if is_given_up(&run.outcome) {
                 tell_overuse(rt.alloc(), wishes, arch, request, size, teller);
             }
-            ended(rt, wishes, size, request, run, writer, teller)
+            write_run(rt, wishes, size, request, run, writer, teller)
         }
         Ok(Trial::NeverRouted) => Err(Outcome::Unrouted),
         Err(error) => Err(told_arch(error, wishes, teller)),
@@ -180,7 +181,7 @@ fn trial_with<E: Sink>(
     size: GivenSize,
     teller: &mut E,
 ) -> Result<Trial, ArchError>
-    requires { request.effort ≤ 100 }
+    requires { request.effort ≤ MAX_EFFORT }
 {
     let plan = DevicePlan {
         text: arch,
@@ -200,7 +201,7 @@ fn trial_with<E: Sink>(
 }
 
 /// Writes the result of a run.
-fn ended<H: Files + AllocGlobal, W: Sink, E: Sink>(
+fn write_run<H: Files + AllocGlobal, W: Sink, E: Sink>(
     rt: &H,
     wishes: Wishes<'_>,
     size: GivenSize,
@@ -212,7 +213,7 @@ fn ended<H: Files + AllocGlobal, W: Sink, E: Sink>(
     let Run { outcome, figures } = run;
     match outcome {
         End::Routed(files) => {
-            let mut saved = saved(rt, wishes, &files, teller);
+            let mut saved = save_files(rt, wishes, &files, teller);
             if let Ok(()) = saved {
                 saved = print_known(rt.alloc(), wishes, size, request, figures, &files, writer);
             }
@@ -259,7 +260,7 @@ fn print_known<W: Sink>(
 }
 
 /// Writes the three files.
-fn saved<H: Files + AllocGlobal, E: Sink>(
+fn save_files<H: Files + AllocGlobal, E: Sink>(
     rt: &H,
     wishes: Wishes<'_>,
     files: &Results,
@@ -331,7 +332,7 @@ fn tell<E: Sink>(alloc: Global, reply: Reply, teller: &mut E) {
         let _ = write_all(teller, line.as_bytes());
         let (first, _) = split_line(line.as_bytes());
         if let Some(advice) = advice_for(false, first) {
-            let _ = write_parts(teller, &[advice.words().as_bytes(), b"\n"]);
+            let _ = write_slices(teller, &[advice.words().as_bytes(), b"\n"]);
         }
     }
     drop(line);

@@ -1,7 +1,9 @@
 //! The size of the device on which a netlist is routed.
 ghost use Rattle.std.specs.Prelude.{◌≤◌};
+ghost use Rattle.strip_place.specs.declared.placing.TheConstants.{MAX_EFFORT};
+ghost use Rattle.arch_file.specs.declared.arch.TheConstants.{MAX_IO_RAT};
 
-use crate::route_wishes::{GivenSize, Size, Wishes, sized};
+use crate::route_wishes::{GivenSize, Size, Wishes, device_size};
 use crate::silence::Silence;
 use arch_file::{ArchError, read_arch};
 use one_user::{Counted, OwnDevice, PackedCounts, Request, least_columns, least_side};
@@ -23,7 +25,7 @@ pub(crate) fn size_for(
     arch: &[u8],
     request: Request<'_>,
 ) -> Result<Sized, ArchError>
-    requires { request.effort ≤ 100 }
+    requires { request.effort ≤ MAX_EFFORT }
 {
     if let Size::Given(size) = wishes.size {
         return Ok(Sized::Size(size));
@@ -41,16 +43,16 @@ pub(crate) fn size_for(
 
 /// The least size for these counts, or of which places even the largest device has too few.
 fn least_size(size: Size, counts: PackedCounts, io_rat: u32) -> Sized
-    requires { io_rat ≤ 8 }
+    requires { io_rat ≤ MAX_IO_RAT }
 {
     let found = match size {
         Size::Given(size) => Some(size),
         Size::LeastSquare => match least_side(counts, io_rat) {
-            Some(side) => sized(side, side),
+            Some(side) => device_size(side, side),
             None => None,
         },
         Size::LeastColumns(rows) => match least_columns(counts, io_rat, rows.min(64)) {
-            Some(columns) => sized(columns, rows),
+            Some(columns) => device_size(columns, rows),
             None => None,
         },
     };
@@ -62,7 +64,7 @@ fn least_size(size: Size, counts: PackedCounts, io_rat: u32) -> Sized
 
 /// The places of which the largest device has too few.
 fn misfit_of(size: Size, counts: PackedCounts, io_rat: u32) -> Misfit
-    requires { io_rat ≤ 8 }
+    requires { io_rat ≤ MAX_IO_RAT }
 {
     let (columns, rows) = match size {
         Size::LeastColumns(rows) => (256, rows.min(64)),

@@ -1,8 +1,12 @@
 //! What the tool that routes one netlist is asked for.
 ghost use Rattle.std.specs.Prelude.{◌≤◌};
+ghost use Rattle.strip_place.specs.declared.placing.TheConstants.{MAX_EFFORT};
+ghost use Rattle.arch_file.specs.declared.arch.TheConstants.{MAX_TRACKS};
+ghost use Rattle.grid.specs.declared.TheConstants.{MAX_COLUMNS, MAX_ROWS};
 
 use crate::device_file::DEVICE;
 use crate::words::{EFFORT, FOLDER, NO_DEVICE, SEED};
+use grid::{MAX_COLUMNS, MAX_ROWS};
 use option_words::{Given, OptionWord, Program, Takes};
 
 const NO_FILE: &str = "give an architecture, a netlist and a folder";
@@ -94,7 +98,7 @@ Example: fpgad_desk route --arch my.arch --tracks 8 --columns 10 --rows 10 --eff
 #[derive(Clone, Copy)]
 pub(crate) struct Tracks {
     pub(crate) number: u32,
-    ghost lawful: { (1 ≤ number) × (number ≤ 64) },
+    ghost lawful: { (1 ≤ number) × (number ≤ MAX_TRACKS) },
 }
 
 /// What is routed, on which device, and the folder for the files.
@@ -112,7 +116,7 @@ pub(crate) struct Wishes<'a> {
     pub(crate) is_told: bool,
     /// Whether the summary is a table.
     pub(crate) is_table: bool,
-    ghost effort_lawful: { effort ≤ 100 },
+    ghost effort_lawful: { effort ≤ MAX_EFFORT },
 }
 
 /// The size of the device.
@@ -130,8 +134,8 @@ pub(crate) enum Size {
 pub(crate) struct GivenSize {
     pub(crate) columns: u32,
     pub(crate) rows: u32,
-    ghost columns_lawful: { (1 ≤ columns) × (columns ≤ 256) },
-    ghost rows_lawful: { (1 ≤ rows) × (rows ≤ 64) },
+    ghost columns_lawful: { (1 ≤ columns) × (columns ≤ MAX_COLUMNS) },
+    ghost rows_lawful: { (1 ≤ rows) × (rows ≤ MAX_ROWS) },
 }
 
 /// What the options ask for, or why they are refused.
@@ -146,7 +150,7 @@ pub(crate) fn wishes_of<'a>(given: &Given<'a>) -> Result<Wishes<'a>, &'static st
         folder: given.text("folder").ok_or(NO_FILE)?,
         tracks: tracks_of(given)?,
         size: size_of(given)?,
-        seed: given.long("seed")?,
+        seed: given.long_number("seed")?,
         effort,
         is_told: given.is_given("progress"),
         is_table: given.is_given("csv"),
@@ -163,7 +167,7 @@ fn size_of(given: &Given<'_>) -> Result<Size, &'static str> {
         (true, false, true) => Ok(Size::LeastColumns(rows)),
         (true, _, _) => Err(NO_ROWS),
         (false, false, false) => Ok(Size::LeastSquare),
-        (false, _, _) => match sized(columns, rows) {
+        (false, _, _) => match device_size(columns, rows) {
             Some(size) => Ok(Size::Given(size)),
             None => Err(NO_DEVICE),
         },
@@ -171,8 +175,8 @@ fn size_of(given: &Given<'_>) -> Result<Size, &'static str> {
 }
 
 /// That size, if a device may have it.
-pub(crate) fn sized(columns: u32, rows: u32) -> Option<GivenSize> {
-    if !(1..=256).contains(&columns) || !(1..=64).contains(&rows) {
+pub(crate) fn device_size(columns: u32, rows: u32) -> Option<GivenSize> {
+    if !(1..=MAX_COLUMNS).contains(&columns) || !(1..=MAX_ROWS).contains(&rows) {
         return None;
     }
     Some(GivenSize { columns, rows })

@@ -1,6 +1,6 @@
 //! What a routed netlist uses, as lines or as a table.
 use crate::csv::{write_numbers, write_quoted};
-use crate::longest::measured;
+use crate::longest::measure;
 use crate::route_wishes::{GivenSize, Size, Wishes};
 use crate::usages::write_path;
 use line_text::{Failed, Sink};
@@ -47,7 +47,7 @@ pub(crate) fn print_routed<W: Sink>(
 /// Writes the line of the longest path. A netlist with a fault has no line, and if memory runs out
 /// none is written.
 fn write_longest<W: Sink>(alloc: Global, routed: Routed<'_>, writer: &mut W) -> Result<(), Failed> {
-    match measured(alloc, routed.netlist, Some(routed.texts)) {
+    match measure(alloc, routed.netlist, Some(routed.texts)) {
         Some(circuit) => {
             let written = circuit.write_line(writer);
             drop(circuit);
@@ -89,7 +89,7 @@ fn write_row<W: Sink>(alloc: Global, routed: Routed<'_>, writer: &mut W) -> Resu
             figures.fullest.map_or(0, |channel| channel.wires as u64),
         ],
     )?;
-    let circuit = measured(alloc, routed.netlist, Some(routed.texts));
+    let circuit = measure(alloc, routed.netlist, Some(routed.texts));
     let written = write_path(writer, &circuit);
     drop(circuit);
     written

@@ -1,6 +1,7 @@
 //! Runs errands.
 use crate::device_file::{device_path, with_device};
-use crate::errand::{Errand, View, read_errand};
+use crate::device_input::device_in;
+use crate::errand::{Errand, read_errand};
 use crate::latches::warn_of_latches;
 use crate::outcome::Outcome;
 use crate::paths::{FileRole, read_file};
@@ -9,12 +10,12 @@ use crate::{
 };
 use clap::Error;
 use clap::error::ErrorKind;
-use device_lines::{DeviceSize, ReadError, read_device};
-use line_text::{Sink, Source, read_all, write_all, write_parts};
+use device_lines::DeviceSize;
+use line_text::{Sink, Source, read_all, write_all, write_slices};
 use std::alloc::Global;
 use std::convert::AsStr;
 use std::rt::Files;
-use tenancy_script::Wishes;
+use tenancy_script::ScriptParameters;
 
 /// What a program reads and writes besides files.
 #[derive(Drop)]
@@ -98,7 +99,7 @@ fn run_plain<H: Files + AllocGlobal, S: AsStr, R: Source, W: Sink, E: Sink>(
         "help" if words.len() < 4 => run_read(rt, &[name, tool, "--help"], streams),
         "--version" | "-V" if words.len() == 2 => {
             let parts = [VERSION.as_bytes(), streams.built_from.as_bytes(), b"\n"];
-            Ok(Outcome::of_writing(write_parts(streams.writer, &parts)))
+            Ok(Outcome::of_writing(write_slices(streams.writer, &parts)))
         }
         _ => run_read(rt, words, streams),
     }
@@ -152,7 +153,8 @@ fn run<H: Files + AllocGlobal, R: Source, W: Sink, E: Sink>(
         Errand::Check(paths) => Outcome::of(check::run(rt, paths, writer, teller)),
         Errand::Configure(paths) => Outcome::of(configure::run(rt, paths, writer, teller)),
         Errand::Strip(wishes) => Outcome::of(strip::print(rt, wishes, writer, teller)),
-        Errand::View(size, view) => show(rt.alloc(), size, view, reader, writer),
+        Errand::Picture(size) => draw(rt.alloc(), size, reader, writer),
+        Errand::Report(wishes) => Outcome::of(report::run(rt, wishes, reader, writer, teller)),
         Errand::Page(wishes) => Outcome::of(page_tool::run(rt, wishes, reader, writer, teller)),
         Errand::Random(wanted) => random::print(wanted, writer),
         Errand::Log(wishes) => Outcome::of(log_tool::run(rt, wishes, writer, teller)),
@@ -162,7 +164,7 @@ fn run<H: Files + AllocGlobal, R: Source, W: Sink, E: Sink>(
 /// Prints the script of a tenancy with the netlist that is read.
 fn print_script<R: Source, W: Sink, E: Sink>(
     alloc: Global,
-    wishes: Wishes<'_>,
+    wishes: ScriptParameters<'_>,
     reader: &mut R,
     writer: &mut W,
     teller: &mut E,
@@ -180,17 +182,16 @@ fn print_script<R: Source, W: Sink, E: Sink>(
     }
 }
 
-/// Reads the device of that size from what the service printed, and shows it.
-fn show<R: Source, W: Sink>(
+/// Reads the device of that size from what the service printed, and draws it.
+fn draw<R: Source, W: Sink>(
     alloc: Global,
     size: DeviceSize,
-    view: View,
     reader: &mut R,
     writer: &mut W,
 ) -> Outcome {
     match read_all(alloc, reader) {
         Ok(text) => {
-            let outcome = show_text(alloc, size, view, text.as_slice(), writer);
+            let outcome = draw_text(alloc, size, text.as_slice(), writer);
             drop(text);
             outcome
         }
@@ -198,24 +199,14 @@ fn show<R: Source, W: Sink>(
     }
 }
 
-/// Shows the device of that size which the text prints.
-fn show_text<W: Sink>(
-    alloc: Global,
-    size: DeviceSize,
-    view: View,
-    text: &[u8],
-    writer: &mut W,
-) -> Outcome {
-    let device = match read_device(alloc, size, text) {
-        Ok(device) => device,
-        Err(ReadError::NoMemory) => return Outcome::NoMemory,
-        Err(ReadError::Fault(fault)) => return Outcome::ReplyRefused(fault),
-    };
-    let outcome = match view {
-        View::Picture => picture::print(alloc, &device, writer),
-        View::Report => report::print(alloc, &device, false, writer),
-        View::Table => report::print(alloc, &device, true, writer),
-    };
-    drop(device);
-    outcome
+/// Draws the device of that size which the text prints.
+fn draw_text<W: Sink>(alloc: Global, size: DeviceSize, text: &[u8], writer: &mut W) -> Outcome {
+    match device_in(alloc, size, text) {
+        Ok(device) => {
+            let outcome = picture::print(alloc, &device, writer);
+            drop(device);
+            outcome
+        }
+        Err(outcome) => outcome,
+    }
 }

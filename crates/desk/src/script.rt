@@ -6,7 +6,7 @@ use crate::words::{EFFORT, SEED};
 use line_text::Sink;
 use option_words::{Given, OptionWord, Program, Takes};
 use script_text::is_name;
-use tenancy_script::{TenancyScript, Wishes};
+use tenancy_script::{ScriptParameters, TenancyScript};
 
 const NO_NAME: &str = "a name is 1 to 32 letters, digits and `_`";
 
@@ -40,15 +40,15 @@ Example: fpgad_desk script --name T --width 2 --seed 1 --effort 50 < t.blif >> m
 };
 
 /// What the options ask for, or why they are refused.
-pub(crate) fn wishes_of<'a>(given: &Given<'a>) -> Result<Wishes<'a>, &'static str> {
+pub(crate) fn wishes_of<'a>(given: &Given<'a>) -> Result<ScriptParameters<'a>, &'static str> {
     let name = given.text("name").ok_or(NO_NAME)?.as_bytes();
     if !is_name(name) {
         return Err(NO_NAME);
     }
-    Ok(Wishes {
+    Ok(ScriptParameters {
         name,
         width: width_of(given)?,
-        seed: given.long("seed")?,
+        seed: given.long_number("seed")?,
         effort: given.number("effort")?,
     })
 }
@@ -62,7 +62,7 @@ fn width_of(given: &Given<'_>) -> Result<Option<u32>, &'static str> {
 }
 
 /// Prints the script of a tenancy with that netlist, or refuses it.
-pub(crate) fn print<W: Sink>(wishes: Wishes<'_>, text: &[u8], writer: &mut W) -> Outcome
+pub(crate) fn print<W: Sink>(wishes: ScriptParameters<'_>, text: &[u8], writer: &mut W) -> Outcome
     ensures { Prints W.contents W.has_failed writer.old writer.new wishes.entry text.now result }
 {
     match TenancyScript::new(wishes, text) {

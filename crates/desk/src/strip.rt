@@ -4,9 +4,10 @@ use crate::outcome::Outcome;
 use crate::paths::{FileRole, read_file};
 use crate::strip_check::{Against, against_of, check_against};
 use crate::words::NO_DEVICE;
-use line_text::{MemorySink, Sink, TextError, split_line, write_parts};
+use arch_file::MAX_TRACKS;
+use line_text::{MemorySink, Sink, TextError, split_line, write_slices};
 use option_words::{Given, OptionWord, Program, Takes};
-use page::{Item, viewer, write_page};
+use page::{PageItem, viewer, write_page};
 use std::alloc::{AllocError, Global};
 use std::rt::Files;
 use strip_files::{RoutedStrip, StripTexts, block_in, net_in, read_strip};
@@ -168,7 +169,7 @@ fn full_of(given: &Given<'_>) -> Result<Full, &'static str> {
         return Ok(Full::Fullest);
     }
     let tracks = given.number("tracks")?;
-    if !(1..=64).contains(&tracks) {
+    if !(1..=MAX_TRACKS).contains(&tracks) {
         return Err(NO_DEVICE);
     }
     Ok(Full::Tracks(tracks))
@@ -235,7 +236,7 @@ fn checked_and_drawn<H: Files + AllocGlobal, W: Sink, E: Sink>(
     if let Some(against) = wishes.against {
         check_against(rt, against, texts, teller)?;
     }
-    drawn(rt.alloc(), texts, wishes.shown, writer)
+    draw_strip(rt.alloc(), texts, wishes.shown, writer)
 }
 
 /// Draws a tenancy without routes from the texts of its packing and placement.
@@ -254,7 +255,7 @@ fn print_unrouted<W: Sink>(
                 place,
                 route: route.as_slice(),
             };
-            let outcome = drawn(alloc, texts, wishes.shown, writer);
+            let outcome = draw_strip(alloc, texts, wishes.shown, writer);
             drop(net);
             outcome
         }
@@ -285,7 +286,7 @@ fn no_routes(alloc: Global, place: &[u8]) -> Result<Vec<u8>, Outcome> {
     let (_, rest) = split_line(place);
     let (size, _) = split_line(rest);
     let mut text = MemorySink::new(alloc);
-    match write_parts(&mut text, &[size, b".\n\nRouting:\n\n"]) {
+    match write_slices(&mut text, &[size, b".\n\nRouting:\n\n"]) {
         Ok(()) => Ok(text.into_bytes()),
         Err(_) => {
             drop(text);
@@ -305,8 +306,8 @@ fn print_page<W: Sink>(texts: StripTexts<'_>, writer: &mut W) -> Result<(), Outc
 }
 
 /// A text of the tenancy.
-fn item<'a>(kind: &'static str, text: &'a [u8]) -> Item<'a> {
-    Item {
+fn item<'a>(kind: &'static str, text: &'a [u8]) -> PageItem<'a> {
+    PageItem {
         kind,
         name: b"strip",
         text,
@@ -314,7 +315,7 @@ fn item<'a>(kind: &'static str, text: &'a [u8]) -> Item<'a> {
 }
 
 /// Draws a tenancy from the texts of its files.
-fn drawn<W: Sink>(
+fn draw_strip<W: Sink>(
     alloc: Global,
     texts: StripTexts<'_>,
     shown: Shown<'_>,
@@ -328,7 +329,7 @@ fn drawn<W: Sink>(
     let outcome = match (shown, view_of(&strip, shown)) {
         (Shown::Page, _) => print_page(texts, writer),
         (_, Some(View::Net(net))) => drawn_net(alloc, texts.route, &strip, net, writer),
-        (_, Some(view)) => written(draw(alloc, &strip, view, writer)),
+        (_, Some(view)) => drawing_outcome(draw(alloc, &strip, view, writer)),
         (_, None) => Err(Outcome::NoNet),
     };
     drop(strip);
@@ -347,7 +348,7 @@ fn drawn_net<W: Sink>(
         Ok(ends) => {
             let drawn = draw_with_ends(alloc, strip, View::Net(net), &ends, writer);
             drop(ends);
-            written(drawn)
+            drawing_outcome(drawn)
         }
         Err(_) => Err(Outcome::NoMemory),
     }
@@ -386,7 +387,7 @@ fn view_of(strip: &RoutedStrip<'_>, shown: Shown<'_>) -> Option<View> {
 }
 
 /// How the errand ends after a drawing that ended so.
-fn written(drawn: Result<(), DrawError>) -> Result<(), Outcome> {
+fn drawing_outcome(drawn: Result<(), DrawError>) -> Result<(), Outcome> {
     match drawn {
         Ok(()) => Ok(()),
         Err(DrawError::NoMemory) => Err(Outcome::NoMemory),

@@ -3,6 +3,7 @@ use crate::layout_input::{MAX_READ, laid_circuit};
 use crate::outcome::Outcome;
 use crate::paths::{FileRole, read_file};
 use crate::words::NO_DEVICE;
+use arch_file::MAX_TRACKS;
 use layout_verdict::{LayoutTexts, StripShape};
 use line_text::{Sink, split_line};
 use option_words::Given;
@@ -32,7 +33,7 @@ pub(crate) fn against_of<'a>(given: &Given<'a>) -> Result<Option<Against<'a>>, &
     }
     let arch = given.text("arch").ok_or(NO_TRACKS)?;
     let tracks = given.number("tracks")?;
-    if !(1..=64).contains(&tracks) {
+    if !(1..=MAX_TRACKS).contains(&tracks) {
         return Err(NO_DEVICE);
     }
     Ok(Some(Against {

@@ -1,7 +1,7 @@
 //! What each name used: a line for each, or a table.
 use crate::csv::write_numbers;
-use crate::last_files::{LastFiles, last_files};
-use crate::longest::{MeasuredCircuit, measured};
+use crate::last_files::last_files;
+use crate::longest::{MeasuredCircuit, measure};
 use line_text::{Failed, NameSet, Sink};
 use script_replies::{Replies, Usage, usage_of};
 use script_text::Act;
@@ -27,7 +27,7 @@ pub(crate) fn print_usages<W: Sink>(
     for number in 0..names.len() {
         let name = names.name(number);
         let usage = usage_of(acts, replies, name);
-        let circuit = circuit_of(alloc, last_files(acts, replies, name));
+        let circuit = last_circuit(alloc, acts, replies, name);
         let written = if is_table {
             write_row(writer, name, usage, &circuit)
         } else {
@@ -39,9 +39,16 @@ pub(crate) fn print_usages<W: Sink>(
     Ok(())
 }
 
-/// The circuit of a name's last netlist. `None` if there is no netlist, or if memory runs out.
-fn circuit_of(alloc: Global, files: LastFiles<'_, '_>) -> Option<MeasuredCircuit> {
-    measured(alloc, files.netlist?, files.texts())
+/// The circuit of a name's last netlist that was not refused, and its longest path, by the replies
+/// to a script. `None` if there is no netlist, or if memory runs out.
+pub(crate) fn last_circuit(
+    alloc: Global,
+    acts: &[Act<&[u8]>],
+    replies: &Replies<'_, '_>,
+    name: &[u8],
+) -> Option<MeasuredCircuit> {
+    let files = last_files(acts, replies, name);
+    measure(alloc, files.netlist?, files.texts())
 }
 
 /// Prints what a name used, and the longest path of its netlist.
@@ -52,6 +59,15 @@ fn write_lines<W: Sink>(
     circuit: &Option<MeasuredCircuit>,
 ) -> Result<(), Failed> {
     write_usage(writer, name, usage)?;
+    write_longest(writer, name, circuit)
+}
+
+/// Prints the longest path of a name's netlist, if there is a netlist.
+pub(crate) fn write_longest<W: Sink>(
+    writer: &mut W,
+    name: &[u8],
+    circuit: &Option<MeasuredCircuit>,
+) -> Result<(), Failed> {
     match circuit {
         Some(circuit) => {
             write_parts(writer, &[Part::Bytes(name), Part::Text(": ")])?;

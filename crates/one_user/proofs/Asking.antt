@@ -11,7 +11,7 @@ use Rattle.grid.specs.declared.Strip.{Strip}
 use Rattle.job_state.specs.JobValue.{end_value}
 use Rattle.job_state.specs.declared.sources.JobKind.TheVariants.{Packing as PackingJob, Placing as PlacingJob, Routing as RoutingJob}
 use Rattle.tenant_slot.specs.Results.{failure_of}
-use Rattle.tenant_slot.specs.SingleUser.{State, answer_to, finished, loaded, misfit_of, pack_unless, place, place_unless, routed_unless, start, with_circuit}
+use Rattle.tenant_slot.specs.SingleUser.{State, answer_to, state_at_end, with_netlist, misfit_of, pack_unless, place, place_unless, routed_unless, start, with_circuit}
 use Rattle.tenant_slot.specs.Slot.{SlotState, after_event}
 use Rattle.tenant_slot.specs.declared.command.Command.TheVariants.{Upload, Pack, Place, Route}
 use Rattle.tenant_slot.specs.declared.event.Event.TheVariants.{Command as Asked}
@@ -25,8 +25,8 @@ use Rattle.tenant_slot.specs.declared.reply.StateName.TheVariants.{Empty, Loaded
 use Rattle.tenant_slot.proofs.Leading.{begun, begun_placing}
 use Rattle.one_user.specs.Outcomes.{Task, by_fit, by_netlist, by_packing, outcome_of}
 use Rattle.one_user.specs.Steps.{IsLoaded, IsPacked, IsPlaced, refusal_in, slot_in, state_at}
-use Rattle.one_user.specs.declared.outcome.Outcome.{Outcome}
-use Rattle.one_user.specs.declared.outcome.Outcome.TheVariants.{Refused}
+use Rattle.one_user.specs.declared.outcome.FlowOutcome.{FlowOutcome}
+use Rattle.one_user.specs.declared.outcome.FlowOutcome.TheVariants.{Refused}
 use Rattle.one_user.proofs.Events.{changed_by}
 
 -- the result of a command: it is refused, and so is the netlist; or the state after it is the next
@@ -38,15 +38,15 @@ Leads task Passes new slot None = Passes task × (slot ≡ slot_in slot.id new)
 module _ (task : Task) (id generation entries : ℕ) (room : entries < 65536) where
   -- the upload
   abbrev pub load : Result Circuit BlifFault → Option State × Reply
-  load said = with_circuit said (λ circuit. (Some (loaded (start task.arch task.strip) task.text), Accepted Loaded))
+  load said = with_circuit said (λ circuit. (Some (with_netlist (start task.arch task.strip) task.text), Accepted Loaded))
 
   pub loads : (said : Result Circuit BlifFault) → circuit_of task.text task.arch.lut_size ≡ said → (slot : SlotState) (refusal : Option Refusal) →
       refusal ≡ refusal_in (answer_to (start task.arch task.strip) (Asked (Upload task.text))).1 → slot ≡ after_event (slot_in id (start task.arch task.strip)) (Asked (Upload task.text)) →
       Leads task IsLoaded (state_at task Loaded 0 0 0 1) slot refusal
   loads (Ok circuit) said slot refusal is after_it =
-      let answer : answer_to (start task.arch task.strip) (Asked (Upload task.text)) ≡ (Some (loaded (start task.arch task.strip) task.text), Accepted Loaded) = ap load said in
+      let answer : answer_to (start task.arch task.strip) (Asked (Upload task.text)) ≡ (Some (with_netlist (start task.arch task.strip) task.text), Accepted Loaded) = ap load said in
       let none : refusal ≡ None = is ∙ ap (λ (p : Option State × Reply). refusal_in p.1) answer in
-      let slot_is : slot ≡ slot_in id (state_at task Loaded 0 0 0 1) = after_it ∙ changed_by (slot_in id (start task.arch task.strip)) (Asked (Upload task.text)) (loaded (start task.arch task.strip) task.text) (Accepted Loaded) (omega arith) answer in
+      let slot_is : slot ≡ slot_in id (state_at task Loaded 0 0 0 1) = after_it ∙ changed_by (slot_in id (start task.arch task.strip)) (Asked (Upload task.text)) (with_netlist (start task.arch task.strip) task.text) (Accepted Loaded) (omega arith) answer in
       subst (Leads task IsLoaded (state_at task Loaded 0 0 0 1) slot) (sym none)
       (record { circuit = circuit; said = said }, slot_is ∙ ap (λ (s : SlotState). slot_in s.id (state_at task Loaded 0 0 0 1)) (sym slot_is))
   loads (Err fault) said slot refusal is after_it =

@@ -1,4 +1,4 @@
--- What is told on one basis holds on an equal one.
+-- What is reported on one basis holds on an equal one.
 use Rattle.std.proofs.Common.{◌≡◌, Some, None, refl, ap, subst, ◌∙◌}
 use Rattle.pathfinder.specs.Overuse.{count_over, overuse_at}
 use Rattle.pathfinder.specs.PlacedNets.{nets_to_route, wiring_of}
@@ -7,7 +7,7 @@ use Rattle.pathfinder.specs.declared.routing.IterEnd.{IterEnd}
 use Rattle.pathfinder.specs.declared.routing.IterEnd.TheVariants as end
 use Rattle.rr_graph.specs.Graph.{Basis, graph_of}
 use Rattle.tenant_slot.specs.declared.failure.RoutingFailure.TheVariants.{GaveUp as FailedAll}
-use Rattle.one_user.specs.Crowding.{AreTold, IsCrowdingOf}
+use Rattle.one_user.specs.Crowding.{AreCrowdedNodes, IsCrowdingOf}
 use Rattle.one_user.specs.Outcomes.{Task}
 use Rattle.one_user.specs.Placing.{IsPlacing}
 use Rattle.one_user.specs.RoutingEnds.{IsRoutingEnd}
@@ -35,10 +35,10 @@ module _ (basis : Basis) (placed : PlacedNetlist) (task : Task) (same : basis �
 
   pub crowding_at : (result : IterEnd) (routing : RoutingState) → result ≡ end.GaveUp routing → IsRoutingEnd basis (nets_to_route basis placed.packed placed.places.items) result →
       (crowding : Crowding) → crowding.packed ≡ placed.packed → crowding.rows ≡ basis.strip.rows →
-      crowding.overused ≡ count_over (overuse_at (wiring_of basis) routing.trees) (graph_of basis).count → AreTold basis routing.trees 10 crowding.nodes.items → IsCrowdingOf task (Some crowding)
+      crowding.overused ≡ count_over (overuse_at (wiring_of basis) routing.trees) (graph_of basis).count → AreCrowdedNodes basis routing.trees 10 crowding.nodes.items → IsCrowdingOf task (Some crowding)
   crowding_at result routing is ended crowding packed rows overused nodes =
       crowding_told task placed given routing
       (moved (end.GaveUp routing) (subst (λ (e : IterEnd). IsRoutingEnd basis (nets_to_route basis placed.packed placed.places.items) e) is ended))
       crowding packed (rows ∙ ap (λ (b : Basis). b.strip.rows) same)
       (overused ∙ ap (λ (b : Basis). count_over (overuse_at (wiring_of b) routing.trees) (graph_of b).count) same)
-      (subst (λ (b : Basis). AreTold b routing.trees 10 crowding.nodes.items) same nodes)
+      (subst (λ (b : Basis). AreCrowdedNodes b routing.trees 10 crowding.nodes.items) same nodes)

@@ -13,7 +13,7 @@ use Rattle.job_state.specs.declared.sources.JobKind.{JobKind}
 use Rattle.job_state.specs.declared.sources.JobKind.TheVariants.{Packing as PackingJob, Placing as PlacingJob, Routing as RoutingJob}
 use Rattle.strips.specs.Windows.{is_on_device}
 use Rattle.tenant_slot.specs.Results.{failure_of}
-use Rattle.tenant_slot.specs.SingleUser.{State, answer_to, finished, misfit_of, routed_unless, running, sources_of, start}
+use Rattle.tenant_slot.specs.SingleUser.{State, answer_to, state_at_end, misfit_of, routed_unless, kind_that_runs, sources_of, start}
 use Rattle.tenant_slot.specs.Slot.{SlotState, after_event, is_takeable}
 use Rattle.tenant_slot.specs.declared.command.Command.TheVariants.{Upload, Pack, Place, Route}
 use Rattle.tenant_slot.specs.declared.event.Event.TheVariants.{Command as Asked}
@@ -37,7 +37,7 @@ some_kind None is = absurd (cc)
 some_kind (Some k) is = (k, refl)
 
 -- there is a step to take
-pub takeable : (slot : SlotState) (kind : JobKind) → running slot.state.name ≡ Some kind → slot.here ≡ Some false → slot.state.entries < 65536 → is_takeable slot ≡ true
+pub takeable : (slot : SlotState) (kind : JobKind) → kind_that_runs slot.state.name ≡ Some kind → slot.here ≡ Some false → slot.state.entries < 65536 → is_takeable slot ≡ true
 takeable slot kind runs here room =
     let few : nat_lt slot.state.entries 65536 ≡ true = grind (arith, nat_tests) in
     rw (runs, here, few) refl
@@ -107,26 +107,26 @@ task_own task name seed effort most slot at = ap (λ (s : SlotState). task_in s.
 
 -- the result of the last step of a packing
 pub packing_done : (task : Task) (generation entries id : ℕ) (mid new : SlotState) (made : StepMade) → IsPacked task → mid ≡ slot_in id (state_at task Packing 0 0 generation entries) → entries ≤ 2 →
-    ((kind : JobKind) → running mid.state.name ≡ Some kind → Finishes kind mid made new) →
+    ((kind : JobKind) → kind_that_runs mid.state.name ≡ Some kind → Finishes kind mid made new) →
     IsAt task Packed 0 0 8194 new × IsWhole made.progress × ((counts : PackedCounts) → HasCounts made.progress counts → AreCounts task counts)
 packing_done task generation entries id mid new made packed is few finishes =
-    let done = subst (λ (s : SlotState). (kind : JobKind) → running s.state.name ≡ Some kind → Finishes kind s made new) is finishes PackingJob refl in
+    let done = subst (λ (s : SlotState). (kind : JobKind) → kind_that_runs s.state.name ≡ Some kind → Finishes kind s made new) is finishes PackingJob refl in
     let told = packing_told task packed.circuit made.number made.progress packed.said done.last done.told in
     (at_own task Packed 0 0 generation (entries + made.number) 8194 id new done.after (omega (arith, few, done.few)), told.0, told.1)
 
 -- the result of the last step of a placing
 pub placing_done : (task : Task) (generation entries id : ℕ) (mid new : SlotState) (made : StepMade) → mid ≡ slot_in id (state_at task Placing task.seed task.effort generation entries) → entries ≤ 8195 →
-    ((kind : JobKind) → running mid.state.name ≡ Some kind → Finishes kind mid made new) → IsAt task Placed task.seed task.effort 16387 new
+    ((kind : JobKind) → kind_that_runs mid.state.name ≡ Some kind → Finishes kind mid made new) → IsAt task Placed task.seed task.effort 16387 new
 placing_done task generation entries id mid new made is few finishes =
-    let done = subst (λ (s : SlotState). (kind : JobKind) → running s.state.name ≡ Some kind → Finishes kind s made new) is finishes PlacingJob refl in
+    let done = subst (λ (s : SlotState). (kind : JobKind) → kind_that_runs s.state.name ≡ Some kind → Finishes kind s made new) is finishes PlacingJob refl in
     at_own task Placed task.seed task.effort generation (entries + made.number) 16387 id new done.after (omega (arith, few, done.few))
 
 -- the result of the last step of a routing
 pub routing_done : (task : Task) (placed : IsPlaced task) (generation entries id : ℕ) (mid new : SlotState) (made : StepMade) → mid ≡ slot_in id (state_at task Routing task.seed task.effort generation entries) →
-    ((kind : JobKind) → running mid.state.name ≡ Some kind → Finishes kind mid made new) →
+    ((kind : JobKind) → kind_that_runs mid.state.name ≡ Some kind → Finishes kind mid made new) →
     (new ≡ slot_in id (after_end task placed generation entries (entries + made.number) (failure_of (end_value (routing_of task))))) × (made.number ≡ step_count (routing_of task)) × (made.number ≤ 8192)
 routing_done task placed generation entries id mid new made is finishes =
-    let done = subst (λ (s : SlotState). (kind : JobKind) → running s.state.name ≡ Some kind → Finishes kind s made new) is finishes RoutingJob refl in
+    let done = subst (λ (s : SlotState). (kind : JobKind) → kind_that_runs s.state.name ≡ Some kind → Finishes kind s made new) is finishes RoutingJob refl in
     (done.after, done.count, done.few)
 
 -- the task made of a loaded slot's parts is the given one

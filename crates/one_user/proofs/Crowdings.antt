@@ -5,7 +5,7 @@ use Rattle.std.proofs.lemmas.Bool.Decides.{nat_tests}
 use Rattle.std.proofs.lemmas.List.Elements.{All-nil, All-push, Contains-append_left, Contains-append_right}
 use Rattle.std.proofs.lemmas.List.Quantifiers.{all_pairs_push}
 use Rattle.std.specs.Prelude.{All, AllPairs, Contains, IfSome, nat_le}
-use Rattle.one_user.specs.Crowding.{AreMostOverused, ComesBefore, IsAfterLast, IsFirstOf, IsNextTold, IsOverused}
+use Rattle.one_user.specs.Crowding.{AreMostOverused, ComesBefore, IsAfterLast, IsFirstOf, IsNextMostOverused, IsOverused}
 
 by_test : (a b : ℕ) (test : Bool) → nat_le a b ≡ test → (a ≤ b) ⊎ (b < a)
 by_test a b true is = inl (grind (arith, nat_tests, is))
@@ -39,11 +39,11 @@ module _ (over : ℕ → ℕ) where
 
   -- ---- the search for the next node
 
-  pub next_none : (last : Option ℕ) → IsNextTold over 0 last None
+  pub next_none : (last : Option ℕ) → IsNextMostOverused over 0 last None
   next_none last = λ node is after. absurd (omega (arith, is.0))
 
-  -- one more node, which isn't left to be told
-  pub next_skips : (count : ℕ) (last next : Option ℕ) → IsNextTold over count last next → (0 < over count → IsAfterLast over last count → ⊥) → IsNextTold over (count + 1) last next
+  -- one more node, which isn't left to be listed
+  pub next_skips : (count : ℕ) (last next : Option ℕ) → IsNextMostOverused over count last next → (0 < over count → IsAfterLast over last count → ⊥) → IsNextMostOverused over (count + 1) last next
   next_skips count last None is not = λ node over_it after. elim (eq-or-lt_of_le (below_next node count over_it.0)) [
     | inl e ↦ not (subst (λ n. 0 < over n) e over_it.1) (subst (IsAfterLast over last) e after)
     | inr less ↦ is node (less, over_it.1) after
@@ -57,9 +57,9 @@ module _ (over : ℕ → ℕ) where
     ],
   )
 
-  -- one more node, which is left to be told
-  pub next_takes : (count : ℕ) (last next result : Option ℕ) → IsNextTold over count last next → 0 < over count → IsAfterLast over last count → IsFirstOf over next count result → IsNextTold over (count + 1) last result
-  next_takes count last None result is some after first = subst (IsNextTold over (count + 1) last) (sym first) (
+  -- one more node, which is left to be listed
+  pub next_takes : (count : ℕ) (last next result : Option ℕ) → IsNextMostOverused over count last next → 0 < over count → IsAfterLast over last count → IsFirstOf over next count result → IsNextMostOverused over (count + 1) last result
+  next_takes count last None result is some after first = subst (IsNextMostOverused over (count + 1) last) (sym first) (
     (omega arith, some),
     after,
     λ node over_it behind. elim (eq-or-lt_of_le (below_next node count over_it.0)) [
@@ -67,7 +67,7 @@ module _ (over : ℕ → ℕ) where
       | inr less ↦ absurd (is node (less, over_it.1) behind)
     ],
   )
-  next_takes count last (Some next) result is some after (inl stays) = subst (IsNextTold over (count + 1) last) (sym stays.1) (
+  next_takes count last (Some next) result is some after (inl stays) = subst (IsNextMostOverused over (count + 1) last) (sym stays.1) (
     (omega (arith, is.0.0), is.0.1),
     is.1,
     λ node over_it behind. elim (eq-or-lt_of_le (below_next node count over_it.0)) [
@@ -75,7 +75,7 @@ module _ (over : ℕ → ℕ) where
       | inr less ↦ is.2 node (less, over_it.1) behind
     ],
   )
-  next_takes count last (Some next) result is some after (inr goes) = subst (IsNextTold over (count + 1) last) (sym goes.1) (
+  next_takes count last (Some next) result is some after (inr goes) = subst (IsNextMostOverused over (count + 1) last) (sym goes.1) (
     (omega arith, some),
     after,
     λ node over_it behind. elim (eq-or-lt_of_le (below_next node count over_it.0)) [
@@ -90,7 +90,7 @@ module _ (over : ℕ → ℕ) where
     ],
   )
 
-  -- ---- the nodes that are told so far
+  -- ---- the nodes that are listed so far
 
   -- they are the first ones in order, up to the last
   pub record AreFirst (count : ℕ) (last : Option ℕ) (nodes : List ℕ) : Type 0 where
@@ -109,7 +109,7 @@ module _ (over : ℕ → ℕ) where
     others = λ node is. inr tt;
   }
 
-  pub first_more : (count : ℕ) (last : Option ℕ) (nodes : List ℕ) (next : ℕ) → AreFirst count last nodes → IsNextTold over count last (Some next) → AreFirst count (Some next) (nodes ++ next ∷ [])
+  pub first_more : (count : ℕ) (last : Option ℕ) (nodes : List ℕ) (next : ℕ) → AreFirst count last nodes → IsNextMostOverused over count last (Some next) → AreFirst count (Some next) (nodes ++ next ∷ [])
   first_more count last nodes next first is = record {
     within = is.0.0;
     overused = All-push (IsOverused over count) nodes next first.overused is.0;
@@ -125,7 +125,7 @@ module _ (over : ℕ → ℕ) where
   }
 
   -- no node is left
-  pub all_told : (count limit : ℕ) (last : Option ℕ) (nodes : List ℕ) → AreFirst count last nodes → length nodes ≤ limit → IsNextTold over count last None → AreMostOverused over count limit nodes
+  pub all_told : (count limit : ℕ) (last : Option ℕ) (nodes : List ℕ) → AreFirst count last nodes → length nodes ≤ limit → IsNextMostOverused over count last None → AreMostOverused over count limit nodes
   all_told count limit last nodes first few none = record {
     few = few;
     overused = first.overused;
@@ -133,7 +133,7 @@ module _ (over : ℕ → ℕ) where
     others = λ node over_it. elim (first.others node over_it) [ inl told ↦ inl told | inr after ↦ absurd (none node over_it after) ];
   }
 
-  -- as many as the limit are told
+  -- as many as the limit are listed
   pub many_told : (count limit : ℕ) (last : Option ℕ) (nodes : List ℕ) → AreFirst count last nodes → length nodes ≡ limit → AreMostOverused over count limit nodes
   many_told count limit last nodes first many = record {
     few = omega (arith, many);

@@ -5,7 +5,7 @@ use Rattle.job_state.specs.declared.sources.JobKind.{JobKind}
 use Rattle.job_state.specs.declared.sources.Sources.{Sources}
 use Rattle.job_state.specs.declared.step.JobStep.{JobStep}
 use Rattle.job_state.specs.JobValue.{is_last}
-use Rattle.tenant_slot.specs.SingleUser.{State, advance, after, answer_to, finished, go_on, is_next, running, sources_of, step}
+use Rattle.tenant_slot.specs.SingleUser.{State, advance, after_reply, answer_to, state_at_end, go_on, is_next, kind_that_runs, sources_of, step}
 use Rattle.tenant_slot.specs.Slot.{IsAdvanceOf, Puts, SlotState, after_event, next_job, running_sources}
 use Rattle.tenant_slot.specs.declared.event.Advance.{Advance}
 use Rattle.tenant_slot.specs.declared.event.Event.{Event}
@@ -19,20 +19,20 @@ use Rattle.tenant_slot.proofs.Leading.{advanced}
 use Rattle.one_user.specs.Steps.{Goes, slot_in}
 
 -- the state and the reply, if the journal isn't full
-pub step_is : (state : State) (event : Event) (change : Option State) (reply : Reply) → state.entries < 65536 → answer_to state event ≡ (change, reply) → step state event ≡ (after state change, Some reply)
-step_is state event change reply room is = step-room state event (omega arith) ∙ ap (λ (p : Option State × Reply). (after state p.0, Some p.1)) is
+pub step_is : (state : State) (event : Event) (change : Option State) (reply : Reply) → state.entries < 65536 → answer_to state event ≡ (change, reply) → step state event ≡ (after_reply state change, Some reply)
+step_is state event change reply room is = step-room state event (omega arith) ∙ ap (λ (p : Option State × Reply). (after_reply state p.0, Some p.1)) is
 
 -- an event that changes the state
 pub changed_by : (slot : SlotState) (event : Event) (new : State) (reply : Reply) → slot.state.entries < 65536 → answer_to slot.state event ≡ (Some new, reply) →
     after_event slot event ≡ slot_in slot.id (record new { entries = slot.state.entries + 1 })
 changed_by slot event new reply room is =
     let steps = step_is slot.state event (Some new) reply room is in
-    let states : (step slot.state event).0 ≡ after slot.state (Some new) = ap (λ (p : State × Option Reply). p.0) steps in
+    let states : (step slot.state event).0 ≡ after_reply slot.state (Some new) = ap (λ (p : State × Option Reply). p.0) steps in
     let changes : (answer_to slot.state event).0 ≡ Some new = ap (λ (p : Option State × Reply). p.0) is in
     rw (states, changes) refl
 
 -- the running job's next step is made and put
-module _ (old : SlotState) (kind : JobKind) (runs : running old.state.name ≡ Some kind) (room : old.state.entries < 65536) where
+module _ (old : SlotState) (kind : JobKind) (runs : kind_that_runs old.state.name ≡ Some kind) (room : old.state.entries < 65536) where
   abbrev next : JobStep
   next = record { id = old.id; generation = old.state.generation; number = old.state.steps + 1; sources = sources_of old.state kind }
 
@@ -59,15 +59,15 @@ module _ (old : SlotState) (kind : JobKind) (runs : running old.state.name ≡ S
   told_step : (last : Bool) → is_last (sources_of old.state kind) (old.state.steps + 1) ≡ last → (made : Advance) (reply : StepReply) (new : SlotState) →
       IsAdvanceOf old.state next made → (step old.state (Stepped made)).1 ≡ Some (Step reply) → new ≡ after_event (record old { here = None }) (Stepped made) → Goes kind old reply new
   told_step true is made reply new of told after_it =
-      let answer : answer_to old.state (Stepped made) ≡ (Some (finished old.state kind), Step Finished) =
-      goes_on made of ∙ ap (λ (b : Bool). if b then (Some (finished old.state kind), Step Finished) else (Some (advanced old.state), Step Advanced)) is in
-      let said : Some (Step Finished) ≡ Some (Step reply) = sym (ap (λ (p : State × Option Reply). p.1) (step_is old.state (Stepped made) (Some (finished old.state kind)) (Step Finished) room answer)) ∙ told in
+      let answer : answer_to old.state (Stepped made) ≡ (Some (state_at_end old.state kind), Step Finished) =
+      goes_on made of ∙ ap (λ (b : Bool). if b then (Some (state_at_end old.state kind), Step Finished) else (Some (advanced old.state), Step Advanced)) is in
+      let said : Some (Step Finished) ≡ Some (Step reply) = sym (ap (λ (p : State × Option Reply). p.1) (step_is old.state (Stepped made) (Some (state_at_end old.state kind)) (Step Finished) room answer)) ∙ told in
       let replied : Finished ≡ reply = cc in
-      let goes = after_it ∙ changed_by (record old { here = None }) (Stepped made) (finished old.state kind) (Step Finished) room answer in
+      let goes = after_it ∙ changed_by (record old { here = None }) (Stepped made) (state_at_end old.state kind) (Step Finished) room answer in
       subst (λ (r : StepReply). Goes kind old r new) replied (is, goes)
   told_step false is made reply new of told after_it =
       let answer : answer_to old.state (Stepped made) ≡ (Some (advanced old.state), Step Advanced) =
-      goes_on made of ∙ ap (λ (b : Bool). if b then (Some (finished old.state kind), Step Finished) else (Some (advanced old.state), Step Advanced)) is in
+      goes_on made of ∙ ap (λ (b : Bool). if b then (Some (state_at_end old.state kind), Step Finished) else (Some (advanced old.state), Step Advanced)) is in
       let said : Some (Step Advanced) ≡ Some (Step reply) = sym (ap (λ (p : State × Option Reply). p.1) (step_is old.state (Stepped made) (Some (advanced old.state)) (Step Advanced) room answer)) ∙ told in
       let replied : Advanced ≡ reply = cc in
       let goes = after_it ∙ changed_by (record old { here = None }) (Stepped made) (advanced old.state) (Step Advanced) room answer in

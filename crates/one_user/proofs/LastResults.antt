@@ -11,7 +11,7 @@ use Rattle.job_state.specs.declared.work.Work.{Work}
 use Rattle.job_state.specs.declared.work.Work.TheVariants as work
 use Rattle.job_state.proofs.Iterations.{ends_by_thirty}
 use Rattle.job_state.proofs.StepCounts.{step_count_is}
-use Rattle.pathfinder.specs.Negotiation.{Routed, Standing, More, Done, GaveUp, NoPath, iterated, routed_after}
+use Rattle.pathfinder.specs.Negotiation.{Routed, Standing, More, Done, GaveUp, NoPath, next_routing, routed_after}
 use Rattle.pathfinder.specs.PlacedNets.{wiring_of}
 use Rattle.pathfinder.specs.Routings.{RoutingState}
 use Rattle.pathfinder.specs.Wiring.{Net, Wiring}
@@ -26,7 +26,7 @@ use Rattle.one_user.specs.RoutingEnds.{IsRoutingEnd}
 use Rattle.one_user.proofs.Crowdings.{le_or_lt}
 
 -- a routing that goes on has gone on before
-gone_on : (w : Wiring) (nets : List Net) (iterations : ℕ) (routed : Routed) (standing : Standing) → routed.standing ≡ standing → (iterated w nets iterations routed standing).standing ≡ More → routed.standing ≡ More
+gone_on : (w : Wiring) (nets : List Net) (iterations : ℕ) (routed : Routed) (standing : Standing) → routed.standing ≡ standing → (next_routing w nets iterations routed standing).standing ≡ More → routed.standing ≡ More
 gone_on w nets iterations routed More is goes = is
 gone_on w nets iterations routed Done is goes = goes
 gone_on w nets iterations routed GaveUp is goes = goes

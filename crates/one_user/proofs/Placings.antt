@@ -19,7 +19,7 @@ use Rattle.one_user.specs.Outcomes.{Task, by_fit, by_netlist, by_packing, outcom
 use Rattle.one_user.specs.Placing.{ArePlacesFrom, IsMisfit, IsPackedFrom, IsPlacing, IsPlacingOf, IsRead, placed_from}
 use Rattle.one_user.specs.declared.placing.PlacedNetlist.{PlacedNetlist}
 
--- a check that fails tells the BLE
+-- a check that fails returns the BLE
 pub unfit_told : (unfit : Option ℕ) (fault : PackFault) → IsChecked unfit (Err (Fault fault)) → (ble : ℕ) × (unfit ≡ Some ble)
 unfit_told unfit (CannotFit ble) is = (ble, is)
 

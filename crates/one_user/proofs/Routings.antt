@@ -2,7 +2,7 @@
 use Rattle.std.proofs.Common.{ℕ, ◌≡◌, ◌+◌, true, List, [], Result, Ok, Err, Option, Some, None, refl, sym, ap, subst, ◌∙◌}
 use Rattle.std.specs.Prelude.{IfOk, IsSome, is_some, option_and_then}
 use Rattle.job_state.specs.RoutedSet.{resources_of}
-use Rattle.device_report.specs.declared.tenancies.Share.{Share}
+use Rattle.device_report.specs.declared.tenancies.ResourceUse.{ResourceUse}
 use Rattle.tenant_slot.specs.RoutedSet.{routed_set}
 use Rattle.blif.specs.CircuitOf.{circuit_of}
 use Rattle.blif.specs.declared.circuit.Circuit.{Circuit}
@@ -27,8 +27,8 @@ use Rattle.one_user.specs.Service.{AreTold, HasRouted}
 use Rattle.one_user.specs.Steps.{IsLeft, IsLoaded, IsPlaced, ending_in, slot_in, state_at, task_in, text_in}
 use Rattle.one_user.specs.declared.outcome.Files.{Files}
 use Rattle.one_user.specs.declared.outcome.Unrouted.{Unrouted as Left}
-use Rattle.one_user.specs.declared.outcome.Outcome.{Outcome}
-use Rattle.one_user.specs.declared.outcome.Outcome.TheVariants.{Routed, Unrouted, Refused}
+use Rattle.one_user.specs.declared.outcome.FlowOutcome.{FlowOutcome}
+use Rattle.one_user.specs.declared.outcome.FlowOutcome.TheVariants.{Routed, Unrouted, Refused}
 
 -- the outcome of a placed netlist, by how its routing ends
 pub outcome_is : (task : Task) (placed : IsPlaced task) (failure : Option RoutingFailure) → failure_of (end_value (routing_of task)) ≡ failure → outcome_of task ≡ by_routing task placed.circuit failure
@@ -145,6 +145,6 @@ same_left task state left other is so outcome =
     ap Unrouted (ap (λ e. make e other.net other.places) ending ∙ (ap (λ n. make left.ending n other.places) net ∙ ap (λ p. make left.ending left.net p) places)) ∙ sym outcome
 
 -- a share with these fields
-pub share_of : (used other there at : ℕ) (share : Share) → share ≡ record { used = used; there = there } → used ≡ other → there ≡ at → share ≡ record { used = other; there = at }
+pub share_of : (used other there at : ℕ) (share : ResourceUse) → share ≡ record { used = used; there = there } → used ≡ other → there ≡ at → share ≡ record { used = other; there = at }
 share_of used other there at share is same so =
-    is ∙ ap (λ n. let s : Share = record { used = n; there = there } in s) same ∙ ap (λ n. let s : Share = record { used = other; there = n } in s) so
+    is ∙ ap (λ n. let s : ResourceUse = record { used = n; there = there } in s) same ∙ ap (λ n. let s : ResourceUse = record { used = other; there = n } in s) so

@@ -6,7 +6,7 @@ use Rattle.job_state.specs.declared.sources.JobKind.{JobKind}
 use Rattle.job_state.specs.declared.sources.JobKind.TheVariants.{Packing as PackingJob, Placing as PlacingJob, Routing as RoutingJob}
 use Rattle.job_state.specs.declared.sources.Sources.{Sources}
 use Rattle.tenant_slot.specs.Results.{failure_of}
-use Rattle.tenant_slot.specs.SingleUser.{State, finished, routed_unless, running, sources_of}
+use Rattle.tenant_slot.specs.SingleUser.{State, state_at_end, routed_unless, kind_that_runs, sources_of}
 use Rattle.tenant_slot.specs.Slot.{SlotState}
 use Rattle.tenant_slot.specs.declared.failure.RoutingFailure.{RoutingFailure}
 use Rattle.tenant_slot.specs.declared.reply.StepReply.{StepReply}
@@ -28,7 +28,7 @@ routed_later : (state : State) (steps entries : ℕ) (failure : Option RoutingFa
 routed_later state steps entries None = refl
 routed_later state steps entries (Some failure) = refl
 
-finished_later : (state : State) (steps entries : ℕ) (kind : JobKind) → record (finished (state_after state steps) kind) { entries = entries } ≡ record (finished state kind) { entries = entries }
+finished_later : (state : State) (steps entries : ℕ) (kind : JobKind) → record (state_at_end (state_after state steps) kind) { entries = entries } ≡ record (state_at_end state kind) { entries = entries }
 finished_later state steps entries PackingJob = refl
 finished_later state steps entries PlacingJob = refl
 finished_later state steps entries RoutingJob = routed_later state steps entries (failure_of (end_value (sources_of state RoutingJob)))
@@ -59,7 +59,7 @@ module _ (kind : JobKind) (old : SlotState) (steps : ℕ) where
         last = ap (λ (s : Sources). is_last s made.number) (sym own) ∙ last;
         count = makes.count last ∙ ap (λ (s : Sources). step_count s) own;
         after = goes.1 ∙ ap (slot_in old.id) (finished_later old.state steps (old.state.entries + steps + 1) kind)
-            ∙ ap (λ entries. slot_in old.id (record (finished old.state kind) { entries = entries })) sum;
+            ∙ ap (λ entries. slot_in old.id (record (state_at_end old.state kind) { entries = entries })) sum;
       }
 
 -- a slot before its job's first step
@@ -80,15 +80,15 @@ running_kind None is = absurd (cc)
 running_kind (Some k) is = (k, refl)
 
 -- the job advances by a step
-pub step_goes_on : (old now new : SlotState) (steps : ℕ) (made : StepMade) → IsSome (running old.state.name) → now ≡ slot_in old.id (state_after old.state steps) →
-    ((kind : JobKind) → running now.state.name ≡ Some kind → MakesStep kind now made new) → (made.reply ≡ Finished → ⊥) → (new ≡ slot_in old.id (state_after old.state (steps + 1))) × (steps + 1 ≤ 8192)
+pub step_goes_on : (old now new : SlotState) (steps : ℕ) (made : StepMade) → IsSome (kind_that_runs old.state.name) → now ≡ slot_in old.id (state_after old.state steps) →
+    ((kind : JobKind) → kind_that_runs now.state.name ≡ Some kind → MakesStep kind now made new) → (made.reply ≡ Finished → ⊥) → (new ≡ slot_in old.id (state_after old.state (steps + 1))) × (steps + 1 ≤ 8192)
 step_goes_on old now new steps made runs is makes not =
-    let kind = running_kind (running old.state.name) runs in
-    let here = subst (λ (s : SlotState). (kind : JobKind) → running s.state.name ≡ Some kind → MakesStep kind s made new) is makes kind.0 kind.1 in
+    let kind = running_kind (kind_that_runs old.state.name) runs in
+    let here = subst (λ (s : SlotState). (kind : JobKind) → kind_that_runs s.state.name ≡ Some kind → MakesStep kind s made new) is makes kind.0 kind.1 in
     steps_more kind.0 old steps made new here (advanced_by kind.0 (slot_in old.id (state_after old.state steps)) new made.reply here.goes not)
 
 -- the job ends with a step
 pub step_ends : (old now new : SlotState) (steps : ℕ) (made : StepMade) → now ≡ slot_in old.id (state_after old.state steps) →
-    ((kind : JobKind) → running now.state.name ≡ Some kind → MakesStep kind now made new) → made.reply ≡ Finished → (kind : JobKind) → running old.state.name ≡ Some kind → Finishes kind old made new
+    ((kind : JobKind) → kind_that_runs now.state.name ≡ Some kind → MakesStep kind now made new) → made.reply ≡ Finished → (kind : JobKind) → kind_that_runs old.state.name ≡ Some kind → Finishes kind old made new
 step_ends old now new steps made is makes replied kind runs =
-    steps_done kind old steps made new (subst (λ (s : SlotState). (kind : JobKind) → running s.state.name ≡ Some kind → MakesStep kind s made new) is makes kind runs) replied
+    steps_done kind old steps made new (subst (λ (s : SlotState). (kind : JobKind) → kind_that_runs s.state.name ≡ Some kind → MakesStep kind s made new) is makes kind runs) replied

@@ -3,7 +3,7 @@ use Rattle.std.proofs.Common.{ℕ, ◌≡◌, Bool, true, false, List, [], Resul
 use Rattle.std.specs.Prelude.{length, nat_lt, if◌then◌else◌}
 use Rattle.std.specs.Option.{option_map_or}
 use Rattle.arch_file.specs.Arch.{arch_from, arch_of, arch_of_lines}
-use Rattle.arch_file.specs.ArchFaults.{faults_behind}
+use Rattle.arch_file.specs.ArchFaults.{faults_after}
 use Rattle.arch_file.specs.declared.arch.Arch.{Arch}
 use Rattle.arch_file.specs.declared.arch.Pin.{Pin}
 use Rattle.arch_file.specs.declared.fault.ArchFault.{ArchFault}
@@ -52,7 +52,7 @@ module _ (tracks others : ℕ) (arch other : Arch) where
   by_fault lines (Some fault) is so = absurd (cc)
 
   by_lines : (lines : Result (List JoinedLine) LineFault) → arch_of_lines lines tracks ≡ Ok arch → arch_of_lines lines others ≡ Ok other → other ≡ with_tracks arch other
-  by_lines (Ok lines) is so = by_fault lines (least_fault (faults_behind [] lines)) is so
+  by_lines (Ok lines) is so = by_fault lines (least_fault (faults_after [] lines)) is so
   by_lines (Err fault) is so = absurd (cc)
 
   by_length : (long : Bool) (lines : Result (List JoinedLine) LineFault) (fault : ArchFault) → (if long then Err fault else arch_of_lines lines tracks) ≡ Ok arch → (if long then Err fault else arch_of_lines lines others) ≡ Ok other →

@@ -1,4 +1,4 @@
--- What is told of nodes, from a table of their overuse.
+-- What is listed of nodes, from a table of their overuse.
 use Rattle.std.proofs.Common.{ℕ, ◌≡◌, ◌+◌, ◌<◌, ◌≤◌, ◌⊎◌, inl, inr, Bool, true, false, cond, List, [], ◌∷◌, ◌++◌, filter, get_or, length, map, take, arith, refl, sym, ap, subst, ◌∙◌}
 use Rattle.std.proofs.lemmas.List.{append-nil, map-id}
 use Rattle.std.proofs.lemmas.List.FromFn.{filter_of_map_range_with_len_more}
@@ -14,7 +14,7 @@ use Rattle.one_user.specs.Crowding.{AreMostOverused, ComesBefore, IsOverused}
 pub long_at : (w : Wiring) (state : RoutingState) (standing : Standing) → IsAfter w state standing → length state.history ≡ w.count
 long_at w state standing after = ap (λ (routed : Routed). length routed.history) (sym after.exact) ∙ long_after w state.nets state.iterations
 
--- ---- a list told of another one, one item after another
+-- ---- a list made of another one, one item after another
 
 pub told_more : {A B : Type 0} (R : A → B → Type 0) (xs : List A) (ys : List B) (x : A) (y : B) → AllZip R xs ys → R x y → AllZip R (xs ++ x ∷ []) (ys ++ y ∷ [])
 told_more R [] [] x y told one = (one, tt)

@@ -24,7 +24,7 @@ use Rattle.tenant_slot.specs.SingleUser.{misfit_of}
 use Rattle.tenant_slot.specs.declared.failure.RoutingFailure.{RoutingFailure}
 use Rattle.tenant_slot.specs.declared.failure.RoutingFailure.TheVariants.{GaveUp as FailedAll, NoPath as FailedNet}
 use Rattle.tenant_slot.specs.declared.reply.Ending.TheVariants.{GaveUp}
-use Rattle.one_user.specs.Crowding.{AreTold, IsCrowding, IsCrowdingOf, IsGivenUp, last_trees}
+use Rattle.one_user.specs.Crowding.{AreCrowdedNodes, IsCrowding, IsCrowdingOf, IsGivenUp, last_trees}
 use Rattle.one_user.specs.Outcomes.{Task, by_routing, left_of, outcome_of, placing_of, routing_of}
 use Rattle.one_user.specs.Placing.{IsPlacing}
 use Rattle.one_user.specs.RoutingEnds.{IsRoutes, IsRoutingEnd}
@@ -33,8 +33,8 @@ use Rattle.one_user.specs.Tracks.{IsPlacedWith, StaysUnrouted, task_for}
 use Rattle.one_user.specs.declared.crowding.Crowding.{Crowding}
 use Rattle.one_user.specs.declared.device.Request.{Request}
 use Rattle.one_user.specs.declared.least.DevicePlan.{DevicePlan}
-use Rattle.one_user.specs.declared.outcome.Outcome.{Outcome}
-use Rattle.one_user.specs.declared.outcome.Outcome.TheVariants.{Unrouted}
+use Rattle.one_user.specs.declared.outcome.FlowOutcome.{FlowOutcome}
+use Rattle.one_user.specs.declared.outcome.FlowOutcome.TheVariants.{Unrouted}
 use Rattle.one_user.specs.declared.outcome.Unrouted.{Unrouted as Left}
 use Rattle.one_user.specs.declared.placing.PlacedNetlist.{PlacedNetlist}
 use Rattle.one_user.proofs.Routings.{outcome_is}
@@ -150,7 +150,7 @@ module _ (task : Task) (placed : PlacedNetlist) (given : IsPlacing task placed) 
       ∙ ap (λ steps. (routed_after w (nets_in (routing_of task) given.circuit) steps).trees) (own.is_end.iterations ∙ sym (steps_at_end task given.circuit given.said (end.GaveUp routing) own))
 
   pub crowding_told : (routing : RoutingState) → Ended (end.GaveUp routing) → (crowding : Crowding) → crowding.packed ≡ placed.packed → crowding.rows ≡ task.strip.rows →
-      crowding.overused ≡ count_over (overuse_at (wiring_of (basis_for task)) routing.trees) (graph_of (basis_for task)).count → AreTold (basis_for task) routing.trees 10 crowding.nodes.items → IsCrowdingOf task (Some crowding)
+      crowding.overused ≡ count_over (overuse_at (wiring_of (basis_for task)) routing.trees) (graph_of (basis_for task)).count → AreCrowdedNodes (basis_for task) routing.trees 10 crowding.nodes.items → IsCrowdingOf task (Some crowding)
   crowding_told routing ended crowding packed rows overused nodes = (
     given_up routing ended,
     record {
@@ -159,6 +159,6 @@ module _ (task : Task) (placed : PlacedNetlist) (given : IsPlacing task placed) 
       packed = packed ∙ given.packed;
       rows = rows;
       overused = overused ∙ ap (λ (trees : List Tree). count_over (overuse_at (wiring_of (basis_for task)) trees) (graph_of (basis_for task)).count) (trees_are routing ended);
-      nodes = subst (λ (trees : List Tree). AreTold (basis_for task) trees 10 crowding.nodes.items) (trees_are routing ended) nodes;
+      nodes = subst (λ (trees : List Tree). AreCrowdedNodes (basis_for task) trees 10 crowding.nodes.items) (trees_are routing ended) nodes;
     },
   )

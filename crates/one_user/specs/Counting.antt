@@ -8,7 +8,7 @@ use Rattle.one_user.specs.Outcomes.{Task, outcome_of}
 use Rattle.one_user.specs.declared.counts.Counted.{Counted}
 use Rattle.one_user.specs.declared.counts.Counted.TheVariants.{Counts, Refused}
 use Rattle.one_user.specs.declared.figures.PackedCounts.{PackedCounts}
-use Rattle.one_user.specs.declared.outcome.Outcome.TheVariants.{Refused as RefusedOutcome}
+use Rattle.one_user.specs.declared.outcome.FlowOutcome.TheVariants.{Refused as RefusedOutcome}
 
 -- the counts are those of the packed netlist
 abbrev pub AreCounts : Task → PackedCounts → Type 0

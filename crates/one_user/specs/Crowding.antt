@@ -15,11 +15,11 @@ use Rattle.tenant_slot.specs.declared.reply.Ending.TheVariants.{GaveUp}
 use Rattle.one_user.specs.Outcomes.{Task, outcome_of, routing_of}
 use Rattle.one_user.specs.declared.crowding.CrowdedNode.{CrowdedNode}
 use Rattle.one_user.specs.declared.crowding.Crowding.{Crowding}
-use Rattle.one_user.specs.declared.outcome.Outcome.TheVariants.{Unrouted}
+use Rattle.one_user.specs.declared.outcome.FlowOutcome.TheVariants.{Unrouted}
 use Rattle.one_user.specs.declared.outcome.Unrouted.{Unrouted as Left}
 
--- a node is told before another one: it is overused by more trees, or by as many and has the lesser
--- number
+-- a node is listed before another one: it is overused by more trees, or by as many and has the
+-- lesser number
 abbrev pub ComesBefore : (ℕ → ℕ) → ℕ → ℕ → Type 0
 ComesBefore over node other = (over other < over node) ⊎ ((over node ≡ over other) × (node < other))
 
@@ -39,17 +39,17 @@ pub record AreMostOverused (over : ℕ → ℕ) (count limit : ℕ) (nodes : Lis
 abbrev pub nets_on : List Tree → ℕ → List ℕ
 nets_on trees node = filter (λ net. has_node (slice_index_or trees net []) node) (range_with_len 0 (length trees))
 
--- what is told of the node with that number
-pub record IsTold (basis : Basis) (trees : List Tree) (number : ℕ) (told : CrowdedNode) : Type 0 where
+-- what is listed of the node with that number
+pub record IsCrowdedNode (basis : Basis) (trees : List Tree) (number : ℕ) (told : CrowdedNode) : Type 0 where
   pub node : told.node ≡ (graph_of basis).node number
   pub occupancy : told.occupancy ≡ occupancy trees number
   pub capacity : told.capacity ≡ (wiring_of basis).capacity number
   pub nets : told.nets.items ≡ nets_on trees number
 
 -- these are the most overused nodes of the trees, at most that many
-abbrev pub AreTold : Basis → List Tree → ℕ → List CrowdedNode → Type 0
-AreTold basis trees limit nodes =
-    (numbers : List ℕ) × AreMostOverused (overuse_at (wiring_of basis) trees) (graph_of basis).count limit numbers × AllZip (IsTold basis trees) numbers nodes
+abbrev pub AreCrowdedNodes : Basis → List Tree → ℕ → List CrowdedNode → Type 0
+AreCrowdedNodes basis trees limit nodes =
+    (numbers : List ℕ) × AreMostOverused (overuse_at (wiring_of basis) trees) (graph_of basis).count limit numbers × AllZip (IsCrowdedNode basis trees) numbers nodes
 
 -- the routing of the task's netlist is given up after its last iteration
 abbrev pub IsGivenUp : Task → Type 0
@@ -67,9 +67,9 @@ pub record IsCrowding (task : Task) (crowding : Crowding) : Type 0 where
   pub packed : crowding.packed ≡ packed_of circuit task.arch
   pub rows : crowding.rows ≡ task.strip.rows
   pub overused : crowding.overused ≡ count_over (overuse_at (wiring_of (record { arch = task.arch; strip = task.strip })) (last_trees task circuit)) (graph_of (record { arch = task.arch; strip = task.strip })).count
-  pub nodes : AreTold (record { arch = task.arch; strip = task.strip }) (last_trees task circuit) 10 crowding.nodes.items
+  pub nodes : AreCrowdedNodes (record { arch = task.arch; strip = task.strip }) (last_trees task circuit) 10 crowding.nodes.items
 
--- it is told exactly if the routing is given up
+-- there is a crowding exactly if the routing is given up
 abbrev pub IsCrowdingOf : Task → Option Crowding → Type 0
 IsCrowdingOf task (Some crowding) = IsGivenUp task × IsCrowding task crowding
 IsCrowdingOf task None = IsGivenUp task → ⊥
@@ -82,15 +82,15 @@ net_between packed net = option_map_or (λ found. net_name packed.circuit found.
 abbrev pub over_of : List ℕ → ℕ → ℕ
 over_of overs node = slice_index overs node
 
--- Private: the node comes after the last one that is told, if there is one
+-- Private: the node comes after the last one that is listed, if there is one
 abbrev pub IsAfterLast : (ℕ → ℕ) → Option ℕ → ℕ → Type 0
 IsAfterLast over None node = Unit {0}
 IsAfterLast over (Some last) node = ComesBefore over last node
 
 -- Private: of the first nodes that are overused and come after the last one, this comes first
-abbrev pub IsNextTold : (ℕ → ℕ) → ℕ → Option ℕ → Option ℕ → Type 0
-IsNextTold over count last None = (node : ℕ) → IsOverused over count node → IsAfterLast over last node → ⊥
-IsNextTold over count last (Some next) =
+abbrev pub IsNextMostOverused : (ℕ → ℕ) → ℕ → Option ℕ → Option ℕ → Type 0
+IsNextMostOverused over count last None = (node : ℕ) → IsOverused over count node → IsAfterLast over last node → ⊥
+IsNextMostOverused over count last (Some next) =
     IsOverused over count next × IsAfterLast over last next
     × ((node : ℕ) → IsOverused over count node → IsAfterLast over last node → (next ≡ node) ⊎ ComesBefore over next node)
 

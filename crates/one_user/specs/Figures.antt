@@ -5,8 +5,8 @@ use Rattle.blif.specs.declared.circuit.Circuit.{Circuit}
 use Rattle.cluster.specs.Blocks.{block_nets}
 use Rattle.cluster.specs.Clusters.{PackedCircuit, packed_of}
 use Rattle.device_report.specs.declared.channels.ChannelUse.{ChannelUse}
-use Rattle.device_report.specs.declared.channels.Direction.{Direction}
-use Rattle.device_report.specs.declared.channels.Direction.TheVariants.{Across, Up}
+use Rattle.device_report.specs.declared.channels.ChannelDirection.{ChannelDirection}
+use Rattle.device_report.specs.declared.channels.ChannelDirection.TheVariants.{Across, Up}
 use Rattle.device_report.specs.Channels.{is_wire}
 use Rattle.grid.specs.declared.Strip.{Strip}
 use Rattle.job_state.specs.JobValue.{step_count}

@@ -9,3 +9,4 @@ pub mod Tracks
 pub mod Placing
 pub mod RoutingEnds
 pub mod Crowding
+pub mod CrowdingText

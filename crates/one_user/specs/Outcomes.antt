@@ -20,8 +20,8 @@ use Rattle.tenant_slot.specs.declared.reply.Refusal.TheVariants.{BadBlif, Cannot
 use Rattle.vpr_files.specs.NetFile.{net_text_of}
 use Rattle.one_user.specs.declared.outcome.Files.{Files}
 use Rattle.one_user.specs.declared.outcome.Unrouted.{Unrouted as Left}
-use Rattle.one_user.specs.declared.outcome.Outcome.{Outcome}
-use Rattle.one_user.specs.declared.outcome.Outcome.TheVariants.{Routed, Unrouted, Refused}
+use Rattle.one_user.specs.declared.outcome.FlowOutcome.{FlowOutcome}
+use Rattle.one_user.specs.declared.outcome.FlowOutcome.TheVariants.{Routed, Unrouted, Refused}
 
 -- the task: the netlist on that device, placed with that seed and effort
 pub record Task : Type 0 where
@@ -59,25 +59,25 @@ left_of task circuit failure = record {
 }
 
 -- how its routing ends: without a failure there are routes
-abbrev pub by_routing : Task → Circuit → Option RoutingFailure → Outcome
+abbrev pub by_routing : Task → Circuit → Option RoutingFailure → FlowOutcome
 by_routing task circuit None = Routed (files_of task circuit)
 by_routing task circuit (Some failure) = Unrouted (left_of task circuit failure)
 
 -- it is placed if the device has enough places
-abbrev pub by_fit : Task → Circuit → Option Misfit → Outcome
+abbrev pub by_fit : Task → Circuit → Option Misfit → FlowOutcome
 by_fit task circuit None = by_routing task circuit (failure_of (end_value (routing_of task)))
 by_fit task circuit (Some misfit) = Refused (DoesNotFit misfit)
 
 -- it is packed if each BLE fits into a cluster alone
-abbrev pub by_packing : Task → Circuit → Option ℕ → Outcome
+abbrev pub by_packing : Task → Circuit → Option ℕ → FlowOutcome
 by_packing task circuit None = by_fit task circuit (misfit_of (fit_of task.strip (packed_of circuit task.arch)))
 by_packing task circuit (Some ble) = Refused (CannotPack ble)
 
 -- it is loaded if it has no fault
-abbrev pub by_netlist : Task → Result Circuit BlifFault → Outcome
+abbrev pub by_netlist : Task → Result Circuit BlifFault → FlowOutcome
 by_netlist task (Ok circuit) = by_packing task circuit (unfit_of circuit task.arch)
 by_netlist task (Err fault) = Refused (BadBlif fault)
 
 -- the outcome of the task
-abbrev pub outcome_of : Task → Outcome
+abbrev pub outcome_of : Task → FlowOutcome
 outcome_of task = by_netlist task (circuit_of task.text task.arch.lut_size)

@@ -15,7 +15,7 @@ use Rattle.tenant_slot.specs.SingleUser.{misfit_of}
 use Rattle.tenant_slot.specs.declared.reply.Misfit.{Misfit}
 use Rattle.tenant_slot.specs.declared.reply.Refusal.{Refusal}
 use Rattle.one_user.specs.Outcomes.{Task, outcome_of, placing_of}
-use Rattle.one_user.specs.declared.outcome.Outcome.TheVariants.{Refused}
+use Rattle.one_user.specs.declared.outcome.FlowOutcome.TheVariants.{Refused}
 use Rattle.one_user.specs.declared.placing.PlacedNetlist.{PlacedNetlist}
 
 -- the circuit of a text, `None` if the text has a fault

@@ -1,5 +1,8 @@
 -- Private: the states between the stages of a run, and the results of a job's steps.
 use Rattle.std.specs.Prelude.{ℕ, ◌≡◌, ◌+◌, ◌<◌, ◌≤◌, List, [], true, false, Option, Some, None, IsSome, Ok, length}
+use Rattle.tenant_slot.specs.declared.slot.TheConstants.{MAX_ENTRIES}
+use Rattle.strip_place.specs.declared.placing.TheConstants.{MAX_EFFORT}
+use Rattle.blif.specs.declared.circuit.TheConstants.{MAX_NETS}
 use Rattle.blif.specs.CircuitOf.{circuit_of}
 use Rattle.blif.specs.declared.circuit.Circuit.{Circuit}
 use Rattle.cluster.specs.Blocks.{block_nets}
@@ -12,7 +15,7 @@ use Rattle.job_state.specs.declared.sources.JobKind.{JobKind}
 use Rattle.job_state.specs.declared.sources.Sources.{Sources}
 use Rattle.job_state.specs.declared.work.Work.{Work}
 use Rattle.rr_graph.specs.Graph.{Basis}
-use Rattle.tenant_slot.specs.SingleUser.{State, answer_to, finished, misfit_of, running, sources_of, start}
+use Rattle.tenant_slot.specs.SingleUser.{State, answer_to, state_at_end, misfit_of, kind_that_runs, sources_of, start}
 use Rattle.tenant_slot.specs.Slot.{SlotState}
 use Rattle.tenant_slot.specs.declared.command.Command.TheVariants.{Net, PlaceFile, Status as StatusAsked}
 use Rattle.tenant_slot.specs.declared.event.Event.TheVariants.{Command as Asked}
@@ -107,7 +110,7 @@ abbrev pub Goes : JobKind → SlotState → StepReply → SlotState → Type 0
 Goes kind old Advanced new =
     (is_last (sources_of old.state kind) (old.state.steps + 1) ≡ false) × (new ≡ slot_in old.id (record old.state { steps = old.state.steps + 1; entries = old.state.entries + 1 }))
 Goes kind old Finished new =
-    (is_last (sources_of old.state kind) (old.state.steps + 1) ≡ true) × (new ≡ slot_in old.id (record (finished old.state kind) { entries = old.state.entries + 1 }))
+    (is_last (sources_of old.state kind) (old.state.steps + 1) ≡ true) × (new ≡ slot_in old.id (record (state_at_end old.state kind) { entries = old.state.entries + 1 }))
 Goes kind old Stale new = ⊥
 
 -- the progress is that of the job after `steps` steps
@@ -117,52 +120,52 @@ IsTold sources steps progress = (work : Work) × (job_value sources steps ≡ Ok
 -- the running job's next step is made
 pub record MakesStep (kind : JobKind) (old : SlotState) (made : StepMade) (new : SlotState) : Type 0 where
   pub number : made.number ≡ old.state.steps + 1
-  pub few : made.number ≤ 8192
+  pub few : made.number ≤ MAX_NETS
   pub told : IsTold (sources_of old.state kind) made.number made.progress
   pub count : is_last (sources_of old.state kind) made.number ≡ true → made.number ≡ step_count (sources_of old.state kind)
   pub goes : Goes kind old made.reply new
 
 -- all its steps are made, and this was the last
 pub record Finishes (kind : JobKind) (old : SlotState) (made : StepMade) (new : SlotState) : Type 0 where
-  pub few : made.number ≤ 8192
+  pub few : made.number ≤ MAX_NETS
   pub told : IsTold (sources_of old.state kind) made.number made.progress
   pub last : is_last (sources_of old.state kind) made.number ≡ true
   pub count : made.number ≡ step_count (sources_of old.state kind)
-  pub after : new ≡ slot_in old.id (record (finished old.state kind) { entries = old.state.entries + made.number })
+  pub after : new ≡ slot_in old.id (record (state_at_end old.state kind) { entries = old.state.entries + made.number })
 
 -- a running job's next step can be made, over the slot's own device
 pub record CanStep (slot : SlotState) (device : Basis) : Type 0 where
-  pub runs : IsSome (running slot.state.name)
+  pub runs : IsSome (kind_that_runs slot.state.name)
   pub here : slot.here ≡ Some false
-  pub room : slot.state.entries < 65536
+  pub room : slot.state.entries < MAX_ENTRIES
   pub window : device ≡ device_of slot.state
 
 -- all its steps can be made; none was made yet
 pub record CanFinish (slot : SlotState) (device : Basis) : Type 0 where
-  pub runs : IsSome (running slot.state.name)
+  pub runs : IsSome (kind_that_runs slot.state.name)
   pub first : slot.state.steps ≡ 0
   pub here : slot.here ≡ Some false
-  pub room : slot.state.entries + 8192 < 65536
+  pub room : slot.state.entries + MAX_NETS < MAX_ENTRIES
   pub window : device ≡ device_of slot.state
 
 -- a fresh slot is ready for a netlist, on its own device, and the effort is lawful
 pub record IsReadyToUpload (now : SlotState) (device : Basis) (tries : ℕ) : Type 0 where
   pub slot : now ≡ slot_in now.id (start now.state.arch now.state.strip)
   pub window : device ≡ device_of now.state
-  pub effort : tries ≤ 100
+  pub effort : tries ≤ MAX_EFFORT
 
 -- it has loaded the netlist of the task
 pub record IsReadyToPack (task : Task) (now : SlotState) (device : Basis) : Type 0 where
   pub slot : IsAt task Loaded 0 0 1 now
   pub window : device ≡ device_of now.state
-  pub effort : task.effort ≤ 100
+  pub effort : task.effort ≤ MAX_EFFORT
   pub loaded : IsLoaded task
 
 -- it has packed it, and these are the counts
 pub record IsReadyToPlace (task : Task) (now : SlotState) (device : Basis) (told : PackedCounts) : Type 0 where
   pub slot : IsAt task Packed 0 0 8194 now
   pub window : device ≡ device_of now.state
-  pub effort : task.effort ≤ 100
+  pub effort : task.effort ≤ MAX_EFFORT
   pub packed : IsPacked task
   pub counts : AreCounts task told
 
@@ -175,7 +178,7 @@ pub record IsReadyToRoute (task : Task) (now : SlotState) (device : Basis) (told
 
 -- it has routed it, and the journal has space for the commands that ask for the files
 pub record HasFiles (state : State) : Type 0 where
-  pub room : state.entries < 65536
+  pub room : state.entries < MAX_ENTRIES
   pub routed : state.name ≡ Routed
   pub loaded : IsLoaded (task_in state state.seed state.effort)
   pub kept : state.kept ≡ []

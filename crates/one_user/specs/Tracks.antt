@@ -1,5 +1,8 @@
 -- The least number of tracks with which a netlist is routed.
 use Rattle.std.specs.Prelude.{ℕ, ◌≡◌, ◌+◌, ◌<◌, ◌≤◌, List, Result, Ok, Err, Option, Some, None}
+use Rattle.strip_place.specs.declared.placing.TheConstants.{MAX_EFFORT}
+use Rattle.grid.specs.declared.TheConstants.{MAX_COLUMNS, MAX_ROWS}
+use Rattle.arch_file.specs.declared.arch.TheConstants.{MAX_TRACKS}
 use Rattle.arch_file.specs.Arch.{IsWithin, arch_of}
 use Rattle.arch_file.specs.declared.arch.Arch.{Arch}
 use Rattle.arch_file.specs.declared.fault.ArchFault.{ArchFault}
@@ -19,24 +22,23 @@ use Rattle.one_user.specs.declared.figures.Figures.{Figures}
 use Rattle.one_user.specs.declared.least.DevicePlan.{DevicePlan}
 use Rattle.one_user.specs.declared.least.Least.{Least}
 use Rattle.one_user.specs.declared.least.Least.TheVariants.{Routed, Refused, Unrouted}
-use Rattle.one_user.specs.declared.least.TheConstants.{MAX_TRACKS}
 use Rattle.one_user.specs.declared.least.Try.{Try}
 use Rattle.one_user.specs.declared.least.Try.TheVariants as tried
-use Rattle.one_user.specs.declared.outcome.Outcome.{Outcome}
-use Rattle.one_user.specs.declared.outcome.Outcome.TheVariants as outcome
+use Rattle.one_user.specs.declared.outcome.FlowOutcome.{FlowOutcome}
+use Rattle.one_user.specs.declared.outcome.FlowOutcome.TheVariants as outcome
 
 -- the device has 1 to 256 columns and 1 to 64 rows, and the effort is at most 100
 pub record IsLawful (plan : DevicePlan) (request : Request) : Type 0 where
-  pub columns : IsWithin 1 plan.columns 256
-  pub rows : IsWithin 1 plan.rows 64
-  pub effort : request.effort ≤ 100
+  pub columns : IsWithin 1 plan.columns MAX_COLUMNS
+  pub rows : IsWithin 1 plan.rows MAX_ROWS
+  pub effort : request.effort ≤ MAX_EFFORT
 
 -- the task of a request on a device of that architecture
 abbrev pub task_for : DevicePlan → Arch → Request → Task
 task_for plan arch request = record { arch = arch; strip = device_strip arch plan.columns plan.rows; text = request.netlist.now; seed = request.seed; effort = request.effort }
 
 -- with that number of tracks, the request has that outcome
-abbrev pub ComesTo : DevicePlan → Request → ℕ → Outcome → Type 0
+abbrev pub ComesTo : DevicePlan → Request → ℕ → FlowOutcome → Type 0
 ComesTo plan request tracks told = (arch : Arch) × (arch_of plan.text.now tracks ≡ Ok arch) × (told ≡ outcome_of (task_for plan arch request))
 
 -- with that number of tracks, the circuit has these figures
@@ -49,24 +51,24 @@ fault_of (Ok arch) = None
 fault_of (Err fault) = Some fault
 
 -- the outcome is routed, unrouted, refused
-abbrev pub WasRouted : Outcome → Type 0
+abbrev pub WasRouted : FlowOutcome → Type 0
 WasRouted (outcome.Routed files) = Unit {0}
 WasRouted (outcome.Unrouted ending) = ⊥
 WasRouted (outcome.Refused refusal) = ⊥
 
-abbrev pub WasUnrouted : Outcome → Type 0
+abbrev pub WasUnrouted : FlowOutcome → Type 0
 WasUnrouted (outcome.Unrouted ending) = Unit {0}
 WasUnrouted (outcome.Routed files) = ⊥
 WasUnrouted (outcome.Refused refusal) = ⊥
 
-abbrev pub WasRefused : Outcome → Type 0
+abbrev pub WasRefused : FlowOutcome → Type 0
 WasRefused (outcome.Refused refusal) = Unit {0}
 WasRefused (outcome.Routed files) = ⊥
 WasRefused (outcome.Unrouted ending) = ⊥
 
 -- with each number of tracks below the limit it is left unrouted
 abbrev pub AreUnroutedBelow : DevicePlan → Request → ℕ → Type 0
-AreUnroutedBelow plan request limit = (tracks : ℕ) → 1 ≤ tracks → tracks < limit → (told : Outcome) × ComesTo plan request tracks told × WasUnrouted told
+AreUnroutedBelow plan request limit = (tracks : ℕ) → 1 ≤ tracks → tracks < limit → (told : FlowOutcome) × ComesTo plan request tracks told × WasUnrouted told
 
 -- the result of the search: the least number of tracks with which it is routed; or the refusal with
 -- the least number with which it isn't left unrouted; or neither for any number
@@ -77,9 +79,9 @@ IsLeast plan request Unrouted = AreUnroutedBelow plan request (MAX_TRACKS + 1)
 
 -- with that number of tracks it is left unrouted
 abbrev pub StaysUnrouted : DevicePlan → Request → ℕ → Type 0
-StaysUnrouted plan request tracks = (told : Outcome) × ComesTo plan request tracks told × WasUnrouted told
+StaysUnrouted plan request tracks = (told : FlowOutcome) × ComesTo plan request tracks told × WasUnrouted told
 
--- with that number of tracks, this is told of the routing's overused nodes
+-- with that number of tracks, this is the crowding of the routing, if there is one
 abbrev pub IsCrowdingWith : DevicePlan → Request → ℕ → Option Crowding → Type 0
 IsCrowdingWith plan request tracks crowding = (arch : Arch) × (arch_of plan.text.now tracks ≡ Ok arch) × IsCrowdingOf (task_for plan arch request) crowding
 

@@ -1,5 +1,7 @@
 //! The counts of a packed netlist, and the least device that has room for it.
-ghost use Rattle.std.specs.Prelude.{◌≡◌, ◌≤◌, ◌↔◌, IfOk, IsTrue, MatchOption};
+ghost use Rattle.std.specs.Prelude.{◌+◌, ◌≡◌, ◌≤◌, ◌↔◌, IfOk, IsTrue, MatchOption};
+ghost use Rattle.arch_file.specs.declared.arch.TheConstants.{MAX_IO_RAT};
+ghost use Rattle.grid.specs.declared.TheConstants.{MAX_COLUMNS, MAX_ROWS};
 ghost use Rattle.one_user.specs.Counting.{HasRoom, IsCounted, NoColumnsBelow, NoSquareBelow};
 ghost use Rattle.one_user.specs.Outcomes.{task_on};
 ghost use Rattle.one_user.specs.Steps.{IsReadyToPack, IsReadyToUpload, task_in};
@@ -62,8 +64,8 @@ fn count_packed<W: Sink>(
 /// Returns the side of the least square device, of at most 64 columns and rows, that has room for a
 /// packing with these counts, with `io_rat` pads at each end of a column. `None` if none has.
 pub fn least_side(counts: PackedCounts, io_rat: u32) -> Option<u32>
-    requires { io_rat ≤ 8 }
-    ensures { MatchOption result (NoSquareBelow counts io_rat 65)
+    requires { io_rat ≤ MAX_IO_RAT }
+    ensures { MatchOption result (NoSquareBelow counts io_rat (MAX_ROWS + 1))
         (λ side. HasRoom counts io_rat side side × NoSquareBelow counts io_rat side) }
 {
     for side in 1..65 {
@@ -77,9 +79,9 @@ pub fn least_side(counts: PackedCounts, io_rat: u32) -> Option<u32>
 /// Returns the least number of columns, at most 256, with which a device of these rows has room for
 /// a packing with these counts, with `io_rat` pads at each end of a column. `None` if none has.
 pub fn least_columns(counts: PackedCounts, io_rat: u32, rows: u32) -> Option<u32>
-    requires pads { io_rat ≤ 8 }
-    requires rows { rows ≤ 64 }
-    ensures { MatchOption result (NoColumnsBelow counts io_rat rows 257)
+    requires pads { io_rat ≤ MAX_IO_RAT }
+    requires rows { rows ≤ MAX_ROWS }
+    ensures { MatchOption result (NoColumnsBelow counts io_rat rows (MAX_COLUMNS + 1))
         (λ columns. HasRoom counts io_rat columns rows
         × NoColumnsBelow counts io_rat rows columns) }
 {
@@ -93,9 +95,9 @@ pub fn least_columns(counts: PackedCounts, io_rat: u32, rows: u32) -> Option<u32
 
 /// Returns whether a device of that size has room for these counts.
 fn has_room(counts: PackedCounts, io_rat: u32, columns: u32, rows: u32) -> bool
-    requires pads { io_rat ≤ 8 }
-    requires columns { columns ≤ 256 }
-    requires rows { rows ≤ 64 }
+    requires pads { io_rat ≤ MAX_IO_RAT }
+    requires columns { columns ≤ MAX_COLUMNS }
+    requires rows { rows ≤ MAX_ROWS }
     ensures { IsTrue result ↔ HasRoom counts io_rat columns rows }
 {
     let blocks = columns * rows;

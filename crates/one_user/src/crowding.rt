@@ -7,7 +7,7 @@ ghost use Rattle.pathfinder.specs.Overuse.{count_over, overuse_at};
 ghost use Rattle.pathfinder.specs.PlacedNets.{wiring_of};
 ghost use Rattle.pathfinder.specs.Routings.{IsAfter};
 ghost use Rattle.rr_graph.specs.Graph.{graph_of};
-ghost use Rattle.one_user.specs.Crowding.{AreMostOverused, AreTold, ComesBefore, IsAfterLast, IsFirstOf, IsNextTold, IsTold, net_between, nets_on, over_of};
+ghost use Rattle.one_user.specs.Crowding.{AreMostOverused, AreCrowdedNodes, ComesBefore, IsAfterLast, IsFirstOf, IsNextMostOverused, IsCrowdedNode, net_between, nets_on, over_of};
 
 use blif::Circuit;
 use cluster::SharedPacked;
@@ -15,8 +15,8 @@ use pathfinder::Routing;
 use rr_graph::{Node, StripGraph};
 use std::alloc::{AllocError, Global};
 
-/// The largest number of overused nodes that are told.
-const MAX_TOLD: usize = 10;
+/// The largest number of overused nodes that are listed.
+const MAX_LISTED: usize = 10;
 
 /// A node that is in the trees of more nets than it can carry.
 #[derive(Drop)]
@@ -81,7 +81,7 @@ pub(crate) fn overuses<G: StripGraph>(
         slice_index overs.items node
         ≡ overuse_at (wiring_of (G.basis graph.now)) routing.now.trees node) }
 {
-    let _count = graph.count();
+    graph.laws();
     let held = routing.occupancies();
     let mut overs = Vec::new(alloc);
     overs.reserve(held.len())?;
@@ -92,7 +92,7 @@ pub(crate) fn overuses<G: StripGraph>(
 }
 
 /// The number of overused nodes.
-fn overused(overs: &[u32]) -> usize
+fn overused_count(overs: &[u32]) -> usize
     ensures { result ≡ count_over (over_of overs.now) (length overs.now) }
 {
     let mut nodes = 0;
@@ -104,7 +104,7 @@ fn overused(overs: &[u32]) -> usize
     nodes
 }
 
-/// Returns whether a node is told before another one.
+/// Returns whether a node is listed before another one.
 fn comes_before(overs: &[u32], node: usize, other: usize) -> bool
     requires node { node < length overs.now }
     requires other { other < length overs.now }
@@ -113,7 +113,7 @@ fn comes_before(overs: &[u32], node: usize, other: usize) -> bool
     overs[node] > overs[other] || (overs[node] == overs[other] && node < other)
 }
 
-/// Returns whether a node is overused and comes after the last one that is told.
+/// Returns whether a node is overused and comes after the last one that is listed.
 fn is_left(overs: &[u32], last: Option<usize>, node: usize) -> bool
     requires node { node < length overs.now }
     requires last { IfSome last (λ last. last < length overs.now) }
@@ -126,10 +126,10 @@ fn is_left(overs: &[u32], last: Option<usize>, node: usize) -> bool
     }
 }
 
-/// The node to be told after the last one, if one is left.
-fn next_told(overs: &[u32], last: Option<usize>) -> Option<usize>
+/// The node to be listed after the last one, if one is left.
+fn next_most_overused(overs: &[u32], last: Option<usize>) -> Option<usize>
     requires { IfSome last (λ last. last < length overs.now) }
-    ensures { IsNextTold (over_of overs.now) (length overs.now) last result }
+    ensures { IsNextMostOverused (over_of overs.now) (length overs.now) last result }
 {
     let mut next = None;
     for node in 0..overs.len() {
@@ -140,7 +140,8 @@ fn next_told(overs: &[u32], last: Option<usize>) -> Option<usize>
     next
 }
 
-/// The node to be told so far, or, if none is, or if it doesn't come before that one, another node.
+/// The node to be listed so far, or another node if there is no such node yet or if it doesn't come
+/// before that other one.
 fn first_of(overs: &[u32], next: Option<usize>, node: usize) -> Option<usize>
     requires node { node < length overs.now }
     requires next { IfSome next (λ next. next < length overs.now) }
@@ -166,7 +167,7 @@ fn most_overused(alloc: Global, overs: &[u32], limit: usize) -> Result<Vec<usize
     let mut nodes = Vec::new(alloc);
     let mut last = None;
     for _told in 0..limit {
-        match next_told(overs, last) {
+        match next_most_overused(overs, last) {
             Some(next) => {
                 nodes.push(next)?;
                 last = Some(next);
@@ -190,8 +191,8 @@ fn nets_on(alloc: Global, routing: &Routing, node: usize) -> Result<Vec<usize>, 
     Ok(nets)
 }
 
-/// What is told of a node.
-fn told<G: StripGraph>(
+/// What is listed of a node.
+fn crowded_node<G: StripGraph>(
     alloc: Global,
     graph: &G,
     routing: &Routing,
@@ -199,9 +200,9 @@ fn told<G: StripGraph>(
 ) -> Result<CrowdedNode, AllocError>
     requires number { number < (graph_of (G.basis graph.now)).count }
     requires after { IsAfter (wiring_of (G.basis graph.now)) routing.now GaveUp }
-    ensures { IfOk result (IsTold (G.basis graph.now) routing.now.trees number) }
+    ensures { IfOk result (IsCrowdedNode (G.basis graph.now) routing.now.trees number) }
 {
-    let _count = graph.count();
+    graph.laws();
     let nets = nets_on(alloc, routing, number)?;
     Ok(CrowdedNode {
         node: graph.node(number),
@@ -211,8 +212,8 @@ fn told<G: StripGraph>(
     })
 }
 
-/// What is told of these nodes.
-fn told_of<G: StripGraph>(
+/// What is listed of these nodes.
+fn crowded_nodes_of<G: StripGraph>(
     alloc: Global,
     graph: &G,
     routing: &Routing,
@@ -221,11 +222,11 @@ fn told_of<G: StripGraph>(
     requires within { All (λ number. number < (graph_of (G.basis graph.now)).count) numbers.now }
     requires after { IsAfter (wiring_of (G.basis graph.now)) routing.now GaveUp }
     ensures { IfOk result (λ nodes.
-        AllZip (IsTold (G.basis graph.now) routing.now.trees) numbers.now nodes.items) }
+        AllZip (IsCrowdedNode (G.basis graph.now) routing.now.trees) numbers.now nodes.items) }
 {
     let mut nodes = Vec::new(alloc);
     for number in numbers {
-        nodes.push(told(alloc, graph, routing, *number)?)?;
+        nodes.push(crowded_node(alloc, graph, routing, *number)?)?;
     }
     Ok(nodes)
 }
@@ -242,14 +243,14 @@ pub(crate) fn crowded_nodes<G: StripGraph>(
         ≡ count_over (overuse_at (wiring_of (G.basis graph.now)) routing.now.trees)
         (graph_of (G.basis graph.now)).count) }
     ensures nodes { IfOk result (λ told.
-        AreTold (G.basis graph.now) routing.now.trees 10 told.1.items) }
+        AreCrowdedNodes (G.basis graph.now) routing.now.trees 10 told.1.items) }
 {
     let overs = overuses(alloc, graph, routing)?;
-    let count = overused(overs.as_slice());
-    let numbers = most_overused(alloc, overs.as_slice(), MAX_TOLD);
+    let count = overused_count(overs.as_slice());
+    let numbers = most_overused(alloc, overs.as_slice(), MAX_LISTED);
     drop(overs);
     let numbers = numbers?;
-    let nodes = told_of(alloc, graph, routing, numbers.as_slice());
+    let nodes = crowded_nodes_of(alloc, graph, routing, numbers.as_slice());
     drop(numbers);
     Ok((count, nodes?))
 }

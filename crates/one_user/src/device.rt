@@ -1,5 +1,6 @@
 //! A device of one user's own.
 ghost use Rattle.std.specs.Prelude.{◌≡◌, ◌≤◌, IfOk, IfSome};
+ghost use Rattle.strip_place.specs.declared.placing.TheConstants.{MAX_EFFORT};
 ghost use Rattle.arch_file.specs.Arch.{IsArch};
 ghost use Rattle.grid.specs.Sizes.{IsStripSize};
 ghost use Rattle.strips.specs.Windows.{device_strip};
@@ -12,7 +13,7 @@ ghost use Rattle.pathfinder.specs.Overuse.{count_over, overuse_at};
 ghost use Rattle.pathfinder.specs.PlacedNets.{nets_to_route, wiring_of};
 ghost use Rattle.pathfinder.specs.Routings.{IsAfter};
 ghost use Rattle.rr_graph.specs.Graph.{graph_of};
-ghost use Rattle.one_user.specs.Crowding.{AreTold, IsCrowdingOf};
+ghost use Rattle.one_user.specs.Crowding.{AreCrowdedNodes, IsCrowdingOf};
 ghost use Rattle.one_user.specs.Placing.{IsPlacing, IsPlacingOf};
 ghost use Rattle.one_user.specs.RoutingEnds.{IsRoutingEnd};
 
@@ -97,7 +98,7 @@ impl OwnDevice {
     /// Packs, places and routes a netlist, and writes one line for each step. A line that can't be
     /// written is skipped, and changes nothing. Fails with [`AllocError`] if memory runs out.
     pub fn run<W: Sink>(&self, request: Request<'_>, teller: &mut W) -> Result<Run, AllocError>
-        requires { request.effort ≤ 100 }
+        requires { request.effort ≤ MAX_EFFORT }
         ensures outcome { IfOk result (λ run.
             run.outcome ≡ outcome_of
             (task_on self.now request.entry.netlist.now request.entry.seed request.entry.effort)) }
@@ -122,7 +123,7 @@ impl OwnDevice {
         request: Request<'_>,
         teller: &mut W,
     ) -> Result<Counted, AllocError>
-        requires { request.effort ≤ 100 }
+        requires { request.effort ≤ MAX_EFFORT }
         ensures { IfOk result (IsCounted
             (task_on self.now request.entry.netlist.now request.entry.seed request.entry.effort)) }
     {
@@ -139,7 +140,7 @@ impl OwnDevice {
     /// Packs and places a netlist. `None` if it is refused. Fails with [`AllocError`] if memory
     /// runs out.
     pub(crate) fn place(&self, request: Request<'_>) -> Result<Option<PlacedNetlist>, AllocError>
-        requires { request.effort ≤ 100 }
+        requires { request.effort ≤ MAX_EFFORT }
         ensures { IfOk result (IsPlacingOf
             (task_on self.now request.entry.netlist.now request.entry.seed request.entry.effort)) }
     {
@@ -163,7 +164,7 @@ impl OwnDevice {
     /// nets. `None` if the routing is not given up. It packs, places and routes the netlist, and
     /// writes no line. Fails with [`AllocError`] if memory runs out.
     pub fn crowding(&self, request: Request<'_>) -> Result<Option<Crowding>, AllocError>
-        requires { request.effort ≤ 100 }
+        requires { request.effort ≤ MAX_EFFORT }
         ensures { IfOk result (IsCrowdingOf
             (task_on self.now request.entry.netlist.now request.entry.seed request.entry.effort)) }
     {
@@ -204,7 +205,7 @@ impl OwnDevice {
             ≡ count_over (overuse_at (wiring_of self.now) routing.now.trees)
             (graph_of self.now).count) }
         ensures nodes { IfOk result (λ crowding.
-            AreTold self.now routing.now.trees 10 crowding.nodes.items) }
+            AreCrowdedNodes self.now routing.now.trees 10 crowding.nodes.items) }
     {
         let Some(window) = Window::new(&self.graph, 0, self.strip) else {
             unreachable!()

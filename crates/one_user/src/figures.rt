@@ -1,9 +1,11 @@
 //! What a routed circuit uses of its device.
-ghost use Rattle.std.specs.Prelude.{◌≡◌, ◌≤◌};
+ghost use Rattle.std.specs.Prelude.{◌+◌, ◌≡◌, ◌≤◌};
+ghost use Rattle.arch_file.specs.declared.arch.TheConstants.{MAX_TRACKS};
+ghost use Rattle.grid.specs.declared.TheConstants.{MAX_COLUMNS, MAX_ROWS};
 ghost use Rattle.one_user.specs.Counts.{HasCounts, IsWhole};
 ghost use Rattle.one_user.specs.Figures.{is_channel_wire, product, wires_in, wires_there};
 
-use device_report::{ChannelUse, Direction, Share};
+use device_report::{ChannelDirection, ChannelUse, ResourceUse};
 use job_state::Progress;
 use rr_graph::{Resource, ResourceKind, StripGraph};
 use strips::Window;
@@ -12,12 +14,12 @@ use strips::Window;
 #[derive(Clone, Copy)]
 pub struct Figures {
     /// Logic blocks.
-    pub blocks: Share,
-    pub pads: Share,
+    pub blocks: ResourceUse,
+    pub pads: ResourceUse,
     /// Nets between blocks.
     pub nets: usize,
     /// Wires of the channels. Each is as long as one block, so their number is the wire length.
-    pub wires: Share,
+    pub wires: ResourceUse,
     /// The channel with the most used wires, if any are used; the first in node order if there are
     /// several.
     pub fullest: Option<ChannelUse>,
@@ -78,25 +80,25 @@ pub(crate) fn figures_of(
     ensures tracks { result.tracks ≡ window.now.arch.tracks }
     ensures iterations { result.iterations ≡ iterations }
 {
-    let _count = window.count();
+    window.laws();
     let strip = window.strip();
     let tracks = window.arch().tracks;
     Figures {
-        blocks: Share {
+        blocks: ResourceUse {
             used: packed.clusters,
             there: product(strip.width, strip.rows, 1),
         },
-        pads: Share {
+        pads: ResourceUse {
             used: packed.pads,
             there: product(strip.width, 2, strip.io_rat),
         },
         nets: packed.nets,
-        wires: Share {
+        wires: ResourceUse {
             used: wires_in(held),
             there: product(strip.width, strip.rows + 1, tracks)
                 + product(strip.width + 1, strip.rows, tracks),
         },
-        fullest: fullest(held),
+        fullest: fullest_channel(held),
         tracks,
         iterations,
     }
@@ -105,9 +107,9 @@ pub(crate) fn figures_of(
 /// The product of three.
 #[tactic(auto, unfolding(crate::specs::Figures::product))]
 fn product(a: u32, b: u32, c: u32) -> u32
-    requires a { a ≤ 257 }
-    requires b { b ≤ 65 }
-    requires c { c ≤ 64 }
+    requires a { a ≤ MAX_COLUMNS + 1 }
+    requires b { b ≤ MAX_ROWS + 1 }
+    requires c { c ≤ MAX_TRACKS }
     ensures value { result ≡ product a b c }
     ensures small { result ≤ 1069120 }
 {
@@ -132,7 +134,7 @@ fn is_wire(kind: ResourceKind) -> bool
 
 /// The channel with the most of these wires. They are in node order, so those of one channel are
 /// next to each other.
-fn fullest(held: &[Resource]) -> Option<ChannelUse> {
+fn fullest_channel(held: &[Resource]) -> Option<ChannelUse> {
     let mut fullest = None;
     let mut most = 0;
     let mut wires = 0;
@@ -160,10 +162,10 @@ fn is_same_channel(one: Resource, other: Resource) -> bool {
 }
 
 /// The direction of a wire.
-fn direction_of(kind: ResourceKind) -> Option<Direction> {
+fn direction_of(kind: ResourceKind) -> Option<ChannelDirection> {
     match kind {
-        ResourceKind::ChanX => Some(Direction::Across),
-        ResourceKind::ChanY => Some(Direction::Up),
+        ResourceKind::ChanX => Some(ChannelDirection::Across),
+        ResourceKind::ChanY => Some(ChannelDirection::Up),
         ResourceKind::Opin | ResourceKind::Ipin | ResourceKind::Pad => None,
     }
 }

@@ -8,7 +8,7 @@ ghost use Rattle.one_user.specs.declared.least.DevicePlan.{DevicePlan};
 ghost use Rattle.one_user.specs.Tracks.{places_for};
 ghost use Rattle.tenant_slot.specs.SingleUser.{State};
 ghost use Rattle.one_user.specs.declared.outcome.Files.{Files};
-ghost use Rattle.one_user.specs.declared.outcome.Outcome.TheVariants.{Routed};
+ghost use Rattle.one_user.specs.declared.outcome.FlowOutcome.TheVariants.{Routed};
 ghost use Rattle.one_user.specs.Outcomes.{Task, outcome_of};
 ghost use Rattle.one_user.specs.Service.{AreTold, HasRouted};
 

@@ -1,5 +1,6 @@
 //! The least number of tracks with which a netlist is routed.
 ghost use Rattle.std.specs.Prelude.{◌≡◌, ◌↔◌, ℕ, true, IfErr, IfOk, IfSome, IsTrue};
+ghost use Rattle.arch_file.specs.declared.arch.TheConstants.{MAX_TRACKS};
 ghost use Rattle.arch_file.specs.Arch.{IsWithin, arch_of};
 ghost use Rattle.line_text.specs.TextErrors.{Fails};
 ghost use Rattle.one_user.specs.RoutingEnds.{IsRoutes};
@@ -7,16 +8,13 @@ ghost use Rattle.one_user.specs.Tracks.{ComesTo, HasFiguresWith, IsCrowdingWith,
 
 use crate::crowding::Crowding;
 use crate::device::{OwnDevice, Request};
-use crate::outcome::{Outcome, Run};
+use crate::outcome::{FlowOutcome, Run};
 use crate::placing::PlacedNetlist;
-use arch_file::{ArchError, read_arch};
+use arch_file::{ArchError, MAX_TRACKS, read_arch};
 use line_text::{Failed, Sink};
 use pathfinder::IterEnd;
 use std::alloc::Global;
 use text_parts::{Part, write_parts};
-
-/// The largest number of tracks of a channel.
-pub const MAX_TRACKS: u32 = 64;
 
 /// The result of the search for the least number of tracks.
 #[derive(Drop)]
@@ -41,11 +39,11 @@ pub struct DevicePlan<'a> {
     pub rows: u32,
 }
 
-/// Routes a netlist with 1 track, then with 2, and so on, until it is routed or refused. The netlist
-/// is packed and placed once for all tries, since neither depends on the tracks, and once more for
-/// the run that is returned. Writes one line for each try to `tries`, and one for each step of that
-/// run to `steps`; a line that can't be written is skipped. Fails if the architecture has a fault or
-/// memory runs out.
+/// Routes a netlist with 1 track, then with 2, and so on, until it is routed or refused. The
+/// netlist is packed and placed once for all tries, since neither depends on the tracks, and once
+/// more for the run that is returned. Writes one line for each try to `tries`, and one for each
+/// step of that run to `steps`; a line that can't be written is skipped. Fails if the architecture
+/// has a fault or memory runs out.
 pub fn least_tracks<T: Sink, S: Sink>(
     alloc: Global,
     plan: DevicePlan<'_>,
@@ -116,7 +114,7 @@ fn try_with<S: Sink>(
     steps: &mut S,
 ) -> Result<Try, ArchError>
     requires lawful { IsLawful plan request }
-    requires tracks { IsWithin 1 tracks 64 }
+    requires tracks { IsWithin 1 tracks MAX_TRACKS }
     requires placed { IfSome placed.now (IsPlacedWith plan request) }
     ensures tried { IfOk result (IsTry plan.entry request.entry tracks) }
     ensures fault { IfErr result (Fails (fault_of (arch_of plan.entry.text.now tracks))) }
@@ -126,12 +124,12 @@ fn try_with<S: Sink>(
     }
     let run = run_with(alloc, plan, tracks, request, steps)?;
     match run.outcome {
-        Outcome::Unrouted(_) => {
+        FlowOutcome::Unrouted(_) => {
             drop(run);
             Ok(Try::Unrouted)
         }
-        Outcome::Routed(_) => Ok(Try::Routed(run)),
-        Outcome::Refused(_) => Ok(Try::Refused(run)),
+        FlowOutcome::Routed(_) => Ok(Try::Routed(run)),
+        FlowOutcome::Refused(_) => Ok(Try::Refused(run)),
     }
 }
 
@@ -163,7 +161,7 @@ fn stays_unrouted(
     placed: &Option<PlacedNetlist>,
 ) -> Result<bool, ArchError>
     requires lawful { IsLawful plan request }
-    requires tracks { IsWithin 1 tracks 64 }
+    requires tracks { IsWithin 1 tracks MAX_TRACKS }
     requires placed { IfSome placed.now (IsPlacedWith plan request) }
     ensures unrouted { IfOk result (λ unrouted. unrouted ≡ true →
         StaysUnrouted plan.entry request.entry tracks) }
@@ -213,7 +211,7 @@ pub fn run_with<W: Sink>(
     teller: &mut W,
 ) -> Result<Run, ArchError>
     requires lawful { IsLawful plan request }
-    requires tracks { IsWithin 1 tracks 64 }
+    requires tracks { IsWithin 1 tracks MAX_TRACKS }
     ensures outcome { IfOk result (λ run. ComesTo plan.entry request.entry tracks run.outcome) }
     ensures figures { IfOk result (λ run.
         IfSome run.figures (HasFiguresWith plan.entry request.entry tracks)) }
@@ -236,7 +234,7 @@ pub fn crowding_with(
     request: Request<'_>,
 ) -> Result<Option<Crowding>, ArchError>
     requires lawful { IsLawful plan request }
-    requires tracks { IsWithin 1 tracks 64 }
+    requires tracks { IsWithin 1 tracks MAX_TRACKS }
     ensures crowding { IfOk result (IsCrowdingWith plan.entry request.entry tracks) }
     ensures fault { IfErr result (Fails (fault_of (arch_of plan.entry.text.now tracks))) }
 {

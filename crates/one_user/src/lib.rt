@@ -8,8 +8,8 @@
 //! - [`OwnDevice::count`] packs a netlist and counts its blocks; [`least_side`] and
 //!   [`least_columns`] return the least device that has room for them.
 //! - [`OwnDevice::crowding`] and [`crowding_with`] return where a routing that was given up is
-//!   overused: a [`Crowding`] with the most overused nodes and the nets on them; [`write_crowding`] writes
-//!   it.
+//!   overused: a [`Crowding`] with the most overused nodes and the nets on them;
+//!   [`write_crowding`] writes it.
 //! - [`least_tracks`] finds the least number of tracks with which a netlist is routed. It searches
 //!   upward, since a circuit that is routed with some number of tracks may be left unrouted with a
 //!   larger one.
@@ -41,6 +41,6 @@ pub use crowding_text::write_crowding;
 pub use device::{OwnDevice, Request};
 pub use figures::{Figures, PackedCounts};
 pub use law::{places_for_all_tracks, same_files};
-pub use least::{DevicePlan, Least, MAX_TRACKS, crowding_with, least_tracks, run_with};
-pub use outcome::{Files, Outcome, Run, Unrouted};
+pub use least::{DevicePlan, Least, crowding_with, least_tracks, run_with};
+pub use outcome::{Files, FlowOutcome, Run, Unrouted};
 pub use table::write_figures;

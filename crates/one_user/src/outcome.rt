@@ -26,7 +26,7 @@ pub struct Unrouted {
 
 /// The outcome of a netlist on a device of one user's own.
 #[derive(Drop)]
-pub enum Outcome {
+pub enum FlowOutcome {
     /// It was packed, placed and routed.
     Routed(Files),
     /// It was packed and placed, but the routing ended without routes.
@@ -38,6 +38,6 @@ pub enum Outcome {
 /// The outcome of a netlist, with what it uses of the device if it was routed.
 #[derive(Drop)]
 pub struct Run {
-    pub outcome: Outcome,
+    pub outcome: FlowOutcome,
     pub figures: Option<Figures>,
 }

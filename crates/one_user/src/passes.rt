@@ -5,9 +5,7 @@ ghost use Rattle.job_state.specs.JobValue.{pass_count};
 ghost use Rattle.strip_place.specs.Anneal.{temperature_at};
 
 use grid::Strip;
-
-/// Greater than the number of passes of any placing.
-const MAX_PASSES: u32 = 512;
+use strip_place::MAX_PASSES;
 
 /// The temperature of the next pass after `passes` passes.
 pub(crate) fn temperature_after(strip: Strip, passes: u32) -> u32

@@ -1,5 +1,6 @@
 //! A netlist that is packed and placed at one go, without a slot and its jobs.
 ghost use Rattle.std.specs.Prelude.{◌≡◌, ◌≤◌, IfOk, MatchOption, None};
+ghost use Rattle.strip_place.specs.declared.placing.TheConstants.{MAX_EFFORT};
 ghost use Rattle.blif.specs.CircuitOf.{circuit_of};
 ghost use Rattle.cluster.specs.Clusters.{packed_of, unfit_of};
 ghost use Rattle.grid.specs.Sizes.{IsStripSize};
@@ -13,13 +14,10 @@ use block_places::{Fit, fit_of};
 use cluster::{PackEnd, PackError, PackFault, Packing, SharedPacked, check};
 use grid::{Place, Strip};
 use std::alloc::{AllocError, Global};
-use strip_place::{Kept, PassEnd, Placing, laws_of_kept, laws_of_passes};
+use strip_place::{Kept, MAX_PASSES, PassEnd, Placing, laws_of_kept, laws_of_passes};
 
 /// The largest number of clusters of a packing: a circuit has no more BLEs.
 const MAX_CLUSTERS: u32 = 8192;
-
-/// Greater than the number of passes of any placing.
-const MAX_PASSES: u32 = 512;
 
 /// A packed circuit and the places of its blocks, by number.
 #[derive(Drop)]
@@ -36,7 +34,7 @@ pub(crate) fn place_netlist(
     request: Request<'_>,
 ) -> Result<Option<PlacedNetlist>, AllocError>
     requires size { IsStripSize strip }
-    requires effort { request.effort ≤ 100 }
+    requires effort { request.effort ≤ MAX_EFFORT }
     ensures { IfOk result (IsPlacingOf (record {
       arch = arch.now;
       strip = strip;
@@ -106,8 +104,8 @@ fn pack(
     requires { unfit_of circuit.now arch.now ≡ None }
     ensures { IfOk result (λ packed. packed ≡ packed_of circuit.now arch.now) }
 {
-    let _lawful = circuit.circuit();
-    let _within = arch.arch();
+    circuit.laws();
+    arch.laws();
     let mut packing = Packing::start(alloc, circuit, arch)?;
     for _made in 0..MAX_CLUSTERS {
         match packing.next() {
@@ -131,7 +129,7 @@ fn places_from(
     effort: u32,
 ) -> Result<Option<Vec<Place>>, AllocError>
     requires size { IsStripSize strip }
-    requires effort { effort ≤ 100 }
+    requires effort { effort ≤ MAX_EFFORT }
     ensures { IfOk result (λ found. MatchOption found (IsMisfit strip packed.now)
         (λ places. ArePlacesFrom strip packed.now seed effort places.items)) }
 {

@@ -6,12 +6,9 @@ ghost use Rattle.one_user.specs.RoutingEnds.{IsRoutingEnd};
 
 use cluster::Packed;
 use grid::Place;
-use pathfinder::{IterEnd, Routing};
+use pathfinder::{IterEnd, MAX_ITERATIONS, Routing};
 use rr_graph::StripGraph;
 use std::alloc::{AllocError, Global};
-
-/// The largest number of iterations of a routing.
-const MAX_ITERATIONS: u32 = 30;
 
 /// Makes all iterations of the routing of placed blocks, and returns the result of the last.
 pub(crate) fn routing_end<G: StripGraph>(

@@ -1,23 +1,24 @@
 //! The stages of a run; each hands on to the next.
 ghost use Rattle.std.specs.Prelude.{◌≡◌, ◌<◌, IfOk, IfSome, IsSome, None, OnOk, Some};
+ghost use Rattle.tenant_slot.specs.declared.slot.TheConstants.{MAX_ENTRIES};
 ghost use Rattle.tenant_slot.specs.declared.command.Command.{Command};
 ghost use Rattle.tenant_slot.specs.declared.event.Event.TheVariants.{Command as Asked};
 ghost use Rattle.tenant_slot.specs.SingleUser.{answer_to, circuit_in};
 ghost use Rattle.tenant_slot.specs.Slot.{after_event};
-ghost use Rattle.one_user.specs.declared.outcome.Outcome.{Outcome};
+ghost use Rattle.one_user.specs.declared.outcome.FlowOutcome.{FlowOutcome};
 ghost use Rattle.one_user.specs.Figures.{HasFigures};
 ghost use Rattle.one_user.specs.Outcomes.{files_of, outcome_of, task_on};
 ghost use Rattle.one_user.specs.Steps.{IsReadyToPack, IsReadyToPlace, IsReadyToRoute, IsReadyToUpload, HasFiles, IsLeft, ending_in, refusal_in, task_in, text_in};
 
 use crate::device::Request;
 use crate::figures::{PackedCounts, figures_of, packed_counts};
-use crate::outcome::{Files, Outcome, Run, Unrouted};
+use crate::outcome::{Files, FlowOutcome, Run, Unrouted};
 use crate::steps::make_steps;
 use line_text::Sink;
 use std::alloc::AllocError;
 use strips::Window;
 use tenant_slot::{
-    Command, Ending, NotServed, Refusal, Reply, SharedText, Slot, StateName, Status,
+    Command, Ending, NotAnswered, Refusal, Reply, SharedText, Slot, StateName, Status,
 };
 
 /// Loads the netlist, and then goes on to packing.
@@ -37,7 +38,7 @@ pub(crate) fn upload<W: Sink>(
 {
     let netlist = request.netlist.clone()?;
     match ask(slot, Command::Upload(netlist))? {
-        Some(refusal) => return Ok(refused(refusal)),
+        Some(refusal) => return Ok(refused_run(refusal)),
         None => {}
     }
     pack(slot, window, request, teller)
@@ -59,7 +60,7 @@ fn pack<W: Sink>(
         (task_in slot.old.state request.entry.seed request.entry.effort))) }
 {
     match ask(slot, Command::Pack)? {
-        Some(refusal) => return Ok(refused(refusal)),
+        Some(refusal) => return Ok(refused_run(refusal)),
         None => {}
     }
     let last = make_steps(slot, window, teller)?;
@@ -87,7 +88,7 @@ fn place<W: Sink>(
         effort: request.effort,
     };
     match ask(slot, command)? {
-        Some(refusal) => return Ok(refused(refusal)),
+        Some(refusal) => return Ok(refused_run(refusal)),
         None => {}
     }
     let _last = make_steps(slot, window, teller)?;
@@ -111,38 +112,38 @@ fn route<W: Sink>(
         (task_in slot.old.state slot.old.state.seed slot.old.state.effort))) }
 {
     match ask(slot, Command::Route)? {
-        Some(refusal) => return Ok(refused(refusal)),
+        Some(refusal) => return Ok(refused_run(refusal)),
         None => {}
     }
     let last = make_steps(slot, window, teller)?;
     match slot.state() {
         StateName::Routed => {
-            let figures = figures_of(window, packed, slot.routed(), last.number);
+            let figures = figures_of(window, packed, slot.routed_resources(), last.number);
             Ok(Run {
-                outcome: Outcome::Routed(files_of(slot)?),
+                outcome: FlowOutcome::Routed(files_of(slot)?),
                 figures: Some(figures),
             })
         }
         _ => Ok(Run {
-            outcome: Outcome::Unrouted(unrouted_of(slot)?),
+            outcome: FlowOutcome::Unrouted(unrouted_of(slot)?),
             figures: None,
         }),
     }
 }
 
 /// The run of a netlist that is refused.
-fn refused(refusal: Refusal) -> Run
-    ensures { result ≡ record { outcome = Outcome.Refused refusal; figures = None } }
+fn refused_run(refusal: Refusal) -> Run
+    ensures { result ≡ record { outcome = FlowOutcome.Refused refusal; figures = None } }
 {
     Run {
-        outcome: Outcome::Refused(refusal),
+        outcome: FlowOutcome::Refused(refusal),
         figures: None,
     }
 }
 
 /// Serves a command, and returns why it is refused, if it is.
 pub(crate) fn ask(slot: &mut Slot, command: Command) -> Result<Option<Refusal>, AllocError>
-    requires { slot.old.state.entries < 65536 }
+    requires { slot.old.state.entries < MAX_ENTRIES }
     ensures reply { IfOk result (λ refusal.
         refusal ≡ refusal_in (answer_to slot.old.state (Asked command)).1) }
     ensures slot { OnOk result (slot.new ≡ after_event slot.old (Asked command)) }
@@ -152,8 +153,8 @@ pub(crate) fn ask(slot: &mut Slot, command: Command) -> Result<Option<Refusal>, 
     match reply {
         Ok(Reply::Refused(refusal)) => Ok(Some(refusal)),
         Ok(_) => Ok(None),
-        Err(NotServed::NoMemory) => Err(AllocError),
-        Err(NotServed::JournalFull) => unreachable!(),
+        Err(NotAnswered::NoMemory) => Err(AllocError),
+        Err(NotAnswered::JournalFull) => unreachable!(),
     }
 }
 
@@ -174,7 +175,7 @@ fn files_of(slot: &Slot) -> Result<Files, AllocError>
 
 /// What there is of a netlist that was left without routes.
 fn unrouted_of(slot: &Slot) -> Result<Unrouted, AllocError>
-    requires room { slot.now.state.entries < 65536 }
+    requires room { slot.now.state.entries < MAX_ENTRIES }
     requires ending { IsSome (ending_in (answer_to slot.now.state (Asked Command.Status)).1) }
     requires net { IsSome (text_in (answer_to slot.now.state (Asked Command.Net)).1) }
     requires places { IsSome (text_in (answer_to slot.now.state (Asked Command.PlaceFile)).1) }
@@ -189,7 +190,7 @@ fn unrouted_of(slot: &Slot) -> Result<Unrouted, AllocError>
 
 /// The file in the reply to a command.
 fn file_of(slot: &Slot, command: Command) -> Result<SharedText, AllocError>
-    requires room { slot.now.state.entries < 65536 }
+    requires room { slot.now.state.entries < MAX_ENTRIES }
     requires file { IsSome (text_in (answer_to slot.now.state (Asked command)).1) }
     ensures { IfOk result (λ text. text_in (answer_to slot.now.state (Asked command)).1
         ≡ Some text) }
@@ -202,8 +203,8 @@ fn file_of(slot: &Slot, command: Command) -> Result<SharedText, AllocError>
             drop(answer);
             text
         }
-        Err(NotServed::NoMemory) => Err(AllocError),
-        Err(NotServed::JournalFull) => unreachable!(),
+        Err(NotAnswered::NoMemory) => Err(AllocError),
+        Err(NotAnswered::JournalFull) => unreachable!(),
     }
 }
 
@@ -220,7 +221,7 @@ fn text_in(reply: &Reply) -> Result<SharedText, AllocError>
 
 /// How the routing ended without routes.
 fn ending_of(slot: &Slot) -> Result<Ending, AllocError>
-    requires room { slot.now.state.entries < 65536 }
+    requires room { slot.now.state.entries < MAX_ENTRIES }
     requires ending { IsSome (ending_in (answer_to slot.now.state (Asked Command.Status)).1) }
     ensures { IfOk result (λ ending.
         ending_in (answer_to slot.now.state (Asked Command.Status)).1 ≡ Some ending) }
@@ -234,8 +235,8 @@ fn ending_of(slot: &Slot) -> Result<Ending, AllocError>
             drop(answer);
             ending
         }
-        Err(NotServed::NoMemory) => Err(AllocError),
-        Err(NotServed::JournalFull) => unreachable!(),
+        Err(NotAnswered::NoMemory) => Err(AllocError),
+        Err(NotAnswered::JournalFull) => unreachable!(),
     }
 }
 

@@ -1,7 +1,7 @@
 //! The steps of a job, one after another.
 ghost use Rattle.std.specs.Prelude.{◌≡◌, IfOk, Some};
 ghost use Rattle.job_state.specs.declared.sources.JobKind.{JobKind};
-ghost use Rattle.tenant_slot.specs.SingleUser.{running};
+ghost use Rattle.tenant_slot.specs.SingleUser.{kind_that_runs};
 ghost use Rattle.one_user.specs.Steps.{CanFinish, CanStep, Finishes, MakesStep};
 
 use crate::telling::tell_step;
@@ -32,7 +32,8 @@ pub(crate) fn make_steps<W: Sink>(
     teller: &mut W,
 ) -> Result<StepMade, AllocError>
     requires { CanFinish slot.old window.now }
-    ensures { IfOk result (λ made. (kind : JobKind) → running slot.old.state.name ≡ Some kind →
+    ensures { IfOk result (λ made. (kind : JobKind) → kind_that_runs slot.old.state.name
+        ≡ Some kind →
         Finishes kind slot.old made slot.new) }
 {
     for _step in 0..MAX_STEPS + 1 {
@@ -49,7 +50,8 @@ pub(crate) fn make_steps<W: Sink>(
 /// Makes the next step of the running job. If memory runs out, nothing changes.
 fn make_step(slot: &mut Slot, window: &Window<'_>) -> Result<StepMade, AllocError>
     requires { CanStep slot.old window.now }
-    ensures { IfOk result (λ made. (kind : JobKind) → running slot.old.state.name ≡ Some kind →
+    ensures { IfOk result (λ made. (kind : JobKind) → kind_that_runs slot.old.state.name
+        ≡ Some kind →
         MakesStep kind slot.old made slot.new) }
 {
     let Some(job) = slot.take() else {

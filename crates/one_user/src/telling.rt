@@ -91,7 +91,7 @@ fn tell_pass<W: Sink>(
         (pass_line number (pass_count window.now.strip)
         (temperature_at window.now.strip (number - 1)) cost) result }
 {
-    let _count = window.count();
+    window.laws();
     let strip = window.strip();
     let passes = pass_count(strip);
     let temperature = temperature_after(strip, number.saturating_sub(1));

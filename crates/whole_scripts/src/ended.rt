@@ -15,7 +15,7 @@ pub(crate) struct Ended {
 
 impl Ended {
     /// The end of a run without output and messages: its status is 0 or 1.
-    pub(crate) fn silent(alloc: Global, is_done: bool) -> Self {
+    pub(crate) fn silent_end(alloc: Global, is_done: bool) -> Self {
         Ended {
             written: Vec::new(alloc),
             told: Vec::new(alloc),

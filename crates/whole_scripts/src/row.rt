@@ -1,6 +1,6 @@
 ghost use Rattle.std.specs.Prelude.{◌≡◌, None, MatchOption};
 ghost use Rattle.line_text.specs.Decimal.{decimal_of};
-ghost use Rattle.whole_scripts.specs.Rows.{IsRow, ahead, behind};
+ghost use Rattle.whole_scripts.specs.Rows.{IsRow, ahead, text_after};
 
 use line_text::decimal_u32;
 
@@ -17,7 +17,7 @@ pub(crate) struct Row<'a> {
 
 /// Reads the row of a line: a name, a status and words. There may be no words.
 pub(crate) fn row_in(line: &str) -> Option<Row<'_>>
-    ensures { MatchOption result (decimal_of 32 (ahead (behind line.now)) ≡ None)
+    ensures { MatchOption result (decimal_of 32 (ahead (text_after line.now)) ≡ None)
         (λ row. IsRow line.now row) }
 {
     let (name, rest) = cut(line);
@@ -33,7 +33,7 @@ pub(crate) fn row_in(line: &str) -> Option<Row<'_>>
 /// The text before its first blank, and after it.
 fn cut(text: &str) -> (&str, &str)
     ensures ahead { result.0.now ≡ ahead text.now }
-    ensures behind { result.1.now ≡ behind text.now }
+    ensures behind { result.1.now ≡ text_after text.now }
 {
     match text.split_once(' ') {
         Some(parts) => parts,

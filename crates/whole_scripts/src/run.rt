@@ -27,7 +27,7 @@ where
     let ended = run_words(rt, row.name, words.as_slice());
     drop(words);
     let ended = ended?;
-    let verdict = compared(rt, row, &ended);
+    let verdict = verdict_of(rt, row, &ended);
     drop(ended);
     verdict
 }
@@ -147,7 +147,7 @@ fn compare_files<H: Files + AllocGlobal>(
     let bytes = bytes_of(rt, left)?;
     let difference = difference_from(bytes.as_slice(), bytes_of(rt, right));
     drop(bytes);
-    Ok(Ended::silent(rt.alloc(), difference?.is_none()))
+    Ok(Ended::silent_end(rt.alloc(), difference?.is_none()))
 }
 
 /// The words of a command line.
@@ -160,7 +160,7 @@ fn words<'a>(alloc: Global, text: &'a str) -> Result<Vec<&'a str>, AllocError> {
 }
 
 /// Compares the result of a row with what it must be.
-fn compared<H: Files + AllocGlobal>(
+fn verdict_of<H: Files + AllocGlobal>(
     rt: &H,
     row: Row<'_>,
     ended: &Ended,

@@ -4,7 +4,7 @@ use Rattle.cluster.specs.Clusters.{packed_of}
 use Rattle.job_state.specs.JobValue.{end_value}
 use Rattle.rr_graph.specs.Graph.{Basis}
 use Rattle.rr_graph.specs.Resources.{has}
-use Rattle.device_report.specs.declared.tenancies.Share.{Share}
+use Rattle.device_report.specs.declared.tenancies.ResourceUse.{ResourceUse}
 use Rattle.tenant_slot.specs.Results.{failure_of}
 use Rattle.tenant_slot.specs.SingleUser.{answer_to}
 use Rattle.tenant_slot.specs.Slot.{SlotState}
@@ -74,10 +74,10 @@ returns-in_ok-files_of-in-Routed-clause-figures g c =
         pads = share_of c.args.packed.pads (length counts.0.inputs + length counts.0.outputs) (product c.args.window.now.strip.width 2 c.args.window.now.strip.io_rat) (product task.strip.width 2 task.strip.io_rat)
             c.figures_of-figures.result.pads figures.pads counts.3 (ap (λ (b : Basis). product b.strip.width 2 b.strip.io_rat) device);
         nets = figures.nets ∙ counts.4;
-        held = c.routed.result.now;
-        is_held = record { order = c.routed.ensures.order; exact = λ r. c.routed.ensures.exact r ∙ ap (λ held. has held r) (routed_held task new.state routed) };
-        wires_used = ap (λ (s : Share). s.used) figures.wires;
-        wires_there = ap (λ (s : Share). s.there) figures.wires ∙ ap wires_there device;
+        held = c.routed_resources.result.now;
+        is_held = record { order = c.routed_resources.ensures.order; exact = λ r. c.routed_resources.ensures.exact r ∙ ap (λ held. has held r) (routed_held task new.state routed) };
+        wires_used = ap (λ (s : ResourceUse). s.used) figures.wires;
+        wires_there = ap (λ (s : ResourceUse). s.there) figures.wires ∙ ap wires_there device;
         tracks = figures.tracks ∙ ap (λ (b : Basis). b.arch.tracks) device;
         iterations = figures.iterations ∙ done.1;
       },

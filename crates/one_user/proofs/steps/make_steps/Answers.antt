@@ -1,6 +1,6 @@
 use Rattle.std.proofs.Common.{sym, ap, subst, ◌∙◌, arith}
 use Rattle.std.specs.Prelude.{IsSome}
-use Rattle.tenant_slot.specs.SingleUser.{running}
+use Rattle.tenant_slot.specs.SingleUser.{kind_that_runs}
 use Rattle.tenant_slot.specs.Slot.{SlotState}
 use Rattle.one_user.specs.Steps.{device_of}
 use Rattle.one_user.proofs.Running.{first_state, step_ends, step_goes_on}
@@ -12,7 +12,7 @@ loop-step-init g c = record { is = first_state c.args.slot.now c.requires.here c
 pub make_step-requires : goal.make_step-requires
 make_step-requires g c =
     record {
-      runs = subst (λ (s : SlotState). IsSome (running s.state.name)) (sym c.loop-step.invariant.is) c.requires.runs;
+      runs = subst (λ (s : SlotState). IsSome (kind_that_runs s.state.name)) (sym c.loop-step.invariant.is) c.requires.runs;
       here = ap (λ (s : SlotState). s.here) c.loop-step.invariant.is;
       room = omega (arith, ap (λ (s : SlotState). s.state.entries) c.loop-step.invariant.is, c.loop-step.invariant.few, c.requires.room);
       window = c.requires.window ∙ ap (λ (s : SlotState). device_of s.state) (sym c.loop-step.invariant.is);

@@ -1,6 +1,6 @@
 use Rattle.std.proofs.Common.{ap, subst, ◌∙◌}
 use Rattle.rr_graph.specs.Graph.{Basis}
-use Rattle.one_user.specs.Crowding.{AreTold}
+use Rattle.one_user.specs.Crowding.{AreCrowdedNodes}
 use Rattle.one_user.proofs.Bases.{same_basis}
 use Rattle.one_user.proofs.device.OwnDevice.crowding_by.Goals as goal
 
@@ -9,4 +9,4 @@ returns-in-Ok-clause-nodes c =
     let own = c.args.self.now in
     let arch = c.in-Some.ensures.arch ∙ ap (λ (b : Basis). b.arch) c.self.invariant.0 ∙ ap (λ (b : Basis). b.arch) c.self.view_is in
     let strip = c.in-Some.ensures.strip ∙ ap (λ (b : Basis). b.strip) c.self.view_is in
-    subst (λ (b : Basis). AreTold b c.args.routing.now.trees 10 c.in_ok-overused.nodes.items) (same_basis c.in-Some.window own arch strip) c.in_ok-overused.ensures.nodes
+    subst (λ (b : Basis). AreCrowdedNodes b c.args.routing.now.trees 10 c.in_ok-overused.nodes.items) (same_basis c.in-Some.window own arch strip) c.in_ok-overused.ensures.nodes

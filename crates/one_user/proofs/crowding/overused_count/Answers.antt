@@ -1,8 +1,8 @@
 use Rattle.std.proofs.Common.{arith, ◌∙◌}
 use Rattle.pathfinder.proofs.Overuses.{counts_none, counts_one}
 use Rattle.one_user.specs.Crowding.{over_of}
-use Rattle.one_user.proofs.crowding.overused.Goals as goal
-use Rattle.one_user.proofs.crowding.overused.Goals.{then-overs-node-gt0, else-overs-node-gt0}
+use Rattle.one_user.proofs.crowding.overused_count.Goals as goal
+use Rattle.one_user.proofs.crowding.overused_count.Goals.{then-overs-node-gt0, else-overs-node-gt0}
 
 pub loop-node-preserved : goal.loop-node-preserved
 loop-node-preserved c =

@@ -1,5 +1,5 @@
 use Rattle.std.proofs.Common.{◌≤◌}
-use Rattle.one_user.proofs.figures.fullest.Given as goal
+use Rattle.one_user.proofs.figures.fullest_channel.Given as goal
 
 abbrev pub invariant-loop-number : goal.invariant-loop-number
 invariant-loop-number l = l.wires ≤ l.number

@@ -1,10 +1,10 @@
 use Rattle.std.proofs.Common.{◌<◌}
 use Rattle.std.specs.Prelude.{IfSome}
-use Rattle.one_user.specs.Crowding.{IsNextTold, over_of}
-use Rattle.one_user.proofs.crowding.next_told.Given as goal
+use Rattle.one_user.specs.Crowding.{IsNextMostOverused, over_of}
+use Rattle.one_user.proofs.crowding.next_most_overused.Given as goal
 
 abbrev pub invariant-loop-node : goal.invariant-loop-node
 invariant-loop-node l = record {
-  is_next : IsNextTold (over_of l.overs) l.node l.last l.next;
+  is_next : IsNextMostOverused (over_of l.overs) l.node l.last l.next;
   within : IfSome l.next (λ next. next < l.node);
 }

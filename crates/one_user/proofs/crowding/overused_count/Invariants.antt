@@ -1,7 +1,7 @@
 use Rattle.std.proofs.Common.{◌≡◌, ◌≤◌}
 use Rattle.pathfinder.specs.Overuse.{count_over}
 use Rattle.one_user.specs.Crowding.{over_of}
-use Rattle.one_user.proofs.crowding.overused.Given as goal
+use Rattle.one_user.proofs.crowding.overused_count.Given as goal
 
 abbrev pub invariant-loop-node : goal.invariant-loop-node
 invariant-loop-node l = record {

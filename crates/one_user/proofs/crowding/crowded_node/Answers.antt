@@ -2,7 +2,7 @@ use Rattle.std.proofs.Common.{arith}
 use Rattle.pathfinder.specs.Negotiation.{GaveUp}
 use Rattle.pathfinder.specs.PlacedNets.{wiring_of}
 use Rattle.one_user.proofs.Told.{long_at}
-use Rattle.one_user.proofs.crowding.told.Goals as goal
+use Rattle.one_user.proofs.crowding.crowded_node.Goals as goal
 
 pub bounds-occupancies-number : goal.bounds-occupancies-number
 bounds-occupancies-number g c = omega (arith, c.requires.number, c.occupancies.ensures.long, long_at (wiring_of (g.G.StripGraph.basis c.args.graph.now)) c.args.routing.now GaveUp c.requires.after)

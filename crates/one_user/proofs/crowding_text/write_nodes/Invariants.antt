@@ -1,0 +1,10 @@
+use Rattle.std.proofs.Common.{take}
+use Rattle.std.specs.List.{flat_map}
+use Rattle.line_text.specs.Writing.{TakesAll}
+use Rattle.one_user.specs.CrowdingText.{crowded_line}
+use Rattle.one_user.proofs.crowding_text.write_nodes.Given as goal
+
+-- the lines before this one are written
+abbrev pub invariant-loop-crowded : goal.invariant-loop-crowded
+invariant-loop-crowded g l =
+    TakesAll g.W.Sink.contents g.W.Sink.has_failed l.initial.sink l.sink (flat_map (crowded_line l.crowding.packed l.crowding.rows) (take l.crowded-index l.nodes))
