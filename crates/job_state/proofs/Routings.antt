@@ -7,7 +7,7 @@ use Rattle.cluster.specs.Blocks.{block_nets}
 use Rattle.cluster.specs.Clusters.{packed_of}
 use Rattle.pathfinder.specs.Negotiation.{Routed as RoutedTrees, Standing, More, Done, GaveUp as GivenUp, NoPath as WithoutPath, routed_after}
 use Rattle.pathfinder.specs.PlacedNets.{nets_to_route, wiring_of}
-use Rattle.pathfinder.specs.Routings.{told_by_node}
+use Rattle.pathfinder.specs.Routings.{routes_by_node}
 use Rattle.pathfinder.specs.Wiring.{Net}
 use Rattle.rr_graph.specs.Graph.{Basis, graph_of}
 use Rattle.rr_graph.specs.declared.resource.Resource.{Resource}
@@ -28,7 +28,7 @@ module _ (basis : Basis) (pads : List Resource) (nets : List Net) (steps : ℕ) 
   routed_stands : (standing : Standing) (made : RoutedCircuit) → routing_stands basis pads nets steps routed standing ≡ Routed made → (length made.routes ≡ length routed.trees) × (made.basis ≡ basis)
   routed_stands More made is = absurd (cc)
   routed_stands Done made is =
-      let same : record { basis = basis; routes = told_by_node (graph_of basis) routed.trees; pads = pads } ≡ made = cc in
+      let same : record { basis = basis; routes = routes_by_node (graph_of basis) routed.trees; pads = pads } ≡ made = cc in
       (ap (λ (other : RoutedCircuit). length other.routes) (sym same) ∙ length-map routed.trees _, ap (λ (other : RoutedCircuit). other.basis) (sym same))
   routed_stands GivenUp made is = absurd (cc)
   routed_stands (WithoutPath net) made is = absurd (cc)

@@ -1,5 +1,6 @@
 -- When a job may begin.
 use Rattle.std.specs.Prelude.{◌≡◌, ◌≤◌, true, false, None, Ok}
+use Rattle.strip_place.specs.declared.placing.TheConstants.{MAX_EFFORT}
 use Rattle.blif.specs.declared.circuit.Circuit.{Circuit}
 use Rattle.cluster.specs.Clusters.{PackedCircuit, unfit_of}
 use Rattle.block_places.specs.Fits.{fit_of}
@@ -28,7 +29,7 @@ pub record CanPlace (sources : Sources) (packing : JobState) : Type 0 where
   pub size : IsStripSize sources.strip
   pub fit : (packed : PackedCircuit) → end_value packing.step.sources ≡ Ok (Packed packed) → fit_of sources.strip packed ≡ Fits
   pub kept : AreKeptOn sources.strip sources.kept
-  pub effort : sources.effort ≤ 100
+  pub effort : sources.effort ≤ MAX_EFFORT
 
 -- a routing of what that finished placing of the same netlist, kept places, seed and effort has
 -- made

@@ -1,5 +1,6 @@
 -- Private: what a job carries, and that this is the job's value.
 use Rattle.std.specs.Prelude.{ℕ, ◌≡◌, ◌+◌, ◌-◌, ◌<◌, ◌≤◌, Bool, true, false, Ok, if◌then◌else◌}
+use Rattle.blif.specs.declared.circuit.TheConstants.{MAX_NETS}
 use Rattle.job_state.specs.declared.step.JobStep.{JobStep}
 use Rattle.job_state.specs.declared.sources.Sources.{Sources}
 use Rattle.job_state.specs.declared.work.Work.{Work}
@@ -13,7 +14,7 @@ steps_made step made = if made then step.number else step.number - 1
 -- the job is over after at most 8,192 steps: a circuit has no more BLEs, a placing no more passes,
 -- and a routing no more iterations
 abbrev pub HasFewSteps : Sources → Type 0
-HasFewSteps sources = (steps : ℕ) × (steps ≤ 8192) × (is_last sources steps ≡ true)
+HasFewSteps sources = (steps : ℕ) × (steps ≤ MAX_NETS) × (is_last sources steps ≡ true)
 
 -- the job wasn't over after fewer steps
 abbrev pub IsNotOverBefore : Sources → ℕ → Type 0

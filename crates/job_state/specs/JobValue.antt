@@ -10,7 +10,7 @@ use Rattle.grid.specs.declared.Strip.{Strip}
 use Rattle.kept_places.specs.Kept.{KeptPlaces}
 use Rattle.pathfinder.specs.Negotiation.{Routed as RoutedTrees, Standing, More, Done, GaveUp as GivenUp, NoPath as WithoutPath, routed_after}
 use Rattle.pathfinder.specs.PlacedNets.{nets_to_route, wiring_of}
-use Rattle.pathfinder.specs.Routings.{told_by_node}
+use Rattle.pathfinder.specs.Routings.{routes_by_node}
 use Rattle.pathfinder.specs.Wiring.{Net}
 use Rattle.rr_graph.specs.Graph.{Basis, graph_of}
 use Rattle.rr_graph.specs.declared.resource.Resource.{Resource}
@@ -66,7 +66,7 @@ pads_in sources circuit = pads_of (packed_of circuit sources.arch) (places_by_bl
 -- gives them by node
 abbrev pub routing_stands : Basis → List Resource → List Net → ℕ → RoutedTrees → Standing → Work
 routing_stands basis pads nets iterations routed More = Routing (record { basis = basis; pads = pads; state = record { nets = nets; iterations = iterations; trees = routed.trees; history = routed.history } })
-routing_stands basis pads nets iterations routed Done = Routed (record { basis = basis; routes = told_by_node (graph_of basis) routed.trees; pads = pads })
+routing_stands basis pads nets iterations routed Done = Routed (record { basis = basis; routes = routes_by_node (graph_of basis) routed.trees; pads = pads })
 routing_stands basis pads nets iterations routed GivenUp = GaveUp
 routing_stands basis pads nets iterations routed (WithoutPath net) = NoPath net
 

@@ -10,9 +10,9 @@ abbrev pub before_last : PackedCircuit → PackingUnderWay
 before_last packed = record { circuit = packed.circuit; arch = packed.arch; made = packing_steps packed.circuit packed.arch - 1 }
 
 -- the packing that counts as made: clusters that are not shared yet don't count
-abbrev pub counted : Made → PackingUnderWay
-counted (Growing packing) = packing
-counted (Whole packed) = before_last packed
+abbrev pub packing_made : Made → PackingUnderWay
+packing_made (Growing packing) = packing
+packing_made (Whole packed) = before_last packed
 
 -- all clusters are the circuit's
 abbrev pub IsExact : Made → Type 0

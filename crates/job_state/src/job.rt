@@ -1,6 +1,6 @@
 //! A job that is out of its slot: before its step, after it, and without it.
-ghost use Rattle.std.specs.Prelude.{◌≡◌, ◌↔◌, ◌≤◌, IfSome, IsTrue, Ok, is_some, true};
-ghost use Rattle.strips.specs.Windows.{is_on_device};
+ghost use Rattle.std.specs.Prelude.{◌≡◌, ◌↔◌, ◌≤◌, IsTrue, Ok, true};
+ghost use Rattle.blif.specs.declared.circuit.TheConstants.{MAX_NETS};
 ghost use Rattle.job_state.specs.Job.{Steps, next_step};
 ghost use Rattle.job_state.specs.declared.work.Work.{Work};
 ghost use Rattle.job_state.specs.JobValue.{basis_in, is_last, job_value, step_count};
@@ -13,7 +13,6 @@ use crate::step::JobStep;
 use crate::work::Work;
 use rr_graph::StripGraph;
 use std::marker::Model;
-use strips::{DeviceGraph, Window};
 
 /// A job with a step to make. It must be spent. Its value is the step, and whether the step was
 /// made already, by a [`Done`] that couldn't be put.
@@ -93,36 +92,20 @@ impl AnyJob {
         &self.step.sources
     }
 
-    /// Returns whether the window is that of a strip of the job's size, on a device of its
-    /// architecture. Takes no memory.
-    pub fn fits(&self, window: &Window<'_>) -> bool
-        ensures { IsTrue result ↔ (window.now ≡ basis_in self.now.step.sources) }
+    /// Returns whether the graph is that of a strip of the job's size, with its architecture. Takes
+    /// no memory.
+    pub fn fits<G: StripGraph>(&self, graph: &G) -> bool
+        ensures { IsTrue result ↔ (G.basis graph.now ≡ basis_in self.now.step.sources) }
     {
         let sources = &self.step.sources;
-        sources.strip == window.strip() && same_arch(sources.arch.arch(), window.arch())
+        sources.strip == graph.strip() && same_arch(sources.arch.arch(), graph.arch())
     }
 
-    /// Returns the window for its step, with the strip at that offset; `None` if the device is not
-    /// of the job's architecture or doesn't have the strip there. Takes no memory.
-    pub fn window<'g>(&self, graph: &'g DeviceGraph, offset: u32) -> Option<Window<'g>>
-        ensures fits { IfSome result (λ window. window ≡ basis_in self.now.step.sources) }
-        ensures there { IsTrue (is_some result) ↔
-            ((graph.now.arch ≡ self.now.step.sources.arch)
-            × (is_on_device graph.now.strip self.now.step.sources.strip offset ≡ true)) }
-    {
-        let window = Window::new(graph, offset, self.step.sources.strip)?;
-        if self.fits(&window) {
-            Some(window)
-        } else {
-            None
-        }
-    }
-
-    /// Makes the step; a routing's step works on its strip's graph, which it sees through the
-    /// window. If memory runs out, the job comes back as it was. A placing's step takes no memory,
-    /// and a step that was made already is returned at once.
-    pub fn step(self, window: &Window<'_>) -> Result<Done, Back>
-        requires { window.now ≡ basis_in self.step.sources }
+    /// Makes the step; a routing's step works on its strip's graph. If memory runs out, the job
+    /// comes back as it was. A placing's step takes no memory, and a step that was made already is
+    /// returned at once.
+    pub fn step<G: StripGraph>(self, graph: &G) -> Result<Done, Back>
+        requires { G.basis graph.now ≡ basis_in self.step.sources }
         ensures { Steps self result }
     {
         let AnyJob {
@@ -134,7 +117,7 @@ impl AnyJob {
             return Ok(Done { step, work });
         }
         let before = Box::replace(&mut work, Work::GaveUp);
-        match before.next(window) {
+        match before.next(graph) {
             Ok(after) => {
                 drop(Box::replace(&mut work, after));
                 Ok(Done { step, work })
@@ -197,7 +180,7 @@ impl Done {
         requires { G.basis graph.now ≡ basis_in self.now.sources }
         ensures made { (work : Work) × (job_value self.now.sources self.now.number ≡ Ok work)
             × IsProgress work result }
-        ensures few { self.now.number ≤ 8192 }
+        ensures few { self.now.number ≤ MAX_NETS }
         ensures last { is_last self.now.sources self.now.number ≡ true →
             self.now.number ≡ step_count self.now.sources }
     {

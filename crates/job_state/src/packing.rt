@@ -33,11 +33,11 @@ pub(crate) struct PackingJob {
 
 impl Model for PackingJob {
     ghost use Rattle.cluster.specs.Clusters.{PackingUnderWay};
-    ghost use Rattle.job_state.specs.Unshared.{counted, IsExact};
+    ghost use Rattle.job_state.specs.Unshared.{packing_made, IsExact};
 
     ghost Value = { PackingUnderWay };
 
-    ghost view = { λ p. counted p.made };
+    ghost view = { λ p. packing_made p.made };
 
     ghost invariant = { λ p. IsExact p.made };
 }
@@ -58,8 +58,8 @@ impl PackingJob {
         ensures { IsProgress (Work.Packing self.now) result }
     {
         match &self.made {
-            Made::Growing(packing) => counted(packing.circuit().circuit()),
-            Made::Whole(packed) => counted(packed.circuit()),
+            Made::Growing(packing) => progress_of(packing.circuit().circuit()),
+            Made::Whole(packed) => progress_of(packed.circuit()),
         }
     }
 
@@ -73,16 +73,16 @@ impl PackingJob {
         match made {
             Made::Growing(packing) => match packing.next() {
                 Ok(PackEnd::More(packing)) => Ok(Work::Packing(PackingJob::new(alloc, packing))),
-                Ok(PackEnd::Last(packed)) => shared(alloc, packed),
+                Ok(PackEnd::Last(packed)) => share_packing(alloc, packed),
                 Err(packing) => Err(PackingJob::new(alloc, packing)),
             },
-            Made::Whole(packed) => shared(alloc, packed),
+            Made::Whole(packed) => share_packing(alloc, packed),
         }
     }
 }
 
 /// The numbers of tables and latches of a circuit, as progress.
-fn counted(circuit: &Circuit) -> Progress
+fn progress_of(circuit: &Circuit) -> Progress
     ensures { result ≡ Progress.Packing (length circuit.now.tables) (length circuit.now.latches) }
 {
     Progress::Packing {
@@ -92,7 +92,7 @@ fn counted(circuit: &Circuit) -> Progress
 }
 
 /// Shares a whole packing. If memory runs out, it counts as the packing before its last step.
-fn shared(alloc: Global, packed: Packed) -> Result<Work, PackingJob>
+fn share_packing(alloc: Global, packed: Packed) -> Result<Work, PackingJob>
     requires { packed ≡ packed_of packed.circuit packed.arch }
     ensures whole { IfOk result (λ work. work ≡ Work.Packed packed) }
     ensures back { IfErr result (λ back. back ≡ before_last packed) }

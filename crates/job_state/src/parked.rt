@@ -1,5 +1,6 @@
 //! A job as its slot keeps it.
 ghost use Rattle.std.specs.Prelude.{◌≡◌, ◌≤◌, All, AllPairs, IfOk, Ok, false, true};
+ghost use Rattle.blif.specs.declared.circuit.TheConstants.{MAX_NETS};
 ghost use Rattle.cluster.specs.Clusters.{packed_of, packing_steps};
 ghost use Rattle.job_state.specs.declared.sources.JobKind.{JobKind};
 ghost use Rattle.job_state.specs.declared.work.Work.{Work};
@@ -255,8 +256,8 @@ fn routing_of(alloc: Global, sources: &Sources, placing: &Parked) -> Result<Rout
 /// has at most 8,192 BLEs.
 #[tactic(auto, using(crate::proofs::FewSteps::few_steps))]
 fn packs_in_few_steps(circuit: &SharedCircuit, arch: &SharedArch)
-    ensures { packing_steps circuit.now arch.now ≤ 8192 }
+    ensures { packing_steps circuit.now arch.now ≤ MAX_NETS }
 {
-    let _circuit = circuit.circuit();
-    let _arch = arch.arch();
+    circuit.laws();
+    arch.laws();
 }

@@ -52,7 +52,7 @@ impl Model for Listed {
 
 impl Routed {
     /// Adds the list of what it occupies. If memory runs out, the circuit comes back.
-    pub(crate) fn listed(self) -> Result<Listed, Routed>
+    pub(crate) fn with_list(self) -> Result<Listed, Routed>
         ensures ok { IfOk result (λ listed. listed ≡ self) }
         ensures err { IfErr result (λ back. back ≡ self) }
     {

@@ -12,7 +12,7 @@ ghost use Rattle.job_state.specs.UnderWay.{GoesOn};
 
 use crate::routed::Routed;
 use crate::stage::Stage;
-use crate::work::{Work, ended};
+use crate::work::{Work, list_routed};
 use arch_file::SharedArch;
 use grid::Strip;
 use pathfinder::{IterEnd, Overuse, Routes};
@@ -114,7 +114,7 @@ impl RoutingJob {
                 pads,
                 Stage::Going(routing),
             ))),
-            Ok(IterEnd::Done(routes)) => ended(routed_on(alloc, arch, strip, pads, routes)),
+            Ok(IterEnd::Done(routes)) => list_routed(routed_on(alloc, arch, strip, pads, routes)),
             Ok(IterEnd::GaveUp(routing)) => {
                 drop((arch, pads, routing));
                 Ok(Work::GaveUp)

@@ -54,9 +54,9 @@ impl Work {
                 Ok(work) => Ok(work),
                 Err(packing) => Err(Work::Packing(packing)),
             },
-            Work::Placing(placing) => Ok(passed(placing)),
+            Work::Placing(placing) => Ok(make_pass(placing)),
             Work::Routing(routing) => routing.next(graph),
-            Work::Unlisted(routed) => ended(routed),
+            Work::Unlisted(routed) => list_routed(routed),
             Work::Packed(_) | Work::Placed(_) | Work::Routed(_) | Work::GaveUp | Work::NoPath(_) =>
                 unreachable!(),
         }
@@ -104,7 +104,7 @@ fn packed_progress(packed: &Packed) -> Progress
 }
 
 /// Returns the placing after one more pass. Takes no memory.
-fn passed(mut placing: Placing) -> Work
+fn make_pass(mut placing: Placing) -> Work
     ensures { result ≡ placing_stands (one_more placing) }
 {
     match placing.pass() {
@@ -114,11 +114,11 @@ fn passed(mut placing: Placing) -> Work
 }
 
 /// Lists what a routing with routes occupies. If memory runs out, the routes come back unlisted.
-pub(crate) fn ended(routed: Routed) -> Result<Work, Work>
+pub(crate) fn list_routed(routed: Routed) -> Result<Work, Work>
     ensures made { IfOk result (λ work. work ≡ Work.Routed routed) }
     ensures back { IfErr result (λ work. work ≡ Work.Unlisted routed) }
 {
-    match routed.listed() {
+    match routed.with_list() {
         Ok(listed) => Ok(Work::Routed(listed)),
         Err(routed) => Err(Work::Unlisted(routed)),
     }

@@ -6,7 +6,7 @@ use Rattle.tenant_slot.specs.declared.reply.Reply.{Reply}
 use Rattle.tenant_slot.specs.SingleUser.{State, run}
 use Rattle.service_core.specs.declared.device.Device.{Device}
 use Rattle.service_core.specs.History.{History, state_of}
-use Rattle.service_core.specs.Service.{ServiceState, empty, history_of, strip_on}
+use Rattle.service_core.specs.Service.{ServiceState, empty_service, history_of, strip_on}
 use Rattle.service_core.specs.Run.{Call, Run}
 use Rattle.service_core.specs.OwnEvents.{own_events, own_replies}
 use Rattle.service_core.specs.Headline.{AreAlike, AreToldTheSame, BothHave, HaveSameStrip}
@@ -21,7 +21,7 @@ same_run device other h g events same alike is =
     ap (λ es. run device.arch (strip_on device h.strip.width) es) is
     ∙ (ap (λ strip. run device.arch strip same) (same_strip device other h g alike) ∙ ap (λ arch. run arch (strip_on other g.strip.width) same) alike.arch)
 
-pub told_the_same : (device other : Device) (calls other_calls : List Call) (state other_state : ServiceState) (id other_id : ℕ) → Run (empty device) calls state → Run (empty other) other_calls other_state →
+pub told_the_same : (device other : Device) (calls other_calls : List Call) (state other_state : ServiceState) (id other_id : ℕ) → Run (empty_service device) calls state → Run (empty_service other) other_calls other_state →
     HaveSameStrip device state id other other_state other_id → own_events id calls ≡ own_events other_id other_calls → AreToldTheSame state id calls other_state other_id other_calls
 told_the_same device other calls other_calls state other_state id other_id run_one run_other alike asked =
     by_both (history_of state.histories id) (history_of other_state.histories other_id) alike (each_alone device calls state run_one id) (each_alone other other_calls other_state run_other other_id)

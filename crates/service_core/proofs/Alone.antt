@@ -21,8 +21,8 @@ use Rattle.service_core.specs.declared.entry.Entry.{Entry}
 use Rattle.service_core.specs.declared.not_served.NotServed.TheVariants.{NoMemory, JournalFull, NoSuchTenancy}
 use Rattle.service_core.specs.declared.put_reply.PutReply.TheVariants.{Recorded, Full, Gone}
 use Rattle.service_core.specs.History.{History, events_of, state_of, with_entry, with_here}
-use Rattle.service_core.specs.Tenancy.{closed}
-use Rattle.service_core.specs.Service.{AreAlone, IsAloneOn, ServiceState, admitted, empty, entries_in, history_of, journal_of, live_of, modified, strip_on, with_tenancy}
+use Rattle.service_core.specs.Tenancy.{closed_history}
+use Rattle.service_core.specs.Service.{AreAlone, IsAloneOn, ServiceState, admitted_history, empty_service, entries_in, history_of, journal_of, live_of, with_changed, strip_on, with_tenancy}
 use Rattle.service_core.specs.Kept.{with_entry_of, with_here_of}
 use Rattle.service_core.proofs.MovedStrips.{same_histories}
 use Rattle.service_core.specs.Run.{Call, Admit, Evict, GiveBack, Happens, Move, Owners, Put, Run, Take, Tenant, IsGivenBackTo, IsStepOf, step_entry, step_event}
@@ -36,7 +36,7 @@ use Rattle.service_core.proofs.Effects.{Admitted, Effect, Entered, Evicted, IsNe
 -- the journals after each call
 journal_of-with_tenancy : (s : ServiceState) (width offset id : ℕ) → journal_of (with_tenancy s width offset) id ≡ journal_of s id
 journal_of-with_tenancy s width offset id =
-    let h : History = admitted s.device (length s.histories + 1) width in
+    let h : History = admitted_history s.device (length s.histories + 1) width in
     let past : id ≡ length s.histories + 1 → history_of s.histories id ≡ None = λ is. history_of-past s.histories id (omega arith) in
     grind (arith, nat_tests, history_of-push s.histories h id, past)
 
@@ -44,7 +44,7 @@ entries_in-kept : (change : History → History) → ((h : History) → (change 
 entries_in-kept change keeps None = refl
 entries_in-kept change keeps (Some h) = keeps h
 
-journal-kept : (hs : List History) (t id : ℕ) (change : History → History) → ((h : History) → (change h).entries ≡ h.entries) → entries_in (history_of (modified hs t change) id) ≡ entries_in (history_of hs id)
+journal-kept : (hs : List History) (t id : ℕ) (change : History → History) → ((h : History) → (change h).entries ≡ h.entries) → entries_in (history_of (with_changed hs t change) id) ≡ entries_in (history_of hs id)
 journal-kept hs t id change keeps = grind (arith, nat_tests, history_of-modified hs t id change, entries_in-kept change keeps (history_of hs id))
 
 journal_of-other : (s : ServiceState) (t id : ℕ) (e : Entry) → eqb t id ≡ false → journal_of (with_entry_of s t e) id ≡ journal_of s id
@@ -150,7 +150,7 @@ given first old job new id (Some h) is = turned first old new job.step.id id is.
 exchanged : (first : State) (old : ServiceState) (call : Call) (new : ServiceState) (id : ℕ) → Happens old call new → AreAlone old → HasFirst first old id → Exchanged first old new id (own_exchange id call)
 exchanged first old (Admit width (Ok given)) new id happens alone_all has = same_journal first old new id (rw happens.3 (journal_of-with_tenancy old width given.1 id))
 exchanged first old (Admit width (Err refusal)) new id happens alone_all has = unchanged first old new id happens.1
-exchanged first old (Evict t (Ok nothing)) new id happens alone_all has = same_journal first old new id (rw happens.1 (journal-kept old.histories t id closed (λ h. refl)))
+exchanged first old (Evict t (Ok nothing)) new id happens alone_all has = same_journal first old new id (rw happens.1 (journal-kept old.histories t id closed_history (λ h. refl)))
 exchanged first old (Evict t (Err refusal)) new id happens alone_all has = unchanged first old new id happens.2
 exchanged first old (Move t offset answer) new id happens alone_all has = same_journal first old new id (ap (λ hs. entries_in (history_of hs id)) (same_histories old t offset answer new happens))
 exchanged first old (Tenant t command (Ok r)) new id happens alone_all has =
@@ -175,7 +175,7 @@ first_in-change : (first : State) (change : History → History) → ((h : Histo
 first_in-change first change keeps None has = has
 first_in-change first change keeps (Some h) has = sym (keeps h) ∙ has
 
-modified_back : (first : State) (hs : List History) (t id : ℕ) (change : History → History) → ((h : History) → first_of (change h) ≡ first_of h) → IfSome (history_of (modified hs t change) id) (λ h. first_of h ≡ first) → IfSome (history_of hs id) (λ h. first_of h ≡ first)
+modified_back : (first : State) (hs : List History) (t id : ℕ) (change : History → History) → ((h : History) → first_of (change h) ≡ first_of h) → IfSome (history_of (with_changed hs t change) id) (λ h. first_of h ≡ first) → IfSome (history_of hs id) (λ h. first_of h ≡ first)
 modified_back first hs t id change keeps has =
     elim (eqb id t) as (λ b. IfSome (if b then option_map change (history_of hs id) else history_of hs id) (λ h. first_of h ≡ first) → IfSome (history_of hs id) (λ h. first_of h ≡ first)) [
       | true ↦ λ changed. first_in-change first change keeps (history_of hs id) changed
@@ -191,8 +191,8 @@ pushed_back first hs h id has = by_id (eqb id (length hs + 1)) refl (rw (history
 
 back : (first : State) (old new : ServiceState) (id : ℕ) → Effect old new → HasFirst first new id → HasFirst first old id
 back first old new id (Nothing same) has = rw same at has
-back first old new id (Admitted width offset can fits is) has = pushed_back first old.histories (admitted old.device (length old.histories + 1) width) id (rw is at has)
-back first old new id (Evicted t is) has = modified_back first old.histories t id closed (λ h. refl) (rw is at has)
+back first old new id (Admitted width offset can fits is) has = pushed_back first old.histories (admitted_history old.device (length old.histories + 1) width) id (rw is at has)
+back first old new id (Evicted t is) has = modified_back first old.histories t id closed_history (λ h. refl) (rw is at has)
 back first old new id (Moved t offset parted is) has = rw is at has
 back first old new id (Entered t e h next is) has = modified_back first old.histories t id (with_entry e) (λ h. refl) (rw is at has)
 back first old new id (Turned t here is) has = modified_back first old.histories t id (with_here here) (λ h. refl) (rw is at has)
@@ -226,32 +226,32 @@ run_exchanged first old (call ∷ calls) new id run was has =
 first_on : (device : Device) (h : History) → IsAloneOn device h → first_of h ≡ start device.arch (strip_on device h.strip.width)
 first_on device h is = rw is.arch (ap (λ (strip : Strip). start device.arch strip) is.strip)
 
-pub each_alone : (device : Device) (calls : List Call) (state : ServiceState) → Run (empty device) calls state → EachIsAlone device calls state
+pub each_alone : (device : Device) (calls : List Call) (state : ServiceState) → Run (empty_service device) calls state → EachIsAlone device calls state
 each_alone device calls state runs id = by_history (history_of state.histories id) refl
   where
     by_history : (o : Option History) → history_of state.histories id ≡ o → IfSome o (λ h. (state_of h, own_replies id calls) ≡ run device.arch (strip_on device h.strip.width) (own_events id calls))
     by_history None e = tt
     by_history (Some h) e =
-        let its : Exchanged (first_of h) (empty device) state id (own_exchanges id calls) = run_exchanged (first_of h) (empty device) calls state id runs (IsService-empty device) (rw e refl) in
+        let its : Exchanged (first_of h) (empty_service device) state id (own_exchanges id calls) = run_exchanged (first_of h) (empty_service device) calls state id runs (IsService-empty device) (rw e refl) in
         let after : state_of h ≡ state_after (first_of h) (own_events id calls) = rw e at its.state in
         let answers : own_replies id calls ≡ replies_to (first_of h) (own_events id calls) = its.replies in
-        let kept : Kept state = run_keeps (empty device) calls state runs (IsService-empty device) in
-        let on : IsAloneOn device h = rw (run_device (empty device) calls state runs) at (All-history_of (IsAloneOn state.device) state.histories id h e kept.alone) in
+        let kept : Kept state = run_keeps (empty_service device) calls state runs (IsService-empty device) in
+        let on : IsAloneOn device h = rw (run_device (empty_service device) calls state runs) at (All-history_of (IsAloneOn state.device) state.histories id h e kept.alone) in
         let first : first_of h ≡ start device.arch (strip_on device h.strip.width) = first_on device h on in
         rw (after, answers, first) refl
 
 -- each journal has the tenancy's events with their replies, as far as they were recorded
-pub own_journals : (device : Device) (calls : List Call) (state : ServiceState) → Run (empty device) calls state → AreOwnJournals calls state
+pub own_journals : (device : Device) (calls : List Call) (state : ServiceState) → Run (empty_service device) calls state → AreOwnJournals calls state
 own_journals device calls state runs id = by_history (history_of state.histories id) refl
   where
     by_history : (o : Option History) → history_of state.histories id ≡ o → IfSome o (λ h. map (λ entry. (entry.event, Some entry.reply)) h.entries ≡ filter (λ exchange. is_some exchange.1) (own_exchanges id calls))
     by_history None e = tt
     by_history (Some h) e =
-        let its : Exchanged (first_of h) (empty device) state id (own_exchanges id calls) = run_exchanged (first_of h) (empty device) calls state id runs (IsService-empty device) (rw e refl) in
+        let its : Exchanged (first_of h) (empty_service device) state id (own_exchanges id calls) = run_exchanged (first_of h) (empty_service device) calls state id runs (IsService-empty device) (rw e refl) in
         ap (λ o. recorded (entries_in o)) (sym e) ∙ its.journal
 
 -- a live tenancy is in the state that its own events result in alone
-pub state_alone : (device : Device) (calls : List Call) (state : ServiceState) (id : ℕ) (h : History) → Run (empty device) calls state → live_of state.histories id ≡ Some h →
+pub state_alone : (device : Device) (calls : List Call) (state : ServiceState) (id : ℕ) (h : History) → Run (empty_service device) calls state → live_of state.histories id ≡ Some h →
     state_of h ≡ (run device.arch (strip_on device h.strip.width) (own_events id calls)).0
 state_alone device calls state id h runs live =
     let here : history_of state.histories id ≡ Some h = if_live_some (history_of state.histories id) h live in
@@ -263,7 +263,7 @@ state_alone device calls state id h runs live =
 abbrev HoldsAt : ServiceState → ℕ → Resource → State → Type 0
 HoldsAt state id resource s = IsSomeAnd (offset_of state.plan.strips id) (λ offset. has (map (moved_resource offset) (routed_set s)) resource ≡ true)
 
-pub is_book : (device : Device) (calls : List Call) (state : ServiceState) → Run (empty device) calls state → IsBook device calls state
+pub is_book : (device : Device) (calls : List Call) (state : ServiceState) → Run (empty_service device) calls state → IsBook device calls state
 is_book device calls state runs resource id = by_live (live_of state.histories id) refl
   where
     by_live : (o : Option History) → live_of state.histories id ≡ o → IsSomeAnd o (λ h. HoldsAt state id resource (state_of h)) ↔ IsSomeAnd o (λ h. HoldsAt state id resource (run device.arch (strip_on device h.strip.width) (own_events id calls)).0)

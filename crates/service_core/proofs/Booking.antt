@@ -12,9 +12,9 @@ use Rattle.grid.specs.declared.Strip.{Strip}
 use Rattle.rr_graph.specs.declared.resource.Resource.{Resource}
 use Rattle.rr_graph.specs.Resources.{has, is_there, moved_resource}
 use Rattle.strips.specs.declared.placed_strip.PlacedStrip.{PlacedStrip}
-use Rattle.strips.specs.Plan.{IsParted, offset_of, strip_of, without}
+use Rattle.strips.specs.Plan.{IsParted, offset_of, strip_of, strips_without}
 use Rattle.device_book.specs.declared.book.Owned.{Owned}
-use Rattle.device_book.specs.Owners.{AreOwned, IsFree, ListsOwners, Owners, Releases, StandIn, extent_of, nobody, owner_of}
+use Rattle.device_book.specs.Owners.{AreOwned, IsFree, ListsOwners, Owners, Releases, StandIn, extent_of, no_owners, owner_of}
 use Rattle.job_state.specs.declared.step.JobStep.{JobStep}
 use Rattle.job_state.specs.Job.{JobState}
 use Rattle.tenant_slot.specs.declared.command.Command.{Command}
@@ -23,18 +23,18 @@ use Rattle.tenant_slot.specs.declared.reply.Reply.{Reply}
 use Rattle.tenant_slot.specs.declared.reply.Reply.TheVariants.{Accepted, Status as InState, File, Refused, Step}
 use Rattle.tenant_slot.specs.declared.reply.StepReply.{StepReply}
 use Rattle.tenant_slot.specs.declared.reply.StepReply.TheVariants.{Advanced, Finished, Stale}
-use Rattle.tenant_slot.specs.declared.not_served.NotServed.{NotServed}
-use Rattle.tenant_slot.specs.declared.not_served.NotServed.TheVariants.{NoMemory, JournalFull}
+use Rattle.tenant_slot.specs.declared.not_served.NotAnswered.{NotAnswered}
+use Rattle.tenant_slot.specs.declared.not_served.NotAnswered.TheVariants.{NoMemory, JournalFull}
 use Rattle.tenant_slot.specs.RoutedSet.{routed_set}
 use Rattle.tenant_slot.specs.SingleUser.{State, start, step}
 use Rattle.service_core.specs.declared.device.Device.{Device}
 use Rattle.service_core.specs.declared.entry.Entry.{Entry}
 use Rattle.service_core.specs.History.{History, state_of, with_entry, with_here}
 use Rattle.service_core.specs.Headline.{AreParted}
-use Rattle.service_core.specs.Service.{AreAlone, IsAloneOn, ServiceState, admitted, history_of, live_of, live_width, modified, placed_width, strip_on}
+use Rattle.service_core.specs.Service.{AreAlone, IsAloneOn, ServiceState, admitted_history, history_of, live_of, live_width, with_changed, placed_width, strip_on}
 use Rattle.service_core.specs.Run.{step_entry}
 use Rattle.service_core.specs.Owners.{HasOneOwner, ListsOwnersOf}
-use Rattle.service_core.specs.Tenancy.{GivesHistoryBack, GivesUp, GivesUpOrKeeps, PutsHistory, ServesHistory, StandsIn, TakesHistory, closed, if_live}
+use Rattle.service_core.specs.Tenancy.{GivesHistoryBack, GivesUp, GivesUpOrKeeps, PutsHistory, ServesHistory, StandsIn, TakesHistory, closed_history, if_live}
 use Rattle.service_core.specs.Kept.{AreFree, IsDevice, IsLiveIn, IsSound, KeepsBook, TakesUp, held_at}
 use Rattle.service_core.proofs.Lists.{All-history_of}
 use Rattle.service_core.proofs.Histories.{state_after-push}
@@ -53,7 +53,7 @@ keeps_same : (book : Owners) (device : Device) (strips after : List PlacedStrip)
 keeps_same book device strips after hs new same was = record { extent = was.extent; exact = exact_same book (owned_in strips hs) (owned_in after new) same was.exact }
 
 -- a new device
-pub sound_empty : (device : Device) → IsDevice device → IsSound (nobody (extent_of device.arch device.columns device.rows)) device [] []
+pub sound_empty : (device : Device) → IsDevice device → IsSound (no_owners (extent_of device.arch device.columns device.rows)) device [] []
 sound_empty device lawful = record {
   lawful = lawful;
   kept = IsService-empty device;
@@ -62,7 +62,7 @@ sound_empty device lawful = record {
 
 -- an admission
 pub sound_admitted : (book : Owners) (device : Device) (strips : List PlacedStrip) (hs : List History) (width offset : ℕ) → IsSound book device strips hs → length hs < 65535 →
-    IsSound book device (strips ++ record { id = length hs + 1; offset = offset; width = width } ∷ []) (hs ++ admitted device (length hs + 1) width ∷ [])
+    IsSound book device (strips ++ record { id = length hs + 1; offset = offset; width = width } ∷ []) (hs ++ admitted_history device (length hs + 1) width ∷ [])
 sound_admitted book device strips hs width offset was few = record {
   lawful = was.lawful;
   kept = IsService-admitted device strips hs width offset was.kept few;
@@ -72,7 +72,7 @@ sound_admitted book device strips hs width offset was few = record {
 -- a take, and a job that is given back
 turned : (book : Owners) (device : Device) (strips : List PlacedStrip) (hs : List History) (id : ℕ) (old new : History) (here : Option Bool) → KeepsBook book (state_on device strips hs) → IsLiveIn hs id → old ≡ get_or hs (id - 1) old → new ≡ with_here here old → KeepsBook book (state_on device strips (set hs (id - 1) new))
 turned book device strips hs id old new here was live is changes =
-    subst (λ xs. KeepsBook book (state_on device strips xs)) (sym (set-live hs id old (with_here here) new live is changes)) (keeps_same book device strips strips hs (modified hs id (with_here here)) (same_owned strips hs id (with_here here) (λ h found. (refl, refl))) was)
+    subst (λ xs. KeepsBook book (state_on device strips xs)) (sym (set-live hs id old (with_here here) new live is changes)) (keeps_same book device strips strips hs (with_changed hs id (with_here here)) (same_owned strips hs id (with_here here) (λ h found. (refl, refl))) was)
 
 stayed : (book : Owners) (device : Device) (strips : List PlacedStrip) (hs : List History) (id : ℕ) (old new : History) → KeepsBook book (state_on device strips hs) → old ≡ get_or hs (id - 1) old → new ≡ old → KeepsBook book (state_on device strips (set hs (id - 1) new))
 stayed book device strips hs id old new was is same = subst (λ xs. KeepsBook book (state_on device strips xs)) (sym (set-kept hs id old new is same)) was
@@ -120,12 +120,12 @@ module _ (book left : Owners) (device : Device) (strips : List PlacedStrip) (hs 
   }
 
 -- a command
-served_live : (old : History) (command : Command) (answer : Result (Command × Reply) NotServed) (new : History) → ServesHistory old command answer new → new.live ≡ old.live
+served_live : (old : History) (command : Command) (answer : Result (Command × Reply) NotAnswered) (new : History) → ServesHistory old command answer new → new.live ≡ old.live
 served_live old command (Ok told) new served = ap (λ (h : History). h.live) served.2
 served_live old command (Err JournalFull) new served = ap (λ (h : History). h.live) served.1
 served_live old command (Err NoMemory) new served = ap (λ (h : History). h.live) served.1
 
-pub sound_served : (book left : Owners) (device : Device) (strips : List PlacedStrip) (hs : List History) (id offset : ℕ) (old : History) (command : Command) (answer : Result (Command × Reply) NotServed) (new : History) →
+pub sound_served : (book left : Owners) (device : Device) (strips : List PlacedStrip) (hs : List History) (id offset : ℕ) (old : History) (command : Command) (answer : Result (Command × Reply) NotAnswered) (new : History) →
     IsSound book device strips hs → IsLiveIn hs id → old ≡ get_or hs (id - 1) old → offset_of strips id ≡ Some offset → old.live ≡ true → ServesHistory old command answer new → GivesUpOrKeeps book offset old left new →
     IsSound left device strips (set hs (id - 1) new)
 sound_served book left device strips hs id offset old command answer new was live is at is_live served held = record {
@@ -188,13 +188,13 @@ sound_back book device strips hs id old done back new was live is put = record {
 
 -- an eviction
 pub sound_evicted : (book left : Owners) (device : Device) (strips : List PlacedStrip) (hs : List History) (id offset : ℕ) (old : History) →
-    IsSound book device strips hs → IsLiveIn hs id → old ≡ get_or hs (id - 1) old → offset_of strips id ≡ Some offset → Releases book (held_at offset old) left → IsSound left device (without strips id) (modified hs id closed)
+    IsSound book device strips hs → IsLiveIn hs id → old ≡ get_or hs (id - 1) old → offset_of strips id ≡ Some offset → Releases book (held_at offset old) left → IsSound left device (strips_without strips id) (with_changed hs id closed_history)
 sound_evicted book left device strips hs id offset old was live is at released = record {
   lawful = was.lawful;
   kept = IsService-evicted device strips hs id was.kept;
   book = record {
     extent = released.0 ∙ was.book.extent;
-    exact = exact_released book left (owned_in strips hs) (owned_in (without strips id) (modified hs id closed)) id
+    exact = exact_released book left (owned_in strips hs) (owned_in (strips_without strips id) (with_changed hs id closed_history)) id
         (subst (λ xs. AreOwned book xs None left) (sym (own_owned strips hs id offset old at (live_is hs id old live is))) released) (evicted_owned strips hs id) (λ k differ. evicted_other strips hs id k differ) was.book.exact;
   };
 }
@@ -291,7 +291,7 @@ has_offset strips hs id h linked live = by_strip (strip_of strips id) refl
 -- a live tenancy has a history
 pub live_some : (device : Device) (hs : List History) (id : ℕ) → IsLiveIn hs id → (h : History) × (live_of hs id ≡ Some h)
 live_some device hs id live =
-    let d : History = admitted device 0 0 in
+    let d : History = admitted_history device 0 0 in
     let h : History = get_or hs (id - 1) d in
     (h, ap (λ o. if_live o) (live.history d) ∙ ap (λ b. if b then Some h else None) (live.flag d))
 

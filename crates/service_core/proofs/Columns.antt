@@ -28,13 +28,13 @@ use Rattle.rr_graph.specs.Graph.{graph_of, make_node, nodes_of}
 use Rattle.rr_graph.specs.Resources.{has, resource_of}
 use Rattle.strip_place.specs.Anneal.{PlacingUnderWay, placed_after, places_by_block, temperature_at}
 use Rattle.strip_place.specs.Keeping.{kind_for}
-use Rattle.strip_place.specs.Pass.{Draw, after_draw, after_move, cost_of, drawn, exchanged, is_kept, pass_of}
+use Rattle.strip_place.specs.Pass.{Draw, after_draw, after_move, cost_of, drawn_place, place_after, is_kept, pass_of}
 use Rattle.block_places.specs.Placed.{block_at, is_same_place, place_of}
 use Rattle.strip_place.specs.Start.{kept_by_block, place_for, placed_behind, placed_first, places_at_start}
 use Rattle.strip_place.specs.Task.{Task, task_of}
 use Rattle.pathfinder.specs.Negotiation.{Tree, Standing, More, Done, GaveUp as GivenUp, NoPath as WithoutPath, Routed as RoutedTrees, routed_after}
 use Rattle.pathfinder.specs.PlacedNets.{wiring_of}
-use Rattle.pathfinder.specs.Routings.{told_by_node}
+use Rattle.pathfinder.specs.Routings.{routes_by_node}
 use Rattle.pathfinder.specs.Wiring.{Net}
 use Rattle.job_state.specs.declared.sources.Sources.{Sources}
 use Rattle.kept_places.specs.Kept.{KeptPlaces, kept_place}
@@ -88,10 +88,10 @@ module _ (strip : Strip) where
   chosen false true target home place t h low = h
   chosen false false target home place t h low = low
 
-  exchanged_in : (home target : Place) (places : List Place) → Stands home → Stands target → All Stands places → All Stands (map (exchanged home target) places)
+  exchanged_in : (home target : Place) (places : List Place) → Stands home → Stands target → All Stands places → All Stands (map (place_after home target) places)
   exchanged_in home target [] h t all = All-nil Stands
   exchanged_in home target (place ∷ places) h t all =
-      All-cons Stands (exchanged home target place) (map (exchanged home target) places) (chosen (is_same_place place home) (is_same_place place target) target home place t h (All-head Stands place places all)) (exchanged_in home target places h t (All-tail Stands place places all))
+      All-cons Stands (place_after home target place) (map (place_after home target) places) (chosen (is_same_place place home) (is_same_place place target) target home place t h (All-head Stands place places all)) (exchanged_in home target places h t (All-tail Stands place places all))
 
   draw_in : (task : Task) (temperature : ℕ) (draw : Draw) (places : List Place) → All Stands places → All Stands (after_draw strip task temperature draw places)
   unfolding after_draw
@@ -101,7 +101,7 @@ module _ (strip : Strip) where
       moved =
           let block = draw.u % length task.kinds in
           let kind = get_or task.kinds block Logic in
-          exchanged_in (place_of places block) (drawn strip kind draw.v) places (placed_in places block all) (placed_in (places_of strip kind) (draw.v % length (places_of strip kind)) (places_in kind)) all
+          exchanged_in (place_of places block) (drawn_place strip kind draw.v) places (placed_in places block all) (placed_in (places_of strip kind) (draw.v % length (places_of strip kind)) (places_in kind)) all
 
       by : (b : Bool) → All Stands (cond b (after_move strip task draw places) places)
       by true = moved
@@ -203,13 +203,13 @@ module _ (strip : Strip) where
   on_tree_in arch [] = All-nil IsIn
   on_tree_in arch (path ∷ tree) = All-append IsIn (on_path (map (graph_of (record { arch = arch; strip = strip })).node path)) (on_tree (map (λ path. map (graph_of (record { arch = arch; strip = strip })).node path) tree)) (on_path_in arch path) (on_tree_in arch tree)
 
-  on_trees_in : (arch : Arch) (trees : List Tree) → All IsIn (on_trees (told_by_node (graph_of (record { arch = arch; strip = strip })) trees))
+  on_trees_in : (arch : Arch) (trees : List Tree) → All IsIn (on_trees (routes_by_node (graph_of (record { arch = arch; strip = strip })) trees))
   on_trees_in arch [] = All-nil IsIn
-  on_trees_in arch (tree ∷ trees) = All-append IsIn (on_tree (map (λ path. map (graph_of (record { arch = arch; strip = strip })).node path) tree)) (on_trees (told_by_node (graph_of (record { arch = arch; strip = strip })) trees)) (on_tree_in arch tree) (on_trees_in arch trees)
+  on_trees_in arch (tree ∷ trees) = All-append IsIn (on_tree (map (λ path. map (graph_of (record { arch = arch; strip = strip })).node path) tree)) (on_trees (routes_by_node (graph_of (record { arch = arch; strip = strip })) trees)) (on_tree_in arch tree) (on_trees_in arch trees)
 
   standing_in : (arch : Arch) (pads : List Resource) (nets : List Net) (steps : ℕ) (routed : RoutedTrees) (standing : Standing) → All IsIn pads → All IsIn (held_at_end (Ok (routing_stands (record { arch = arch; strip = strip }) pads nets steps routed standing)))
   standing_in arch pads nets steps routed More all = All-nil IsIn
-  standing_in arch pads nets steps routed Done all = All-append IsIn (on_trees (told_by_node (graph_of (record { arch = arch; strip = strip })) routed.trees)) pads (on_trees_in arch routed.trees) all
+  standing_in arch pads nets steps routed Done all = All-append IsIn (on_trees (routes_by_node (graph_of (record { arch = arch; strip = strip })) routed.trees)) pads (on_trees_in arch routed.trees) all
   standing_in arch pads nets steps routed GivenUp all = All-nil IsIn
   standing_in arch pads nets steps routed (WithoutPath net) all = All-nil IsIn
 

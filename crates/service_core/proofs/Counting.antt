@@ -13,13 +13,13 @@ use Rattle.tenant_slot.specs.declared.reply.Reply.TheVariants.{Step}
 use Rattle.tenant_slot.specs.declared.reply.StepReply.{StepReply}
 use Rattle.tenant_slot.specs.declared.reply.StepReply.TheVariants.{Advanced, Finished, Stale}
 use Rattle.tenant_slot.specs.Slot.{IsAdvanceOf, next_job, running_sources}
-use Rattle.tenant_slot.specs.SingleUser.{State, advance, answer_to, finished, go_on, is_next, running, sources_of, step}
+use Rattle.tenant_slot.specs.SingleUser.{State, advance, answer_to, state_at_end, go_on, is_next, kind_that_runs, sources_of, step}
 use Rattle.tenant_slot.proofs.Runs.{step-room, step-served}
 use Rattle.tenant_slot.proofs.Leading.{advanced}
 use Rattle.service_core.specs.declared.device.Device.{Device}
 use Rattle.service_core.specs.declared.put_reply.PutReply.TheVariants.{Recorded}
 use Rattle.service_core.specs.History.{History, slot_of, state_of}
-use Rattle.service_core.specs.Service.{ServiceState, empty, history_of, live_of}
+use Rattle.service_core.specs.Service.{ServiceState, empty_service, history_of, live_of}
 use Rattle.service_core.specs.Calls.{IsNextStep, IsPut}
 use Rattle.service_core.specs.Run.{Call, Run, IsStepOf, step_event}
 use Rattle.service_core.specs.Headline.{Counts}
@@ -99,12 +99,12 @@ reply_in-either true x y = refl
 reply_in-either false x y = refl
 
 go_on_reply : (state : State) (kind : JobKind) → reply_in (go_on state kind) ≡ (if is_last (sources_of state kind) (state.steps + 1) then Step Finished else Step Advanced)
-go_on_reply state kind = reply_in-either (is_last (sources_of state kind) (state.steps + 1)) (Some (finished state kind), Step Finished) (Some (advanced state), Step Advanced)
+go_on_reply state kind = reply_in-either (is_last (sources_of state kind) (state.steps + 1)) (Some (state_at_end state kind), Step Finished) (Some (advanced state), Step Advanced)
 
-counts : (id : ℕ) (state : State) (done : JobStep) (made : Advance) (reply : StepReply) → IsAdvanceOf state done made → id ≡ done.id → (advance state made (running state.name)).1 ≡ Step reply → Counts reply (next_in id state (running_sources state) ≡ Some done)
-counts id state done made reply said its_id told = by_running (running state.name) refl
+counts : (id : ℕ) (state : State) (done : JobStep) (made : Advance) (reply : StepReply) → IsAdvanceOf state done made → id ≡ done.id → (advance state made (kind_that_runs state.name)).1 ≡ Step reply → Counts reply (next_in id state (running_sources state) ≡ Some done)
+counts id state done made reply said its_id told = by_running (kind_that_runs state.name) refl
   where
-    by_running : (o : Option JobKind) → running state.name ≡ o → Counts reply (next_in id state (running_sources state) ≡ Some done)
+    by_running : (o : Option JobKind) → kind_that_runs state.name ≡ o → Counts reply (next_in id state (running_sources state) ≡ Some done)
     by_running None e =
         let none : running_sources state ≡ None = ap (option_map (sources_of state)) e in
         stale_counts reply (next_in id state (running_sources state) ≡ Some done) (λ next. let some : running_sources state ≡ Some done.sources = (same_step id state (running_sources state) done next).made_from in cc) (rw e at told)
@@ -123,11 +123,11 @@ counts id state done made reply said its_id told = by_running (running state.nam
             cc) gives
 
 -- a step of a live tenancy
-pub are_believed : (device : Device) (calls : List Call) (old new : ServiceState) (done : JobStep) (foreign : Bool) (reply : StepReply) → Run (empty device) calls old → IsPut old done foreign (Ok (Recorded reply)) new → Counts reply (IsNextStep old done)
+pub are_believed : (device : Device) (calls : List Call) (old new : ServiceState) (done : JobStep) (foreign : Bool) (reply : StepReply) → Run (empty_service device) calls old → IsPut old done foreign (Ok (Recorded reply)) new → Counts reply (IsNextStep old done)
 are_believed device calls old new done foreign reply run put = by_live (live_of old.histories done.id) refl put.0
   where
     kept : Kept old
-    kept = run_keeps (empty device) calls old run (IsService-empty device)
+    kept = run_keeps (empty_service device) calls old run (IsService-empty device)
 
     by_live : (o : Option History) → live_of old.histories done.id ≡ o → IsSomeAnd o (λ h. IsStepOf h done foreign reply) → Counts reply (IsSomeAnd o (λ h. next_job (slot_of h) ≡ Some done))
     by_live None e never = absurd never

@@ -13,8 +13,8 @@ use Rattle.service_core.specs.declared.not_served.NoteCause.TheVariants as cause
 use Rattle.service_core.specs.declared.not_served.NotServed.TheVariants.{NoMemory, JournalFull, NoSuchTenancy}
 use Rattle.service_core.specs.declared.put_reply.PutReply.TheVariants.{Recorded, Full, Gone}
 use Rattle.service_core.specs.History.{History}
-use Rattle.service_core.specs.Tenancy.{closed}
-use Rattle.service_core.specs.Service.{admitted, empty, history_of, live_of, modified, strip_on, with_tenancy, without_tenancy}
+use Rattle.service_core.specs.Tenancy.{closed_history}
+use Rattle.service_core.specs.Service.{admitted_history, empty_service, history_of, live_of, with_changed, strip_on, with_tenancy, without_tenancy}
 use Rattle.service_core.specs.Run.{Call, Admit, Evict, GiveBack, Owners, Put, Take, Tenant, step_event}
 use Rattle.service_core.specs.OwnEvents.{own_events, own_replies}
 
@@ -29,19 +29,19 @@ second_history first second = refl
 no_history_at_zero : (first second : History) → history_of (first ∷ second ∷ []) 0 ≡ None
 no_history_at_zero first second = refl
 
-one_closed : (device : Device) → live_of (modified (admitted device 1 4 ∷ admitted device 2 3 ∷ []) 2 closed) 2 ≡ None
+one_closed : (device : Device) → live_of (with_changed (admitted_history device 1 4 ∷ admitted_history device 2 3 ∷ []) 2 closed_history) 2 ≡ None
 one_closed device = refl
 
-other_live : (device : Device) → live_of (modified (admitted device 1 4 ∷ admitted device 2 3 ∷ []) 2 closed) 1 ≡ Some (admitted device 1 4)
+other_live : (device : Device) → live_of (with_changed (admitted_history device 1 4 ∷ admitted_history device 2 3 ∷ []) 2 closed_history) 1 ≡ Some (admitted_history device 1 4)
 other_live device = refl
 
 -- two tenancies are admitted, and the first is evicted: its id is not given again
 admitted_and_evicted : (device : Device) →
-    (without_tenancy (with_tenancy (with_tenancy (empty device) 4 0) 4 5) 1)
+    (without_tenancy (with_tenancy (with_tenancy (empty_service device) 4 0) 4 5) 1)
     ≡ record {
       device = device;
       plan = record { columns = device.columns; strips = record { id = 2; offset = 5; width = 4 } ∷ [] };
-      histories = closed (admitted device 1 4) ∷ admitted device 2 4 ∷ [];
+      histories = closed_history (admitted_history device 1 4) ∷ admitted_history device 2 4 ∷ [];
     }
 admitted_and_evicted device = refl
 

@@ -29,7 +29,7 @@ use Rattle.tenant_slot.specs.declared.reply.StepReply.{StepReply}
 use Rattle.tenant_slot.specs.declared.reply.StepReply.TheVariants.{Advanced, Finished, Stale}
 use Rattle.tenant_slot.specs.Results.{failure_of}
 use Rattle.tenant_slot.specs.RoutedSet.{held_in, routed_set}
-use Rattle.tenant_slot.specs.SingleUser.{State, advance, after, answer_to, at_rest, circuit_in, finished, go_on, is_lawful, is_next, keeping, loaded, misfit_of, pack_unless, place_unless, risen, routed_unless, running, serve, sources_of, start, state_after, step}
+use Rattle.tenant_slot.specs.SingleUser.{State, advance, after_reply, answer_to, at_rest, circuit_in, state_at_end, go_on, is_lawful, is_next, with_kept_places, with_netlist, misfit_of, pack_unless, place_unless, next_generation, routed_unless, kind_that_runs, serve, sources_of, start, state_after, step}
 use Rattle.tenant_slot.proofs.Leading.{advanced, begun, begun_placing, emptied, load, net, pack, placing, stopped}
 use Rattle.tenant_slot.proofs.Runs.{step-room, step-served}
 
@@ -39,7 +39,7 @@ unfolding routed_set
 nothing_in state name is nothing = ap (λ n. held_in n state) is ∙ nothing
 
 -- nor does a state in which a job runs
-running_holds : (name : StateName) (kind : JobKind) (state : State) → running name ≡ Some kind → held_in name state ≡ []
+running_holds : (name : StateName) (kind : JobKind) (state : State) → kind_that_runs name ≡ Some kind → held_in name state ≡ []
 running_holds Packing kind state runs = refl
 running_holds Placing kind state runs = refl
 running_holds Routing kind state runs = refl
@@ -51,7 +51,7 @@ running_holds Unrouted kind state runs = refl
 running_holds Routed kind state runs = absurd (none-some kind runs)
 
 -- nor does the state to which a job that is given up returns
-rest_holds : (name : StateName) (state : State) → is_some (running name) ≡ true → held_in (at_rest name) state ≡ []
+rest_holds : (name : StateName) (state : State) → is_some (kind_that_runs name) ≡ true → held_in (at_rest name) state ≡ []
 rest_holds Packing state runs = refl
 rest_holds Placing state runs = refl
 rest_holds Routing state runs = refl
@@ -78,10 +78,10 @@ entries_hold : (state : State) (entries : ℕ) → routed_set (record state { en
 unfolding routed_set
 entries_hold state entries = entries_in state.name state entries
 
-after_none : (state : State) → routed_set (after state None) ≡ routed_set state
+after_none : (state : State) → routed_set (after_reply state None) ≡ routed_set state
 after_none state = entries_hold state (state.entries + 1)
 
-after_some : (state new : State) → routed_set (after state (Some new)) ≡ routed_set new
+after_some : (state new : State) → routed_set (after_reply state (Some new)) ≡ routed_set new
 after_some state new = entries_hold new (state.entries + 1)
 
 -- on the same strip
@@ -100,7 +100,7 @@ abbrev Answered : State → Option State × Reply → Type 0
 Answered state answer = OnlyAccepted state answer.0 answer.1
 
 load_changes : (state from : State) (text : List ℕ) (circuit : Result Circuit BlifFault) → from.arch ≡ state.arch → from.strip ≡ state.strip → Answered state (load from text circuit)
-load_changes state from text (Ok circuit) arch strip = (record { arch_is = arch; strip_is = strip }, nothing_in (loaded from text) Loaded refl refl)
+load_changes state from text (Ok circuit) arch strip = (record { arch_is = arch; strip_is = strip }, nothing_in (with_netlist from text) Loaded refl refl)
 load_changes state from text (Err fault) arch strip = tt
 
 pack_changes : (state : State) (circuit : Result Circuit BlifFault) → Answered state (pack state circuit)
@@ -129,7 +129,7 @@ net_changes state (Err fault) = tt
 
 serve_changes : (state : State) (command : Command) → is_lawful state.name command ≡ true → Answered state (serve state command)
 serve_changes state (Upload text) lawful = load_changes state state text (circuit_of text state.arch.lut_size) refl refl
-serve_changes state (Change text) lawful = load_changes state (keeping (risen state)) text (circuit_of text state.arch.lut_size) refl refl
+serve_changes state (Change text) lawful = load_changes state (with_kept_places (next_generation state)) text (circuit_of text state.arch.lut_size) refl refl
 serve_changes state Pack lawful = pack_changes state (circuit_in state)
 serve_changes state (Place seed effort) lawful = place_changes state seed effort (circuit_in state)
 serve_changes state Route lawful = (record { arch_is = refl; strip_is = refl }, nothing_in (begun state Routing) Routing refl refl)
@@ -157,7 +157,7 @@ StepChanges state change reply = ⊥
 abbrev Stepping : State → Option State × Reply → Type 0
 Stepping state answer = StepChanges state answer.0 answer.1
 
-finished_stays : (state : State) (kind : JobKind) → IsOnStrip state.arch state.strip (finished state kind)
+finished_stays : (state : State) (kind : JobKind) → IsOnStrip state.arch state.strip (state_at_end state kind)
 finished_stays state PackingJob = record { arch_is = refl; strip_is = refl }
 finished_stays state PlacingJob = record { arch_is = refl; strip_is = refl }
 finished_stays state RoutingJob = ended (failure_of (end_value (sources_of state RoutingJob)))
@@ -167,17 +167,17 @@ finished_stays state RoutingJob = ended (failure_of (end_value (sources_of state
     ended (Some failure) = record { arch_is = refl; strip_is = refl }
 
 step_changes : (state : State) (made : Advance) → Stepping state (answer_to state (Stepped made))
-step_changes state made = by_running (running state.name) refl
+step_changes state made = by_running (kind_that_runs state.name) refl
   where
-    by_last : (kind : JobKind) → running state.name ≡ Some kind → (b : Bool) → Stepping state (if b then (Some (finished state kind), Step Finished) else (Some (advanced state), Step Advanced))
+    by_last : (kind : JobKind) → kind_that_runs state.name ≡ Some kind → (b : Bool) → Stepping state (if b then (Some (state_at_end state kind), Step Finished) else (Some (advanced state), Step Advanced))
     by_last kind e true = (finished_stays state kind, nothing_in state state.name refl (running_holds state.name kind state e))
     by_last kind e false = (record { arch_is = refl; strip_is = refl }, nothing_in (advanced state) state.name refl (running_holds state.name kind (advanced state) e) ∙ sym (nothing_in state state.name refl (running_holds state.name kind state e)))
 
-    by_next : (kind : JobKind) → running state.name ≡ Some kind → (b : Bool) → Stepping state (if b then go_on state kind else (None, Step Stale))
+    by_next : (kind : JobKind) → kind_that_runs state.name ≡ Some kind → (b : Bool) → Stepping state (if b then go_on state kind else (None, Step Stale))
     by_next kind e true = by_last kind e (is_last (sources_of state kind) (state.steps + 1))
     by_next kind e false = tt
 
-    by_running : (o : Option JobKind) → running state.name ≡ o → Stepping state (advance state made o)
+    by_running : (o : Option JobKind) → kind_that_runs state.name ≡ o → Stepping state (advance state made o)
     by_running None e = tt
     by_running (Some kind) e = by_next kind e (is_next state made)
 
@@ -186,7 +186,7 @@ abbrev pub HeldAfter : State → State → Reply → Type 0
 HeldAfter old new (Accepted name) = routed_set new ≡ []
 HeldAfter old new reply = routed_set new ≡ routed_set old
 
-held_after : (state : State) (change : Option State) (reply : Reply) → OnlyAccepted state change reply → HeldAfter state (after state change) reply
+held_after : (state : State) (change : Option State) (reply : Reply) → OnlyAccepted state change reply → HeldAfter state (after_reply state change) reply
 held_after state None (Accepted name) is = absurd is
 held_after state None (InState status) is = after_none state
 held_after state None (File kind text) is = after_none state
@@ -201,11 +201,11 @@ held_after state (Some new) (Step reply) is = absurd is
 -- an event that has a reply
 record Gives (state : State) (event : Event) (told : Reply) : Type 0 where
   reply : (answer_to state event).1 ≡ told
-  state_is : (step state event).0 ≡ after state (answer_to state event).0
+  state_is : (step state event).0 ≡ after_reply state (answer_to state event).0
 
 gives : (state : State) (event : Event) (reply : Reply) → (step state event).1 ≡ Some reply → Gives state event reply
 gives state event reply told =
-    let same : step state event ≡ (after state (answer_to state event).0, Some (answer_to state event).1) = step-room state event (step-served state event reply told).1 in
+    let same : step state event ≡ (after_reply state (answer_to state event).0, Some (answer_to state event).1) = step-room state event (step-served state event reply told).1 in
     record {
       reply = same_Some _ _ (sym (ap (λ (p : State × Option Reply). p.1) same) ∙ told);
       state_is = ap (λ (p : State × Option Reply). p.0) same;
@@ -215,17 +215,17 @@ pub command_held : (state : State) (command : Command) (reply : Reply) → (step
 command_held state command reply told =
     let given = gives state (Asked command) reply told in
     subst (λ new. HeldAfter state new reply) (sym given.state_is)
-    (subst (HeldAfter state (after state (answer_to state (Asked command)).0)) given.reply (held_after state (answer_to state (Asked command)).0 (answer_to state (Asked command)).1 (command_changes state command)))
+    (subst (HeldAfter state (after_reply state (answer_to state (Asked command)).0)) given.reply (held_after state (answer_to state (Asked command)).0 (answer_to state (Asked command)).1 (command_changes state command)))
 
 -- after a step it occupies what it did before, unless that was nothing and its job is finished
 abbrev pub StepHeld : State → State → StepReply → Type 0
 StepHeld old new Finished = routed_set old ≡ []
 StepHeld old new reply = routed_set new ≡ routed_set old
 
-step_held_after : (state : State) (change : Option State) (told : Reply) (reply : StepReply) → told ≡ Step reply → StepChanges state change told → StepHeld state (after state change) reply
+step_held_after : (state : State) (change : Option State) (told : Reply) (reply : StepReply) → told ≡ Step reply → StepChanges state change told → StepHeld state (after_reply state change) reply
 step_held_after state change told reply is changes = by_parts change reply (subst (StepChanges state change) is changes)
   where
-    by_parts : (change : Option State) (reply : StepReply) → StepChanges state change (Step reply) → StepHeld state (after state change) reply
+    by_parts : (change : Option State) (reply : StepReply) → StepChanges state change (Step reply) → StepHeld state (after_reply state change) reply
     by_parts None Stale is = after_none state
     by_parts None Advanced is = absurd is
     by_parts None Finished is = absurd is
@@ -265,12 +265,12 @@ answer_stays : (state : State) (event : Event) → Stays state (answer_to state 
 answer_stays state (Asked command) = command_stays state (answer_to state (Asked command)).0 (answer_to state (Asked command)).1 (command_changes state command)
 answer_stays state (Stepped made) = step_stays state (answer_to state (Stepped made)).0 (answer_to state (Stepped made)).1 (step_changes state made)
 
-after_stays : (state : State) (change : Option State) → Stays state change → IsOnStrip state.arch state.strip (after state change)
+after_stays : (state : State) (change : Option State) → Stays state change → IsOnStrip state.arch state.strip (after_reply state change)
 after_stays state None is = record { arch_is = refl; strip_is = refl }
 after_stays state (Some new) is = record { arch_is = is.arch_is; strip_is = is.strip_is }
 
 event_stays : (state : State) (event : Event) → IsOnStrip state.arch state.strip (step state event).0
-event_stays state event = elim (eqb state.entries 65536) as (λ b. IsOnStrip state.arch state.strip (if◌then◌else◌ {A = State × Option Reply} b (state, None) (after state (answer_to state event).0, Some (answer_to state event).1)).0) [
+event_stays state event = elim (eqb state.entries 65536) as (λ b. IsOnStrip state.arch state.strip (if◌then◌else◌ {A = State × Option Reply} b (state, None) (after_reply state (answer_to state event).0, Some (answer_to state event).1)).0) [
   | true ↦ record { arch_is = refl; strip_is = refl }
   | false ↦ after_stays state (answer_to state event).0 (answer_stays state event)
 ]

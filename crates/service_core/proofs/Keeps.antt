@@ -7,14 +7,14 @@ use Rattle.std.proofs.lemmas.List.Elements.{All-nil, All-push}
 use Rattle.std.proofs.Math.ListN.{set}
 use Rattle.std.proofs.lemmas.List.{set-get_or}
 use Rattle.strips.specs.declared.placed_strip.PlacedStrip.{PlacedStrip}
-use Rattle.strips.specs.Plan.{strip_of, without}
+use Rattle.strips.specs.Plan.{strip_of, strips_without}
 use Rattle.strips.proofs.Laid.{strip_of-without, strip_of-push}
 use Rattle.tenant_slot.specs.SingleUser.{step}
 use Rattle.service_core.specs.declared.device.Device.{Device}
 use Rattle.service_core.specs.declared.entry.Entry.{Entry}
 use Rattle.service_core.specs.History.{History, IsReplayed, state_of, with_entry, with_here}
-use Rattle.service_core.specs.Tenancy.{closed, if_live}
-use Rattle.service_core.specs.Service.{IsAloneOn, admitted, history_of, live_of, modified, placed_width, strip_on}
+use Rattle.service_core.specs.Tenancy.{closed_history, if_live}
+use Rattle.service_core.specs.Service.{IsAloneOn, admitted_history, history_of, live_of, with_changed, placed_width, strip_on}
 use Rattle.service_core.specs.Kept.{IsLiveIn, IsService}
 use Rattle.service_core.proofs.Lists.{history_of-past, history_of-modified, history_of-push, length-modified, All-modified, set-modified}
 use Rattle.service_core.proofs.Histories.{IsReplayed-push}
@@ -31,7 +31,7 @@ Keeps-with_entry e = record { id = λ h. refl; arch = λ h. refl; strip = λ h. 
 pub Keeps-with_here : (here : Option Bool) → Keeps (with_here here)
 Keeps-with_here here = record { id = λ h. refl; arch = λ h. refl; strip = λ h. refl }
 
-pub Keeps-closed : Keeps closed
+pub Keeps-closed : Keeps closed_history
 Keeps-closed = record { id = λ h. refl; arch = λ h. refl; strip = λ h. refl }
 
 abbrev width_in : Option History → Option ℕ
@@ -45,11 +45,11 @@ same_width : (change : History → History) → Keeps change → ((h : History) 
 same_width change keeps live None = refl
 same_width change keeps live (Some h) = width_some (change h) ∙ ((rw (live h, keeps.strip h) refl) ∙ sym (width_some h))
 
-no_width : (o : Option History) → width_in (option_map closed o) ≡ None
+no_width : (o : Option History) → width_in (option_map closed_history o) ≡ None
 no_width None = refl
 no_width (Some h) = refl
 
-ids-modified : (hs : List History) (t : ℕ) (change : History → History) → Keeps change → ((id : ℕ) (h : History) → history_of hs id ≡ Some h → h.id ≡ id) → (id : ℕ) (h : History) → history_of (modified hs t change) id ≡ Some h → h.id ≡ id
+ids-modified : (hs : List History) (t : ℕ) (change : History → History) → Keeps change → ((id : ℕ) (h : History) → history_of hs id ≡ Some h → h.id ≡ id) → (id : ℕ) (h : History) → history_of (with_changed hs t change) id ≡ Some h → h.id ≡ id
 ids-modified hs t change keeps ids id h is =
     elim (eqb id t) as (λ b. (if b then option_map change (history_of hs id) else history_of hs id) ≡ Some h → h.id ≡ id) [
       | true ↦ λ changed. by_old (history_of hs id) refl changed
@@ -68,7 +68,7 @@ alone-changed device change h keeps was replayed = record {
 }
 
 -- a tenancy that stays live
-IsService-changed : (device : Device) (strips : List PlacedStrip) (hs : List History) (id : ℕ) (change : History → History) → IsService device strips hs → Keeps change → ((h : History) → (change h).live ≡ h.live) → ((h : History) → history_of hs id ≡ Some h → IsReplayed h.arch h.strip h.entries → IsReplayed (change h).arch (change h).strip (change h).entries) → IsService device strips (modified hs id change)
+IsService-changed : (device : Device) (strips : List PlacedStrip) (hs : List History) (id : ℕ) (change : History → History) → IsService device strips hs → Keeps change → ((h : History) → (change h).live ≡ h.live) → ((h : History) → history_of hs id ≡ Some h → IsReplayed h.arch h.strip h.entries → IsReplayed (change h).arch (change h).strip (change h).entries) → IsService device strips (with_changed hs id change)
 IsService-changed device strips hs id change was keeps live replays = record {
   linked = λ other. was.linked other ∙ (grind (arith, nat_tests, history_of-modified hs id other change, same_width change keeps live (history_of hs other)));
   few = omega (arith, length-modified hs id change, was.few);
@@ -76,19 +76,19 @@ IsService-changed device strips hs id change was keeps live replays = record {
   alone = All-modified (IsAloneOn device) hs id change (λ h at is. alone-changed device change h keeps is (replays h at is.replayed)) was.alone;
 }
 
-pub IsService-entry : (device : Device) (strips : List PlacedStrip) (hs : List History) (id : ℕ) (old : History) (e : Entry) → IsService device strips hs → history_of hs id ≡ Some old → (step (state_of old) e.event).1 ≡ Some e.reply → IsService device strips (modified hs id (with_entry e))
+pub IsService-entry : (device : Device) (strips : List PlacedStrip) (hs : List History) (id : ℕ) (old : History) (e : Entry) → IsService device strips hs → history_of hs id ≡ Some old → (step (state_of old) e.event).1 ≡ Some e.reply → IsService device strips (with_changed hs id (with_entry e))
 IsService-entry device strips hs id old e was here told =
     IsService-changed device strips hs id (with_entry e) was (Keeps-with_entry e) (λ h. refl) (λ h at is. let same : old ≡ h = cc (here, at) in IsReplayed-push h.arch h.strip h.entries e is (rw (← same) told))
 
-pub IsService-here : (device : Device) (strips : List PlacedStrip) (hs : List History) (id : ℕ) (here : Option Bool) → IsService device strips hs → IsService device strips (modified hs id (with_here here))
+pub IsService-here : (device : Device) (strips : List PlacedStrip) (hs : List History) (id : ℕ) (here : Option Bool) → IsService device strips hs → IsService device strips (with_changed hs id (with_here here))
 IsService-here device strips hs id here was = IsService-changed device strips hs id (with_here here) was (Keeps-with_here here) (λ h. refl) (λ h at is. is)
 
-pub IsService-evicted : (device : Device) (strips : List PlacedStrip) (hs : List History) (id : ℕ) → IsService device strips hs → IsService device (without strips id) (modified hs id closed)
+pub IsService-evicted : (device : Device) (strips : List PlacedStrip) (hs : List History) (id : ℕ) → IsService device strips hs → IsService device (strips_without strips id) (with_changed hs id closed_history)
 IsService-evicted device strips hs id was = record {
-  linked = λ other. grind (arith, nat_tests, history_of-modified hs id other closed, strip_of-without strips id other, no_width (history_of hs other), was.linked other);
-  few = omega (arith, length-modified hs id closed, was.few);
-  ids = ids-modified hs id closed Keeps-closed was.ids;
-  alone = All-modified (IsAloneOn device) hs id closed (λ h at is. record { arch = is.arch; strip = is.strip; replayed = is.replayed }) was.alone;
+  linked = λ other. grind (arith, nat_tests, history_of-modified hs id other closed_history, strip_of-without strips id other, no_width (history_of hs other), was.linked other);
+  few = omega (arith, length-modified hs id closed_history, was.few);
+  ids = ids-modified hs id closed_history Keeps-closed was.ids;
+  alone = All-modified (IsAloneOn device) hs id closed_history (λ h at is. record { arch = is.arch; strip = is.strip; replayed = is.replayed }) was.alone;
 }
 
 none_from_width : (o : Option PlacedStrip) → option_map (λ (s : PlacedStrip). s.width) o ≡ None → o ≡ None
@@ -109,10 +109,10 @@ ids-push hs h its ids id g is =
       | false ↦ λ e old. ids id g old
     ] refl (rw (history_of-push hs h id) at is)
 
-pub IsService-admitted : (device : Device) (strips : List PlacedStrip) (hs : List History) (width offset : ℕ) → IsService device strips hs → length hs < 65535 → IsService device (strips ++ record { id = length hs + 1; offset = offset; width = width } ∷ []) (hs ++ admitted device (length hs + 1) width ∷ [])
+pub IsService-admitted : (device : Device) (strips : List PlacedStrip) (hs : List History) (width offset : ℕ) → IsService device strips hs → length hs < 65535 → IsService device (strips ++ record { id = length hs + 1; offset = offset; width = width } ∷ []) (hs ++ admitted_history device (length hs + 1) width ∷ [])
 IsService-admitted device strips hs width offset was few =
     let strip : PlacedStrip = record { id = length hs + 1; offset = offset; width = width } in
-    let h : History = admitted device (length hs + 1) width in
+    let h : History = admitted_history device (length hs + 1) width in
     record {
       linked = λ other. grind (arith, nat_tests, history_of-push hs h other, strip_of-push strips strip other (no_strip-next device strips hs was), was.linked other);
       few = omega (arith, length-append hs (h ∷ []));
@@ -134,7 +134,7 @@ live_is hs id old live is =
     rw (here, flag) refl
 
 -- a live tenancy is written back
-pub set-live : (hs : List History) (id : ℕ) (old : History) (change : History → History) (new : History) → IsLiveIn hs id → old ≡ get_or hs (id - 1) old → new ≡ change old → set hs (id - 1) new ≡ modified hs id change
+pub set-live : (hs : List History) (id : ℕ) (old : History) (change : History → History) (new : History) → IsLiveIn hs id → old ≡ get_or hs (id - 1) old → new ≡ change old → set hs (id - 1) new ≡ with_changed hs id change
 set-live hs id old change new live is changes = rw changes (set-modified hs id old change live.positive live.within is)
 
 -- a live tenancy is written back unchanged

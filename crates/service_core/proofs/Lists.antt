@@ -5,7 +5,7 @@ use Rattle.std.proofs.Math.ListN.{set}
 use Rattle.std.proofs.lemmas.Bool.Decides.{nat_tests}
 use Rattle.std.proofs.lemmas.List.Elements.{All-cons, All-head, All-tail}
 use Rattle.service_core.specs.History.{History}
-use Rattle.service_core.specs.Service.{history_of, modified}
+use Rattle.service_core.specs.Service.{history_of, with_changed}
 
 -- no tenancy has the id 0, or an id past the last
 pub history_of-zero : (hs : List History) → history_of hs 0 ≡ None
@@ -26,31 +26,31 @@ history_of-at hs id d pos le = let e : id - 1 + 1 ≡ id = omega arith in rw e a
 
 pub ruleset by_id = (history_of-zero, history_of-past, history_of-at)
 
-pub length-modified : (hs : List History) (id : ℕ) (change : History → History) → length (modified hs id change) ≡ length hs
+pub length-modified : (hs : List History) (id : ℕ) (change : History → History) → length (with_changed hs id change) ≡ length hs
 length-modified [] id change = refl
 length-modified (h ∷ hs) id change = grind (arith, nat_tests, length-modified hs (id - 1) change)
 
-modified-next : (hs : List History) (i : ℕ) (d : History) (change : History → History) → i < length hs → modified hs (i + 1) change ≡ set hs i (change (get_or hs i d))
+modified-next : (hs : List History) (i : ℕ) (d : History) (change : History → History) → i < length hs → with_changed hs (i + 1) change ≡ set hs i (change (get_or hs i d))
 modified-next [] i d change lt = absurd (omega arith)
 modified-next (h ∷ hs) zero d change lt = refl
 modified-next (h ∷ hs) (suc i) d change lt = grind (arith, nat_tests, modified-next hs i d change (omega arith))
 
 -- the changed tenancy is written back
-pub set-modified : (hs : List History) (id : ℕ) (old : History) (change : History → History) → 0 < id → id ≤ length hs → old ≡ get_or hs (id - 1) old → set hs (id - 1) (change old) ≡ modified hs id change
+pub set-modified : (hs : List History) (id : ℕ) (old : History) (change : History → History) → 0 < id → id ≤ length hs → old ≡ get_or hs (id - 1) old → set hs (id - 1) (change old) ≡ with_changed hs id change
 set-modified hs id old change pos le is =
     let e : id - 1 + 1 ≡ id = omega arith in
-    let m : modified hs id change ≡ set hs (id - 1) (change (get_or hs (id - 1) old)) = rw e at (modified-next hs (id - 1) old change (omega arith)) in
+    let m : with_changed hs id change ≡ set hs (id - 1) (change (get_or hs (id - 1) old)) = rw e at (modified-next hs (id - 1) old change (omega arith)) in
     sym (m ∙ ap (λ h. set hs (id - 1) (change h)) (sym is))
 
-pub All-modified : (P : History → Type 0) (hs : List History) (id : ℕ) (change : History → History) → ((h : History) → history_of hs id ≡ Some h → P h → P (change h)) → All P hs → All P (modified hs id change)
+pub All-modified : (P : History → Type 0) (hs : List History) (id : ℕ) (change : History → History) → ((h : History) → history_of hs id ≡ Some h → P h → P (change h)) → All P hs → All P (with_changed hs id change)
 All-modified P [] id change keeps all = all
 All-modified P (h ∷ hs) id change keeps all =
-    elim (eqb id 1) as (λ b. ((g : History) → (if b then Some h else history_of hs (id - 1)) ≡ Some g → P g → P (change g)) → All P (if b then change h ∷ hs else h ∷ modified hs (id - 1) change)) [
+    elim (eqb id 1) as (λ b. ((g : History) → (if b then Some h else history_of hs (id - 1)) ≡ Some g → P g → P (change g)) → All P (if b then change h ∷ hs else h ∷ with_changed hs (id - 1) change)) [
       | true ↦ λ keep. All-cons P (change h) hs (keep h refl (All-head P h hs all)) (All-tail P h hs all)
-      | false ↦ λ keep. All-cons P h (modified hs (id - 1) change) (All-head P h hs all) (All-modified P hs (id - 1) change keep (All-tail P h hs all))
+      | false ↦ λ keep. All-cons P h (with_changed hs (id - 1) change) (All-head P h hs all) (All-modified P hs (id - 1) change keep (All-tail P h hs all))
     ] keeps
 
-pub history_of-modified : (hs : List History) (id other : ℕ) (change : History → History) → history_of (modified hs id change) other ≡ (if eqb other id then option_map change (history_of hs other) else history_of hs other)
+pub history_of-modified : (hs : List History) (id other : ℕ) (change : History → History) → history_of (with_changed hs id change) other ≡ (if eqb other id then option_map change (history_of hs other) else history_of hs other)
 history_of-modified [] id other change = grind (arith, nat_tests)
 history_of-modified (h ∷ hs) id other change = grind (arith, nat_tests, history_of-modified hs (id - 1) (other - 1) change)
 

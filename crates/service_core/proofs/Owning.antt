@@ -9,14 +9,14 @@ use Rattle.grid.specs.declared.Strip.{Strip}
 use Rattle.rr_graph.specs.declared.resource.Resource.{Resource}
 use Rattle.rr_graph.specs.Resources.{has, moved_resource}
 use Rattle.strips.specs.declared.placed_strip.PlacedStrip.{PlacedStrip}
-use Rattle.strips.specs.Plan.{AreApart, IsParted, Plan, offset_of, strip_of, without}
+use Rattle.strips.specs.Plan.{AreApart, IsParted, Plan, offset_of, strip_of, strips_without}
 use Rattle.strips.proofs.Laid.{apart_of, strip_of-without, strip_of-push}
 use Rattle.tenant_slot.specs.RoutedSet.{routed_set}
 use Rattle.tenant_slot.specs.SingleUser.{start}
 use Rattle.service_core.specs.declared.device.Device.{Device}
 use Rattle.service_core.specs.History.{History, events_of, state_of}
-use Rattle.service_core.specs.Tenancy.{closed, if_live}
-use Rattle.service_core.specs.Service.{ServiceState, admitted, history_of, live_of, live_width, modified, placed_width}
+use Rattle.service_core.specs.Tenancy.{closed_history, if_live}
+use Rattle.service_core.specs.Service.{ServiceState, admitted_history, history_of, live_of, live_width, with_changed, placed_width}
 use Rattle.service_core.specs.Owners.{HasOneOwner, IsOwner}
 use Rattle.service_core.specs.Kept.{IsLiveIn, IsService, placed_at, routed_in}
 use Rattle.service_core.proofs.Lists.{history_of-modified, history_of-past, history_of-push}
@@ -44,16 +44,16 @@ routed_same change (Some h) same =
     let is = same h refl in
     by_live (change h) ∙ (ap (λ b. if b then routed_set (state_of (change h)) else []) is.0 ∙ (ap (λ xs. if h.live then xs else []) is.1 ∙ sym (by_live h)))
 
-pub other_owned : (strips : List PlacedStrip) (hs : List History) (id k : ℕ) (change : History → History) → eqb k id ≡ false → owned_in strips (modified hs id change) k ≡ owned_in strips hs k
+pub other_owned : (strips : List PlacedStrip) (hs : List History) (id k : ℕ) (change : History → History) → eqb k id ≡ false → owned_in strips (with_changed hs id change) k ≡ owned_in strips hs k
 other_owned strips hs id k change e =
     ap (λ o. placed_at (offset_of strips k) (routed_in (if_live o))) (history_of-modified hs id k change ∙ ap (λ b. if b then option_map change (history_of hs k) else history_of hs k) e)
 
 pub same_owned : (strips : List PlacedStrip) (hs : List History) (id : ℕ) (change : History → History) →
     ((h : History) → history_of hs id ≡ Some h → ((change h).live ≡ h.live) × (routed_set (state_of (change h)) ≡ routed_set (state_of h))) →
-    (k : ℕ) → owned_in strips (modified hs id change) k ≡ owned_in strips hs k
+    (k : ℕ) → owned_in strips (with_changed hs id change) k ≡ owned_in strips hs k
 same_owned strips hs id change same k = by_id (eqb k id) refl
   where
-    by_id : (b : Bool) → eqb k id ≡ b → owned_in strips (modified hs id change) k ≡ owned_in strips hs k
+    by_id : (b : Bool) → eqb k id ≡ b → owned_in strips (with_changed hs id change) k ≡ owned_in strips hs k
     by_id false e = other_owned strips hs id k change e
     by_id true e =
         let its : k ≡ id = (Decides-eqb k id).0 e in
@@ -67,7 +67,7 @@ own_owned strips hs id offset h at live = ap (λ o. placed_at o (routed_in (live
 -- a live tenancy is written back
 pub set_live_of : (hs : List History) (id : ℕ) (old new : History) → IsLiveIn hs id → old ≡ get_or hs (id - 1) old → new.live ≡ true → live_of (set hs (id - 1) new) id ≡ Some new
 set_live_of hs id old new live is its =
-    let written : set hs (id - 1) new ≡ modified hs id (λ h. new) = set-live hs id old (λ h. new) new live is refl in
+    let written : set hs (id - 1) new ≡ with_changed hs id (λ h. new) = set-live hs id old (λ h. new) new live is refl in
     let same : eqb id id ≡ true = (Decides-eqb id id).1 refl in
     ap (λ xs. live_of xs id) written
     ∙ (ap if_live (history_of-modified hs id id (λ h. new) ∙ (ap (λ b. if b then option_map (λ h. new) (history_of hs id) else history_of hs id) same ∙ ap (option_map (λ h. new)) (history-live hs id old live is)))
@@ -82,31 +82,31 @@ set_other strips hs id k old new live is differ =
     differs false e = e
 
 -- a tenancy that is evicted
-pub evicted_owned : (strips : List PlacedStrip) (hs : List History) (id : ℕ) → owned_in (without strips id) (modified hs id closed) id ≡ []
+pub evicted_owned : (strips : List PlacedStrip) (hs : List History) (id : ℕ) → owned_in (strips_without strips id) (with_changed hs id closed_history) id ≡ []
 evicted_owned strips hs id =
     let same : eqb id id ≡ true = (Decides-eqb id id).1 refl in
-    let gone : strip_of (without strips id) id ≡ None = strip_of-without strips id id ∙ ap (λ b. if b then None else strip_of strips id) same in
-    ap (λ o. placed_at (option_map (λ (s : PlacedStrip). s.offset) o) (routed_in (live_of (modified hs id closed) id))) gone
+    let gone : strip_of (strips_without strips id) id ≡ None = strip_of-without strips id id ∙ ap (λ b. if b then None else strip_of strips id) same in
+    ap (λ o. placed_at (option_map (λ (s : PlacedStrip). s.offset) o) (routed_in (live_of (with_changed hs id closed_history) id))) gone
 
-pub evicted_other : (strips : List PlacedStrip) (hs : List History) (id k : ℕ) → k ≢ id → owned_in (without strips id) (modified hs id closed) k ≡ owned_in strips hs k
+pub evicted_other : (strips : List PlacedStrip) (hs : List History) (id k : ℕ) → k ≢ id → owned_in (strips_without strips id) (with_changed hs id closed_history) k ≡ owned_in strips hs k
 evicted_other strips hs id k differ = differs (eqb k id) refl
   where
-    differs : (b : Bool) → eqb k id ≡ b → owned_in (without strips id) (modified hs id closed) k ≡ owned_in strips hs k
+    differs : (b : Bool) → eqb k id ≡ b → owned_in (strips_without strips id) (with_changed hs id closed_history) k ≡ owned_in strips hs k
     differs true e = absurd (differ ((Decides-eqb k id).0 e))
     differs false e =
-        ap (λ o. placed_at (option_map (λ (s : PlacedStrip). s.offset) o) (routed_in (live_of (modified hs id closed) k))) (strip_of-without strips id k ∙ ap (λ b. if b then None else strip_of strips k) e)
-        ∙ other_owned strips hs id k closed e
+        ap (λ o. placed_at (option_map (λ (s : PlacedStrip). s.offset) o) (routed_in (live_of (with_changed hs id closed_history) k))) (strip_of-without strips id k ∙ ap (λ b. if b then None else strip_of strips k) e)
+        ∙ other_owned strips hs id k closed_history e
 
 -- one that is admitted
 pub admitted_owned : (device : Device) (strips : List PlacedStrip) (hs : List History) (width offset k : ℕ) → IsService device strips hs →
-    owned_in (strips ++ record { id = length hs + 1; offset = offset; width = width } ∷ []) (hs ++ admitted device (length hs + 1) width ∷ []) k ≡ owned_in strips hs k
+    owned_in (strips ++ record { id = length hs + 1; offset = offset; width = width } ∷ []) (hs ++ admitted_history device (length hs + 1) width ∷ []) k ≡ owned_in strips hs k
 admitted_owned device strips hs width offset k was = by_id (eqb k (length hs + 1)) refl
   where
     strip : PlacedStrip
     strip = record { id = length hs + 1; offset = offset; width = width }
 
     h : History
-    h = admitted device (length hs + 1) width
+    h = admitted_history device (length hs + 1) width
 
     by_id : (b : Bool) → eqb k (length hs + 1) ≡ b → owned_in (strips ++ strip ∷ []) (hs ++ h ∷ []) k ≡ owned_in strips hs k
     by_id true e =

@@ -12,8 +12,8 @@ use Rattle.tenant_slot.specs.declared.origin.Origin.{Origin}
 use Rattle.tenant_slot.specs.declared.origin.Origin.TheVariants.{Running, Unknown}
 use Rattle.tenant_slot.specs.declared.reply.Reply.{Reply}
 use Rattle.tenant_slot.specs.declared.reply.StepReply.{StepReply}
-use Rattle.tenant_slot.specs.declared.not_served.NotServed.{NotServed}
-use Rattle.tenant_slot.specs.declared.not_served.NotServed.TheVariants.{NoMemory, JournalFull}
+use Rattle.tenant_slot.specs.declared.not_served.NotAnswered.{NotAnswered}
+use Rattle.tenant_slot.specs.declared.not_served.NotAnswered.TheVariants.{NoMemory, JournalFull}
 use Rattle.tenant_slot.specs.Slot.{IsOrigin, next_job}
 use Rattle.service_core.specs.declared.device.Device.{Device}
 use Rattle.service_core.specs.declared.entry.Entry.{Entry}
@@ -21,7 +21,7 @@ use Rattle.service_core.specs.declared.not_served.NoteCause.TheVariants.{Journal
 use Rattle.service_core.specs.declared.not_served.NotServed.TheVariants.{NoMemory as NoMemoryToServe, JournalFull as JournalFullNote}
 use Rattle.service_core.specs.declared.put_reply.PutReply.TheVariants.{Recorded}
 use Rattle.service_core.specs.History.{History, slot_of, with_entry, with_here}
-use Rattle.service_core.specs.Service.{ServiceState, modified}
+use Rattle.service_core.specs.Service.{ServiceState, with_changed}
 use Rattle.service_core.specs.Calls.{IsGivenBack, IsOriginIn, IsServed, IsTaken, Puts}
 use Rattle.service_core.specs.Run.{step_entry}
 use Rattle.service_core.specs.Tenancy.{GivesHistoryBack, PutsHistory, ServesHistory, TakesHistory}
@@ -35,11 +35,11 @@ written old id new = record old { histories = set old.histories (id - 1) new }
 kept_as_it_was : (old : ServiceState) (id : ℕ) (here new : History) → here ≡ get_or old.histories (id - 1) here → new ≡ here → written old id new ≡ old
 kept_as_it_was old id here new is same = ap (λ hs. record old { histories = hs }) (set-kept old.histories id here new is same)
 
-changed_to : (old : ServiceState) (id : ℕ) (here : History) (change : History → History) (new : History) → IsLiveIn old.histories id → here ≡ get_or old.histories (id - 1) here → new ≡ change here → written old id new ≡ record old { histories = modified old.histories id change }
+changed_to : (old : ServiceState) (id : ℕ) (here : History) (change : History → History) (new : History) → IsLiveIn old.histories id → here ≡ get_or old.histories (id - 1) here → new ≡ change here → written old id new ≡ record old { histories = with_changed old.histories id change }
 changed_to old id here change new live is changes = ap (λ hs. record old { histories = hs }) (set-live old.histories id here change new live is changes)
 
 -- a command
-pub IsService-served : (device : Device) (strips : List PlacedStrip) (hs : List History) (id : ℕ) (old : History) (command : Command) (answer : Result (Command × Reply) NotServed) (new : History) → IsService device strips hs → IsLiveIn hs id → old ≡ get_or hs (id - 1) old → ServesHistory old command answer new → IsService device strips (set hs (id - 1) new)
+pub IsService-served : (device : Device) (strips : List PlacedStrip) (hs : List History) (id : ℕ) (old : History) (command : Command) (answer : Result (Command × Reply) NotAnswered) (new : History) → IsService device strips hs → IsLiveIn hs id → old ≡ get_or hs (id - 1) old → ServesHistory old command answer new → IsService device strips (set hs (id - 1) new)
 IsService-served device strips hs id old command (Ok told) new was live is served =
     let e : Entry = record { event = Asked command; reply = told.1 } in
     rw (set-live hs id old (with_entry e) new live is served.2) (IsService-entry device strips hs id old e was (history-live hs id old live is) served.1)

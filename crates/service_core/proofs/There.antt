@@ -16,7 +16,7 @@ use Rattle.rr_graph.specs.declared.resource.Resource.{Resource}
 use Rattle.rr_graph.specs.Geometry.{is_block_number, is_block_row, is_pad_row, is_slot}
 use Rattle.rr_graph.specs.Resources.{is_there, moved_resource}
 use Rattle.device_book.specs.declared.book.Extent.{Extent}
-use Rattle.device_book.specs.Owners.{extent_of, in_book, nobody, number_of, owner_of, size_of}
+use Rattle.device_book.specs.Owners.{extent_of, in_book, no_owners, number_of, owner_of, size_of}
 use Rattle.device_book.proofs.Places.{place_within}
 
 -- a number greater than any number of a pin, a track or a pad
@@ -91,7 +91,7 @@ stands arch strip columns offset r rate inside there =
     (and_from (nat_le r.y (strip.rows + 1)) (nat_lt r.n (numbers_in arch arch.io_rat)) (le-leb r.y (strip.rows + 1) bounds.row) (lt-ltb r.n (numbers_in arch arch.io_rat) few))
 
 -- nobody owns anything on a new device
-pub nobody_owns : (extent : Extent) (r : Resource) → owner_of (nobody extent) r ≡ None
+pub nobody_owns : (extent : Extent) (r : Resource) → owner_of (no_owners extent) r ≡ None
 nobody_owns extent r = by_place (in_book extent r) refl
   where
     by_place : (b : Bool) → in_book extent r ≡ b → (if b then slice_index_or (replicate {A = Option ℕ} (size_of extent) None) (number_of extent r) None else None) ≡ None

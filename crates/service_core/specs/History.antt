@@ -1,5 +1,6 @@
 -- One tenancy's history: its journal, and the replies that it must contain.
 use Rattle.std.specs.Prelude.{ℕ, ◌≡◌, ◌≤◌, List, [], ◌∷◌, ◌++◌, length, map, Bool, Option, Some}
+use Rattle.tenant_slot.specs.declared.slot.TheConstants.{MAX_ENTRIES}
 use Rattle.arch_file.specs.declared.arch.Arch.{Arch}
 use Rattle.grid.specs.declared.Strip.{Strip}
 use Rattle.tenant_slot.specs.declared.event.Event.{Event}
@@ -33,7 +34,7 @@ slot_of h = record { id = h.id; state = state_of h; here = h.here }
 pub record IsReplayed (arch : Arch) (strip : Strip) (entries : List Entry) : Type 0 where
   pub told : replies_to (start arch strip) (events_of entries) ≡ map (λ entry. Some entry.reply) entries
   pub count : (state_after (start arch strip) (events_of entries)).entries ≡ length entries
-  pub few : length entries ≤ 65536
+  pub few : length entries ≤ MAX_ENTRIES
 
 -- with one more entry
 abbrev pub with_entry : Entry → History → History

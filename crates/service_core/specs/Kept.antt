@@ -1,5 +1,7 @@
 -- Private: the core's invariant, and what its own read calls return.
 use Rattle.std.specs.Prelude.{ℕ, ◌≡◌, ◌-◌, ◌<◌, ◌≤◌, ◌↔◌, List, [], length, map, Bool, true, Option, Some, None, Result, Ok, Err, All, slice_index_or}
+use Rattle.service_core.specs.declared.service.TheConstants.{MAX_ADMISSIONS}
+use Rattle.grid.specs.declared.TheConstants.{MAX_COLUMNS, MAX_ROWS}
 use Rattle.arch_file.specs.Arch.{IsArch, IsWithin}
 use Rattle.strips.specs.declared.placed_strip.PlacedStrip.{PlacedStrip}
 use Rattle.rr_graph.specs.declared.resource.Resource.{Resource}
@@ -20,14 +22,14 @@ use Rattle.service_core.specs.Tenancy.{StandsIn}
 -- the device is within the limits
 pub record IsDevice (device : Device) : Type 0 where
   pub arch : IsArch device.arch
-  pub columns : IsWithin 1 device.columns 256
-  pub rows : IsWithin 1 device.rows 64
+  pub columns : IsWithin 1 device.columns MAX_COLUMNS
+  pub rows : IsWithin 1 device.rows MAX_ROWS
 
 -- exactly the live tenancies have strips, each of its width; each tenancy's index is its id less
 -- one; and each is served as if alone on that device
 pub record IsService (device : Device) (strips : List PlacedStrip) (histories : List History) : Type 0 where
   pub linked : (id : ℕ) → placed_width strips id ≡ live_width histories id
-  pub few : length histories ≤ 65535
+  pub few : length histories ≤ MAX_ADMISSIONS
   pub ids : (id : ℕ) (h : History) → history_of histories id ≡ Some h → h.id ≡ id
   pub alone : All (IsAloneOn device) histories
 
@@ -82,7 +84,7 @@ AreFree book offset h = All (IsFree book) (held_at offset h)
 -- it occupies
 pub record CanTakeUp (book : Owners) (id offset : ℕ) (h : History) (reply : StepReply) : Type 0 where
   pub live : h.live ≡ true
-  pub few : id ≤ 65535
+  pub few : id ≤ MAX_ADMISSIONS
   pub there : StandsIn book.extent offset h.arch h.strip
   pub free : reply ≡ Finished → AreFree book offset h
 

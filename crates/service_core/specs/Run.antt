@@ -2,6 +2,9 @@
 -- refused call changes nothing.
 use Rattle.std.specs.Prelude.{ℕ, ◌≡◌, ◌+◌, ◌<◌, length, List, [], ◌∷◌, Bool, true, false, Option, Some, None, IfSome, IsSome, IsSomeAnd, MatchOption, Result, Ok, Err}
 use Rattle.std.specs.declared.alloc.AllocError.{AllocError}
+use Rattle.tenant_slot.specs.declared.slot.TheConstants.{MAX_ENTRIES}
+use Rattle.service_core.specs.declared.service.TheConstants.{MAX_ADMISSIONS}
+use Rattle.strips.specs.declared.layout.TheConstants.{MAX_STRIPS}
 use Rattle.strips.specs.Plan.{IsFirstFit, IsParted, is_bad_width, with_moved}
 use Rattle.device_book.specs.declared.book.Owned.{Owned}
 use Rattle.job_state.specs.declared.step.JobStep.{JobStep}
@@ -41,15 +44,15 @@ pub data Call : Type 0 where
 -- a tenancy of that width is admitted, if a strip fits and memory suffices
 pub record CanAdmit (state : ServiceState) (width : ℕ) : Type 0 where
   pub good_width : is_bad_width state.plan width ≡ false
-  pub few_strips : length state.plan.strips < 64
-  pub ids_left : length state.histories < 65535
+  pub few_strips : length state.plan.strips < MAX_STRIPS
+  pub ids_left : length state.histories < MAX_ADMISSIONS
 
 -- why a tenancy of that width isn't admitted: each refusal applies if none before it does, in the
 -- order BadWidth, TooManyStrips, IdsSpent, NoRoom, NoMemory
 abbrev pub RefusesAdmission : ServiceState → ℕ → OpRefusal → Type 0
 RefusesAdmission state width BadWidth = is_bad_width state.plan width ≡ true
-RefusesAdmission state width TooManyStrips = (is_bad_width state.plan width ≡ false) × (length state.plan.strips ≡ 64)
-RefusesAdmission state width IdsSpent = (is_bad_width state.plan width ≡ false) × (length state.plan.strips < 64) × (length state.histories ≡ 65535)
+RefusesAdmission state width TooManyStrips = (is_bad_width state.plan width ≡ false) × (length state.plan.strips ≡ MAX_STRIPS)
+RefusesAdmission state width IdsSpent = (is_bad_width state.plan width ≡ false) × (length state.plan.strips < MAX_STRIPS) × (length state.histories ≡ MAX_ADMISSIONS)
 RefusesAdmission state width NoRoom = CanAdmit state width × IsFirstFit state.plan width None
 RefusesAdmission state width NoMemory = CanAdmit state width × ((offset : ℕ) × IsFirstFit state.plan width (Some offset))
 RefusesAdmission state width NoSuchTenancy = ⊥
@@ -90,15 +93,15 @@ Happens old (Move id offset (Err NoSuchTenancy)) new = (live_of old.histories id
 Happens old (Move id offset (Err NoRoom)) new = IsSome (live_of old.histories id) × (IsParted (with_moved old.plan id offset) → ⊥) × (new ≡ old)
 Happens old (Move id offset (Err refusal)) new = ⊥
 Happens old (Tenant id command (Ok r)) new = IsReceipt (live_of old.histories id) id command r × (new ≡ with_change old id (with_entry (record { event = Asked command; reply = r.reply })))
-Happens old (Tenant id command (Err (NotServedJournalFull note))) new = (note ≡ record { id = id; cause = CauseJournalFull }) × IsSomeAnd (live_of old.histories id) (λ h. length h.entries ≡ 65536) × (new ≡ old)
+Happens old (Tenant id command (Err (NotServedJournalFull note))) new = (note ≡ record { id = id; cause = CauseJournalFull }) × IsSomeAnd (live_of old.histories id) (λ h. length h.entries ≡ MAX_ENTRIES) × (new ≡ old)
 Happens old (Tenant id command (Err (NotServedNoSuchTenancy note))) new = (note ≡ record { id = id; cause = CauseNoSuchTenancy }) × (live_of old.histories id ≡ None) × (new ≡ old)
-Happens old (Tenant id command (Err NotServedNoMemory)) new = IsSomeAnd (live_of old.histories id) (λ h. length h.entries < 65536) × (new ≡ old)
+Happens old (Tenant id command (Err NotServedNoMemory)) new = IsSomeAnd (live_of old.histories id) (λ h. length h.entries < MAX_ENTRIES) × (new ≡ old)
 Happens old (Take id (Some job)) new = IsSomeAnd (live_of old.histories id) (λ h. (h.id ≡ id) × (is_takeable (slot_of h) ≡ true) × (next_job (slot_of h) ≡ Some job.step) × (h.here ≡ Some job.made)) × (new ≡ with_change old id (with_here None))
 Happens old (Take id None) new = IfSome (live_of old.histories id) (λ h. is_takeable (slot_of h) ≡ false) × (new ≡ old)
 Happens old (Put done foreign (Ok (Recorded reply))) new = IsSomeAnd (live_of old.histories done.id) (λ h. IsStepOf h done foreign reply) × (new ≡ with_change old done.id (with_entry (step_entry done foreign reply)))
-Happens old (Put done foreign (Ok Full)) new = IsSomeAnd (live_of old.histories done.id) (λ h. length h.entries ≡ 65536) × (new ≡ old)
+Happens old (Put done foreign (Ok Full)) new = IsSomeAnd (live_of old.histories done.id) (λ h. length h.entries ≡ MAX_ENTRIES) × (new ≡ old)
 Happens old (Put done foreign (Ok Gone)) new = (live_of old.histories done.id ≡ None) × (new ≡ old)
-Happens old (Put done foreign (Err back)) new = IsSomeAnd (live_of old.histories done.id) (λ h. length h.entries < 65536) × (back.0 ≡ done) × (new ≡ old)
+Happens old (Put done foreign (Err back)) new = IsSomeAnd (live_of old.histories done.id) (λ h. length h.entries < MAX_ENTRIES) × (back.0 ≡ done) × (new ≡ old)
 Happens old (GiveBack job) new = MatchOption (live_of old.histories job.step.id) (new ≡ old) (λ h. (here : Option Bool) × GivesBack (slot_of h) job (slot_of (with_here here h)) × (new ≡ with_change old job.step.id (with_here here)))
 Happens old (Owners list) new = ListsOwnersOf old list × (new ≡ old)
 

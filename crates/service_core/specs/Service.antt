@@ -3,7 +3,7 @@ use Rattle.std.specs.Prelude.{ℕ, ◌≡◌, ◌+◌, ◌-◌, List, [], ◌∷
 use Rattle.std.specs.Option.{option_map_or}
 use Rattle.grid.specs.declared.Strip.{Strip}
 use Rattle.strips.specs.declared.placed_strip.PlacedStrip.{PlacedStrip}
-use Rattle.strips.specs.Plan.{Plan, strip_of, without}
+use Rattle.strips.specs.Plan.{Plan, strip_of, strips_without}
 use Rattle.service_core.specs.declared.device.Device.{Device}
 use Rattle.service_core.specs.declared.entry.Entry.{Entry}
 use Rattle.service_core.specs.History.{History, IsReplayed}
@@ -16,8 +16,8 @@ pub record ServiceState : Type 0 where
   pub histories : List History
 
 -- a device without tenancies
-abbrev pub empty : Device → ServiceState
-empty device = record { device = device; plan = record { columns = device.columns; strips = [] }; histories = [] }
+abbrev pub empty_service : Device → ServiceState
+empty_service device = record { device = device; plan = record { columns = device.columns; strips = [] }; histories = [] }
 
 -- the history of that id, the first being 1
 abbrev pub history_of : List History → ℕ → Option History
@@ -25,9 +25,9 @@ history_of [] id = None
 history_of (h ∷ hs) id = if id == 1 then Some h else history_of hs (id - 1)
 
 -- the histories, with that one changed
-abbrev pub modified : List History → ℕ → (History → History) → List History
-modified [] id change = []
-modified (h ∷ hs) id change = if id == 1 then change h ∷ hs else h ∷ modified hs (id - 1) change
+abbrev pub with_changed : List History → ℕ → (History → History) → List History
+with_changed [] id change = []
+with_changed (h ∷ hs) id change = if id == 1 then change h ∷ hs else h ∷ with_changed hs (id - 1) change
 
 -- the history of that id, if the tenancy is live
 abbrev pub live_of : List History → ℕ → Option History
@@ -45,26 +45,26 @@ abbrev pub strip_on : Device → ℕ → Strip
 strip_on device width = record { width = width; rows = device.rows; io_rat = device.arch.io_rat }
 
 -- a tenancy of that id and width at its admission
-abbrev pub admitted : Device → ℕ → ℕ → History
-admitted device id width = record { id = id; arch = device.arch; strip = strip_on device width; live = true; here = Some false; entries = [] }
+abbrev pub admitted_history : Device → ℕ → ℕ → History
+admitted_history device id width = record { id = id; arch = device.arch; strip = strip_on device width; live = true; here = Some false; entries = [] }
 
 -- one more tenancy, with the next id
 abbrev pub with_tenancy : ServiceState → ℕ → ℕ → ServiceState
 with_tenancy state width offset = record state {
   plan = record state.plan { strips = state.plan.strips ++ record { id = length state.histories + 1; offset = offset; width = width } ∷ [] };
-  histories = state.histories ++ admitted state.device (length state.histories + 1) width ∷ [];
+  histories = state.histories ++ admitted_history state.device (length state.histories + 1) width ∷ [];
 }
 
 -- that tenancy ended: its strip is free, its history is closed
 abbrev pub without_tenancy : ServiceState → ℕ → ServiceState
 without_tenancy state id = record state {
-  plan = record state.plan { strips = without state.plan.strips id };
-  histories = modified state.histories id (λ h. record h { live = false; here = Some false });
+  plan = record state.plan { strips = strips_without state.plan.strips id };
+  histories = with_changed state.histories id (λ h. record h { live = false; here = Some false });
 }
 
 -- that tenancy's history changed
 abbrev pub with_change : ServiceState → ℕ → (History → History) → ServiceState
-with_change state id change = record state { histories = modified state.histories id change }
+with_change state id change = record state { histories = with_changed state.histories id change }
 
 -- the tenancy has that device, and its journal is that of the tenancy alone
 pub record IsAloneOn (device : Device) (h : History) : Type 0 where

@@ -1,6 +1,7 @@
 -- Private: a tenancy's invariant, and what its calls do.
 use Rattle.std.specs.Prelude.{ℕ, ◌≡◌, ◌<◌, ◌≤◌, ◌⊎◌, List, [], length, map, Bool, true, false, Result, Ok, Err, Option, Some, None, IfSome, option_and_then, if◌then◌else◌}
 use Rattle.std.specs.declared.alloc.AllocError.{AllocError}
+use Rattle.tenant_slot.specs.declared.slot.TheConstants.{MAX_ENTRIES}
 use Rattle.arch_file.specs.declared.arch.Arch.{Arch}
 use Rattle.grid.specs.declared.Strip.{Strip}
 use Rattle.rr_graph.specs.declared.resource.Resource.{Resource}
@@ -14,8 +15,8 @@ use Rattle.tenant_slot.specs.declared.event.Event.TheVariants.{Command as Asked}
 use Rattle.tenant_slot.specs.declared.reply.StepReply.{StepReply}
 use Rattle.tenant_slot.specs.declared.reply.Reply.{Reply}
 use Rattle.tenant_slot.specs.declared.reply.Reply.TheVariants.{Accepted}
-use Rattle.tenant_slot.specs.declared.not_served.NotServed.{NotServed}
-use Rattle.tenant_slot.specs.declared.not_served.NotServed.TheVariants.{NoMemory, JournalFull}
+use Rattle.tenant_slot.specs.declared.not_served.NotAnswered.{NotAnswered}
+use Rattle.tenant_slot.specs.declared.not_served.NotAnswered.TheVariants.{NoMemory, JournalFull}
 use Rattle.tenant_slot.specs.SingleUser.{start, step, state_after}
 use Rattle.tenant_slot.specs.RoutedSet.{routed_set}
 use Rattle.tenant_slot.specs.Slot.{GivesBack, SlotState, is_takeable, next_job}
@@ -30,8 +31,8 @@ slot_here None = Some false
 slot_here (Some slot) = slot.here
 
 -- a tenancy that has ended
-abbrev pub closed : History → History
-closed h = record h { live = false; here = Some false }
+abbrev pub closed_history : History → History
+closed_history h = record h { live = false; here = Some false }
 
 abbrev pub if_live : Option History → Option History
 if_live o = option_and_then (λ h. if h.live then Some h else None) o
@@ -47,10 +48,10 @@ pub record IsHistory (id : ℕ) (arch : Arch) (strip : Strip) (slot : Option Slo
 
 -- the possible results of a live tenancy's command: the command with its reply, which is one more
 -- entry
-abbrev pub ServesHistory : History → Command → Result (Command × Reply) NotServed → History → Type 0
+abbrev pub ServesHistory : History → Command → Result (Command × Reply) NotAnswered → History → Type 0
 ServesHistory old command (Ok told) new = (told.0 ≡ command) × ((step (state_of old) (Asked command)).1 ≡ Some told.1) × (new ≡ with_entry (record { event = Asked command; reply = told.1 }) old)
-ServesHistory old command (Err JournalFull) new = (length old.entries ≡ 65536) × (new ≡ old)
-ServesHistory old command (Err NoMemory) new = (length old.entries < 65536) × (new ≡ old)
+ServesHistory old command (Err JournalFull) new = (length old.entries ≡ MAX_ENTRIES) × (new ≡ old)
+ServesHistory old command (Err NoMemory) new = (length old.entries < MAX_ENTRIES) × (new ≡ old)
 
 -- the possible results of a take of a live tenancy's next step
 abbrev pub TakesHistory : History → Option JobState → History → Type 0

@@ -3,7 +3,7 @@ ghost use Rattle.job_state.specs.declared.step.JobStep.{JobStep};
 ghost use Rattle.tenant_slot.specs.declared.reply.StepReply.{StepReply};
 ghost use Rattle.service_core.specs.declared.device.Device.{Device};
 ghost use Rattle.service_core.specs.declared.put_reply.PutReply.TheVariants.{Recorded};
-ghost use Rattle.service_core.specs.Service.{ServiceState, empty};
+ghost use Rattle.service_core.specs.Service.{ServiceState, empty_service};
 ghost use Rattle.service_core.specs.Calls.{IsNextStep, IsPut};
 ghost use Rattle.service_core.specs.Run.{Call, Run};
 ghost use Rattle.service_core.specs.Headline.{AreOwnJournals, AreParted, AreToldTheSame, Counts, EachIsAlone, HaveSameStrip, IsBook};
@@ -19,15 +19,15 @@ ghost use Rattle.service_core.specs.Owners.{HasOneOwner};
 /// exactly that.
 pub fn headline()
     ensures alone { (device : Device) (calls : List Call) (state : ServiceState) →
-        Run (empty device) calls state → EachIsAlone device calls state }
+        Run (empty_service device) calls state → EachIsAlone device calls state }
     ensures journals { (device : Device) (calls : List Call) (state : ServiceState) →
-        Run (empty device) calls state → AreOwnJournals calls state }
+        Run (empty_service device) calls state → AreOwnJournals calls state }
     ensures parted { (device : Device) (calls : List Call) (state : ServiceState) →
-        Run (empty device) calls state → AreParted device state }
+        Run (empty_service device) calls state → AreParted device state }
     ensures book { (device : Device) (calls : List Call) (state : ServiceState) →
-        Run (empty device) calls state → IsBook device calls state }
+        Run (empty_service device) calls state → IsBook device calls state }
     ensures exact { (device : Device) (calls : List Call) (state : ServiceState) →
-        Run (empty device) calls state → HasOneOwner state }
+        Run (empty_service device) calls state → HasOneOwner state }
 {}
 
 /// Compares two runs on devices of one architecture and one number of rows. The devices may differ
@@ -35,8 +35,9 @@ pub fn headline()
 /// run, have strips of one width and equal events, they got equal replies and are in equal states.
 pub fn same_alone()
     ensures { (device other : Device) (calls other_calls : List Call)
-        (state other_state : ServiceState) (id other_id : ℕ) → Run (empty device) calls state →
-        Run (empty other) other_calls other_state →
+        (state other_state : ServiceState) (id other_id : ℕ)
+        → Run (empty_service device) calls state →
+        Run (empty_service other) other_calls other_state →
         HaveSameStrip device state id other other_state other_id →
         own_events id calls ≡ own_events other_id other_calls →
         AreToldTheSame state id calls other_state other_id other_calls }
@@ -45,8 +46,8 @@ pub fn same_alone()
 /// A step that is put counts exactly if it is the next one of its tenancy's running job: of that
 /// tenancy and generation, with that number, and made from equal sources, by value. Any other step
 /// is stale.
-pub fn believed()
+pub fn law_of_puts()
     ensures { (device : Device) (calls : List Call) (old new : ServiceState) (done : JobStep)
-        (foreign : Bool) (reply : StepReply) → Run (empty device) calls old →
+        (foreign : Bool) (reply : StepReply) → Run (empty_service device) calls old →
         IsPut old done foreign (Ok (Recorded reply)) new → Counts reply (IsNextStep old done) }
 {}

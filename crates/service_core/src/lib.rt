@@ -16,6 +16,7 @@
 
 mod device;
 mod entry;
+mod job_window;
 mod law;
 mod not_served;
 mod op_refusal;
@@ -28,7 +29,8 @@ mod texts;
 pub use device::Device;
 pub use device_book::Owned;
 pub use entry::Entry;
-pub use law::{believed, headline, same_alone};
+pub use job_window::window_for;
+pub use law::{headline, law_of_puts, same_alone};
 pub use not_served::{NotServed, Note, NoteCause};
 pub use op_refusal::OpRefusal;
 pub use put_reply::PutReply;

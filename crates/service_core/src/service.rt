@@ -1,7 +1,7 @@
 ghost use Rattle.std.specs.Prelude.{◌≡◌, ◌≤◌, ◌+◌, IfOk, IfSome, None, MatchBool, is_some, length, option_map, option_copied, slice_get};
 ghost use Rattle.strips.specs.Plan.{IsLaidOut, offset_of};
 ghost use Rattle.service_core.specs.History.{state_of};
-ghost use Rattle.service_core.specs.Service.{AreAlone, empty, history_of, journal_of, live_of};
+ghost use Rattle.service_core.specs.Service.{AreAlone, empty_service, history_of, journal_of, live_of};
 ghost use Rattle.service_core.specs.Texts.{FitInto};
 ghost use Rattle.service_core.specs.Calls.{IsAdmitted, IsEvicted, IsGivenBack, IsMoved, IsOriginIn, IsServed, IsTaken, Puts, takeable_in};
 ghost use Rattle.service_core.specs.Kept.{CanTakeUp, ChecksAdmission, IsDevice, IsLiveIn, IsPlaceOf, TakesUp};
@@ -21,7 +21,7 @@ use grid::Strip;
 use job_state::{AnyJob, Back, Done};
 use std::alloc::{AllocError, Global};
 use std::marker::Model;
-use strips::{Layout, PlacedStrip};
+use strips::{PlacedStrip, StripPlan};
 use tenant_slot::{Command, MAX_ENTRIES, Origin, StateName, StepReply};
 
 /// The largest number of admissions: ids are 1 to 65,535, and no id is given twice.
@@ -35,7 +35,7 @@ pub struct Service {
     alloc: Global,
     arch: SharedArch,
     rows: u32,
-    layout: Layout,
+    layout: StripPlan,
     tenancies: Vec<Tenancy>,
     book: Book,
     /// The most bytes that the texts of one journal may have.
@@ -64,7 +64,7 @@ impl Service {
     /// Fails with [`AllocError`] if memory runs out.
     pub fn new(alloc: Global, device: Device) -> Result<Self, AllocError>
         requires { IsDevice device }
-        ensures { IfOk result (λ service. service ≡ empty device) }
+        ensures { IfOk result (λ service. service ≡ empty_service device) }
     {
         Service::with_text_limit(alloc, device, u64::MAX)
     }
@@ -78,7 +78,7 @@ impl Service {
         text_limit: u64,
     ) -> Result<Self, AllocError>
         requires { IsDevice device }
-        ensures { IfOk result (λ service. service ≡ empty device) }
+        ensures { IfOk result (λ service. service ≡ empty_service device) }
     {
         let Device {
             arch,
@@ -90,7 +90,7 @@ impl Service {
             alloc,
             arch: SharedArch::new(alloc, arch)?,
             rows,
-            layout: Layout::new(columns),
+            layout: StripPlan::new(columns),
             tenancies: Vec::new(alloc),
             book,
             text_limit,
@@ -100,7 +100,7 @@ impl Service {
     /// The number of admissions so far: the ids are 1 to that number.
     pub fn admissions(&self) -> u32
         ensures value { result ≡ length self.now.histories }
-        ensures few { result ≤ 65535 }
+        ensures few { result ≤ MAX_ADMISSIONS }
         ensures alone { AreAlone self.now }
     {
         self.tenancies.len() as u32
@@ -188,7 +188,7 @@ impl Service {
         ensures exact { HasOneOwner self.now }
         ensures alone { AreAlone self.now }
     {
-        self.book.owned(self.alloc)
+        self.book.owned_resources(self.alloc)
     }
 
     /// Returns the offset at which a tenancy of that width would be admitted now, if memory
@@ -250,7 +250,7 @@ impl Service {
         }
         let offset = self.place_of(id);
         let tenancy = &mut self.tenancies[id as usize - 1];
-        self.book.release(offset, tenancy.routed());
+        self.book.release(offset, tenancy.routed_resources());
         tenancy.close();
         self.layout.remove(id);
         Ok(())
@@ -270,7 +270,8 @@ impl Service {
             return Err(OpRefusal::NoRoom);
         }
         let tenancy = &self.tenancies[id as usize - 1];
-        self.book.shift(id as u16, from, offset, tenancy.routed());
+        self.book
+            .shift(id as u16, from, offset, tenancy.routed_resources());
         Ok(())
     }
 
@@ -301,8 +302,8 @@ impl Service {
                 command,
                 reply,
             }),
-            Err(tenant_slot::NotServed::NoMemory) => Err(NotServed::NoMemory),
-            Err(tenant_slot::NotServed::JournalFull) => {
+            Err(tenant_slot::NotAnswered::NoMemory) => Err(NotServed::NoMemory),
+            Err(tenant_slot::NotAnswered::JournalFull) => {
                 let cause = NoteCause::JournalFull;
                 Err(NotServed::JournalFull(Note { id, cause }))
             }
@@ -376,7 +377,7 @@ fn claim(book: &mut Book, id: u32, offset: u32, tenancy: &Tenancy, reply: StepRe
     ensures { TakesUp book.old id offset tenancy.now reply book.new }
 {
     match reply {
-        StepReply::Finished => book.claim(id as u16, offset, tenancy.routed()),
+        StepReply::Finished => book.claim(id as u16, offset, tenancy.routed_resources()),
         StepReply::Advanced | StepReply::Stale => {}
     }
 }

@@ -1,4 +1,5 @@
 ghost use Rattle.std.specs.Prelude.{◌≡◌, ◌<◌, ◌≤◌, [], Ok, Err, Some, true, false, All, IfErr, IfOk, length, map, option_copied, slice_get};
+ghost use Rattle.tenant_slot.specs.declared.slot.TheConstants.{MAX_ENTRIES};
 ghost use Rattle.rr_graph.specs.declared.resource.Resource.{Resource};
 ghost use Rattle.rr_graph.specs.Resources.{has, is_there, moved_resource};
 ghost use Rattle.grid.specs.Sizes.{IsStripSize};
@@ -7,7 +8,7 @@ ghost use Rattle.tenant_slot.specs.Slot.{IsOrigin, is_takeable};
 ghost use Rattle.service_core.specs.History.{slot_of, state_of};
 ghost use Rattle.tenant_slot.specs.RoutedSet.{routed_set};
 ghost use Rattle.service_core.specs.Texts.{Adds, FitInto};
-ghost use Rattle.service_core.specs.Tenancy.{GivesHistoryBack, GivesUp, GivesUpOrKeeps, PutsHistory, ServesHistory, StandsIn, TakesHistory, closed};
+ghost use Rattle.service_core.specs.Tenancy.{GivesHistoryBack, GivesUp, GivesUpOrKeeps, PutsHistory, ServesHistory, StandsIn, TakesHistory, closed_history};
 
 use crate::entry::Entry;
 use crate::texts::{LastTexts, command_bytes, kept_reply};
@@ -19,7 +20,8 @@ use rr_graph::Resource;
 use std::alloc::{AllocError, Global};
 use std::marker::Model;
 use tenant_slot::{
-    Answer, Command, Event, MAX_ENTRIES, NotServed, Origin, Reply, Slot, StateName, StepReply,
+    Command, Event, MAX_ENTRIES, NotAnswered, Origin, PreparedReply, Reply, Slot, StateName,
+    StepReply,
 };
 
 /// One tenancy with its journal, which is kept when the tenancy ends.
@@ -134,7 +136,7 @@ impl Tenancy {
     }
 
     /// What it occupies of its strip, in node order.
-    pub(crate) fn routed(&self) -> &[Resource]
+    pub(crate) fn routed_resources(&self) -> &[Resource]
         requires { self.now.live ≡ true }
         ensures exact { (resource : Resource) →
             has result.now resource ≡ has (routed_set (state_of self.now)) resource }
@@ -142,7 +144,7 @@ impl Tenancy {
             result.now }
     {
         match &self.slot {
-            Some(slot) => slot.routed(),
+            Some(slot) => slot.routed_resources(),
             None => unreachable!(),
         }
     }
@@ -155,7 +157,7 @@ impl Tenancy {
         book: &mut Book,
         offset: u32,
         command: Command,
-    ) -> Result<(Command, Reply), NotServed>
+    ) -> Result<(Command, Reply), NotAnswered>
         requires live { self.old.live ≡ true }
         requires there { StandsIn book.old.extent offset self.old.arch self.old.strip }
         ensures served { ServesHistory self.old command result self.new }
@@ -166,15 +168,15 @@ impl Tenancy {
         };
         if self.journal.len() == MAX_ENTRIES as usize {
             drop(command);
-            return Err(NotServed::JournalFull);
+            return Err(NotAnswered::JournalFull);
         }
         let spare = self.text_limit - self.held;
         if spare < command_bytes(&command) || self.journal.reserve(1).is_err() {
             drop(command);
-            return Err(NotServed::NoMemory);
+            return Err(NotAnswered::NoMemory);
         }
         let journal = self.journal.as_slice();
-        match answered(slot, journal, &self.last_texts, spare, &command) {
+        match prepare_reply(slot, journal, &self.last_texts, spare, &command) {
             Ok((answer, recorded)) => {
                 let Recorded { reply, told, bytes } = recorded;
                 give_up(book, offset, slot, &reply);
@@ -212,7 +214,7 @@ impl Tenancy {
     ) -> Result<StepReply, (Done, AllocError)>
         requires live { self.old.live ≡ true }
         requires id { done.id ≡ self.old.id }
-        requires room { length self.old.entries < 65536 }
+        requires room { length self.old.entries < MAX_ENTRIES }
         requires origin { IsOrigin (slot_of self.old) done origin }
         ensures { PutsHistory self.old done result self.new }
     {
@@ -245,7 +247,7 @@ impl Tenancy {
 
     /// Ends the tenancy. Its journal stays.
     pub(crate) fn close(&mut self)
-        ensures { self.new ≡ closed self.old }
+        ensures { self.new ≡ closed_history self.old }
     {
         drop(self.slot.take());
     }
@@ -258,7 +260,7 @@ fn give_up(book: &mut Book, offset: u32, slot: &Slot, reply: &Reply)
         book.new }
 {
     if let Reply::Accepted(_) = reply {
-        book.release(offset, slot.routed());
+        book.release(offset, slot.routed_resources());
     }
 }
 
@@ -274,13 +276,13 @@ struct Recorded {
 
 /// The answer to a command, and what is recorded of it, if its texts add at most `spare` bytes to
 /// those of the journal. Nothing changes yet.
-fn answered(
+fn prepare_reply(
     slot: &Slot,
     journal: &[Entry],
     last_texts: &LastTexts,
     spare: u64,
     command: &Command,
-) -> Result<(Answer, Recorded), NotServed>
+) -> Result<(PreparedReply, Recorded), NotAnswered>
     ensures answer { IfOk result (λ r. Answers slot.now command.now (Ok r.0)) }
     ensures reply { IfOk result (λ r. r.1.reply ≡ r.0.reply) }
     ensures told { IfOk result (λ r. (r.1.told.0 ≡ command.now) × (r.1.told.1 ≡ r.0.reply)) }
@@ -293,7 +295,7 @@ fn answered(
         Ok(recorded) => Ok((answer, recorded)),
         Err(_) => {
             drop(answer);
-            Err(NotServed::NoMemory)
+            Err(NotAnswered::NoMemory)
         }
     }
 }
@@ -318,7 +320,7 @@ fn prepare(
         drop(kept);
         return Err(AllocError);
     }
-    match told(command, &kept) {
+    match copies_of(command, &kept) {
         Ok(told) => Ok(Recorded {
             reply: kept,
             told,
@@ -332,7 +334,7 @@ fn prepare(
 }
 
 /// A copy of a command and of its reply.
-fn told(command: &Command, reply: &Reply) -> Result<(Command, Reply), AllocError>
+fn copies_of(command: &Command, reply: &Reply) -> Result<(Command, Reply), AllocError>
     ensures { IfOk result (λ told. (told.0 ≡ command.now) × (told.1 ≡ reply.now)) }
 {
     let reply = reply.clone()?;

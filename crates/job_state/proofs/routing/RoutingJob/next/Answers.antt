@@ -35,7 +35,7 @@ returns-in-Ok-Done-clause-made g c =
     let here = c.requires ∙ sym (ap (λ (r : RoutingUnderWay). r.basis) c.self.view_is) in
     let state = c.in-Ok.ensures.made ∙ (ap (λ other. state_at other inside.stage) here ∙ ap (λ (r : RoutingUnderWay). r.state) c.self.view_is) in
     let found = found_on basis (on_strip inside.arch inside.strip) c.args.self inside.pads.items routing routes c.routed_on.result done here c.requires (ap (λ (r : RoutingUnderWay). r.pads) c.self.view_is) state c.routed_on.ensures in
-    IfOk-weaker c.ended.result (λ work. work ≡ Routed c.routed_on.result) (λ work. work ≡ routing_after c.args.self.basis c.args.self.pads c.args.self.state.nets (c.args.self.state.iterations + 1)) (λ work is. is ∙ found) c.ended.ensures.made
+    IfOk-weaker c.list_routed.result (λ work. work ≡ Routed c.routed_on.result) (λ work. work ≡ routing_after c.args.self.basis c.args.self.pads c.args.self.state.nets (c.args.self.state.iterations + 1)) (λ work is. is ∙ found) c.list_routed.ensures.made
 
 pub returns-in-Ok-Done-clause-back : goal.returns-in-Ok-Done-clause-back
 returns-in-Ok-Done-clause-back g c =
@@ -47,4 +47,4 @@ returns-in-Ok-Done-clause-back g c =
     let here = c.requires ∙ sym (ap (λ (r : RoutingUnderWay). r.basis) c.self.view_is) in
     let state = c.in-Ok.ensures.made ∙ (ap (λ other. state_at other inside.stage) here ∙ ap (λ (r : RoutingUnderWay). r.state) c.self.view_is) in
     let found = found_on basis (on_strip inside.arch inside.strip) c.args.self inside.pads.items routing routes c.routed_on.result done here c.requires (ap (λ (r : RoutingUnderWay). r.pads) c.self.view_is) state c.routed_on.ensures in
-    IfErr-weaker c.ended.result (λ work. work ≡ Unlisted c.routed_on.result) (IsLeft (Routing c.args.self)) (λ work is. subst (IsLeft (Routing c.args.self)) (sym is) (sym found)) c.ended.ensures.back
+    IfErr-weaker c.list_routed.result (λ work. work ≡ Unlisted c.routed_on.result) (IsLeft (Routing c.args.self)) (λ work is. subst (IsLeft (Routing c.args.self)) (sym is) (sym found)) c.list_routed.ensures.back

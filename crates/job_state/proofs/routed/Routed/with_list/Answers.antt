@@ -3,7 +3,7 @@ use Rattle.rr_graph.specs.declared.resource.Resource.{Resource}
 use Rattle.job_state.specs.RoutedCircuits.{AreThere, ListsAll, RoutedCircuit, held_by}
 use Rattle.job_state.specs.Gathered.{on_trees}
 use Rattle.job_state.proofs.There.{listed_there}
-use Rattle.job_state.proofs.routed.Routed.listed.Goals as goal
+use Rattle.job_state.proofs.routed.Routed.with_list.Goals as goal
 
 abbrev IsListed : RoutedCircuit → List Resource → Type 0
 IsListed routed list = ListsAll (held_by routed) list × AreThere routed.basis list
