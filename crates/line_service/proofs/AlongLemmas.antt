@@ -1,9 +1,9 @@
 -- A conversation of a service is one of what is seen of the service.
-use Rattle.std.proofs.Common.{◌≡◌, ℕ, ◌+◌, List, [], ◌∷◌, ap, take}
+use Rattle.std.proofs.Common.{ℕ, ◌+◌, List, [], ◌∷◌, ap, take}
 use Rattle.dialogue.specs.History.{Event, View}
-use Rattle.line_service.specs.declared.conversation.End.{End}
-use Rattle.line_service.specs.declared.conversation.End.TheVariants.{Done, NoMemory, Stopped, TooManyLines}
-use Rattle.line_service.specs.Conversation.{AreAnswered, EndsAs, IsBacked, IsCaughtUp, IsConversation, IsServed}
+use Rattle.line_service.specs.declared.conversation.ConversationEnd.{ConversationEnd}
+use Rattle.line_service.specs.declared.conversation.ConversationEnd.TheVariants.{Done, NoMemory, Stopped, TooManyLines}
+use Rattle.line_service.specs.Conversation.{AreAnswered, EndsAs, IsBacked, IsCaughtUp, IsConversation}
 
 pub answered_along : {S T : Type 0} (f : S → T) (a : S → ℕ → List ℕ → List ℕ → S → Type 0) (b : T → ℕ → List ℕ → List ℕ → T → Type 0) → ((old : S) (number : ℕ) (line reply : List ℕ) (new : S) → a old number line reply new → b (f old) number line reply (f new)) →
     (old : S) (number : ℕ) (lines : List (List ℕ)) (text : List ℕ) (new : S) → AreAnswered a old number lines text new → AreAnswered b (f old) number lines text (f new)
@@ -38,7 +38,7 @@ caught_along f a b each old first events i = record {
 }
 
 ends_along : {S T : Type 0} (f : S → T) (a : S → ℕ → List ℕ → List ℕ → S → Type 0) (b : T → ℕ → List ℕ → List ℕ → T → Type 0) → ((old : S) (number : ℕ) (line reply : List ℕ) (new : S) → a old number line reply new → b (f old) number line reply (f new)) →
-    (old : S) (first : ℕ) (before after : View) (events : List Event) (end : End) (new : S) (next : ℕ) → EndsAs a old first before after events end new next → EndsAs b (f old) first before after events end (f new) next
+    (old : S) (first : ℕ) (before after : View) (events : List Event) (end : ConversationEnd) (new : S) (next : ℕ) → EndsAs a old first before after events end new next → EndsAs b (f old) first before after events end (f new) next
 ends_along f a b each old first before after events Done new next i = record {
   lines = i.lines;
   counted = i.counted;
@@ -48,11 +48,19 @@ ends_along f a b each old first before after events Done new next i = record {
   all = i.all;
 }
 ends_along f a b each old first before after events (Stopped fault) new next i = i
-ends_along f a b each old first before after events TooManyLines new next i = i
+ends_along f a b each old first before after events TooManyLines new next i = record {
+  lines = i.lines;
+  more = i.more;
+  counted = i.counted;
+  last = i.last;
+  kept = i.kept;
+  are_lines = i.are_lines;
+  answered = answered_along f a b each old first i.lines _ new i.answered;
+}
 ends_along f a b each old first before after events NoMemory new next i = i
 
 pub conversation_along : {S T : Type 0} (f : S → T) (a : S → ℕ → List ℕ → List ℕ → S → Type 0) (b : T → ℕ → List ℕ → List ℕ → T → Type 0) → ((old : S) (number : ℕ) (line reply : List ℕ) (new : S) → a old number line reply new → b (f old) number line reply (f new)) →
-    (old : S) (first : ℕ) (before after : View) (end : End) (new : S) (next : ℕ) → IsConversation a old first before after end new next → IsConversation b (f old) first before after end (f new) next
+    (old : S) (first : ℕ) (before after : View) (end : ConversationEnd) (new : S) (next : ℕ) → IsConversation a old first before after end new next → IsConversation b (f old) first before after end (f new) next
 conversation_along f a b each old first before after end new next c = record {
   events = c.events;
   happens = c.happens;

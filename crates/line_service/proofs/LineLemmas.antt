@@ -1,9 +1,9 @@
 -- Lines, as they are separated in a text.
-use Rattle.std.proofs.Common.{◌≡◌, ℕ, suc, ◌+◌, length, take, arith, List, [], ◌∷◌, ◌++◌, Bool, true, false, not, ◌&&◌, cond, eqb, refl, sym, ap, ◌∙◌, append-nil, append_assoc}
+use Rattle.std.proofs.Common.{◌≡◌, ℕ, suc, length, take, arith, List, [], ◌∷◌, ◌++◌, Bool, true, false, not, ◌&&◌, cond, eqb, refl, ap, ◌∙◌, append_assoc}
 use Rattle.std.specs.List.{flat_map, list_all, onto_first}
 use Rattle.line_text.specs.Lines.{physical_lines}
 use Rattle.line_feed.specs.Pieces.{is_one_line, kept_of}
-use Rattle.tagged_lines.specs.Tags.{ended}
+use Rattle.tagged_lines.specs.Tags.{with_feed}
 use Rattle.tagged_lines.proofs.TagLemmas.{both, is_line, line_then}
 
 pub to_line : (line : List ℕ) → is_one_line line ≡ true → is_line line ≡ true
@@ -11,12 +11,12 @@ to_line [] one = refl
 to_line (x ∷ line) one = let parts = both (not (eqb x 10)) (is_one_line line) one in ap (λ b. b && is_line line) parts.0 ∙ to_line line parts.1
 
 -- lines with their ends are those lines
-pub lines_then : (lines : List (List ℕ)) (more : List ℕ) → list_all is_one_line lines ≡ true → physical_lines (flat_map ended lines ++ more) ≡ lines ++ physical_lines more
+pub lines_then : (lines : List (List ℕ)) (more : List ℕ) → list_all is_one_line lines ≡ true → physical_lines (flat_map with_feed lines ++ more) ≡ lines ++ physical_lines more
 lines_then [] more are = refl
 lines_then (line ∷ lines) more are =
     let parts = both (is_one_line line) (list_all is_one_line lines) are in
-    ap physical_lines (append_assoc (line ++ 10 ∷ []) (flat_map ended lines) more ∙ append_assoc line (10 ∷ []) (flat_map ended lines ++ more))
-    ∙ (line_then line (flat_map ended lines ++ more) (to_line line parts.0) ∙ ap (λ ls. line ∷ ls) (lines_then lines more parts.1))
+    ap physical_lines (append_assoc (line ++ 10 ∷ []) (flat_map with_feed lines) more ∙ append_assoc line (10 ∷ []) (flat_map with_feed lines ++ more))
+    ∙ (line_then line (flat_map with_feed lines ++ more) (to_line line parts.0) ∙ ap (λ ls. line ∷ ls) (lines_then lines more parts.1))
 
 pub not_false : (a : Bool) → not a ≡ true → a ≡ false
 not_false false e = refl

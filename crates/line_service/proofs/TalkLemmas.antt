@@ -1,10 +1,10 @@
 -- A conversation that goes on.
-use Rattle.std.proofs.Common.{◌≡◌, ℕ, suc, ◌+◌, List, [], ◌∷◌, ◌++◌, length, take, Bool, true, false, Option, Some, None, refl, sym, ap, subst, ◌∙◌, arith, append-nil, append_assoc, length-append}
+use Rattle.std.proofs.Common.{◌≡◌, ℕ, suc, ◌+◌, List, [], ◌∷◌, ◌++◌, length, true, false, refl, sym, ap, subst, ◌∙◌, arith, append-nil, append_assoc, length-append}
 use Rattle.std.specs.List.{flat_map, list_all}
-use Rattle.std.specs.Io.KnownBytes.{Consumes, Keeps}
+use Rattle.std.specs.Io.KnownBytes.{Consumes}
 use Rattle.std.proofs.KnownBytes.{Consumes-kept, Consumes-nil, Consumes-trans}
 use Rattle.std.proofs.lemmas.Grind.{flat_map-append}
-use Rattle.tagged_lines.specs.Tags.{ended}
+use Rattle.tagged_lines.specs.Tags.{with_feed}
 use Rattle.dialogue.specs.History.{Event, Happens, View, kept_in, told_in}
 use Rattle.dialogue.specs.History.Event.{Kept, Told}
 use Rattle.line_feed.specs.Feed.{ReadsAhead}
@@ -23,7 +23,7 @@ pub record Progress {S : Type 0} (answers : S → ℕ → List ℕ → List ℕ 
   pub reads : AtEachRead answers old first events
   pub lines : List (List ℕ)
   pub begun : List ℕ
-  pub split : kept_in events ≡ flat_map ended lines ++ (begun ++ ahead)
+  pub split : kept_in events ≡ flat_map with_feed lines ++ (begun ++ ahead)
   pub are_lines : list_all is_one_line lines ≡ true
   pub is_begun : is_one_line begun ≡ true
   pub line : IsKept kept begun
@@ -58,7 +58,7 @@ piece_taken answers old first before number now state ahead kept rest after g p 
   reads = g.reads;
   lines = g.lines;
   begun = g.begun ++ p.piece;
-  split = g.split ∙ ap (λ l. flat_map ended g.lines ++ l) (ap (λ a. g.begun ++ a) (p.rest.0 ∙ (sym (append-nil p.piece) ∙ ap (λ r. p.piece ++ r) (sym p.rest.1))) ∙ sym (append_assoc g.begun p.piece rest));
+  split = g.split ∙ ap (λ l. flat_map with_feed g.lines ++ l) (ap (λ a. g.begun ++ a) (p.rest.0 ∙ (sym (append-nil p.piece) ∙ ap (λ r. p.piece ++ r) (sym p.rest.1))) ∙ sym (append_assoc g.begun p.piece rest));
   are_lines = g.are_lines;
   is_begun = both_lines g.begun p.piece g.is_begun p.one;
   line = p.kept g.begun g.line;
@@ -72,7 +72,7 @@ unfoldable pub caught_up : {S : Type 0} (answers : S → ℕ → List ℕ → Li
 caught_up answers old first before number now state ahead kept none g = record {
   lines = g.lines;
   begun = g.begun;
-  kept = g.split ∙ ap (λ l. flat_map ended g.lines ++ l) (ap (λ a. g.begun ++ a) none ∙ append-nil g.begun);
+  kept = g.split ∙ ap (λ l. flat_map with_feed g.lines ++ l) (ap (λ a. g.begun ++ a) none ∙ append-nil g.begun);
   are_lines = g.are_lines;
   is_begun = g.is_begun;
   new = state;
@@ -84,7 +84,7 @@ pub backed_kept : {S : Type 0} (answers : S → ℕ → List ℕ → List ℕ �
 backed_kept answers old first events bytes c = record {
   lines = c.lines;
   more = c.begun ++ bytes;
-  kept = kept_push events bytes ∙ (ap (λ l. l ++ bytes) c.kept ∙ append_assoc (flat_map ended c.lines) c.begun bytes);
+  kept = kept_push events bytes ∙ (ap (λ l. l ++ bytes) c.kept ∙ append_assoc (flat_map with_feed c.lines) c.begun bytes);
   are_lines = c.are_lines;
   text = told_in events;
   new = c.new;
@@ -106,7 +106,7 @@ refilled answers old first before number now next state ahead kept rest none g r
       reads = reads_kept answers old first g.events rest g.reads c;
       lines = g.lines;
       begun = g.begun;
-      split = kept_push g.events rest ∙ (ap (λ l. l ++ rest) c.kept ∙ append_assoc (flat_map ended g.lines) g.begun rest);
+      split = kept_push g.events rest ∙ (ap (λ l. l ++ rest) c.kept ∙ append_assoc (flat_map with_feed g.lines) g.begun rest);
       are_lines = g.are_lines;
       is_begun = g.is_begun;
       line = g.line;
@@ -140,19 +140,19 @@ answered_append answers old mid new number (x ∷ lines) more text reply (one, s
     (one, state, others ++ reply, first, answered_append answers state mid new (number + 1) lines more others reply rest (subst Q next_number next), ap (λ t. t ++ reply) all ∙ append_assoc one others reply)
 
 -- the line that ends now, and its turn
-pub whole_lines : (lines : List (List ℕ)) (line : List ℕ) → flat_map ended (lines ++ line ∷ []) ≡ flat_map ended lines ++ (line ++ 10 ∷ [])
-whole_lines lines line = flat_map-append ended lines (line ∷ []) ∙ ap (λ l. flat_map ended lines ++ l) (append-nil (line ++ 10 ∷ []))
+pub whole_lines : (lines : List (List ℕ)) (line : List ℕ) → flat_map with_feed (lines ++ line ∷ []) ≡ flat_map with_feed lines ++ (line ++ 10 ∷ [])
+whole_lines lines line = flat_map-append with_feed lines (line ∷ []) ∙ ap (λ l. flat_map with_feed lines ++ l) (append-nil (line ++ 10 ∷ []))
 
-pub split_line : (begun piece rest ahead : List ℕ) (lines : List (List ℕ)) → ahead ≡ piece ++ 10 ∷ rest → flat_map ended lines ++ (begun ++ ahead) ≡ flat_map ended (lines ++ (begun ++ piece) ∷ []) ++ rest
+pub split_line : (begun piece rest ahead : List ℕ) (lines : List (List ℕ)) → ahead ≡ piece ++ 10 ∷ rest → flat_map with_feed lines ++ (begun ++ ahead) ≡ flat_map with_feed (lines ++ (begun ++ piece) ∷ []) ++ rest
 split_line begun piece rest ahead lines is =
     let line = begun ++ piece in
     let own : begun ++ ahead ≡ (line ++ 10 ∷ []) ++ rest = ap (λ a. begun ++ a) is ∙ (sym (append_assoc begun piece (10 ∷ rest)) ∙ sym (append_assoc line (10 ∷ []) rest)) in
-    ap (λ l. flat_map ended lines ++ l) own
-    ∙ (sym (append_assoc (flat_map ended lines) (line ++ 10 ∷ []) rest)
+    ap (λ l. flat_map with_feed lines ++ l) own
+    ∙ (sym (append_assoc (flat_map with_feed lines) (line ++ 10 ∷ []) rest)
     ∙ ap (λ l. l ++ rest) (sym (whole_lines lines line)))
 
 -- a beginning of the reply to the next line is written
-pub backed_told : {S : Type 0} (answers : S → ℕ → List ℕ → List ℕ → S → Type 0) (old : S) (first : ℕ) (events : List Event) (lines : List (List ℕ)) (rest text part unsaid : List ℕ) (new : S) → kept_in events ≡ flat_map ended lines ++ rest → list_all is_one_line lines ≡ true → AreAnswered answers old first lines text new → text ≡ told_in events ++ (part ++ unsaid) → IsBacked answers old first (events ++ Told part ∷ [])
+pub backed_told : {S : Type 0} (answers : S → ℕ → List ℕ → List ℕ → S → Type 0) (old : S) (first : ℕ) (events : List Event) (lines : List (List ℕ)) (rest text part unsaid : List ℕ) (new : S) → kept_in events ≡ flat_map with_feed lines ++ rest → list_all is_one_line lines ≡ true → AreAnswered answers old first lines text new → text ≡ told_in events ++ (part ++ unsaid) → IsBacked answers old first (events ++ Told part ∷ [])
 backed_told answers old first events lines rest text part unsaid new kept are answered told = record {
   lines = lines;
   more = rest;
@@ -172,7 +172,7 @@ turn_taken {S = S} answers old first before number more now next state new ahead
     let L : List ℕ → Type 0 = λ l. answers state number l t.reply new in
     let N : ℕ → Type 0 = λ n. answers state n (kept_of line) t.reply new in
     let answered = answered_push answers old first g.lines line (told_in g.events) t.reply state new g.answered (subst N g.counted (subst L (p.kept g.begun g.line) t.answered)) in
-    let split : kept_in g.events ≡ flat_map ended (g.lines ++ line ∷ []) ++ rest = g.split ∙ split_line g.begun p.piece rest ahead g.lines p.rest in
+    let split : kept_in g.events ≡ flat_map with_feed (g.lines ++ line ∷ []) ++ rest = g.split ∙ split_line g.begun p.piece rest ahead g.lines p.rest in
     let are = lines_push g.lines line g.are_lines (both_lines g.begun p.piece g.is_begun p.one) in
     let A : List ℕ → Type 0 = λ text. AreAnswered answers old first (g.lines ++ line ∷ []) text new in
     let C : List ℕ → Type 0 = λ bytes. Consumes before.remaining next.remaining bytes in

@@ -1,13 +1,13 @@
 -- What is kept, answered and written in a conversation, at each moment.
-use Rattle.std.specs.Prelude.{ℕ, ◌≡◌, ◌+◌, List, [], ◌∷◌, ◌++◌, length, take, true, Option, Some, IfSome, ⊤}
+use Rattle.std.specs.Prelude.{ℕ, ◌≡◌, ◌+◌, ◌^◌, List, [], ◌∷◌, ◌++◌, length, take, true, Option, Some, IfSome, ⊤}
 use Rattle.std.specs.List.{flat_map, list_all, slice_get}
 use Rattle.line_text.specs.Lines.{physical_lines}
-use Rattle.tagged_lines.specs.Tags.{ended}
+use Rattle.tagged_lines.specs.Tags.{with_feed}
 use Rattle.dialogue.specs.History.{Event, Happens, View, kept_in, told_in}
 use Rattle.dialogue.specs.History.Event.{Kept}
 use Rattle.line_feed.specs.Pieces.{is_one_line, kept_of}
-use Rattle.line_service.specs.declared.conversation.End.{End}
-use Rattle.line_service.specs.declared.conversation.End.TheVariants.{Done, Stopped}
+use Rattle.line_service.specs.declared.conversation.ConversationEnd.{ConversationEnd}
+use Rattle.line_service.specs.declared.conversation.ConversationEnd.TheVariants.{Done, Stopped, TooManyLines, NoMemory}
 
 -- Lines are answered one after another, the first of them having that number: this text is all
 -- replies, and the service becomes `new`. `answers old number line reply new` says it of one line;
@@ -21,7 +21,7 @@ AreAnswered {S = S} answers old number (line ∷ lines) text new = (reply : List
 pub record IsBacked {S : Type 0} (answers : S → ℕ → List ℕ → List ℕ → S → Type 0) (old : S) (first : ℕ) (events : List Event) : Type 0 where
   pub lines : List (List ℕ)
   pub more : List ℕ
-  pub kept : kept_in events ≡ flat_map ended lines ++ more
+  pub kept : kept_in events ≡ flat_map with_feed lines ++ more
   pub are_lines : list_all is_one_line lines ≡ true
   pub text : List ℕ
   pub new : S
@@ -33,7 +33,7 @@ pub record IsBacked {S : Type 0} (answers : S → ℕ → List ℕ → List ℕ 
 pub record IsCaughtUp {S : Type 0} (answers : S → ℕ → List ℕ → List ℕ → S → Type 0) (old : S) (first : ℕ) (events : List Event) : Type 0 where
   pub lines : List (List ℕ)
   pub begun : List ℕ
-  pub kept : kept_in events ≡ flat_map ended lines ++ begun
+  pub kept : kept_in events ≡ flat_map with_feed lines ++ begun
   pub are_lines : list_all is_one_line lines ≡ true
   pub is_begun : is_one_line begun ≡ true
   pub new : S
@@ -51,18 +51,30 @@ AtEachRead answers old first events = (n : ℕ) (bytes : List ℕ) → slice_get
 pub record IsServed {S : Type 0} (answers : S → ℕ → List ℕ → List ℕ → S → Type 0) (old : S) (first : ℕ) (input : Option (List ℕ)) (events : List Event) (new : S) (next : ℕ) : Type 0 where
   pub lines : List (List ℕ)
   pub counted : next ≡ first + length lines
-  pub kept : kept_in events ≡ flat_map ended lines
+  pub kept : kept_in events ≡ flat_map with_feed lines
   pub are_lines : list_all is_one_line lines ≡ true
   pub answered : AreAnswered answers old first lines (told_in events) new
   pub all : IfSome input (λ bytes. lines ≡ physical_lines bytes)
 
-abbrev pub EndsAs : {S : Type 0} → (S → ℕ → List ℕ → List ℕ → S → Type 0) → S → ℕ → View → View → List Event → End → S → ℕ → Type 0
+-- the numbers have run out: all lines before number 2^64 - 1 were answered, and their replies were
+-- written
+pub record IsOutOfNumbers {S : Type 0} (answers : S → ℕ → List ℕ → List ℕ → S → Type 0) (old : S) (first : ℕ) (events : List Event) (new : S) (next : ℕ) : Type 0 where
+  pub lines : List (List ℕ)
+  pub more : List ℕ
+  pub counted : next ≡ first + length lines
+  pub last : next + 1 ≡ 2 ^ 64
+  pub kept : kept_in events ≡ flat_map with_feed lines ++ more
+  pub are_lines : list_all is_one_line lines ≡ true
+  pub answered : AreAnswered answers old first lines (told_in events) new
+
+abbrev pub EndsAs : {S : Type 0} → (S → ℕ → List ℕ → List ℕ → S → Type 0) → S → ℕ → View → View → List Event → ConversationEnd → S → ℕ → Type 0
 EndsAs answers old first before after events Done new next = IsServed answers old first before.remaining events new next
 EndsAs answers old first before after events (Stopped fault) new next = after.has_failed fault ≡ true
-EndsAs answers old first before after events end new next = ⊤
+EndsAs answers old first before after events TooManyLines new next = IsOutOfNumbers answers old first events new next
+EndsAs answers old first before after events NoMemory new next = ⊤
 
 -- a conversation: these events, in this order; `next` is the number of a line that would come next
-pub record IsConversation {S : Type 0} (answers : S → ℕ → List ℕ → List ℕ → S → Type 0) (old : S) (first : ℕ) (before after : View) (end : End) (new : S) (next : ℕ) : Type 0 where
+pub record IsConversation {S : Type 0} (answers : S → ℕ → List ℕ → List ℕ → S → Type 0) (old : S) (first : ℕ) (before after : View) (end : ConversationEnd) (new : S) (next : ℕ) : Type 0 where
   pub events : List Event
   pub happens : Happens before after events
   pub moments : AtEachMoment answers old first events

@@ -6,18 +6,18 @@ ghost use Rattle.line_service.specs.Conversation.{IsConversation};
 
 use crate::answers::Answers;
 use crate::turn::{take_last_turn, take_turn};
-use dialogue::{Dialogue, Fault};
+use dialogue::{Dialogue, FailedDevice};
 use line_feed::LineFeed;
 use std::sync::Wait;
 
 /// How a conversation ended.
 #[derive(Clone, Copy, PartialEq, Eq)]
-pub enum End {
+pub enum ConversationEnd {
     /// The input ended, and all its lines are answered.
     Done,
     /// That device failed.
-    Stopped(Fault),
-    /// The input has 2^64 lines or more.
+    Stopped(FailedDevice),
+    /// The next line would have number 2^64 - 1. All lines before it are answered.
     TooManyLines,
     /// It ran out of memory for a reply.
     NoMemory,
@@ -32,17 +32,17 @@ pub fn converse<H: Wait, A: Answers, D: Dialogue>(
     feed: &mut LineFeed,
     dialogue: &mut D,
     number: &mut u64,
-) -> End
+) -> ConversationEnd
     requires ready { A.is_ready service.old }
     requires ahead { ahead_of feed.old ≡ [] }
     requires line { IsKept (line_of feed.old) [] }
-    ensures ready { result ≡ End.Done → A.is_ready service.new }
+    ensures ready { result ≡ ConversationEnd.Done → A.is_ready service.new }
     ensures conversation { IsConversation A.answers service.old number.old
         (D.view dialogue.old) (D.view dialogue.new) result service.new number.new }
 {
     for _ in rt.forever() {
         if *number == u64::MAX {
-            return End::TooManyLines;
+            return ConversationEnd::TooManyLines;
         }
         if feed.take_piece() {
             match take_turn(service, feed, dialogue, *number) {
@@ -55,7 +55,7 @@ pub fn converse<H: Wait, A: Answers, D: Dialogue>(
         }
         match feed.refill(dialogue) {
             Ok(()) => {}
-            Err(fault) => return End::Stopped(fault),
+            Err(fault) => return ConversationEnd::Stopped(fault),
         }
         if feed.is_empty() {
             return take_last_turn(service, feed, dialogue, number);

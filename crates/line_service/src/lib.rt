@@ -13,5 +13,5 @@ mod laws;
 mod turn;
 
 pub use answers::Answers;
-pub use conversation::{End, converse};
+pub use conversation::{ConversationEnd, converse};
 pub use laws::laws_of_lines;

@@ -4,7 +4,7 @@ ghost use Rattle.line_feed.specs.Feed.{line_of};
 ghost use Rattle.line_service.specs.Turn.{IsLastTurn, IsTurn};
 
 use crate::answers::Answers;
-use crate::conversation::End;
+use crate::conversation::ConversationEnd;
 use dialogue::Dialogue;
 use line_feed::LineFeed;
 
@@ -14,18 +14,18 @@ pub(crate) fn take_turn<A: Answers, D: Dialogue>(
     feed: &LineFeed,
     dialogue: &mut D,
     number: u64,
-) -> Result<(), End>
+) -> Result<(), ConversationEnd>
     requires { A.is_ready service.old }
     ensures ready { OnOk result (A.is_ready service.new) }
     ensures turn { IsTurn A.answers service.old number (line_of feed.now) (D.view dialogue.old)
         (D.view dialogue.new) result service.new }
 {
     let Ok(reply) = service.answer(number, feed.line()) else {
-        return Err(End::NoMemory);
+        return Err(ConversationEnd::NoMemory);
     };
     match dialogue.write(reply.as_slice()) {
         Ok(()) => Ok(()),
-        Err(fault) => Err(End::Stopped(fault)),
+        Err(fault) => Err(ConversationEnd::Stopped(fault)),
     }
 }
 
@@ -36,23 +36,23 @@ pub(crate) fn take_last_turn<A: Answers, D: Dialogue>(
     feed: &LineFeed,
     dialogue: &mut D,
     number: &mut u64,
-) -> End
+) -> ConversationEnd
     requires ready { A.is_ready service.old }
     requires number { number.old + 1 < 2 ^ 64 }
-    ensures ready { result ≡ End.Done → A.is_ready service.new }
+    ensures ready { result ≡ ConversationEnd.Done → A.is_ready service.new }
     ensures turn { IsLastTurn A.answers service.old number.old (line_of feed.now)
         (D.view dialogue.old) (D.view dialogue.new) result service.new number.new }
 {
     if feed.line().is_empty() {
-        return End::Done;
+        return ConversationEnd::Done;
     }
     if let Err(fault) = dialogue.end_line() {
-        return End::Stopped(fault);
+        return ConversationEnd::Stopped(fault);
     }
     match take_turn(service, feed, dialogue, *number) {
         Ok(()) => {
             *number += 1;
-            End::Done
+            ConversationEnd::Done
         }
         Err(end) => end,
     }

@@ -1,1 +1,2 @@
 pub mod NodeLines
+pub mod Sizes

@@ -1,5 +1,6 @@
 //! The blocks of a strip.
-ghost use Rattle.std.specs.Prelude.{◌≤◌};
+ghost use Rattle.std.specs.Prelude.{◌+◌, ◌≤◌};
+ghost use Rattle.grid.specs.declared.TheConstants.{MAX_COLUMNS, MAX_ROWS};
 
 use grid::Place;
 
@@ -22,12 +23,12 @@ pub(crate) struct ListedBlock<'t> {
 
 /// A block at its place.
 #[derive(Clone, Copy)]
-pub struct Block<'t> {
+pub struct PlacedBlock<'t> {
     pub kind: BlockKind,
     pub name: &'t [u8],
     /// The index, among the strip's BLEs, of its first one. Its others follow, up to the next
     /// block's first.
     pub first_element: usize,
     pub place: Place,
-    ghost on_largest: { (place.x ≤ 256) × (place.y ≤ 65) × (place.subblock ≤ 7) },
+    ghost on_largest: { (place.x ≤ MAX_COLUMNS) × (place.y ≤ MAX_ROWS + 1) × (place.subblock ≤ 7) },
 }

@@ -1,5 +1,5 @@
 //! Whether routes lead to the blocks that have their nets on their pins.
-use crate::block::Block;
+use crate::block::PlacedBlock;
 use crate::fault::{Fault, File, FileFault};
 use crate::net_text::ListedPin;
 use crate::route_node::RouteNode;
@@ -16,7 +16,7 @@ pub(crate) struct PinsAndRoutes<'a, 't> {
     pub(crate) rows: u32,
     /// The pins with nets, block by block.
     pub(crate) pins: &'a [ListedPin<'t>],
-    pub(crate) blocks: &'a [Block<'t>],
+    pub(crate) blocks: &'a [PlacedBlock<'t>],
     pub(crate) nets: &'a [Net<'t>],
     /// The nodes of all routes, net by net.
     pub(crate) nodes: &'a [RouteNode],

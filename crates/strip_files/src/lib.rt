@@ -23,7 +23,7 @@ mod size;
 mod steps;
 mod trees;
 
-pub use block::{Block, BlockKind};
+pub use block::{BlockKind, PlacedBlock};
 pub use fault::{Fault, File, FileFault, in_file};
 pub use node_line::node_in;
 pub use place_text::{place_in, size_in};

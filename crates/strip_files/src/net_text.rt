@@ -3,6 +3,7 @@ ghost use Rattle.std.specs.Prelude.{length};
 
 use crate::block::{BlockKind, ListedBlock};
 use crate::fault::{Fault, File, FileFault, in_file};
+use arch_file::MAX_PINS;
 use line_text::{TextError, is_word, split_line};
 use std::alloc::Global;
 use text_parts::Scanner;
@@ -10,9 +11,6 @@ use text_parts::Scanner;
 /// The largest number of blocks of a tenancy: a net of its own for each input and cluster, and an
 /// output for each net.
 const MAX_BLOCKS: usize = 16_384;
-
-/// The largest number of pins of a block: 128 inputs, 16 outputs and a clock.
-const MOST_PINS: u32 = 145;
 
 /// A pin with a net.
 #[derive(Clone, Copy)]
@@ -89,7 +87,7 @@ impl<'t> Listed<'t> {
         let Some(block) = self.blocks.len().checked_sub(1) else {
             return Err(TextError::Fault(Fault::UnknownLine));
         };
-        for _ in 0..MOST_PINS {
+        for _ in 0..MAX_PINS {
             if !scanner.takes(" ") {
                 break;
             }

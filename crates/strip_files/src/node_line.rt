@@ -1,21 +1,15 @@
 //! The lines of nodes.
-ghost use Rattle.std.specs.Prelude.{◌≡◌, ◌≤◌, ◌++◌, true, false, IfSome, IfOk, MatchOption};
+ghost use Rattle.std.specs.Prelude.{◌+◌, ◌-◌, ◌≡◌, ◌≤◌, ◌++◌, true, false, IfSome, IfOk, MatchOption};
+ghost use Rattle.arch_file.specs.declared.arch.TheConstants.{MAX_PINS};
+ghost use Rattle.grid.specs.declared.TheConstants.{MAX_COLUMNS, MAX_ROWS};
 ghost use Rattle.strip_files.specs.NodeLines.{IsTailOf, counted_word, is_node_line, kind_start};
 
 use crate::fault::Fault;
 use crate::route_node::RouteNode;
 use crate::size::StripSize;
+use arch_file::{MAX_IO_RAT, MAX_PINS, MAX_TRACKS};
 use rr_graph::{Node, NodeKind};
 use text_parts::Scanner;
-
-/// The largest number of pins of a block: 128 inputs, 16 outputs and a clock.
-const MOST_PINS: u32 = 145;
-
-/// The largest number of pads at an end of a column.
-const MOST_PADS: u32 = 8;
-
-/// The largest number of tracks of a channel.
-const MOST_TRACKS: u32 = 64;
 
 /// What the number of a node counts.
 #[derive(Clone, Copy)]
@@ -111,19 +105,19 @@ fn take_counted(scanner: &mut Scanner<'_>) -> Option<Counted>
 
 /// Returns whether a strip of that size has the node.
 fn is_there(size: StripSize, node: Node, counted: Counted) -> bool
-    ensures column { result ≡ true → node.x ≤ 256 }
-    ensures row { result ≡ true → node.y ≤ 65 }
-    ensures number { result ≡ true → node.n ≤ 144 }
+    ensures column { result ≡ true → node.x ≤ MAX_COLUMNS }
+    ensures row { result ≡ true → node.y ≤ MAX_ROWS + 1 }
+    ensures number { result ≡ true → node.n ≤ MAX_PINS - 1 }
 {
     let Node { x, kind, y, n } = node;
     match (kind, counted) {
         (NodeKind::ChanX | NodeKind::ChanY, Counted::Tracks) => {
-            size.has_channel(kind, x, y) && n < MOST_TRACKS
+            size.has_channel(kind, x, y) && n < MAX_TRACKS
         }
         (NodeKind::Source | NodeKind::Sink, Counted::Classes) => size.has_block(x, y) && n <= 1,
-        (NodeKind::Opin | NodeKind::Ipin, Counted::Pins) => size.has_block(x, y) && n < MOST_PINS,
+        (NodeKind::Opin | NodeKind::Ipin, Counted::Pins) => size.has_block(x, y) && n < MAX_PINS,
         (NodeKind::ChanX | NodeKind::ChanY, _) => false,
-        (_, Counted::Pads) => size.has_pads(x, y) && n < MOST_PADS,
+        (_, Counted::Pads) => size.has_pads(x, y) && n < MAX_IO_RAT,
         _ => false,
     }
 }

@@ -1,23 +1,22 @@
 //! The `.place` file: the size of the strip, and the places of its blocks.
-ghost use Rattle.std.specs.Prelude.{◌≡◌, ◌≤◌, length, true};
+ghost use Rattle.std.specs.Prelude.{◌+◌, ◌≡◌, ◌≤◌, length, true};
+ghost use Rattle.grid.specs.declared.TheConstants.{MAX_COLUMNS, MAX_ROWS};
 
-use crate::block::{Block, ListedBlock};
+use crate::block::{ListedBlock, PlacedBlock};
 use crate::fault::{Fault, File, FileFault, in_file};
 use crate::size::StripSize;
+use arch_file::MAX_IO_RAT;
 use grid::Place;
 use line_text::{TextError, split_line};
 use std::alloc::Global;
 use text_parts::Scanner;
-
-/// The largest number of pads at an end of a column.
-const MOST_PADS: u32 = 8;
 
 /// The contents of a `.place` file.
 #[derive(Drop)]
 pub(crate) struct Placed<'t> {
     /// The size in its second line.
     pub(crate) size: Option<StripSize>,
-    pub(crate) blocks: Vec<Block<'t>>,
+    pub(crate) blocks: Vec<PlacedBlock<'t>>,
 }
 
 impl<'t> Placed<'t> {
@@ -94,7 +93,7 @@ impl<'t> Placed<'t> {
         if !is_there(size, place) {
             return Err(TextError::Fault(Fault::NotThere));
         }
-        self.blocks.push(Block {
+        self.blocks.push(PlacedBlock {
             kind: block.kind,
             name: block.name,
             first_element: block.first_element,
@@ -106,12 +105,12 @@ impl<'t> Placed<'t> {
 
 /// Returns whether a strip of that size has the place.
 fn is_there(size: StripSize, place: Place) -> bool
-    ensures column { result ≡ true → place.x ≤ 256 }
-    ensures row { result ≡ true → place.y ≤ 65 }
+    ensures column { result ≡ true → place.x ≤ MAX_COLUMNS }
+    ensures row { result ≡ true → place.y ≤ MAX_ROWS + 1 }
     ensures pad { result ≡ true → place.subblock ≤ 7 }
 {
     let logic = size.has_block(place.x, place.y) && place.subblock == 0;
-    let pads = size.has_pads(place.x, place.y) && place.subblock < MOST_PADS;
+    let pads = size.has_pads(place.x, place.y) && place.subblock < MAX_IO_RAT;
     logic || pads
 }
 

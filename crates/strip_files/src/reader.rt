@@ -1,8 +1,9 @@
 //! The three files together.
-ghost use Rattle.std.specs.Prelude.{◌≡◌, length, IfOk};
+ghost use Rattle.std.specs.Prelude.{◌≡◌, length, position, IfOk};
+ghost use Rattle.std.specs.Str.{bytes_eq};
 ghost use Rattle.strip_files.specs.NodeLines.{AreTold, node_lines};
 
-use crate::block::Block;
+use crate::block::PlacedBlock;
 use crate::ends::{PinsAndRoutes, check_ends};
 use crate::fault::FileFault;
 use crate::net_text::Listed;
@@ -28,7 +29,7 @@ pub struct StripTexts<'t> {
 pub struct RoutedStrip<'t> {
     pub size: StripSize,
     /// The blocks, by number.
-    pub blocks: Vec<Block<'t>>,
+    pub blocks: Vec<PlacedBlock<'t>>,
     /// The names of the BLEs, cluster by cluster.
     pub elements: Vec<&'t [u8]>,
     /// The nets, by number.
@@ -39,7 +40,9 @@ pub struct RoutedStrip<'t> {
 
 impl<'t> RoutedStrip<'t> {
     /// Returns the number of the first net of that name; `None` if there is no such net.
-    pub fn net_named(&self, name: &[u8]) -> Option<usize> {
+    pub fn net_named(&self, name: &[u8]) -> Option<usize>
+        ensures { result ≡ position (λ net. bytes_eq net.name.now name.now) self.now.nets.items }
+    {
         self.nets.iter().position(|net| net.name == name)
     }
 
@@ -109,7 +112,7 @@ pub fn read_strip(
     let mut placed = Placed::new(alloc);
     let mut routed = Routed::new(alloc);
     match read_all(alloc, texts, &mut listed, &mut placed, &mut routed) {
-        Ok(size) => Ok(joined(size, listed, placed, routed)),
+        Ok(size) => Ok(strip_of(size, listed, placed, routed)),
         Err(error) => {
             drop(listed);
             drop(placed);
@@ -147,7 +150,7 @@ fn read_all<'t>(
 }
 
 /// What was read, as one strip.
-fn joined<'t>(
+fn strip_of<'t>(
     size: StripSize,
     listed: Listed<'t>,
     placed: Placed<'t>,

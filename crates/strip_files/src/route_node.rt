@@ -1,5 +1,7 @@
 //! The nodes of routes.
-ghost use Rattle.std.specs.Prelude.{◌≤◌};
+ghost use Rattle.std.specs.Prelude.{◌+◌, ◌-◌, ◌≤◌};
+ghost use Rattle.arch_file.specs.declared.arch.TheConstants.{MAX_PINS};
+ghost use Rattle.grid.specs.declared.TheConstants.{MAX_COLUMNS, MAX_ROWS};
 
 use rr_graph::Node;
 
@@ -7,5 +9,6 @@ use rr_graph::Node;
 #[derive(Clone, Copy)]
 pub struct RouteNode {
     pub node: Node,
-    ghost on_largest: { (node.x ≤ 256) × (node.y ≤ 65) × (node.n ≤ 144) },
+    ghost on_largest: { (node.x ≤ MAX_COLUMNS) × (node.y ≤ MAX_ROWS + 1)
+        × (node.n ≤ MAX_PINS - 1) },
 }

@@ -100,7 +100,7 @@ impl<'t> Routed<'t> {
         let mut scanner = Scanner::new(line);
         match take_kind(&mut scanner) {
             Some(kind) => self.node(size, kind, scanner),
-            None => self.other(line, number, size),
+            None => self.read_other(line, number, size),
         }
     }
 
@@ -159,7 +159,7 @@ impl<'t> Routed<'t> {
     }
 
     /// Reads a line that isn't a node's.
-    fn other(
+    fn read_other(
         &mut self,
         line: &'t [u8],
         number: usize,
@@ -168,7 +168,7 @@ impl<'t> Routed<'t> {
         ensures { self.new.nodes.items ≡ self.old.nodes.items }
     {
         match self.section {
-            Section::Size => self.heading(line, size),
+            Section::Size => self.read_heading(line, size),
             Section::Before if is_word(line, "Routing:") => {
                 self.section = Section::Nets;
                 Ok(())
@@ -181,7 +181,7 @@ impl<'t> Routed<'t> {
     }
 
     /// Reads the first line, which has the size.
-    fn heading(&mut self, line: &[u8], size: StripSize) -> Result<(), TextError<Fault>>
+    fn read_heading(&mut self, line: &[u8], size: StripSize) -> Result<(), TextError<Fault>>
         ensures { self.new.nodes.items ≡ self.old.nodes.items }
     {
         let Some(told) = size_in(line, " logic blocks.") else {

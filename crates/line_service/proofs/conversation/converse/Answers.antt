@@ -1,4 +1,4 @@
-use Rattle.std.proofs.Common.{◌≡◌, ℕ, ◌+◌, List, [], Bool, true, false, subst, sym, refl, rules}
+use Rattle.std.proofs.Common.{◌≡◌, ℕ, ◌+◌, List, [], Bool, subst, sym, refl, arith, rules}
 use Rattle.line_feed.specs.Feed.{ahead_of, line_of}
 use Rattle.line_feed.specs.Pieces.{TakesPiece}
 use Rattle.line_service.proofs.EndLemmas.{input_ends, read_fails, too_many, turn_fails}
@@ -13,7 +13,7 @@ loop-init g c = record {
 
 pub returns-then-number-eq18446744073709551615-clause-conversation : goal.returns-then-number-eq18446744073709551615-clause-conversation
 returns-then-number-eq18446744073709551615-clause-conversation g c =
-    too_many _ g.A.Answers.answers _ _ _ _ _ _ (ahead_of c.loop.feed) (line_of c.loop.feed) c.loop.invariant.progress
+    too_many g.A.Answers.answers _ _ _ _ _ _ (ahead_of c.loop.feed) (line_of c.loop.feed) c.loop.invariant.progress (omega (arith, c.if-number-eq18446744073709551615.true))
 
 pub returns-in-Err-clause-conversation : goal.returns-in-Err-clause-conversation
 returns-in-Err-clause-conversation g c =

@@ -19,9 +19,9 @@ pub returns-in-None : goal.returns-in-None
 returns-in-None c =
     let line : List ℕ = c.args.line.now in
     let before : List RouteNode = c.args.self.now.nodes.items in
-    let after : List RouteNode = c.other.new.self.nodes.items in
+    let after : List RouteNode = c.read_other.new.self.nodes.items in
     let same : c.new-scanner.result ≡ line = c.new-scanner.ensures in
     let left : (is_node_line c.new-scanner.result ≡ false) × (c.take_kind.new.scanner ≡ c.new-scanner.result) = c.in-None.ensures in
     let other : is_node_line line ≡ false = subst (λ (text : List ℕ). is_node_line text ≡ false) same left.0 in
-    let is : IsReadOn line before after = other_line line before after other c.other.ensures in
-    always_ok c.other.result (IsReadOn line before after) is
+    let is : IsReadOn line before after = other_line line before after other c.read_other.ensures in
+    always_ok c.read_other.result (IsReadOn line before after) is
