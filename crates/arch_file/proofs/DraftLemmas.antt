@@ -6,8 +6,8 @@ use Rattle.std.proofs.lemmas.Bool.Decides.{nat_tests}
 use Rattle.std.proofs.lemmas.List.{length-set, get_or-set_same, get_or-set_other}
 use Rattle.arch_file.specs.declared.arch.Pin.{Pin}
 use Rattle.arch_file.specs.declared.draft.Draft.{Draft}
-use Rattle.arch_file.specs.declared.fault.Keyword.{Keyword}
-use Rattle.arch_file.specs.declared.fault.Keyword.TheVariants.{IoRat, ChanWidthIo, ChanWidthX, ChanWidthY, Inpin, Outpin, SubblocksPerClb, SubblockLutSize, FcType, FcOutput, FcInput, FcPad, SwitchBlockType, Segment}
+use Rattle.arch_file.specs.declared.fault.ArchKeyword.{ArchKeyword}
+use Rattle.arch_file.specs.declared.fault.ArchKeyword.TheVariants.{IoRat, ChanWidthIo, ChanWidthX, ChanWidthY, Inpin, Outpin, SubblocksPerClb, SubblockLutSize, FcType, FcOutput, FcInput, FcPad, SwitchBlockType, Segment}
 use Rattle.arch_file.specs.Draft.{Follows, IsLimited, Sets, found_with}
 use Rattle.arch_file.specs.FcTypes.{is_fractional_type}
 use Rattle.arch_file.specs.Values.{decimal_from, is_fractional_from, whole_from}
@@ -19,7 +19,7 @@ abbrev Words : Type 0
 Words = List (List ℕ)
 
 -- all ranks are below 14
-pub rank_below : (keyword : Keyword) → rank_of keyword < 14
+pub rank_below : (keyword : ArchKeyword) → rank_of keyword < 14
 rank_below IoRat = omega arith
 rank_below ChanWidthIo = omega arith
 rank_below ChanWidthX = omega arith
@@ -77,10 +77,10 @@ mark_place stands place other false differs inside =
     eqb_self n = grind (arith, nat_tests)
 
 -- the keyword is not one that has a value
-abbrev pub IsPlain : Keyword → Type 0
-IsPlain keyword = (other : Keyword) → rank_of other < 11 → same_keyword other keyword ≡ false
+abbrev pub IsPlain : ArchKeyword → Type 0
+IsPlain keyword = (other : ArchKeyword) → rank_of other < 11 → same_keyword other keyword ≡ false
 
-pub IsPlain-from_rank : (keyword : Keyword) → 11 ≤ rank_of keyword → IsPlain keyword
+pub IsPlain-from_rank : (keyword : ArchKeyword) → 11 ≤ rank_of keyword → IsPlain keyword
 IsPlain-from_rank keyword high other low =
     let differs : rank_of other ≡ rank_of keyword → ⊥ = omega arith in
     alike_by_rank other keyword ∙ not_same (eqb (rank_of other) (rank_of keyword)) refl differs
@@ -89,16 +89,16 @@ IsPlain-from_rank keyword high other low =
     not_same true same differs = absurd (differs (eqb-true (rank_of other) (rank_of keyword) same))
     not_same false same differs = refl
 
-pub mark_stands : (stands : List Bool) (found : Keyword → Option Words) (keyword other : Keyword) (words : Words) → length stands ≡ 14 → get_or stands (rank_of other) false ≡ is_some (found other) → get_or (set stands (rank_of keyword) true) (rank_of other) false ≡ is_some (found_with found keyword words other)
+pub mark_stands : (stands : List Bool) (found : ArchKeyword → Option Words) (keyword other : ArchKeyword) (words : Words) → length stands ≡ 14 → get_or stands (rank_of other) false ≡ is_some (found other) → get_or (set stands (rank_of keyword) true) (rank_of other) false ≡ is_some (found_with found keyword words other)
 mark_stands stands found keyword other words ranks stood =
     mark_place stands (rank_of keyword) (rank_of other) (same_keyword other keyword) (sym (alike_by_rank other keyword)) (omega (arith, rank_below keyword))
     ∙ ap (λ b. b || same_keyword other keyword) stood ∙ sym (is_some_or (same_keyword other keyword) (found other) words)
 
 -- a keyword without a value is marked
-pub Follows-mark : (draft : Draft) (found : Keyword → Option Words) (seen : List Pin) (keyword : Keyword) (words : Words) → 11 ≤ rank_of keyword → Follows draft found seen → Follows (record draft { stands = set draft.stands (rank_of keyword) true }) (found_with found keyword words) seen
+pub Follows-mark : (draft : Draft) (found : ArchKeyword → Option Words) (seen : List Pin) (keyword : ArchKeyword) (words : Words) → 11 ≤ rank_of keyword → Follows draft found seen → Follows (record draft { stands = set draft.stands (rank_of keyword) true }) (found_with found keyword words) seen
 Follows-mark draft found seen keyword words high follows =
     let plain : IsPlain keyword = IsPlain-from_rank keyword high in
-    let same = λ (other : Keyword) (low : rank_of other < 11). or_old (same_keyword other keyword) (found other) words (plain other low) in
+    let same = λ (other : ArchKeyword) (low : rank_of other < 11). or_old (same_keyword other keyword) (found other) words (plain other low) in
     let pads : found_with found keyword words IoRat ≡ found IoRat = same IoRat (omega arith) in
     let elements : found_with found keyword words SubblocksPerClb ≡ found SubblocksPerClb = same SubblocksPerClb (omega arith) in
     let inputs : found_with found keyword words SubblockLutSize ≡ found SubblockLutSize = same SubblockLutSize (omega arith) in
@@ -137,9 +137,9 @@ limit_set false found more words value old new limit is sets was limits is_there
     rw sets (was (ap is_some (sym is) ∙ is_there))
 
 -- a keyword that was not read gets its value and its mark
-pub Follows-set : (old mid : Draft) (found : Keyword → Option Words) (seen : List Pin) (keyword : Keyword) (words : Words) → get_or old.stands (rank_of keyword) false ≡ false → Follows old found seen → Sets old keyword words mid → Follows (record mid { stands = set mid.stands (rank_of keyword) true }) (found_with found keyword words) seen
+pub Follows-set : (old mid : Draft) (found : ArchKeyword → Option Words) (seen : List Pin) (keyword : ArchKeyword) (words : Words) → get_or old.stands (rank_of keyword) false ≡ false → Follows old found seen → Sets old keyword words mid → Follows (record mid { stands = set mid.stands (rank_of keyword) true }) (found_with found keyword words) seen
 Follows-set old mid found seen keyword words fresh follows sets =
-    let new = λ (other : Keyword). or_new (same_keyword other keyword) (found other) words (λ same. sym (follows.stands other) ∙ ap (λ n. get_or old.stands n false) (eqb-true (rank_of other) (rank_of keyword) (sym (alike_by_rank other keyword) ∙ same)) ∙ fresh) in
+    let new = λ (other : ArchKeyword). or_new (same_keyword other keyword) (found other) words (λ same. sym (follows.stands other) ∙ ap (λ n. get_or old.stands n false) (eqb-true (rank_of other) (rank_of keyword) (sym (alike_by_rank other keyword) ∙ same)) ∙ fresh) in
     record {
       ranks = length-set mid.stands (rank_of keyword) true ∙ ap length sets.stands ∙ follows.ranks;
       stands = λ other. rw sets.stands (mark_stands old.stands found keyword other words follows.ranks (follows.stands other));

@@ -3,7 +3,7 @@ use Rattle.std.proofs.Common.{◌≡◌, ℕ, List, [], ◌∷◌, Some, Ok, Err
 use Rattle.std.proofs.lemmas.Fmt.{decimal_digit}
 use Rattle.line_text.specs.Lines.{JoinedLine}
 use Rattle.arch_file.specs.Arch.{arch_of_lines}
-use Rattle.arch_file.specs.ArchFaults.{faults_behind, faults_of}
+use Rattle.arch_file.specs.ArchFaults.{faults_after, faults_of}
 use Rattle.line_text.specs.LeastFault.{least_fault}
 use Rattle.arch_file.specs.Faults.{printed_fault}
 use Rattle.arch_file.specs.PinLine.{pin_in, pin_line_faults}
@@ -12,7 +12,7 @@ use Rattle.arch_file.specs.Values.{reach, value_faults}
 use Rattle.arch_file.specs.Words.{is_unread, keyword_of}
 use Rattle.arch_file.specs.declared.arch.PinClass.TheVariants.{Input, Output, Clock}
 use Rattle.arch_file.specs.declared.fault.ArchFaultKind.TheVariants.{BadClass, BadNumber, BadSide, Missing, NotProfile, OverLimit, Repeated, Unknown}
-use Rattle.arch_file.specs.declared.fault.Keyword.TheVariants as keywords
+use Rattle.arch_file.specs.declared.fault.ArchKeyword.TheVariants as keywords
 
 abbrev line : ℕ → List (List ℕ) → JoinedLine
 line number words = record { number = number; words = words }
@@ -79,11 +79,11 @@ unfolding keyword_of is_unread
 not_read = refl
 
 -- the least of all faults of two lines and of the end
-least_of_all : least_fault (faults_behind [] (line 3 (codes "io_rat" ∷ codes "9" ∷ []) ∷ line 4 (codes "wire" ∷ []) ∷ [])) ≡ Some (record { line = 3; kind = OverLimit })
+least_of_all : least_fault (faults_after [] (line 3 (codes "io_rat" ∷ codes "9" ∷ []) ∷ line 4 (codes "wire" ∷ []) ∷ [])) ≡ Some (record { line = 3; kind = OverLimit })
 unfolding keyword_of value_faults is_unread
 least_of_all = refl
 
-no_lines : least_fault (faults_behind [] []) ≡ Some (record { line = 0; kind = Missing keywords.IoRat })
+no_lines : least_fault (faults_after [] []) ≡ Some (record { line = 0; kind = Missing keywords.IoRat })
 no_lines = refl
 
 -- the least fault of an incomplete text, and the value of a complete one

@@ -3,16 +3,16 @@ use Rattle.std.proofs.Common.{◌≡◌, ◌∙◌, ℕ, Bool, true, false, eqb,
 use Rattle.std.proofs.lemmas.Bool.{eqb-true}
 use Rattle.std.proofs.lemmas.Bool.Decides.{nat_tests}
 use Rattle.std.proofs.lemmas.Slice.Eq.{bytes_eq-Decides}
-use Rattle.arch_file.specs.declared.fault.Keyword.{Keyword}
-use Rattle.arch_file.specs.declared.fault.Keyword.TheVariants.{IoRat, ChanWidthIo, ChanWidthX, ChanWidthY, SubblocksPerClb, SubblockLutSize, FcType, FcOutput, FcInput, FcPad, SwitchBlockType, Segment, Inpin, Outpin}
+use Rattle.arch_file.specs.declared.fault.ArchKeyword.{ArchKeyword}
+use Rattle.arch_file.specs.declared.fault.ArchKeyword.TheVariants.{IoRat, ChanWidthIo, ChanWidthX, ChanWidthY, SubblocksPerClb, SubblockLutSize, FcType, FcOutput, FcInput, FcPad, SwitchBlockType, Segment, Inpin, Outpin}
 use Rattle.arch_file.specs.Ranks.{rank_of}
 use Rattle.arch_file.specs.Words.{keyword_of, same_keyword, text_of}
 
 -- the keyword of a rank
-ranked : ℕ → Keyword
+ranked : ℕ → ArchKeyword
 ranked rank = get_or (IoRat ∷ ChanWidthIo ∷ ChanWidthX ∷ ChanWidthY ∷ SubblocksPerClb ∷ SubblockLutSize ∷ FcType ∷ FcOutput ∷ FcInput ∷ FcPad ∷ SwitchBlockType ∷ Segment ∷ Inpin ∷ Outpin ∷ []) rank IoRat
 
-ranked_is : (keyword : Keyword) → ranked (rank_of keyword) ≡ keyword
+ranked_is : (keyword : ArchKeyword) → ranked (rank_of keyword) ≡ keyword
 unfolding ranked
 ranked_is IoRat = refl
 ranked_is ChanWidthIo = refl
@@ -30,7 +30,7 @@ ranked_is Inpin = refl
 ranked_is Outpin = refl
 
 -- a keyword is found by its spelling
-spelled_is : (keyword : Keyword) → keyword_of (text_of keyword) ≡ Some keyword
+spelled_is : (keyword : ArchKeyword) → keyword_of (text_of keyword) ≡ Some keyword
 unfolding keyword_of
 spelled_is IoRat = refl
 spelled_is ChanWidthIo = refl
@@ -50,19 +50,19 @@ spelled_is Outpin = refl
 eqb_self : (n : ℕ) → eqb n n ≡ true
 eqb_self n = grind (arith, nat_tests)
 
-same_text : (first second : Keyword) → same_keyword first second ≡ true → first ≡ second
+same_text : (first second : ArchKeyword) → same_keyword first second ≡ true → first ≡ second
 same_text first second same =
     let texts : text_of first ≡ text_of second = (bytes_eq-Decides (text_of first) (text_of second)).0 same in
     let some : Some first ≡ Some second = sym (spelled_is first) ∙ ap keyword_of texts ∙ spelled_is second in
     cc
 
-same_rank : (first second : Keyword) → eqb (rank_of first) (rank_of second) ≡ true → first ≡ second
+same_rank : (first second : ArchKeyword) → eqb (rank_of first) (rank_of second) ≡ true → first ≡ second
 same_rank first second same = sym (ranked_is first) ∙ ap ranked (eqb-true (rank_of first) (rank_of second) same) ∙ ranked_is second
 
-same_self : (keyword : Keyword) → same_keyword keyword keyword ≡ true
+same_self : (keyword : ArchKeyword) → same_keyword keyword keyword ≡ true
 same_self keyword = (bytes_eq-Decides (text_of keyword) (text_of keyword)).1 refl
 
-pub alike_by_rank : (first second : Keyword) → same_keyword first second ≡ eqb (rank_of first) (rank_of second)
+pub alike_by_rank : (first second : ArchKeyword) → same_keyword first second ≡ eqb (rank_of first) (rank_of second)
 alike_by_rank first second = by (same_keyword first second) (eqb (rank_of first) (rank_of second)) refl refl
   where
     by : (a b : Bool) → same_keyword first second ≡ a → eqb (rank_of first) (rank_of second) ≡ b → a ≡ b

@@ -13,9 +13,9 @@ use Rattle.arch_file.specs.declared.arch.Pin.{Pin}
 use Rattle.arch_file.specs.declared.draft.Draft.{Draft}
 use Rattle.arch_file.specs.declared.fault.ArchFaultKind.{ArchFaultKind}
 use Rattle.arch_file.specs.declared.fault.ArchFaultKind.TheVariants.{NotProfile, Repeated}
-use Rattle.arch_file.specs.declared.fault.Keyword.{Keyword}
-use Rattle.arch_file.specs.declared.fault.Keyword.TheVariants.{IoRat, ChanWidthIo, ChanWidthX, ChanWidthY, Inpin, Outpin, SubblocksPerClb, SubblockLutSize, FcType, FcOutput, FcInput, FcPad, SwitchBlockType, Segment}
-use Rattle.arch_file.specs.ArchFaults.{begins_with, keyword_faults, pin_behind, pin_of_words, pins_of, words_at}
+use Rattle.arch_file.specs.declared.fault.ArchKeyword.{ArchKeyword}
+use Rattle.arch_file.specs.declared.fault.ArchKeyword.TheVariants.{IoRat, ChanWidthIo, ChanWidthX, ChanWidthY, Inpin, Outpin, SubblocksPerClb, SubblockLutSize, FcType, FcOutput, FcInput, FcPad, SwitchBlockType, Segment}
+use Rattle.arch_file.specs.ArchFaults.{begins_with, keyword_faults, pin_after, pin_of_words, pins_of, words_at}
 use Rattle.arch_file.specs.Draft.{AddsPin, Follows}
 use Rattle.arch_file.specs.FaultLists.{only_if}
 use Rattle.arch_file.specs.Readings.{least_kind}
@@ -26,7 +26,7 @@ use Rattle.arch_file.specs.Segment.{segment_faults}
 use Rattle.arch_file.specs.Values.{decimal_faults, decimal_in, is_fc_type, is_subset, one_faults, value_faults, whole_faults, whole_in, width_faults, word_faults}
 use Rattle.arch_file.specs.Ranks.{rank_of}
 use Rattle.arch_file.proofs.KeywordRanks.{alike_by_rank}
-use Rattle.arch_file.specs.Words.{is_pin_keyword, lone, same_keyword}
+use Rattle.arch_file.specs.Words.{is_pin_keyword, only_word, same_keyword}
 
 -- `Repeated` comes before all of these
 abbrev IsRepeatedFirst : List ArchFaultKind → Type 0
@@ -44,20 +44,20 @@ repeated_decimal : (value : Option ℕ) → IsRepeatedFirst (decimal_faults valu
 repeated_decimal None = refl
 repeated_decimal (Some value) = refl
 
-repeated_one : (keyword : Keyword) (value : Option ℕ) → IsRepeatedFirst (one_faults keyword value)
+repeated_one : (keyword : ArchKeyword) (value : Option ℕ) → IsRepeatedFirst (one_faults keyword value)
 repeated_one keyword None = refl
 repeated_one keyword (Some value) = either (value == 1000000) _ _ refl refl
 
-repeated_width : (keyword : Keyword) (words : List (List ℕ)) → IsRepeatedFirst (width_faults keyword words)
+repeated_width : (keyword : ArchKeyword) (words : List (List ℕ)) → IsRepeatedFirst (width_faults keyword words)
 repeated_width keyword [] = refl
 repeated_width keyword (kind ∷ words) = either (bytes_eq kind (codes "uniform")) (one_faults keyword (decimal_in words)) (NotProfile keyword ∷ []) (repeated_one keyword (decimal_in words)) refl
 
-repeated_word : (keyword : Keyword) (passes : List ℕ → Bool) (word : Option (List ℕ)) → IsRepeatedFirst (word_faults keyword passes word)
+repeated_word : (keyword : ArchKeyword) (passes : List ℕ → Bool) (word : Option (List ℕ)) → IsRepeatedFirst (word_faults keyword passes word)
 repeated_word keyword passes None = refl
 repeated_word keyword passes (Some word) = either (passes word) _ _ refl refl
 
 -- a repeated keyword comes before everything that is wrong with its value
-pub repeated_first : (keyword : Keyword) (words : List (List ℕ)) → least_kind (Repeated ∷ value_faults keyword words) ≡ Some Repeated
+pub repeated_first : (keyword : ArchKeyword) (words : List (List ℕ)) → least_kind (Repeated ∷ value_faults keyword words) ≡ Some Repeated
 unfolding value_faults
 repeated_first IoRat words = repeated_whole 8 (whole_in words)
 repeated_first ChanWidthIo words = repeated_one ChanWidthIo (decimal_in words)
@@ -67,40 +67,40 @@ repeated_first Inpin words = refl
 repeated_first Outpin words = refl
 repeated_first SubblocksPerClb words = repeated_whole 16 (whole_in words)
 repeated_first SubblockLutSize words = repeated_whole 8 (whole_in words)
-repeated_first FcType words = repeated_word FcType is_fc_type (lone words)
+repeated_first FcType words = repeated_word FcType is_fc_type (only_word words)
 repeated_first FcOutput words = repeated_decimal (decimal_in words)
 repeated_first FcInput words = repeated_decimal (decimal_in words)
 repeated_first FcPad words = repeated_decimal (decimal_in words)
-repeated_first SwitchBlockType words = repeated_word SwitchBlockType is_subset (lone words)
+repeated_first SwitchBlockType words = repeated_word SwitchBlockType is_subset (only_word words)
 repeated_first Segment words = refl
 
 -- the faults of a line, by its keyword
-pub keyword_faults-value : (before : List JoinedLine) (keyword : Keyword) (words : List (List ℕ)) (stood : Bool) → is_pin_keyword keyword ≡ false → same_keyword keyword Segment ≡ false → is_some (words_at keyword before) ≡ stood → keyword_faults before keyword words ≡ only_if stood Repeated ++ value_faults keyword words
+pub keyword_faults-value : (before : List JoinedLine) (keyword : ArchKeyword) (words : List (List ℕ)) (stood : Bool) → is_pin_keyword keyword ≡ false → same_keyword keyword Segment ≡ false → is_some (words_at keyword before) ≡ stood → keyword_faults before keyword words ≡ only_if stood Repeated ++ value_faults keyword words
 keyword_faults-value before keyword words stood pin segment stands = rw (pin, segment, stands) refl
 
-pub keyword_faults-segment : (before : List JoinedLine) (keyword : Keyword) (words : List (List ℕ)) (stood : Bool) → is_pin_keyword keyword ≡ false → same_keyword keyword Segment ≡ true → is_some (words_at keyword before) ≡ stood → keyword_faults before keyword words ≡ segment_faults stood words
+pub keyword_faults-segment : (before : List JoinedLine) (keyword : ArchKeyword) (words : List (List ℕ)) (stood : Bool) → is_pin_keyword keyword ≡ false → same_keyword keyword Segment ≡ true → is_some (words_at keyword before) ≡ stood → keyword_faults before keyword words ≡ segment_faults stood words
 keyword_faults-segment before keyword words stood pin segment stands = rw (pin, segment, stands) refl
 
-pub keyword_faults-pin : (before : List JoinedLine) (keyword : Keyword) (words : List (List ℕ)) → is_pin_keyword keyword ≡ true → keyword_faults before keyword words ≡ pin_line_faults (pins_of before) keyword words
+pub keyword_faults-pin : (before : List JoinedLine) (keyword : ArchKeyword) (words : List (List ℕ)) → is_pin_keyword keyword ≡ true → keyword_faults before keyword words ≡ pin_line_faults (pins_of before) keyword words
 keyword_faults-pin before keyword words pin = rw pin refl
 
 -- `segment` is not a pin's keyword, and has no value
-pub segment_rank : (keyword : Keyword) → same_keyword keyword Segment ≡ true → rank_of keyword ≡ 11
+pub segment_rank : (keyword : ArchKeyword) → same_keyword keyword Segment ≡ true → rank_of keyword ≡ 11
 segment_rank keyword same = eqb-true (rank_of keyword) 11 (sym (alike_by_rank keyword Segment) ∙ same)
 
-pub segment_pin : (keyword : Keyword) → same_keyword keyword Segment ≡ true → is_pin_keyword keyword ≡ false
+pub segment_pin : (keyword : ArchKeyword) → same_keyword keyword Segment ≡ true → is_pin_keyword keyword ≡ false
 segment_pin keyword same = rw (alike_by_rank keyword Inpin, alike_by_rank keyword Outpin, segment_rank keyword same) refl
 
-pub pin_rank : (keyword : Keyword) → is_pin_keyword keyword ≡ true → 11 ≤ rank_of keyword
+pub pin_rank : (keyword : ArchKeyword) → is_pin_keyword keyword ≡ true → 11 ≤ rank_of keyword
 pin_rank keyword pin =
     let ranks : (eqb (rank_of keyword) 12 || eqb (rank_of keyword) 13) ≡ true = rw (← alike_by_rank keyword Inpin, ← alike_by_rank keyword Outpin) pin in
     grind (arith, nat_tests, ranks)
 
 -- a line without a pin's keyword adds no pin
-pub no_pin : (seen : List Pin) (keyword : Keyword) (words : List (List ℕ)) → is_pin_keyword keyword ≡ false → seen ++ option_to_list (pin_behind (Some keyword) words) ≡ seen
+pub no_pin : (seen : List Pin) (keyword : ArchKeyword) (words : List (List ℕ)) → is_pin_keyword keyword ≡ false → seen ++ option_to_list (pin_after (Some keyword) words) ≡ seen
 no_pin seen keyword words pin = rw pin (append-nil seen)
 
-pub one_pin : (seen : List Pin) (keyword : Keyword) (words : List (List ℕ)) (pin : Pin) → is_pin_keyword keyword ≡ true → pin_in words ≡ Some pin → seen ++ option_to_list (pin_behind (Some keyword) words) ≡ seen ++ pin ∷ []
+pub one_pin : (seen : List Pin) (keyword : ArchKeyword) (words : List (List ℕ)) (pin : Pin) → is_pin_keyword keyword ≡ true → pin_in words ≡ Some pin → seen ++ option_to_list (pin_after (Some keyword) words) ≡ seen ++ pin ∷ []
 one_pin seen keyword words pin is_pin is = rw (is_pin, is) refl
 
 pub count_push : (p : Pin → Bool) (seen : List Pin) (pin : Pin) → count_by p (seen ++ pin ∷ []) ≡ count_by p seen + cond (p pin) 1 0
@@ -119,7 +119,7 @@ clocks_fit true count none fits = let never : nat_lt 0 count ≡ false = none re
 clocks_fit false count none fits = omega arith
 
 -- the draft with one more pin
-pub Follows-add : (old mid : Draft) (found : Keyword → Option (List (List ℕ))) (seen : List Pin) (pin : Pin) → Follows old found seen → AddsPin old pin mid → has_side pin.sides ≡ true → (is_clock_class pin.class ≡ true → old.has_clock ≡ false) → (is_input_class pin.class ≡ true → old.inputs < 128) → Follows mid found (seen ++ pin ∷ [])
+pub Follows-add : (old mid : Draft) (found : ArchKeyword → Option (List (List ℕ))) (seen : List Pin) (pin : Pin) → Follows old found seen → AddsPin old pin mid → has_side pin.sides ≡ true → (is_clock_class pin.class ≡ true → old.has_clock ≡ false) → (is_input_class pin.class ≡ true → old.inputs < 128) → Follows mid found (seen ++ pin ∷ [])
 Follows-add old mid found seen pin follows adds sides clock room =
     let inputs : input_count (seen ++ pin ∷ []) ≡ input_count seen + cond (is_input_class pin.class) 1 0 = count_push (λ p. is_input_class p.class) seen pin in
     let clocks : clock_count (seen ++ pin ∷ []) ≡ clock_count seen + cond (is_clock_class pin.class) 1 0 = count_push (λ p. is_clock_class p.class) seen pin in
@@ -145,7 +145,7 @@ Follows-add old mid found seen pin follows adds sides clock room =
     }
 
 -- the words and pins of the lines with one more line
-pub words_at-push : (keyword : Keyword) (before : List JoinedLine) (line : JoinedLine) → words_at keyword (before ++ line ∷ []) ≡ option_or (words_at keyword before) (words_at keyword (line ∷ []))
+pub words_at-push : (keyword : ArchKeyword) (before : List JoinedLine) (line : JoinedLine) → words_at keyword (before ++ line ∷ []) ≡ option_or (words_at keyword before) (words_at keyword (line ∷ []))
 words_at-push keyword [] line = refl
 words_at-push keyword (first ∷ before) line = or_choice (begins_with keyword first.words) (Some (drop 1 first.words)) (words_at keyword before) (words_at keyword (line ∷ [])) (words_at keyword (before ++ line ∷ [])) (words_at-push keyword before line)
   where
@@ -161,7 +161,7 @@ pins_of-push before line = filter_map-append (λ l. pin_of_words l.words) before
     single (Some pin) = refl
 
 -- the draft depends only on the words and pins
-pub Follows-same : (draft : Draft) (found other : Keyword → Option (List (List ℕ))) (seen more : List Pin) → ((keyword : Keyword) → found keyword ≡ other keyword) → seen ≡ more → Follows draft found seen → Follows draft other more
+pub Follows-same : (draft : Draft) (found other : ArchKeyword → Option (List (List ℕ))) (seen more : List Pin) → ((keyword : ArchKeyword) → found keyword ≡ other keyword) → seen ≡ more → Follows draft found seen → Follows draft other more
 Follows-same draft found other seen more same pins follows =
     record {
       ranks = follows.ranks;

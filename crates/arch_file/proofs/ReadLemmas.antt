@@ -9,9 +9,9 @@ use Rattle.line_text.specs.declared.text_error.TextError.{TextError}
 use Rattle.line_text.specs.declared.text_error.TextError.TheVariants.{NoMemory, Fault}
 use Rattle.arch_file.specs.declared.fault.ArchFaultKind.{ArchFaultKind}
 use Rattle.arch_file.specs.declared.fault.ArchFaultKind.TheVariants.{Unknown}
-use Rattle.arch_file.specs.declared.fault.Keyword.{Keyword}
-use Rattle.arch_file.specs.declared.fault.Keyword.TheVariants.{Segment}
-use Rattle.arch_file.specs.ArchFaults.{first_word_faults, pin_behind, pin_of_words, pins_of, words_at}
+use Rattle.arch_file.specs.declared.fault.ArchKeyword.{ArchKeyword}
+use Rattle.arch_file.specs.declared.fault.ArchKeyword.TheVariants.{Segment}
+use Rattle.arch_file.specs.ArchFaults.{first_word_faults, pin_after, pin_of_words, pins_of, words_at}
 use Rattle.arch_file.specs.Draft.{AddsPin, Follows, FollowsLines, Reads, ReadsKeyword, Sets, found_with}
 use Rattle.arch_file.specs.FaultLists.{only_if}
 use Rattle.arch_file.specs.Readings.{least_kind}
@@ -25,32 +25,32 @@ use Rattle.arch_file.proofs.DraftLemmas.{Follows-mark, Follows-set}
 use Rattle.arch_file.proofs.LineLemmas.{Follows-add, Follows-same, keyword_faults-pin, keyword_faults-segment, keyword_faults-value, no_pin, one_pin, pin_rank, pins_of-push, segment_pin, segment_rank, words_at-push}
 
 -- the draft with a keyword marked
-abbrev pub marked : Draft → Keyword → Draft
+abbrev pub marked : Draft → ArchKeyword → Draft
 marked draft keyword = record draft { stands = set draft.stands (rank_of keyword) true }
 
-pub reads_value : (before : List JoinedLine) (keyword : Keyword) (words : List (List ℕ)) (old mid new : Draft) → FollowsLines old before → is_pin_keyword keyword ≡ false → same_keyword keyword Segment ≡ false → get_or old.stands (rank_of keyword) false ≡ false → value_faults keyword words ≡ [] → Sets old keyword words mid → new ≡ marked mid keyword → ReadsKeyword before keyword words (Ok tt) new
+pub reads_value : (before : List JoinedLine) (keyword : ArchKeyword) (words : List (List ℕ)) (old mid new : Draft) → FollowsLines old before → is_pin_keyword keyword ≡ false → same_keyword keyword Segment ≡ false → get_or old.stands (rank_of keyword) false ≡ false → value_faults keyword words ≡ [] → Sets old keyword words mid → new ≡ marked mid keyword → ReadsKeyword before keyword words (Ok tt) new
 reads_value before keyword words old mid new follows pin segment fresh faults sets mark = (
   keyword_faults-value before keyword words false pin segment (sym (follows.stands keyword) ∙ fresh) ∙ faults,
   rw mark (Follows-same (marked mid keyword) (found_with (λ other. words_at other before) keyword words) (found_with (λ other. words_at other before) keyword words)
-      (pins_of before) (pins_of before ++ option_to_list (pin_behind (Some keyword) words)) (λ _. refl) (sym (no_pin (pins_of before) keyword words pin))
+      (pins_of before) (pins_of before ++ option_to_list (pin_after (Some keyword) words)) (λ _. refl) (sym (no_pin (pins_of before) keyword words pin))
       (Follows-set old mid (λ other. words_at other before) (pins_of before) keyword words fresh follows sets)),
 )
 
-pub reads_segment : (before : List JoinedLine) (keyword : Keyword) (words : List (List ℕ)) (old new : Draft) → FollowsLines old before → same_keyword keyword Segment ≡ true → segment_faults (get_or old.stands (rank_of keyword) false) words ≡ [] → new ≡ marked old keyword → ReadsKeyword before keyword words (Ok tt) new
+pub reads_segment : (before : List JoinedLine) (keyword : ArchKeyword) (words : List (List ℕ)) (old new : Draft) → FollowsLines old before → same_keyword keyword Segment ≡ true → segment_faults (get_or old.stands (rank_of keyword) false) words ≡ [] → new ≡ marked old keyword → ReadsKeyword before keyword words (Ok tt) new
 reads_segment before keyword words old new follows segment faults mark =
     let pin = segment_pin keyword segment in
     let high : 11 ≤ rank_of keyword = omega (arith, segment_rank keyword segment) in (
       keyword_faults-segment before keyword words (get_or old.stands (rank_of keyword) false) pin segment (sym (follows.stands keyword)) ∙ faults,
       rw mark (Follows-same (marked old keyword) (found_with (λ other. words_at other before) keyword words) (found_with (λ other. words_at other before) keyword words)
-          (pins_of before) (pins_of before ++ option_to_list (pin_behind (Some keyword) words)) (λ _. refl) (sym (no_pin (pins_of before) keyword words pin))
+          (pins_of before) (pins_of before ++ option_to_list (pin_after (Some keyword) words)) (λ _. refl) (sym (no_pin (pins_of before) keyword words pin))
           (Follows-mark old (λ other. words_at other before) (pins_of before) keyword words high follows)),
     )
 
-pub reads_pin : (before : List JoinedLine) (keyword : Keyword) (words : List (List ℕ)) (old mid new : Draft) (pin : Pin) → FollowsLines old before → is_pin_keyword keyword ≡ true → pin_line_faults (pins_of before) keyword words ≡ [] → pin_in words ≡ Some pin → AddsPin old pin mid → has_side pin.sides ≡ true → (is_clock_class pin.class ≡ true → old.has_clock ≡ false) → (is_input_class pin.class ≡ true → old.inputs < 128) → new ≡ marked mid keyword → ReadsKeyword before keyword words (Ok tt) new
+pub reads_pin : (before : List JoinedLine) (keyword : ArchKeyword) (words : List (List ℕ)) (old mid new : Draft) (pin : Pin) → FollowsLines old before → is_pin_keyword keyword ≡ true → pin_line_faults (pins_of before) keyword words ≡ [] → pin_in words ≡ Some pin → AddsPin old pin mid → has_side pin.sides ≡ true → (is_clock_class pin.class ≡ true → old.has_clock ≡ false) → (is_input_class pin.class ≡ true → old.inputs < 128) → new ≡ marked mid keyword → ReadsKeyword before keyword words (Ok tt) new
 reads_pin before keyword words old mid new pin follows is_pin faults is adds sides clock room mark = (
   keyword_faults-pin before keyword words is_pin ∙ faults,
   rw mark (Follows-same (marked mid keyword) (found_with (λ other. words_at other before) keyword words) (found_with (λ other. words_at other before) keyword words)
-      (pins_of before ++ pin ∷ []) (pins_of before ++ option_to_list (pin_behind (Some keyword) words)) (λ _. refl) (sym (one_pin (pins_of before) keyword words pin is_pin is))
+      (pins_of before ++ pin ∷ []) (pins_of before ++ option_to_list (pin_after (Some keyword) words)) (λ _. refl) (sym (one_pin (pins_of before) keyword words pin is_pin is))
       (Follows-mark mid (λ other. words_at other before) (pins_of before ++ pin ∷ []) keyword words (pin_rank keyword is_pin)
       (Follows-add old mid (λ other. words_at other before) (pins_of before) pin follows adds sides clock room))),
 )
@@ -66,7 +66,7 @@ or_none None = refl
 or_none (Some words) = refl
 
 -- a line without a keyword adds nothing
-pub lines_same : (draft : Draft) (before : List JoinedLine) (line : JoinedLine) → ((other : Keyword) → words_at other (line ∷ []) ≡ None) → pin_of_words line.words ≡ None → FollowsLines draft before → FollowsLines draft (before ++ line ∷ [])
+pub lines_same : (draft : Draft) (before : List JoinedLine) (line : JoinedLine) → ((other : ArchKeyword) → words_at other (line ∷ []) ≡ None) → pin_of_words line.words ≡ None → FollowsLines draft before → FollowsLines draft (before ++ line ∷ [])
 lines_same draft before line nothing pin follows =
     lines_more draft before line
     (Follows-same draft (λ other. words_at other before) (λ other. option_or (words_at other before) (words_at other (line ∷ [])))
@@ -75,7 +75,7 @@ lines_same draft before line nothing pin follows =
     (sym (append-nil (pins_of before)) ∙ ap (λ p. pins_of before ++ option_to_list p) (sym pin)) follows)
 
 -- the keyword is this one
-abbrev is_keyword : Keyword → Option Keyword → Bool
+abbrev is_keyword : ArchKeyword → Option ArchKeyword → Bool
 is_keyword keyword found = option_map_or (same_keyword keyword) found false
 
 pub reads_empty : (before : List JoinedLine) (line : JoinedLine) (draft : Draft) → line.words ≡ [] → FollowsLines draft before → Reads before line (Ok tt) draft
@@ -85,17 +85,17 @@ reads_empty before line draft is follows =
 pub reads_unread : (before : List JoinedLine) (word : List ℕ) (rest : JoinedLine) (draft : Draft) → keyword_of word ≡ None → is_unread word ≡ true → FollowsLines draft before → Reads before (with_first word rest) (Ok tt) draft
 reads_unread before word rest draft is unread follows = (
   ap (λ k. first_word_faults before word k rest.words) is ∙ ap (λ b. only_if (not b) Unknown) unread,
-  lines_same draft before (with_first word rest) (λ other. ap (λ k. cond (is_keyword other k) (Some rest.words) None) is) (ap (λ k. pin_behind k rest.words) is) follows,
+  lines_same draft before (with_first word rest) (λ other. ap (λ k. cond (is_keyword other k) (Some rest.words) None) is) (ap (λ k. pin_after k rest.words) is) follows,
 )
 
-pub reads_keyword : (before : List JoinedLine) (word : List ℕ) (rest : JoinedLine) (keyword : Keyword) (result : Result (Unit {0}) (TextError ArchFaultKind)) (draft : Draft) → keyword_of word ≡ Some keyword → ReadsKeyword before keyword rest.words result draft → Reads before (with_first word rest) result draft
+pub reads_keyword : (before : List JoinedLine) (word : List ℕ) (rest : JoinedLine) (keyword : ArchKeyword) (result : Result (Unit {0}) (TextError ArchFaultKind)) (draft : Draft) → keyword_of word ≡ Some keyword → ReadsKeyword before keyword rest.words result draft → Reads before (with_first word rest) result draft
 reads_keyword before word rest keyword (Ok done) draft is reads = (
   ap (λ k. first_word_faults before word k rest.words) is ∙ reads.0,
   lines_more draft before (with_first word rest)
       (Follows-same draft (found_with (λ other. words_at other before) keyword rest.words) (λ other. option_or (words_at other before) (cond (is_keyword other (keyword_of word)) (Some rest.words) None))
-      (pins_of before ++ option_to_list (pin_behind (Some keyword) rest.words)) (pins_of before ++ option_to_list (pin_behind (keyword_of word) rest.words))
+      (pins_of before ++ option_to_list (pin_after (Some keyword) rest.words)) (pins_of before ++ option_to_list (pin_after (keyword_of word) rest.words))
       (λ other. ap (λ k. option_or (words_at other before) (cond (is_keyword other k) (Some rest.words) None)) (sym is))
-      (ap (λ k. pins_of before ++ option_to_list (pin_behind k rest.words)) (sym is)) reads.1),
+      (ap (λ k. pins_of before ++ option_to_list (pin_after k rest.words)) (sym is)) reads.1),
 )
 reads_keyword before word rest keyword (Err (Fault kind)) draft is reads =
     ap (λ k. least_kind (first_word_faults before word k rest.words)) is ∙ reads

@@ -19,7 +19,7 @@ use Rattle.arch_file.specs.Draft.{Reads, ReadsAll, error_at}
 use Rattle.arch_file.specs.declared.fault.ArchFault.{ArchFault}
 use Rattle.arch_file.specs.declared.fault.ArchFaultKind.{ArchFaultKind}
 use Rattle.arch_file.specs.Faults.{number_of}
-use Rattle.arch_file.specs.ArchFaults.{end_faults, faults_behind, faults_of, found_at}
+use Rattle.arch_file.specs.ArchFaults.{end_faults, faults_after, faults_of, found_at}
 use Rattle.arch_file.specs.FaultLists.{comes_before, word_of}
 use Rattle.arch_file.specs.Readings.{least_kind}
 
@@ -39,12 +39,12 @@ each_found P at_end number [] h = tt
 each_found P at_end number (kind ∷ kinds) h = (h kind, each_found P at_end number kinds h)
 
 -- the faults of the later lines are at those lines or at the end
-from_faults_behind : (before lines : List JoinedLine) (low : ℕ) → RisesFrom low lines → Each (IsFrom low) (faults_behind before lines)
+from_faults_behind : (before lines : List JoinedLine) (low : ℕ) → RisesFrom low lines → Each (IsFrom low) (faults_after before lines)
 from_faults_behind before [] low rises = each_found (IsFrom low) true 0 (end_faults before) (λ kind line. absurd (cc))
 from_faults_behind before (line ∷ lines) low rises =
-    Each-append (IsFrom low) (found_at false line.number (faults_of before line.words)) (faults_behind (before ++ line ∷ []) lines)
+    Each-append (IsFrom low) (found_at false line.number (faults_of before line.words)) (faults_after (before ++ line ∷ []) lines)
     (each_found (IsFrom low) false line.number (faults_of before line.words) (λ kind _. rises.0))
-    (IsFrom-weaker low (line.number + 1) (faults_behind (before ++ line ∷ []) lines) (omega (arith, rises.0)) (from_faults_behind (before ++ line ∷ []) lines (line.number + 1) rises.1))
+    (IsFrom-weaker low (line.number + 1) (faults_after (before ++ line ∷ []) lines) (omega (arith, rises.0)) (from_faults_behind (before ++ line ∷ []) lines (line.number + 1) rises.1))
 
 -- a fault of a line comes before those of the next lines and of the end
 precedes_from : (number : ℕ) (kind : ArchFaultKind) (other : Found ArchFault) → IsFrom (number + 1) other → Precedes (found false number kind) other
@@ -79,7 +79,7 @@ take_line lines place line found =
     take_more lines place line inside ∙ ap (λ l. take place lines ++ l ∷ []) (get_or_from_slice_get lines place line line found)
 
 -- a line without a fault
-pub faults_behind-fine : (lines : List JoinedLine) (place : ℕ) (line : JoinedLine) → slice_get lines place ≡ Some line → faults_of (take place lines) line.words ≡ [] → faults_behind (take place lines) (drop place lines) ≡ faults_behind (take (place + 1) lines) (drop (place + 1) lines)
+pub faults_behind-fine : (lines : List JoinedLine) (place : ℕ) (line : JoinedLine) → slice_get lines place ≡ Some line → faults_of (take place lines) line.words ≡ [] → faults_after (take place lines) (drop place lines) ≡ faults_after (take (place + 1) lines) (drop (place + 1) lines)
 faults_behind-fine lines place line found fine =
     rw (drop_line lines place line found, take_line lines place line found, fine) refl
 
@@ -90,16 +90,16 @@ rises_drop low (suc place) [] rises = tt
 rises_drop low (suc place) (line ∷ lines) rises = rises_drop low place lines (rises_lower low (line.number + 1) lines (omega (arith, rises.0)) rises.1)
 
 -- a line with a fault
-pub faults_behind-fault : (lines : List JoinedLine) (place : ℕ) (line : JoinedLine) (kind : ArchFaultKind) → RisesFrom 1 lines → slice_get lines place ≡ Some line → least_kind (faults_of (take place lines) line.words) ≡ Some kind → least_fault (faults_behind (take place lines) (drop place lines)) ≡ Some (record { line = line.number; kind = kind })
+pub faults_behind-fault : (lines : List JoinedLine) (place : ℕ) (line : JoinedLine) (kind : ArchFaultKind) → RisesFrom 1 lines → slice_get lines place ≡ Some line → least_kind (faults_of (take place lines) line.words) ≡ Some kind → least_fault (faults_after (take place lines) (drop place lines)) ≡ Some (record { line = line.number; kind = kind })
 faults_behind-fault lines place line kind rises at is =
     let before = take place lines in
     let rest : List JoinedLine = drop (place + 1) lines in
     let risen : RisesFrom 1 (line ∷ rest) = subst (RisesFrom 1) (drop_line lines place line at) (rises_drop 1 place lines rises) in
-    ap (λ xs. least_fault (faults_behind before xs)) (drop_line lines place line at)
-    ∙ least_at line.number (faults_of before line.words) kind (faults_behind (before ++ line ∷ []) rest) (from_faults_behind (before ++ line ∷ []) rest (line.number + 1) risen.1) is
+    ap (λ xs. least_fault (faults_after before xs)) (drop_line lines place line at)
+    ∙ least_at line.number (faults_of before line.words) kind (faults_after (before ++ line ∷ []) rest) (from_faults_behind (before ++ line ∷ []) rest (line.number + 1) risen.1) is
 
 -- only the faults of the end are left
-pub faults_behind-end : (lines : List JoinedLine) (place : ℕ) → length lines ≤ place → faults_behind (take place lines) (drop place lines) ≡ found_at true 0 (end_faults lines)
+pub faults_behind-end : (lines : List JoinedLine) (place : ℕ) → length lines ≤ place → faults_after (take place lines) (drop place lines) ≡ found_at true 0 (end_faults lines)
 faults_behind-end lines place ended = rw (take_all place lines ended, drop_all place lines ended) refl
 
 pub least_end : (lines : List JoinedLine) (kind : ArchFaultKind) → least_kind (end_faults lines) ≡ Some kind → least_fault (found_at true 0 (end_faults lines)) ≡ Some (record { line = 0; kind = kind })
@@ -107,13 +107,13 @@ least_end lines kind is =
     ap (option_map (λ f. f.fault)) (least_found true 0 (end_faults lines) ∙ ap (option_map (found true 0)) is)
 
 -- a line is refused, and the lines before it have no faults
-pub reads_fault : (lines : List JoinedLine) (place : ℕ) (line : JoinedLine) (refusal : TextError ArchFaultKind) (draft : Draft) → RisesFrom 1 lines → slice_get lines place ≡ Some line → Reads (take place lines) line (Err refusal) draft → faults_behind (take place lines) (drop place lines) ≡ faults_behind [] lines → ReadsAll lines (Err (error_at line.number refusal))
+pub reads_fault : (lines : List JoinedLine) (place : ℕ) (line : JoinedLine) (refusal : TextError ArchFaultKind) (draft : Draft) → RisesFrom 1 lines → slice_get lines place ≡ Some line → Reads (take place lines) line (Err refusal) draft → faults_after (take place lines) (drop place lines) ≡ faults_after [] lines → ReadsAll lines (Err (error_at line.number refusal))
 reads_fault lines place line NoMemory draft rises at reads rest = reads
 reads_fault lines place line (Fault kind) draft rises at reads rest =
     ap least_fault (sym rest) ∙ faults_behind-fault lines place line kind rises at reads
 
 -- the lines of a text have no faults, but its end has one
-pub arch_of-end : (text : List ℕ) (tracks : ℕ) (lines : List JoinedLine) (kind : ArchFaultKind) → length text ≤ MAX_TEXT → lines_of text ≡ Ok lines → faults_behind [] lines ≡ found_at true 0 (end_faults lines) → least_kind (end_faults lines) ≡ Some kind → arch_of text tracks ≡ Err (record { line = 0; kind = kind })
+pub arch_of-end : (text : List ℕ) (tracks : ℕ) (lines : List JoinedLine) (kind : ArchFaultKind) → length text ≤ MAX_TEXT → lines_of text ≡ Ok lines → faults_after [] lines ≡ found_at true 0 (end_faults lines) → least_kind (end_faults lines) ≡ Some kind → arch_of text tracks ≡ Err (record { line = 0; kind = kind })
 unfolding arch_of
 arch_of-end text tracks lines kind short is ends least =
     let fits : nat_lt MAX_TEXT (length text) ≡ false = grind (arith, nat_tests) in

@@ -12,7 +12,7 @@ use Rattle.arch_file.specs.Values.{one}
 use Rattle.arch_file.specs.FaultLists.{only_if}
 use Rattle.arch_file.specs.Readings.{least_kind}
 use Rattle.arch_file.specs.declared.fault.ArchFaultKind.TheVariants.{BadNumber, NotProfile}
-use Rattle.arch_file.specs.declared.fault.Keyword.TheVariants as keywords
+use Rattle.arch_file.specs.declared.fault.ArchKeyword.TheVariants as keywords
 use Rattle.arch_file.specs.Words.{texts}
 
 -- nothing is left

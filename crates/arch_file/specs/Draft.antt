@@ -1,6 +1,7 @@
 -- Private: what the code stores of the lines that it has read.
 use Rattle.std.specs.Prelude.{ℕ, ◌≡◌, ◌≤◌, ◌+◌, ◌||◌, Bool, true, false, List, [], ◌∷◌, ◌++◌, length, slice_index_or, Option, Some, None, is_some, nat_lt, All, Result, Ok, Err, if◌then◌else◌}
 use Rattle.std.specs.Option.{option_or, option_to_list}
+use Rattle.arch_file.specs.declared.arch.TheConstants.{MAX_CLUSTER_SIZE, MAX_INPUTS, MAX_LUT_SIZE}
 use Rattle.line_text.specs.LeastFault.{least_fault}
 use Rattle.line_text.specs.Lines.{JoinedLine}
 use Rattle.line_text.specs.TextErrors.{Fails}
@@ -9,12 +10,12 @@ use Rattle.line_text.specs.declared.text_error.TextError.TheVariants.{NoMemory, 
 use Rattle.arch_file.specs.declared.arch.Arch.{Arch}
 use Rattle.arch_file.specs.declared.arch.Pin.{Pin}
 use Rattle.arch_file.specs.declared.draft.Draft.{Draft}
-use Rattle.arch_file.specs.declared.fault.Keyword.{Keyword}
-use Rattle.arch_file.specs.declared.fault.Keyword.TheVariants.{IoRat, SubblocksPerClb, SubblockLutSize, FcType, FcOutput, FcInput, FcPad}
+use Rattle.arch_file.specs.declared.fault.ArchKeyword.{ArchKeyword}
+use Rattle.arch_file.specs.declared.fault.ArchKeyword.TheVariants.{IoRat, SubblocksPerClb, SubblockLutSize, FcType, FcOutput, FcInput, FcPad}
 use Rattle.arch_file.specs.declared.fault.ArchFault.{ArchFault}
 use Rattle.arch_file.specs.declared.fault.ArchFaultKind.{ArchFaultKind}
 use Rattle.arch_file.specs.Arch.{IsArch, arch_from}
-use Rattle.arch_file.specs.ArchFaults.{end_faults, faults_behind, faults_of, found_at, keyword_faults, pin_behind, pins_of, words_at}
+use Rattle.arch_file.specs.ArchFaults.{end_faults, faults_after, faults_of, found_at, keyword_faults, pin_after, pins_of, words_at}
 use Rattle.arch_file.specs.Readings.{least_kind}
 use Rattle.arch_file.specs.FcTypes.{is_fractional_type}
 use Rattle.arch_file.specs.Pins.{clock_count, has_side, input_count, is_clock_class, is_input_class}
@@ -27,9 +28,9 @@ abbrev pub IsLimited : Bool → ℕ → ℕ → Type 0
 IsLimited is_there number limit = is_there ≡ true → (1 ≤ number) × (number ≤ limit)
 
 -- the draft holds the values of these words after keywords, and these pins
-pub record Follows (draft : Draft) (found : Keyword → Option (List (List ℕ))) (seen : List Pin) : Type 0 where
+pub record Follows (draft : Draft) (found : ArchKeyword → Option (List (List ℕ))) (seen : List Pin) : Type 0 where
   pub ranks : length draft.stands ≡ 14
-  pub stands : (keyword : Keyword) → slice_index_or draft.stands (rank_of keyword) false ≡ is_some (found keyword)
+  pub stands : (keyword : ArchKeyword) → slice_index_or draft.stands (rank_of keyword) false ≡ is_some (found keyword)
   pub io_rat : draft.io_rat ≡ whole_from (found IoRat)
   pub cluster_size : draft.cluster_size ≡ whole_from (found SubblocksPerClb)
   pub lut_size : draft.lut_size ≡ whole_from (found SubblockLutSize)
@@ -41,9 +42,9 @@ pub record Follows (draft : Draft) (found : Keyword → Option (List (List ℕ))
   pub inputs : draft.inputs ≡ input_count seen
   pub clock : draft.has_clock ≡ nat_lt 0 (clock_count seen)
   pub io_rat_limit : IsLimited (is_some (found IoRat)) draft.io_rat 8
-  pub cluster_limit : IsLimited (is_some (found SubblocksPerClb)) draft.cluster_size 16
-  pub lut_limit : IsLimited (is_some (found SubblockLutSize)) draft.lut_size 8
-  pub inputs_limit : input_count seen ≤ 128
+  pub cluster_limit : IsLimited (is_some (found SubblocksPerClb)) draft.cluster_size MAX_CLUSTER_SIZE
+  pub lut_limit : IsLimited (is_some (found SubblockLutSize)) draft.lut_size MAX_LUT_SIZE
+  pub inputs_limit : input_count seen ≤ MAX_INPUTS
   pub clock_limit : clock_count seen ≤ 1
   pub sides : All (λ pin. has_side pin.sides ≡ true) seen
 
@@ -52,7 +53,7 @@ abbrev pub FollowsLines : Draft → List JoinedLine → Type 0
 FollowsLines draft before = Follows draft (λ keyword. words_at keyword before) (pins_of before)
 
 -- the new draft has the value of the words after the keyword; everything else is unchanged
-pub record Sets (old : Draft) (keyword : Keyword) (words : List (List ℕ)) (new : Draft) : Type 0 where
+pub record Sets (old : Draft) (keyword : ArchKeyword) (words : List (List ℕ)) (new : Draft) : Type 0 where
   pub stands : new.stands ≡ old.stands
   pub io_rat : new.io_rat ≡ (if same_keyword IoRat keyword then whole_from (Some words) else old.io_rat)
   pub cluster_size : new.cluster_size ≡ (if same_keyword SubblocksPerClb keyword then whole_from (Some words) else old.cluster_size)
@@ -65,8 +66,8 @@ pub record Sets (old : Draft) (keyword : Keyword) (words : List (List ℕ)) (new
   pub inputs : new.inputs ≡ old.inputs
   pub clock : new.has_clock ≡ old.has_clock
   pub io_rat_limit : IsLimited (same_keyword IoRat keyword) new.io_rat 8
-  pub cluster_limit : IsLimited (same_keyword SubblocksPerClb keyword) new.cluster_size 16
-  pub lut_limit : IsLimited (same_keyword SubblockLutSize keyword) new.lut_size 8
+  pub cluster_limit : IsLimited (same_keyword SubblocksPerClb keyword) new.cluster_size MAX_CLUSTER_SIZE
+  pub lut_limit : IsLimited (same_keyword SubblockLutSize keyword) new.lut_size MAX_LUT_SIZE
 
 -- the new draft has one more pin; everything else is unchanged
 pub record AddsPin (old : Draft) (pin : Pin) (new : Draft) : Type 0 where
@@ -83,14 +84,14 @@ pub record AddsPin (old : Draft) (pin : Pin) (new : Draft) : Type 0 where
   pub clock : new.has_clock ≡ (old.has_clock || is_clock_class pin.class)
 
 -- the words after each keyword, with one more line that begins with a keyword
-abbrev pub found_with : (Keyword → Option (List (List ℕ))) → Keyword → List (List ℕ) → Keyword → Option (List (List ℕ))
+abbrev pub found_with : (ArchKeyword → Option (List (List ℕ))) → ArchKeyword → List (List ℕ) → ArchKeyword → Option (List (List ℕ))
 found_with found keyword words other = option_or (found other) (if same_keyword other keyword then Some words else None)
 
 -- what reading the words after a keyword may return, after the lines before it
-abbrev pub ReadsKeyword : List JoinedLine → Keyword → List (List ℕ) → Result (Unit {0}) (TextError ArchFaultKind) → Draft → Type 0
+abbrev pub ReadsKeyword : List JoinedLine → ArchKeyword → List (List ℕ) → Result (Unit {0}) (TextError ArchFaultKind) → Draft → Type 0
 ReadsKeyword before keyword words (Ok done) new =
     (keyword_faults before keyword words ≡ [])
-    × Follows new (found_with (λ other. words_at other before) keyword words) (pins_of before ++ option_to_list (pin_behind (Some keyword) words))
+    × Follows new (found_with (λ other. words_at other before) keyword words) (pins_of before ++ option_to_list (pin_after (Some keyword) words))
 ReadsKeyword before keyword words (Err error) new = Fails (least_kind (keyword_faults before keyword words)) error
 
 -- what reading a line may return, after the lines before it
@@ -110,5 +111,5 @@ error_at line (Fault kind) = Fault (record { line = line; kind = kind })
 
 -- what reading these lines may return
 abbrev pub ReadsAll : List JoinedLine → Result Draft (TextError ArchFault) → Type 0
-ReadsAll lines (Ok draft) = FollowsLines draft lines × (faults_behind [] lines ≡ found_at true 0 (end_faults lines))
-ReadsAll lines (Err error) = Fails (least_fault (faults_behind [] lines)) error
+ReadsAll lines (Ok draft) = FollowsLines draft lines × (faults_after [] lines ≡ found_at true 0 (end_faults lines))
+ReadsAll lines (Err error) = Fails (least_fault (faults_after [] lines)) error

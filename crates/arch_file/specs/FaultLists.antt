@@ -5,7 +5,7 @@ use Rattle.line_text.specs.LeastFault.{by_number}
 use Rattle.arch_file.specs.declared.fault.ArchFaultKind.{ArchFaultKind}
 use Rattle.arch_file.specs.declared.fault.ArchFaultKind.TheVariants.{Missing}
 use Rattle.arch_file.specs.Faults.{number_of}
-use Rattle.arch_file.specs.Words.{required, same_keyword}
+use Rattle.arch_file.specs.Words.{required_keywords, same_keyword}
 
 -- one fault if the test is met, otherwise no fault
 abbrev pub only_if : Bool → ArchFaultKind → List ArchFaultKind
@@ -13,7 +13,7 @@ only_if test kind = if test then kind ∷ [] else []
 
 -- missing keywords are ordered by their index among the required ones; other kinds have 0
 abbrev pub word_of : ArchFaultKind → ℕ
-word_of (Missing keyword) = position_or_len (same_keyword keyword) required
+word_of (Missing keyword) = position_or_len (same_keyword keyword) required_keywords
 word_of kind = 0
 
 -- a kind of fault comes before another one on one line, or has the same number and word

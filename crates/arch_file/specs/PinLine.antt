@@ -3,14 +3,15 @@ use Rattle.std.specs.Prelude.{ℕ, nat_le, nat_lt, Bool, true, false, ◌&&◌, 
 use Rattle.std.specs.List.{list_any, list_all}
 use Rattle.std.specs.Option.{option_map_or}
 use Rattle.std.specs.Str.{bytes_eq}
+use Rattle.arch_file.specs.declared.arch.TheConstants.{MAX_INPUTS}
 use Rattle.arch_file.specs.declared.arch.Pin.{Pin}
 use Rattle.arch_file.specs.declared.arch.PinClass.{PinClass}
 use Rattle.arch_file.specs.declared.arch.PinClass.TheVariants.{Input, Output, Clock}
 use Rattle.arch_file.specs.declared.arch.Sides.{Sides}
 use Rattle.arch_file.specs.declared.fault.ArchFaultKind.{ArchFaultKind}
 use Rattle.arch_file.specs.declared.fault.ArchFaultKind.TheVariants.{BadClass, BadSide, OverLimit, Unknown}
-use Rattle.arch_file.specs.declared.fault.Keyword.{Keyword}
-use Rattle.arch_file.specs.declared.fault.Keyword.TheVariants.{Inpin, Outpin}
+use Rattle.arch_file.specs.declared.fault.ArchKeyword.{ArchKeyword}
+use Rattle.arch_file.specs.declared.fault.ArchKeyword.TheVariants.{Inpin, Outpin}
 use Rattle.arch_file.specs.FaultLists.{only_if}
 use Rattle.arch_file.specs.Pins.{is_clock_class, is_input_class, input_count, clock_count, has_side}
 
@@ -54,26 +55,26 @@ abbrev pub are_sides : List (List ℕ) → Bool
 are_sides words = (list_all is_side_word words && are_distinct words) && has_side (sides_of words)
 
 -- inputs and outputs aren't global, a clock is
-abbrev pub class_fits : Keyword → Option PinClass → Bool → Bool
+abbrev pub class_fits : ArchKeyword → Option PinClass → Bool → Bool
 class_fits Inpin (Some Input) global = not global
 class_fits Inpin (Some Clock) global = global
 class_fits Outpin (Some Output) global = not global
 class_fits keyword class global = false
 
 -- what is wrong with a pin of this class and the words after it, when these pins come before it
-abbrev pub class_faults : List Pin → Keyword → Option PinClass → List (List ℕ) → List ArchFaultKind
+abbrev pub class_faults : List Pin → ArchKeyword → Option PinClass → List (List ℕ) → List ArchFaultKind
 class_faults pins keyword class words =
     only_if (not (class_fits keyword class (is_global words)) || (option_map_or is_clock_class class false && nat_lt 0 (clock_count pins))) BadClass
     ++ (only_if (not (are_sides words)) BadSide
-    ++ only_if (option_map_or is_input_class class false && nat_le 128 (input_count pins)) OverLimit)
+    ++ only_if (option_map_or is_input_class class false && nat_le MAX_INPUTS (input_count pins)) OverLimit)
 
 -- what is wrong with the words after `class:`
-abbrev pub pin_faults : List Pin → Keyword → List (List ℕ) → List ArchFaultKind
+abbrev pub pin_faults : List Pin → ArchKeyword → List (List ℕ) → List ArchFaultKind
 pin_faults pins keyword [] = BadClass ∷ []
 pin_faults pins keyword (class ∷ words) = class_faults pins keyword (class_of class) words
 
 -- what is wrong with the words after the keyword
-unfoldable pub pin_line_faults : List Pin → Keyword → List (List ℕ) → List ArchFaultKind
+unfoldable pub pin_line_faults : List Pin → ArchKeyword → List (List ℕ) → List ArchFaultKind
 pin_line_faults pins keyword [] = Unknown ∷ []
 pin_line_faults pins keyword (word ∷ words) =
     if bytes_eq word (codes "class:") then pin_faults pins keyword words else Unknown ∷ []

@@ -1,10 +1,10 @@
 -- Private: the index at which the draft marks that a keyword was read.
 use Rattle.std.specs.Prelude.{ℕ}
-use Rattle.arch_file.specs.declared.fault.Keyword.{Keyword}
-use Rattle.arch_file.specs.declared.fault.Keyword.TheVariants.{IoRat, ChanWidthIo, ChanWidthX, ChanWidthY, Inpin, Outpin, SubblocksPerClb, SubblockLutSize, FcType, FcOutput, FcInput, FcPad, SwitchBlockType, Segment}
+use Rattle.arch_file.specs.declared.fault.ArchKeyword.{ArchKeyword}
+use Rattle.arch_file.specs.declared.fault.ArchKeyword.TheVariants.{IoRat, ChanWidthIo, ChanWidthX, ChanWidthY, Inpin, Outpin, SubblocksPerClb, SubblockLutSize, FcType, FcOutput, FcInput, FcPad, SwitchBlockType, Segment}
 
 -- the index of a keyword's mark
-abbrev pub rank_of : Keyword → ℕ
+abbrev pub rank_of : ArchKeyword → ℕ
 rank_of IoRat = 0
 rank_of ChanWidthIo = 1
 rank_of ChanWidthX = 2

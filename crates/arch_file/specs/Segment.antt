@@ -5,7 +5,7 @@ use Rattle.std.specs.Str.{bytes_eq}
 use Rattle.line_text.specs.Decimal.{millionths_of}
 use Rattle.arch_file.specs.declared.fault.ArchFaultKind.{ArchFaultKind}
 use Rattle.arch_file.specs.declared.fault.ArchFaultKind.TheVariants.{BadNumber, NotProfile}
-use Rattle.arch_file.specs.declared.fault.Keyword.TheVariants as keywords
+use Rattle.arch_file.specs.declared.fault.ArchKeyword.TheVariants as keywords
 use Rattle.arch_file.specs.Values.{one}
 use Rattle.arch_file.specs.FaultLists.{only_if}
 

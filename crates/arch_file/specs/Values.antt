@@ -2,20 +2,21 @@
 use Rattle.std.specs.Prelude.{ℕ, ◌==◌, ◌*◌, ◌/◌, min, max, nat_lt, Bool, false, ◌||◌, List, [], ◌∷◌, codes, Option, Some, None, option_and_then, unwrap_or, if◌then◌else◌}
 use Rattle.std.specs.Option.{option_map_or}
 use Rattle.std.specs.Str.{bytes_eq}
+use Rattle.arch_file.specs.declared.arch.TheConstants.{MAX_CLUSTER_SIZE}
 use Rattle.line_text.specs.Decimal.{whole_of, millionths_of}
 use Rattle.arch_file.specs.declared.fault.ArchFaultKind.{ArchFaultKind}
 use Rattle.arch_file.specs.declared.fault.ArchFaultKind.TheVariants.{BadNumber, NotProfile, OverLimit}
-use Rattle.arch_file.specs.declared.fault.Keyword.{Keyword}
-use Rattle.arch_file.specs.declared.fault.Keyword.TheVariants.{IoRat, ChanWidthIo, ChanWidthX, ChanWidthY, SubblocksPerClb, SubblockLutSize, FcType, FcOutput, FcInput, FcPad, SwitchBlockType}
-use Rattle.arch_file.specs.Words.{lone}
+use Rattle.arch_file.specs.declared.fault.ArchKeyword.{ArchKeyword}
+use Rattle.arch_file.specs.declared.fault.ArchKeyword.TheVariants.{IoRat, ChanWidthIo, ChanWidthX, ChanWidthY, SubblocksPerClb, SubblockLutSize, FcType, FcOutput, FcInput, FcPad, SwitchBlockType}
+use Rattle.arch_file.specs.Words.{only_word}
 
 -- the words as one whole number
 abbrev pub whole_in : List (List ℕ) → Option ℕ
-whole_in words = option_and_then whole_of (lone words)
+whole_in words = option_and_then whole_of (only_word words)
 
 -- the words as one decimal, in millionths
 abbrev pub decimal_in : List (List ℕ) → Option ℕ
-decimal_in words = option_and_then millionths_of (lone words)
+decimal_in words = option_and_then millionths_of (only_word words)
 
 -- 1, in millionths
 abbrev pub one : ℕ
@@ -33,18 +34,18 @@ decimal_faults None = BadNumber ∷ []
 decimal_faults (Some value) = []
 
 -- a decimal that must be 1
-abbrev pub one_faults : Keyword → Option ℕ → List ArchFaultKind
+abbrev pub one_faults : ArchKeyword → Option ℕ → List ArchFaultKind
 one_faults keyword None = BadNumber ∷ []
 one_faults keyword (Some value) = if value == one then [] else NotProfile keyword ∷ []
 
 -- the width of channels: uniform, and 1
-abbrev pub width_faults : Keyword → List (List ℕ) → List ArchFaultKind
+abbrev pub width_faults : ArchKeyword → List (List ℕ) → List ArchFaultKind
 width_faults keyword [] = BadNumber ∷ []
 width_faults keyword (kind ∷ words) =
     if bytes_eq kind (codes "uniform") then one_faults keyword (decimal_in words) else NotProfile keyword ∷ []
 
 -- a word that passes a test
-abbrev pub word_faults : Keyword → (List ℕ → Bool) → Option (List ℕ) → List ArchFaultKind
+abbrev pub word_faults : ArchKeyword → (List ℕ → Bool) → Option (List ℕ) → List ArchFaultKind
 word_faults keyword passes None = BadNumber ∷ []
 word_faults keyword passes (Some word) = if passes word then [] else NotProfile keyword ∷ []
 
@@ -70,21 +71,21 @@ decimal_from words = unwrap_or (option_and_then decimal_in words) 0
 
 -- whether the words give fractions; false if they are missing
 abbrev pub is_fractional_from : Option (List (List ℕ)) → Bool
-is_fractional_from words = option_map_or is_fractional_word (option_and_then lone words) false
+is_fractional_from words = option_map_or is_fractional_word (option_and_then only_word words) false
 
 -- what is wrong with the words after a keyword that has a value
-unfoldable pub value_faults : Keyword → List (List ℕ) → List ArchFaultKind
+unfoldable pub value_faults : ArchKeyword → List (List ℕ) → List ArchFaultKind
 value_faults IoRat words = whole_faults 8 (whole_in words)
 value_faults ChanWidthIo words = one_faults ChanWidthIo (decimal_in words)
 value_faults ChanWidthX words = width_faults ChanWidthX words
 value_faults ChanWidthY words = width_faults ChanWidthY words
-value_faults SubblocksPerClb words = whole_faults 16 (whole_in words)
+value_faults SubblocksPerClb words = whole_faults MAX_CLUSTER_SIZE (whole_in words)
 value_faults SubblockLutSize words = whole_faults 8 (whole_in words)
-value_faults FcType words = word_faults FcType is_fc_type (lone words)
+value_faults FcType words = word_faults FcType is_fc_type (only_word words)
 value_faults FcOutput words = decimal_faults (decimal_in words)
 value_faults FcInput words = decimal_faults (decimal_in words)
 value_faults FcPad words = decimal_faults (decimal_in words)
-value_faults SwitchBlockType words = word_faults SwitchBlockType is_subset (lone words)
+value_faults SwitchBlockType words = word_faults SwitchBlockType is_subset (only_word words)
 value_faults keyword words = []
 
 -- the number of tracks that a pin reaches: the given number or fraction of all tracks, rounded

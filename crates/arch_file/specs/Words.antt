@@ -3,11 +3,11 @@ use Rattle.std.specs.Prelude.{ℕ, nat_eq, Bool, ◌||◌, List, [], ◌∷◌, 
 use Rattle.std.specs.List.{find, starts_with}
 use Rattle.std.specs.Str.{bytes_eq}
 pub use Rattle.line_text.specs.Words.{texts}
-use Rattle.arch_file.specs.declared.fault.Keyword.{Keyword}
-use Rattle.arch_file.specs.declared.fault.Keyword.TheVariants.{IoRat, ChanWidthIo, ChanWidthX, ChanWidthY, Inpin, Outpin, SubblocksPerClb, SubblockLutSize, FcType, FcOutput, FcInput, FcPad, SwitchBlockType, Segment}
+use Rattle.arch_file.specs.declared.fault.ArchKeyword.{ArchKeyword}
+use Rattle.arch_file.specs.declared.fault.ArchKeyword.TheVariants.{IoRat, ChanWidthIo, ChanWidthX, ChanWidthY, Inpin, Outpin, SubblocksPerClb, SubblockLutSize, FcType, FcOutput, FcInput, FcPad, SwitchBlockType, Segment}
 
 -- how a keyword is spelled
-abbrev pub text_of : Keyword → List ℕ
+abbrev pub text_of : ArchKeyword → List ℕ
 text_of IoRat = codes "io_rat"
 text_of ChanWidthIo = codes "chan_width_io"
 text_of ChanWidthX = codes "chan_width_x"
@@ -24,22 +24,22 @@ text_of SwitchBlockType = codes "switch_block_type"
 text_of Segment = codes "segment"
 
 -- the required keywords, in the order in which missing ones are reported
-abbrev pub required : List Keyword
-required =
+abbrev pub required_keywords : List ArchKeyword
+required_keywords =
     IoRat ∷ ChanWidthIo ∷ ChanWidthX ∷ ChanWidthY ∷ SubblocksPerClb ∷ SubblockLutSize ∷ FcType ∷ FcOutput ∷ FcInput ∷ FcPad
     ∷ SwitchBlockType ∷ Segment ∷ []
 
 -- two keywords have the same spelling
-abbrev pub same_keyword : Keyword → Keyword → Bool
+abbrev pub same_keyword : ArchKeyword → ArchKeyword → Bool
 same_keyword first second = bytes_eq (text_of first) (text_of second)
 
 -- the keyword's lines describe pins
-abbrev pub is_pin_keyword : Keyword → Bool
+abbrev pub is_pin_keyword : ArchKeyword → Bool
 is_pin_keyword keyword = same_keyword keyword Inpin || same_keyword keyword Outpin
 
 -- the keyword with this spelling
-unfoldable pub keyword_of : List ℕ → Option Keyword
-keyword_of word = find (λ keyword. bytes_eq word (text_of keyword)) (Inpin ∷ Outpin ∷ required)
+unfoldable pub keyword_of : List ℕ → Option ArchKeyword
+keyword_of word = find (λ keyword. bytes_eq word (text_of keyword)) (Inpin ∷ Outpin ∷ required_keywords)
 
 -- words for resistances, capacitances, times and switches, whose lines aren't read
 unfoldable pub is_unread : List ℕ → Bool
@@ -48,6 +48,6 @@ is_unread word =
     || (starts_with nat_eq word (codes "R_") || (starts_with nat_eq word (codes "C_") || starts_with nat_eq word (codes "T_")))
 
 -- the only word of a line
-abbrev pub lone : List (List ℕ) → Option (List ℕ)
-lone (word ∷ []) = Some word
-lone words = None
+abbrev pub only_word : List (List ℕ) → Option (List ℕ)
+only_word (word ∷ []) = Some word
+only_word words = None

@@ -4,6 +4,24 @@ ghost use Rattle.std.specs.Prelude.{◌≡◌, ◌<◌};
 use std::alloc::AllocError;
 use std::marker::Model;
 
+/// The most inputs of a logic block.
+pub const MAX_INPUTS: u32 = 128;
+
+/// The most inputs of a table.
+pub const MAX_LUT_SIZE: u32 = 8;
+
+/// The most BLEs of a logic block.
+pub const MAX_CLUSTER_SIZE: u32 = 16;
+
+/// The most pins of a logic block: 128 inputs, 16 outputs and a clock.
+pub const MAX_PINS: u32 = 145;
+
+/// The most pads at each end of a column.
+pub const MAX_IO_RAT: u32 = 8;
+
+/// The most tracks of a channel.
+pub const MAX_TRACKS: u32 = 64;
+
 /// What a pin of a logic block is used for.
 #[derive(Clone, Copy, PartialEq, Eq)]
 pub enum PinClass {

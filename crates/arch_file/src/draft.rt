@@ -1,29 +1,23 @@
 //! The architecture as far as the lines read so far describe it.
 ghost use Rattle.std.specs.Prelude.{◌≡◌, ◌<◌, List, [], OnOk, true, false, not, nat_lt, ◌≤◌, ◌&&◌, ◌==◌, slice_index_or, slice_set};
 ghost use Rattle.std.specs.List.{find};
+ghost use Rattle.arch_file.specs.declared.arch.TheConstants.{MAX_INPUTS, MAX_TRACKS};
 ghost use Rattle.line_text.specs.Lines.{JoinedLine};
 ghost use Rattle.arch_file.specs.Draft.{AddsPin, Ends, error_at, FollowsLines, Reads, ReadsKeyword, Sets};
 ghost use Rattle.arch_file.specs.Readings.{Finds};
 ghost use Rattle.arch_file.specs.Pins.{is_input_class, output_count};
 ghost use Rattle.arch_file.specs.Values.{value_faults};
 ghost use Rattle.arch_file.specs.Ranks.{rank_of};
-ghost use Rattle.arch_file.specs.Words.{is_pin_keyword, required, same_keyword};
+ghost use Rattle.arch_file.specs.Words.{is_pin_keyword, required_keywords, same_keyword};
 
-use crate::arch::{Arch, Pin, PinClass, Pins};
-use crate::fault::{ArchError, ArchFault, ArchFaultKind, Keyword};
+use crate::arch::{Arch, MAX_CLUSTER_SIZE, MAX_IO_RAT, MAX_LUT_SIZE, Pin, PinClass, Pins};
+use crate::fault::{ArchError, ArchFault, ArchFaultKind, ArchKeyword};
 use crate::pin_line::pin_in;
 use crate::segment::check_segment;
 use crate::values::{self, FcType};
-use crate::words::{is_unread, keyword_of, required};
+use crate::words::{is_unread, keyword_of, required_keywords};
 use line_text::{Line, TextError};
 use std::alloc::{AllocError, Global};
-
-/// The largest number of BLEs of a logic block.
-const MAX_CLUSTER_SIZE: u32 = 16;
-/// The largest number of pads at each end of a column.
-const MAX_IO_RAT: u32 = 8;
-/// The largest number of inputs of a table.
-const MAX_LUT_SIZE: u32 = 8;
 
 /// Why a line is refused.
 pub(crate) type Refusal = TextError<ArchFaultKind>;
@@ -90,55 +84,55 @@ impl Draft {
 
     /// Sets the value after a keyword, if it is lawful.
     #[tactic(auto, unfolding(crate::specs::Values::value_faults))]
-    fn set(&mut self, keyword: Keyword, line: &Line<'_, '_>) -> Result<(), ArchFaultKind>
+    fn set(&mut self, keyword: ArchKeyword, line: &Line<'_, '_>) -> Result<(), ArchFaultKind>
         ensures faults { Finds (value_faults keyword line.now.words) result }
         ensures sets { OnOk result (Sets self.old keyword line.now.words self.new) }
     {
         match keyword {
-            Keyword::IoRat => {
+            ArchKeyword::IoRat => {
                 self.io_rat = values::whole_up_to(line, MAX_IO_RAT)?;
                 Ok(())
             }
-            Keyword::SubblocksPerClb => {
+            ArchKeyword::SubblocksPerClb => {
                 self.cluster_size = values::whole_up_to(line, MAX_CLUSTER_SIZE)?;
                 Ok(())
             }
-            Keyword::SubblockLutSize => {
+            ArchKeyword::SubblockLutSize => {
                 self.lut_size = values::whole_up_to(line, MAX_LUT_SIZE)?;
                 Ok(())
             }
-            Keyword::ChanWidthIo => values::check_one(keyword, line),
-            Keyword::ChanWidthX | Keyword::ChanWidthY => values::check_width(keyword, line),
-            Keyword::FcType => {
+            ArchKeyword::ChanWidthIo => values::check_one(keyword, line),
+            ArchKeyword::ChanWidthX | ArchKeyword::ChanWidthY => values::check_width(keyword, line),
+            ArchKeyword::FcType => {
                 self.fc_type = values::fc_type(line)?;
                 Ok(())
             }
-            Keyword::FcOutput => {
+            ArchKeyword::FcOutput => {
                 self.fc_output = values::decimal(line)?;
                 Ok(())
             }
-            Keyword::FcInput => {
+            ArchKeyword::FcInput => {
                 self.fc_input = values::decimal(line)?;
                 Ok(())
             }
-            Keyword::FcPad => {
+            ArchKeyword::FcPad => {
                 self.fc_pad = values::decimal(line)?;
                 Ok(())
             }
-            Keyword::SwitchBlockType => values::check_switch_block(line),
-            Keyword::Inpin | Keyword::Outpin | Keyword::Segment => Ok(()),
+            ArchKeyword::SwitchBlockType => values::check_switch_block(line),
+            ArchKeyword::Inpin | ArchKeyword::Outpin | ArchKeyword::Segment => Ok(()),
         }
     }
 
     /// Whether the keyword was read.
-    fn has(&self, keyword: Keyword) -> bool
+    fn has(&self, keyword: ArchKeyword) -> bool
         ensures { result ≡ slice_index_or self.now.stands (rank_of keyword) false }
     {
         self.stands[keyword.rank()]
     }
 
     /// Marks the keyword as read.
-    fn mark(&mut self, keyword: Keyword)
+    fn mark(&mut self, keyword: ArchKeyword)
         ensures { self.new ≡ record self.old {
           stands = slice_set self.old.stands (rank_of keyword) true;
         } }
@@ -148,7 +142,7 @@ impl Draft {
 
     /// Adds a pin.
     fn add(&mut self, pin: Pin) -> Result<(), AllocError>
-        requires { is_input_class pin.class ≡ true → self.old.inputs < 128 }
+        requires { is_input_class pin.class ≡ true → self.old.inputs < MAX_INPUTS }
         ensures { OnOk result (AddsPin self.old pin self.new) }
     {
         self.pins.push(pin)?;
@@ -166,7 +160,7 @@ impl Draft {
     }
 
     /// Reads a pin's line, after its keyword.
-    fn read_pin(&mut self, keyword: Keyword, line: &Line<'_, '_>) -> Result<(), Refusal>
+    fn read_pin(&mut self, keyword: ArchKeyword, line: &Line<'_, '_>) -> Result<(), Refusal>
         requires { is_pin_keyword keyword ≡ true }
         ensures { (before : List JoinedLine) → FollowsLines self.old before
             → ReadsKeyword before keyword line.now.words result self.new }
@@ -178,8 +172,8 @@ impl Draft {
     }
 
     /// Reads a segment's line, after its keyword.
-    fn read_segment(&mut self, keyword: Keyword, line: &Line<'_, '_>) -> Result<(), Refusal>
-        requires { same_keyword keyword Keyword.Segment ≡ true }
+    fn read_segment(&mut self, keyword: ArchKeyword, line: &Line<'_, '_>) -> Result<(), Refusal>
+        requires { same_keyword keyword ArchKeyword.Segment ≡ true }
         ensures { (before : List JoinedLine) → FollowsLines self.old before
             → ReadsKeyword before keyword line.now.words result self.new }
     {
@@ -189,9 +183,9 @@ impl Draft {
     }
 
     /// Reads a value's line, after its keyword.
-    fn read_value(&mut self, keyword: Keyword, line: &Line<'_, '_>) -> Result<(), Refusal>
+    fn read_value(&mut self, keyword: ArchKeyword, line: &Line<'_, '_>) -> Result<(), Refusal>
         requires pin { is_pin_keyword keyword ≡ false }
-        requires segment { same_keyword keyword Keyword.Segment ≡ false }
+        requires segment { same_keyword keyword ArchKeyword.Segment ≡ false }
         ensures { (before : List JoinedLine) → FollowsLines self.old before
             → ReadsKeyword before keyword line.now.words result self.new }
     {
@@ -204,7 +198,7 @@ impl Draft {
     }
 
     /// Reads a line, after its keyword.
-    fn read_keyword(&mut self, keyword: Keyword, line: &Line<'_, '_>) -> Result<(), Refusal>
+    fn read_keyword(&mut self, keyword: ArchKeyword, line: &Line<'_, '_>) -> Result<(), Refusal>
         ensures { (before : List JoinedLine) → FollowsLines self.old before
             → ReadsKeyword before keyword line.now.words result self.new }
     {
@@ -238,12 +232,12 @@ impl Draft {
     }
 
     /// The first required keyword that was not read.
-    fn first_missing(&self) -> Option<Keyword>
+    fn first_missing(&self) -> Option<ArchKeyword>
         ensures { result
             ≡ find (λ keyword. not (slice_index_or self.now.stands (rank_of keyword) false))
-            required }
+            required_keywords }
     {
-        required()
+        required_keywords()
             .iter()
             .copied()
             .find(|keyword| !self.has(*keyword))
@@ -271,7 +265,7 @@ impl Draft {
     /// The architecture for this many tracks, once all lines are read.
     pub(crate) fn finish(self, tracks: u32) -> Result<Arch, ArchFaultKind>
         requires few { 1 ≤ tracks }
-        requires many { tracks ≤ 64 }
+        requires many { tracks ≤ MAX_TRACKS }
         ensures { (lines : List JoinedLine) → FollowsLines self lines → Ends lines tracks result }
     {
         if let Some(keyword) = self.first_missing() {

@@ -8,7 +8,7 @@ use thiserror::Error;
 
 /// A keyword of the architecture file, such as `io_rat` or `chan_width_io`.
 #[derive(Clone, Copy, Debug, PartialEq, Eq)]
-pub enum Keyword {
+pub enum ArchKeyword {
     IoRat,
     ChanWidthIo,
     ChanWidthX,
@@ -33,11 +33,11 @@ pub enum ArchFaultKind {
     /// An earlier line has the keyword too.
     Repeated,
     /// The text has no line with the keyword.
-    Missing(Keyword),
+    Missing(ArchKeyword),
     /// A wrong number of words, or a word that isn't a number of the required kind.
     BadNumber,
     /// A value that VPR accepts, but that devices of this profile don't have.
-    NotProfile(Keyword),
+    NotProfile(ArchKeyword),
     /// A class that the pin can't have, a second clock, or at the end a wrong number of pins.
     BadClass,
     /// The words after the class aren't distinct sides, or there is no side.

@@ -22,7 +22,10 @@ mod shared;
 mod values;
 mod words;
 
-pub use arch::{Arch, Pin, PinClass, Pins, Sides};
-pub use fault::{ArchError, ArchFault, ArchFaultKind, Keyword};
+pub use arch::{
+    Arch, MAX_CLUSTER_SIZE, MAX_INPUTS, MAX_IO_RAT, MAX_LUT_SIZE, MAX_PINS, MAX_TRACKS, Pin,
+    PinClass, Pins, Sides,
+};
+pub use fault::{ArchError, ArchFault, ArchFaultKind, ArchKeyword};
 pub use reader::read_arch;
 pub use shared::SharedArch;

@@ -1,17 +1,15 @@
 //! Reads the line of a pin: its class and its sides.
 ghost use Rattle.std.specs.Prelude.{ℕ, ◌≡◌, ◌<◌, ◌++◌, ◌∷◌, [], List, IfOk, Some, nat_lt, true, false};
+ghost use Rattle.arch_file.specs.declared.arch.TheConstants.{MAX_INPUTS};
 ghost use Rattle.arch_file.specs.Readings.{FindsLeast};
 ghost use Rattle.arch_file.specs.PinLine.{class_faults, class_fits, class_of, pin_in, pin_line_faults, sides_of};
 ghost use Rattle.arch_file.specs.Pins.{clock_count, has_side, input_count, is_clock_class, is_input_class};
 ghost use Rattle.arch_file.specs.SideWords.{Shows};
 ghost use Rattle.arch_file.specs.declared.arch.Pin.{Pin};
 
-use crate::arch::{Pin, PinClass, Sides};
-use crate::fault::{ArchFaultKind, Keyword};
+use crate::arch::{MAX_INPUTS, Pin, PinClass, Sides};
+use crate::fault::{ArchFaultKind, ArchKeyword};
 use line_text::{Line, is_word};
-
-/// The largest number of inputs of a logic block.
-const MAX_INPUTS: u32 = 128;
 
 /// The meaning of the words after a pin's class.
 #[derive(Clone, Copy)]
@@ -112,13 +110,13 @@ fn class_of(word: &[u8]) -> Option<PinClass>
 
 /// Whether the keyword allows pins of this class: inputs and outputs that aren't global, and a
 /// clock that is.
-fn class_fits(keyword: Keyword, class: PinClass, is_global: bool) -> bool
+fn class_fits(keyword: ArchKeyword, class: PinClass, is_global: bool) -> bool
     ensures { result ≡ class_fits keyword (Some class) is_global }
 {
     match (keyword, class) {
-        (Keyword::Inpin, PinClass::Input) => !is_global,
-        (Keyword::Inpin, PinClass::Clock) => is_global,
-        (Keyword::Outpin, PinClass::Output) => !is_global,
+        (ArchKeyword::Inpin, PinClass::Input) => !is_global,
+        (ArchKeyword::Inpin, PinClass::Clock) => is_global,
+        (ArchKeyword::Outpin, PinClass::Output) => !is_global,
         _ => false,
     }
 }
@@ -126,7 +124,7 @@ fn class_fits(keyword: Keyword, class: PinClass, is_global: bool) -> bool
 /// The pin of a class word and the line after it, or the least fault. `inputs` is the number of
 /// inputs before it, and `has_clock` whether there is a clock before it.
 fn pin_of(
-    keyword: Keyword,
+    keyword: ArchKeyword,
     class: &[u8],
     sides: &Line<'_, '_>,
     inputs: u32,
@@ -139,7 +137,7 @@ fn pin_of(
     ensures sides { IfOk result (λ pin. pin.sides ≡ sides_of sides.now.words) }
     ensures reached { IfOk result (λ pin. has_side pin.sides ≡ true) }
     ensures clock { IfOk result (λ pin. is_clock_class pin.class ≡ true → has_clock ≡ false) }
-    ensures room { IfOk result (λ pin. is_input_class pin.class ≡ true → inputs < 128) }
+    ensures room { IfOk result (λ pin. is_input_class pin.class ≡ true → inputs < MAX_INPUTS) }
 {
     let read = SideWords::of(sides);
     let Some(class) = class_of(class) else {
@@ -167,7 +165,7 @@ fn pin_of(
 /// it, and `has_clock` whether there is a clock before it.
 #[tactic(auto, unfolding(crate::specs::PinLine::pin_line_faults, crate::specs::PinLine::pin_in))]
 pub(crate) fn pin_in(
-    keyword: Keyword,
+    keyword: ArchKeyword,
     line: &Line<'_, '_>,
     inputs: u32,
     has_clock: bool,
@@ -178,7 +176,7 @@ pub(crate) fn pin_in(
     ensures value { IfOk result (λ pin. pin_in line.now.words ≡ Some pin) }
     ensures reached { IfOk result (λ pin. has_side pin.sides ≡ true) }
     ensures clock { IfOk result (λ pin. is_clock_class pin.class ≡ true → has_clock ≡ false) }
-    ensures room { IfOk result (λ pin. is_input_class pin.class ≡ true → inputs < 128) }
+    ensures room { IfOk result (λ pin. is_input_class pin.class ≡ true → inputs < MAX_INPUTS) }
 {
     match line.split_first() {
         None => Err(ArchFaultKind::Unknown),

@@ -1,5 +1,6 @@
 //! Reads the text of an architecture.
 ghost use Rattle.std.specs.Prelude.{◌≤◌, IfOk};
+ghost use Rattle.arch_file.specs.declared.arch.TheConstants.{MAX_TRACKS};
 ghost use Rattle.line_text.specs.LineOrder.{RisesFrom};
 ghost use Rattle.line_text.specs.TextErrors.{Gives};
 ghost use Rattle.arch_file.specs.Arch.{IsArch, arch_of};
@@ -33,7 +34,7 @@ fn read_lines(alloc: Global, lines: &Lines<'_>) -> Result<Draft, ArchError>
 #[tactic(auto, unfolding(crate::specs::Arch::arch_of))]
 pub fn read_arch(alloc: Global, text: &[u8], tracks: u32) -> Result<Arch, ArchError>
     requires few { 1 ≤ tracks }
-    requires many { tracks ≤ 64 }
+    requires many { tracks ≤ MAX_TRACKS }
     ensures gives { Gives (arch_of text.now tracks) result }
     ensures lawful { IfOk result IsArch }
 {

@@ -6,7 +6,7 @@ ghost use Rattle.arch_file.specs.Values.{one};
 ghost use Rattle.arch_file.specs.Readings.{FindsLeast};
 ghost use Rattle.arch_file.specs.Segment.{are_ones, is_one, segment_faults, values_under};
 
-use crate::fault::{ArchFaultKind, Keyword};
+use crate::fault::{ArchFaultKind, ArchKeyword};
 use crate::values::ONE;
 use line_text::{Line, is_word, millionths};
 
@@ -59,7 +59,7 @@ pub(crate) fn check_segment(line: &Line<'_, '_>, is_second: bool) -> Result<(), 
         return Err(ArchFaultKind::BadNumber);
     }
     if is_second || !are_ones(line) {
-        return Err(ArchFaultKind::NotProfile(Keyword::Segment));
+        return Err(ArchFaultKind::NotProfile(ArchKeyword::Segment));
     }
     Ok(())
 }

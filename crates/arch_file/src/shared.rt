@@ -44,6 +44,13 @@ impl SharedArch {
     {
         &self.arch
     }
+
+    /// The architecture is lawful. Does nothing.
+    pub fn laws(&self)
+        ensures { IsArch self.now }
+    {
+        let _ = self.arch();
+    }
 }
 
 impl Clone for SharedArch {

@@ -1,13 +1,14 @@
 //! Reads the values after the keywords.
 ghost use Rattle.std.specs.Prelude.{◌≡◌, ◌<◌, ◌≤◌, IfOk, Some, false};
 ghost use Rattle.std.specs.Option.{option_map_or};
+ghost use Rattle.arch_file.specs.declared.arch.TheConstants.{MAX_TRACKS};
 ghost use Rattle.arch_file.specs.Readings.{Finds};
 ghost use Rattle.arch_file.specs.Values.{decimal_faults, decimal_in, is_fc_type, is_fractional_word, is_subset, one_faults, reach, whole_faults, whole_in, width_faults, word_faults};
 ghost use Rattle.arch_file.specs.FcTypes.{is_fractional_type};
-ghost use Rattle.arch_file.specs.Words.{lone};
+ghost use Rattle.arch_file.specs.Words.{only_word};
 
-use crate::fault::{ArchFaultKind, Keyword};
-use crate::words::lone;
+use crate::fault::{ArchFaultKind, ArchKeyword};
+use crate::words::only_word;
 use line_text::{Line, is_word, millionths, whole_number};
 
 /// 1, in millionths.
@@ -26,14 +27,14 @@ pub(crate) enum FcType {
 fn whole_in(line: &Line<'_, '_>) -> Option<u32>
     ensures { result ≡ whole_in line.now.words }
 {
-    whole_number(lone(line)?)
+    whole_number(only_word(line)?)
 }
 
 /// The line's words as one decimal, in millionths.
 fn decimal_in(line: &Line<'_, '_>) -> Option<u64>
     ensures { result ≡ decimal_in line.now.words }
 {
-    millionths(lone(line)?)
+    millionths(only_word(line)?)
 }
 
 /// The line's whole number, which must be from 1 to the limit.
@@ -69,7 +70,7 @@ pub(crate) fn decimal(line: &Line<'_, '_>) -> Result<u64, ArchFaultKind>
 }
 
 /// Checks that the line is one decimal and that it is 1.
-pub(crate) fn check_one(keyword: Keyword, line: &Line<'_, '_>) -> Result<(), ArchFaultKind>
+pub(crate) fn check_one(keyword: ArchKeyword, line: &Line<'_, '_>) -> Result<(), ArchFaultKind>
     ensures { Finds (one_faults keyword (decimal_in line.now.words)) result }
 {
     match decimal_in(line) {
@@ -85,7 +86,7 @@ pub(crate) fn check_one(keyword: Keyword, line: &Line<'_, '_>) -> Result<(), Arc
 }
 
 /// Checks that the line gives all channels the width 1.
-pub(crate) fn check_width(keyword: Keyword, line: &Line<'_, '_>) -> Result<(), ArchFaultKind>
+pub(crate) fn check_width(keyword: ArchKeyword, line: &Line<'_, '_>) -> Result<(), ArchFaultKind>
     ensures { Finds (width_faults keyword line.now.words) result }
 {
     match line.split_first() {
@@ -102,11 +103,13 @@ pub(crate) fn check_width(keyword: Keyword, line: &Line<'_, '_>) -> Result<(), A
 
 /// The line's way of giving numbers of tracks.
 pub(crate) fn fc_type(line: &Line<'_, '_>) -> Result<FcType, ArchFaultKind>
-    ensures faults { Finds (word_faults Keyword.FcType is_fc_type (lone line.now.words)) result }
+    ensures faults { Finds (word_faults ArchKeyword.FcType is_fc_type (only_word line.now.words))
+        result }
     ensures value { IfOk result (λ meant.
-        is_fractional_type meant ≡ option_map_or is_fractional_word (lone line.now.words) false) }
+        is_fractional_type meant ≡ option_map_or is_fractional_word (only_word line.now.words)
+        false) }
 {
-    match lone(line) {
+    match only_word(line) {
         None => Err(ArchFaultKind::BadNumber),
         Some(word) => {
             if is_word(word, "absolute") {
@@ -115,22 +118,23 @@ pub(crate) fn fc_type(line: &Line<'_, '_>) -> Result<FcType, ArchFaultKind>
             if is_word(word, "fractional") {
                 return Ok(FcType::Fractional);
             }
-            Err(ArchFaultKind::NotProfile(Keyword::FcType))
+            Err(ArchFaultKind::NotProfile(ArchKeyword::FcType))
         }
     }
 }
 
 /// Checks that the line names the one kind of switch block.
 pub(crate) fn check_switch_block(line: &Line<'_, '_>) -> Result<(), ArchFaultKind>
-    ensures { Finds (word_faults Keyword.SwitchBlockType is_subset (lone line.now.words)) result }
+    ensures { Finds (word_faults ArchKeyword.SwitchBlockType is_subset (only_word line.now.words))
+        result }
 {
-    match lone(line) {
+    match only_word(line) {
         None => Err(ArchFaultKind::BadNumber),
         Some(word) => {
             if is_word(word, "subset") {
                 Ok(())
             } else {
-                Err(ArchFaultKind::NotProfile(Keyword::SwitchBlockType))
+                Err(ArchFaultKind::NotProfile(ArchKeyword::SwitchBlockType))
             }
         }
     }
@@ -139,7 +143,7 @@ pub(crate) fn check_switch_block(line: &Line<'_, '_>) -> Result<(), ArchFaultKin
 /// The number of tracks that a pin reaches, out of this many tracks.
 pub(crate) fn reach(meant: FcType, value: u64, tracks: u32) -> u32
     requires few { 1 ≤ tracks }
-    requires many { tracks ≤ 64 }
+    requires many { tracks ≤ MAX_TRACKS }
     ensures value { result ≡ reach (is_fractional_type meant) value tracks }
     ensures low { 1 ≤ result }
     ensures high { result ≤ tracks }

@@ -1,50 +1,50 @@
 //! The keywords of the architecture file.
 ghost use Rattle.std.specs.Prelude.{◌≡◌, ◌<◌, option_map};
 ghost use Rattle.arch_file.specs.Ranks.{rank_of};
-ghost use Rattle.arch_file.specs.Words.{is_pin_keyword, is_unread, keyword_of, lone, required, same_keyword, text_of};
+ghost use Rattle.arch_file.specs.Words.{is_pin_keyword, is_unread, keyword_of, only_word, required_keywords, same_keyword, text_of};
 
-use crate::fault::Keyword;
+use crate::fault::ArchKeyword;
 use line_text::{Line, is_word};
 
 /// All keywords: the two for pins, and then the required ones in the order in which missing ones
 /// are reported.
-const KEYWORDS: [Keyword; 14] = [
-    Keyword::Inpin,
-    Keyword::Outpin,
-    Keyword::IoRat,
-    Keyword::ChanWidthIo,
-    Keyword::ChanWidthX,
-    Keyword::ChanWidthY,
-    Keyword::SubblocksPerClb,
-    Keyword::SubblockLutSize,
-    Keyword::FcType,
-    Keyword::FcOutput,
-    Keyword::FcInput,
-    Keyword::FcPad,
-    Keyword::SwitchBlockType,
-    Keyword::Segment,
+const KEYWORDS: [ArchKeyword; 14] = [
+    ArchKeyword::Inpin,
+    ArchKeyword::Outpin,
+    ArchKeyword::IoRat,
+    ArchKeyword::ChanWidthIo,
+    ArchKeyword::ChanWidthX,
+    ArchKeyword::ChanWidthY,
+    ArchKeyword::SubblocksPerClb,
+    ArchKeyword::SubblockLutSize,
+    ArchKeyword::FcType,
+    ArchKeyword::FcOutput,
+    ArchKeyword::FcInput,
+    ArchKeyword::FcPad,
+    ArchKeyword::SwitchBlockType,
+    ArchKeyword::Segment,
 ];
 
-impl Keyword {
+impl ArchKeyword {
     /// Its spelling.
     fn text(self) -> &'static str
         ensures { result.now ≡ text_of self }
     {
         match self {
-            Keyword::IoRat => "io_rat",
-            Keyword::ChanWidthIo => "chan_width_io",
-            Keyword::ChanWidthX => "chan_width_x",
-            Keyword::ChanWidthY => "chan_width_y",
-            Keyword::Inpin => "inpin",
-            Keyword::Outpin => "outpin",
-            Keyword::SubblocksPerClb => "subblocks_per_clb",
-            Keyword::SubblockLutSize => "subblock_lut_size",
-            Keyword::FcType => "Fc_type",
-            Keyword::FcOutput => "Fc_output",
-            Keyword::FcInput => "Fc_input",
-            Keyword::FcPad => "Fc_pad",
-            Keyword::SwitchBlockType => "switch_block_type",
-            Keyword::Segment => "segment",
+            ArchKeyword::IoRat => "io_rat",
+            ArchKeyword::ChanWidthIo => "chan_width_io",
+            ArchKeyword::ChanWidthX => "chan_width_x",
+            ArchKeyword::ChanWidthY => "chan_width_y",
+            ArchKeyword::Inpin => "inpin",
+            ArchKeyword::Outpin => "outpin",
+            ArchKeyword::SubblocksPerClb => "subblocks_per_clb",
+            ArchKeyword::SubblockLutSize => "subblock_lut_size",
+            ArchKeyword::FcType => "Fc_type",
+            ArchKeyword::FcOutput => "Fc_output",
+            ArchKeyword::FcInput => "Fc_input",
+            ArchKeyword::FcPad => "Fc_pad",
+            ArchKeyword::SwitchBlockType => "switch_block_type",
+            ArchKeyword::Segment => "segment",
         }
     }
 
@@ -54,20 +54,20 @@ impl Keyword {
         ensures below { result < 14 }
     {
         match self {
-            Keyword::IoRat => 0,
-            Keyword::ChanWidthIo => 1,
-            Keyword::ChanWidthX => 2,
-            Keyword::ChanWidthY => 3,
-            Keyword::SubblocksPerClb => 4,
-            Keyword::SubblockLutSize => 5,
-            Keyword::FcType => 6,
-            Keyword::FcOutput => 7,
-            Keyword::FcInput => 8,
-            Keyword::FcPad => 9,
-            Keyword::SwitchBlockType => 10,
-            Keyword::Segment => 11,
-            Keyword::Inpin => 12,
-            Keyword::Outpin => 13,
+            ArchKeyword::IoRat => 0,
+            ArchKeyword::ChanWidthIo => 1,
+            ArchKeyword::ChanWidthX => 2,
+            ArchKeyword::ChanWidthY => 3,
+            ArchKeyword::SubblocksPerClb => 4,
+            ArchKeyword::SubblockLutSize => 5,
+            ArchKeyword::FcType => 6,
+            ArchKeyword::FcOutput => 7,
+            ArchKeyword::FcInput => 8,
+            ArchKeyword::FcPad => 9,
+            ArchKeyword::SwitchBlockType => 10,
+            ArchKeyword::Segment => 11,
+            ArchKeyword::Inpin => 12,
+            ArchKeyword::Outpin => 13,
         }
     }
 
@@ -75,26 +75,26 @@ impl Keyword {
     pub(crate) fn is_pin(self) -> bool
         ensures { result ≡ is_pin_keyword self }
     {
-        matches!(self, Keyword::Inpin | Keyword::Outpin)
+        matches!(self, ArchKeyword::Inpin | ArchKeyword::Outpin)
     }
 
     pub(crate) fn is_segment(self) -> bool
-        ensures { result ≡ same_keyword self Keyword.Segment }
+        ensures { result ≡ same_keyword self ArchKeyword.Segment }
     {
-        matches!(self, Keyword::Segment)
+        matches!(self, ArchKeyword::Segment)
     }
 }
 
 /// The required keywords, in the order in which missing ones are reported.
-pub(crate) fn required() -> &'static [Keyword]
-    ensures { result.now ≡ required }
+pub(crate) fn required_keywords() -> &'static [ArchKeyword]
+    ensures { result.now ≡ required_keywords }
 {
     &KEYWORDS[2..]
 }
 
 /// The keyword with this spelling.
 #[tactic(auto, unfolding(crate::specs::Words::keyword_of))]
-pub(crate) fn keyword_of(word: &[u8]) -> Option<Keyword>
+pub(crate) fn keyword_of(word: &[u8]) -> Option<ArchKeyword>
     ensures { result ≡ keyword_of word.now }
 {
     KEYWORDS
@@ -115,8 +115,8 @@ pub(crate) fn is_unread(word: &[u8]) -> bool
 }
 
 /// The only word of the line.
-pub(crate) fn lone<'t>(line: &Line<'_, 't>) -> Option<&'t [u8]>
-    ensures { option_map (λ word. word.now) result ≡ lone line.now.words }
+pub(crate) fn only_word<'t>(line: &Line<'_, 't>) -> Option<&'t [u8]>
+    ensures { option_map (λ word. word.now) result ≡ only_word line.now.words }
 {
     match line.words() {
         [word] => Some(*word),

@@ -6,7 +6,7 @@ use Rattle.std.proofs.lemmas.Bool.{eqb-true}
 use Rattle.std.proofs.lemmas.Bool.Decides.{nat_tests, eqb_tells}
 use Rattle.ble_cluster.specs.Choosing.{LeadsOver}
 use Rattle.ble_cluster.specs.Nets.{has}
-use Rattle.ble_cluster.specs.Clusters.{first_most, leading}
+use Rattle.ble_cluster.specs.Clusters.{first_most, leader_of}
 
 -- the number is below all later ones
 abbrev pub IsBelow : ℕ → List ℕ → Type 0
@@ -41,7 +41,7 @@ not_later score number other (inr same) least less = omega (arith, same.1, less)
 
 -- the number that leads over all is the one that is found
 leads : (score : ℕ → ℕ) (best number : ℕ) (numbers : List ℕ) → IsBelow best numbers → IsRising numbers → has (best ∷ numbers) number ≡ true
-    → ((other : ℕ) → has (best ∷ numbers) other ≡ true → LeadsOver score number other) → leading score best numbers ≡ number
+    → ((other : ℕ) → has (best ∷ numbers) other ≡ true → LeadsOver score number other) → leader_of score best numbers ≡ number
 leads score best number [] b r h l = eqb-true best number (grind (arith, h))
 leads score best number (next ∷ numbers) b r h l =
     by (nat_lt (score best) (score next)) refl (leads score next number numbers r.0 r.1) (leads score best number numbers b.1 r.1)
@@ -62,9 +62,9 @@ leads score best number (next ∷ numbers) b r h l =
         (λ same. not_later score number best over_best (rw (sym same) (grind (arith, nat_tests, e))) (omega (arith, b.0, same))))
 
     by : (a : Bool) → nat_lt (score best) (score next) ≡ a
-        → (has (next ∷ numbers) number ≡ true → ((other : ℕ) → has (next ∷ numbers) other ≡ true → LeadsOver score number other) → leading score next numbers ≡ number)
-        → (has (best ∷ numbers) number ≡ true → ((other : ℕ) → has (best ∷ numbers) other ≡ true → LeadsOver score number other) → leading score best numbers ≡ number)
-        → leading score (if a then next else best) numbers ≡ number
+        → (has (next ∷ numbers) number ≡ true → ((other : ℕ) → has (next ∷ numbers) other ≡ true → LeadsOver score number other) → leader_of score next numbers ≡ number)
+        → (has (best ∷ numbers) number ≡ true → ((other : ℕ) → has (best ∷ numbers) other ≡ true → LeadsOver score number other) → leader_of score best numbers ≡ number)
+        → leader_of score (if a then next else best) numbers ≡ number
     by true e on off =
         on (rest (λ same. not_greater score number next over_next (rw (sym same) (grind (arith, nat_tests, e)))))
         (λ other k. l other (among best other (has (next ∷ numbers) other) k))

@@ -8,7 +8,7 @@ use Rattle.std.proofs.lemmas.List.Elements.{All-filter, All-from_get_or}
 use Rattle.std.proofs.lemmas.Option.{get_or_from_slice_get}
 use Rattle.arch_file.specs.declared.arch.Arch.{Arch}
 use Rattle.ble_cluster.specs.Bles.{LogicElement, element_at}
-use Rattle.ble_cluster.specs.Clusters.{first_most, grown, next_member}
+use Rattle.ble_cluster.specs.Clusters.{first_most, members_after, next_member}
 use Rattle.ble_cluster.specs.FreeBles.{free_in}
 use Rattle.ble_cluster.proofs.Leading.{leading_lawful}
 
@@ -43,12 +43,12 @@ pub element_lawful : (P : LogicElement → Type 0) (elements : List LogicElement
 element_lawful P elements number element within at all = subst P (get_or_from_slice_get elements number element element at) (all number element within)
 
 -- once no BLE may be added, the cluster no longer changes
-stays : (arch : Arch) (elements : List LogicElement) (free seed : List ℕ) (n more later : ℕ) → later ≡ more + n → next_member arch elements free (grown arch elements free seed n) ≡ None → grown arch elements free seed later ≡ grown arch elements free seed n
-stays arch elements free seed n zero later is none = let e : later ≡ n = omega (arith, is) in ap (grown arch elements free seed) e
+stays : (arch : Arch) (elements : List LogicElement) (free seed : List ℕ) (n more later : ℕ) → later ≡ more + n → next_member arch elements free (members_after arch elements free seed n) ≡ None → members_after arch elements free seed later ≡ members_after arch elements free seed n
+stays arch elements free seed n zero later is none = let e : later ≡ n = omega (arith, is) in ap (members_after arch elements free seed) e
 stays arch elements free seed n (suc more) later is none =
     let e : later ≡ suc (more + n) = omega (arith, is) in
     let before = stays arch elements free seed n more (more + n) refl none in
-    ap (grown arch elements free seed) e ∙ rw before (rw none (append-nil (grown arch elements free seed n)))
+    ap (members_after arch elements free seed) e ∙ rw before (rw none (append-nil (members_after arch elements free seed n)))
 
-pub grown_full : (arch : Arch) (elements : List LogicElement) (free seed : List ℕ) (n later : ℕ) → n ≤ later → next_member arch elements free (grown arch elements free seed n) ≡ None → grown arch elements free seed later ≡ grown arch elements free seed n
+pub grown_full : (arch : Arch) (elements : List LogicElement) (free seed : List ℕ) (n later : ℕ) → n ≤ later → next_member arch elements free (members_after arch elements free seed n) ≡ None → members_after arch elements free seed later ≡ members_after arch elements free seed n
 grown_full arch elements free seed n later h none = stays arch elements free seed n (later - n) later (omega (arith, h)) none

@@ -7,7 +7,7 @@ use Rattle.std.proofs.lemmas.List.Elements.{All-nil, All-cons, All-tail, All-app
 use Rattle.std.proofs.lemmas.List.FromFn.{get_or-map-range_with_len, length-range_with_len}
 use Rattle.rows.specs.declared.by_key.Keyed.{Keyed}
 use Rattle.rows.specs.ByKey.{items_by_key, items_with}
-use Rattle.ble_cluster.specs.Nets.{IsOnce, distinct, has, with_nets}
+use Rattle.ble_cluster.specs.Nets.{IsOnce, distinct_nets, has, with_nets}
 use Rattle.ble_cluster.specs.NetSets.{with_net}
 use Rattle.ble_cluster.specs.Bles.{LogicElement, element_at}
 use Rattle.ble_cluster.specs.Clusters.{nets_of}
@@ -18,16 +18,16 @@ use Rattle.ble_cluster.proofs.Outside.{distinct-more, once-distinct}
 
 -- the pairs of a BLE, after those of its inputs were added
 pub all_pushed : (old now : List Keyed) (number output : ℕ) (inputs : List ℕ) (reads_own : Bool) → IsOnce inputs → now ≡ old ++ pairs_with number inputs → reads_own ≡ has inputs output → reads_own ≡ true
-    → now ≡ old ++ pairs_with number (distinct (inputs ++ output ∷ []))
+    → now ≡ old ++ pairs_with number (distinct_nets (inputs ++ output ∷ []))
 all_pushed old now number output inputs reads_own once e own is =
     let own_input : has inputs output ≡ true = sym own ∙ is in
     e ∙ ap (λ nets. old ++ pairs_with number nets) (sym (distinct-more inputs output once ∙ ap (λ test. if test then inputs else inputs ++ output ∷ []) own_input))
 
 pub last_pushed : (old now : List Keyed) (number output : ℕ) (inputs : List ℕ) (reads_own : Bool) → IsOnce inputs → now ≡ old ++ pairs_with number inputs → reads_own ≡ has inputs output → reads_own ≡ false
-    → now ++ record { key = output; item = number } ∷ [] ≡ old ++ pairs_with number (distinct (inputs ++ output ∷ []))
+    → now ++ record { key = output; item = number } ∷ [] ≡ old ++ pairs_with number (distinct_nets (inputs ++ output ∷ []))
 last_pushed old now number output inputs reads_own once e own is =
     let no_input : has inputs output ≡ false = sym own ∙ is in
-    let nets : distinct (inputs ++ output ∷ []) ≡ inputs ++ output ∷ [] = distinct-more inputs output once ∙ ap (λ test. if test then inputs else inputs ++ output ∷ []) no_input in
+    let nets : distinct_nets (inputs ++ output ∷ []) ≡ inputs ++ output ∷ [] = distinct-more inputs output once ∙ ap (λ test. if test then inputs else inputs ++ output ∷ []) no_input in
     ap (λ front. front ++ record { key = output; item = number } ∷ []) e ∙ append_assoc old (pairs_with number inputs) _
     ∙ ap (λ last. old ++ last) (sym (map-append (λ net. record { key = net; item = number }) inputs (output ∷ [])))
     ∙ ap (λ list. old ++ pairs_with number list) (sym nets)

@@ -11,9 +11,9 @@ use Rattle.blif.specs.declared.circuit.Circuit.{Circuit}
 use Rattle.blif.specs.declared.latches.Latch.{Latch}
 use Rattle.blif.specs.LookupTables.{LookupTable}
 use Rattle.blif.specs.LawfulCircuits.{IsCircuit, IsLatchWithin, IsTableWithin}
-use Rattle.ble_cluster.specs.Nets.{has, distinct, with_nets}
+use Rattle.ble_cluster.specs.Nets.{has, distinct_nets, with_nets}
 use Rattle.ble_cluster.specs.NetSets.{with_net}
-use Rattle.ble_cluster.specs.Bles.{LogicElement, bles_of, element_of_latch, element_of_table, in_line_order, is_read_once, latch_behind, stands_alone}
+use Rattle.ble_cluster.specs.Bles.{LogicElement, bles_of, element_of_latch, element_of_table, in_line_order, is_read_once, latch_after, stands_alone}
 use Rattle.ble_cluster.specs.LineOrder.{is_above}
 use Rattle.ble_cluster.specs.Clusters.{clocks_of, fits_in_cluster, outside_inputs}
 use Rattle.ble_cluster.specs.FreeBles.{IsElement}
@@ -25,7 +25,7 @@ unseen : (nets : List ℕ) → filter (λ net. not (has [] net)) nets ≡ nets
 unseen [] = refl
 unseen (net ∷ nets) = ap (λ ns. net ∷ ns) (unseen nets)
 
-pub distinct-once : (nets : List ℕ) → IsOnce nets → distinct nets ≡ nets
+pub distinct-once : (nets : List ℕ) → IsOnce nets → distinct_nets nets ≡ nets
 distinct-once nets once = with_nets-new [] nets once ∙ unseen nets
 
 -- a property of the old and the added nets holds for all of them
@@ -54,10 +54,10 @@ module _ (circuit : Circuit) (lawful : IsCircuit circuit) where
   latch_lawful latch is = record { inputs = All-cons (λ net. net < count) latch.input [] is.input (All-nil _); output = is.output; once = refl }
 
   table_lawful : (table : LookupTable) (latch : Option Latch) → IsTableWithin count table → IfSome latch (IsLatchWithin count) → IsElement count (element_of_table table latch)
-  table_lawful table None is h = record { inputs = with_nets_within (λ net. net < count) [] table.inputs (All-nil _) is.inputs; output = is.output; once = distinct-once (distinct table.inputs) (once-distinct table.inputs) }
-  table_lawful table (Some latch) is h = record { inputs = with_nets_within (λ net. net < count) [] table.inputs (All-nil _) is.inputs; output = h.output; once = distinct-once (distinct table.inputs) (once-distinct table.inputs) }
+  table_lawful table None is h = record { inputs = with_nets_within (λ net. net < count) [] table.inputs (All-nil _) is.inputs; output = is.output; once = distinct-once (distinct_nets table.inputs) (once-distinct table.inputs) }
+  table_lawful table (Some latch) is h = record { inputs = with_nets_within (λ net. net < count) [] table.inputs (All-nil _) is.inputs; output = h.output; once = distinct-once (distinct_nets table.inputs) (once-distinct table.inputs) }
 
-  behind_lawful : (net : ℕ) → IfSome (latch_behind circuit net) (IsLatchWithin count)
+  behind_lawful : (net : ℕ) → IfSome (latch_after circuit net) (IsLatchWithin count)
   behind_lawful net = by (is_read_once circuit net)
     where
       by : (b : Bool) → IfSome (if b then find (λ latch. latch.input == net) circuit.latches else None) (IsLatchWithin count)
@@ -72,7 +72,7 @@ module _ (circuit : Circuit) (lawful : IsCircuit circuit) where
   order_lawful (table ∷ tables) latches t l =
       let above = prefix_len (is_above table.line) latches in
       All-append (IsElement count) (map element_of_latch (take above latches)) _ (lone_lawful (take above latches) (All-take (IsLatchWithin count) above latches l))
-      (All-cons (IsElement count) _ _ (table_lawful table (latch_behind circuit table.output) (t 0 table (omega arith)) (behind_lawful table.output))
+      (All-cons (IsElement count) _ _ (table_lawful table (latch_after circuit table.output) (t 0 table (omega arith)) (behind_lawful table.output))
       (order_lawful tables (drop above latches) (All-tail (IsTableWithin count) table tables t) (All-drop (IsLatchWithin count) above latches l)))
 
 -- each BLE's nets are the circuit's
@@ -84,12 +84,12 @@ elements_lawful circuit lawful = order_lawful circuit lawful circuit.tables (fil
 pub alone_fits : (arch : Arch) (count : ℕ) (element : LogicElement) → IsArch arch → IsElement count element → fits_in_cluster arch (element ∷ []) ≡ nat_le (length (filter (λ net. not (net == element.output)) element.inputs)) (input_count arch.pins)
 alone_fits arch count element profile is =
     let room : nat_le 1 arch.cluster_size ≡ true = grind (arith, nat_tests, profile.cluster_size.0) in
-    let inputs : distinct (flat_map (λ (e : LogicElement). e.inputs) (element ∷ [])) ≡ element.inputs = ap distinct (append-nil element.inputs) ∙ is.once in
+    let inputs : distinct_nets (flat_map (λ (e : LogicElement). e.inputs) (element ∷ [])) ≡ element.inputs = ap distinct_nets (append-nil element.inputs) ∙ is.once in
     let outside : outside_inputs (element ∷ []) ≡ filter (λ net. not (net == element.output)) element.inputs = ap (filter (λ net. not (has (element.output ∷ []) net))) inputs ∙ filter_agree (λ net. not (has (element.output ∷ []) net)) (λ net. not (net == element.output)) (λ net. grind (arith, nat_tests)) element.inputs in
-    let clocks : nat_le (length (clocks_of (element ∷ []))) 1 ≡ true = ap (λ clocks. nat_le (length (distinct clocks)) 1) (append-nil (option_to_list element.clock)) ∙ one element.clock in
+    let clocks : nat_le (length (clocks_of (element ∷ []))) 1 ≡ true = ap (λ clocks. nat_le (length (distinct_nets clocks)) 1) (append-nil (option_to_list element.clock)) ∙ one element.clock in
     rw (room, outside, clocks) (last (nat_le (length (filter (λ net. not (net == element.output)) element.inputs)) (input_count arch.pins)))
   where
-    one : (clock : Option ℕ) → nat_le (length (distinct (option_to_list clock))) 1 ≡ true
+    one : (clock : Option ℕ) → nat_le (length (distinct_nets (option_to_list clock))) 1 ≡ true
     one None = refl
     one (Some clock) = refl
 

@@ -4,7 +4,7 @@ use Rattle.std.specs.Option.{option_to_list}
 use Rattle.std.proofs.lemmas.List.Elements.{All-nil, All-cons, All-append}
 use Rattle.arch_file.specs.declared.arch.Arch.{Arch}
 use Rattle.ble_cluster.specs.Bles.{LogicElement}
-use Rattle.ble_cluster.specs.Clusters.{cluster_of, first_most, grown, input_count_at, next_member}
+use Rattle.ble_cluster.specs.Clusters.{cluster_of, first_most, members_after, input_count_at, next_member}
 use Rattle.ble_cluster.specs.FreeBles.{free_in}
 use Rattle.ble_cluster.proofs.Choosing.{grown_full}
 use Rattle.ble_cluster.proofs.ChoosingLemmas.{next_none}
@@ -16,16 +16,16 @@ module _ (arch : Arch) (elements : List LogicElement) (taken : List Bool) (marks
   none_joins members full = next_none arch elements taken members marks (λ other small. full_refuses arch elements taken members other full)
 
   -- a full cluster no longer changes
-  pub full_stays : (members : List ℕ) (additions : ℕ) → arch.cluster_size ≤ length members → grown arch elements (free_in taken) members additions ≡ members
+  pub full_stays : (members : List ℕ) (additions : ℕ) → arch.cluster_size ≤ length members → members_after arch elements (free_in taken) members additions ≡ members
   full_stays members additions full = grown_full arch elements (free_in taken) members 0 additions (omega arith) (none_joins members full)
 
   -- the last member
-  pub filled : (seed members : List ℕ) (number added : ℕ) → members ≡ grown arch elements (free_in taken) seed added → Some number ≡ next_member arch elements (free_in taken) members → length members + 1 ≡ arch.cluster_size → added < arch.cluster_size → members ++ number ∷ [] ≡ grown arch elements (free_in taken) seed arch.cluster_size
+  pub filled : (seed members : List ℕ) (number added : ℕ) → members ≡ members_after arch elements (free_in taken) seed added → Some number ≡ next_member arch elements (free_in taken) members → length members + 1 ≡ arch.cluster_size → added < arch.cluster_size → members ++ number ∷ [] ≡ members_after arch elements (free_in taken) seed arch.cluster_size
   filled seed members number added is next last within =
       let free = free_in taken in
-      let one : grown arch elements free seed (suc added) ≡ members ++ number ∷ [] = ap (λ (ms : List ℕ). ms ++ option_to_list (next_member arch elements free ms)) (sym is) ∙ ap (λ more. members ++ option_to_list more) (sym next) in
-      let full : arch.cluster_size ≤ length (grown arch elements free seed (suc added)) = (let count = ap (λ (ms : List ℕ). length ms) one in omega (arith, count, last, length-append members (number ∷ []))) in
-      sym (grown_full arch elements free seed (suc added) arch.cluster_size (omega (arith, within)) (none_joins (grown arch elements free seed (suc added)) full) ∙ one)
+      let one : members_after arch elements free seed (suc added) ≡ members ++ number ∷ [] = ap (λ (ms : List ℕ). ms ++ option_to_list (next_member arch elements free ms)) (sym is) ∙ ap (λ more. members ++ option_to_list more) (sym next) in
+      let full : arch.cluster_size ≤ length (members_after arch elements free seed (suc added)) = (let count = ap (λ (ms : List ℕ). length ms) one in omega (arith, count, last, length-append members (number ∷ []))) in
+      sym (grown_full arch elements free seed (suc added) arch.cluster_size (omega (arith, within)) (none_joins (members_after arch elements free seed (suc added)) full) ∙ one)
 
   -- a seed that makes the cluster full
   pub alone : (cleared : List ℕ) (seed : ℕ) → Some seed ≡ first_most (input_count_at elements) (free_in taken) → cleared ≡ [] → arch.cluster_size ≡ 1 → cleared ++ seed ∷ [] ≡ cluster_of arch elements (free_in taken)

@@ -10,7 +10,7 @@ use Rattle.std.proofs.lemmas.List.Elements.{All-nil, All-cons}
 use Rattle.std.proofs.lemmas.List.FromFn.{length-range_with_len, get_or-range_with_len}
 use Rattle.arch_file.specs.declared.arch.Arch.{Arch}
 use Rattle.ble_cluster.specs.Bles.{element_at}
-use Rattle.ble_cluster.specs.Clusters.{cluster_of, elements_at, first_most, fits_in_cluster, grown, input_count_at, may_join, unfit_among}
+use Rattle.ble_cluster.specs.Clusters.{cluster_of, elements_at, first_most, fits_in_cluster, members_after, input_count_at, may_join, unfit_among}
 
 -- a full cluster takes no more
 pub may_join_full : (arch : Arch) (elements : List LogicElement) (members : List ℕ) (number : ℕ) → arch.cluster_size ≤ length members → false ≡ may_join arch elements members number
@@ -50,7 +50,7 @@ none_free score [] h = refl
 none_free score (number ∷ numbers) h = absurd cc
 
 -- if no BLE is free, no cluster is made
-nothing_grows : (arch : Arch) (elements : List LogicElement) (additions : ℕ) → grown arch elements [] [] additions ≡ []
+nothing_grows : (arch : Arch) (elements : List LogicElement) (additions : ℕ) → members_after arch elements [] [] additions ≡ []
 nothing_grows arch elements zero = refl
 nothing_grows arch elements (suc additions) = rw (nothing_grows arch elements additions) refl
 
@@ -59,7 +59,7 @@ unfolding cluster_of
 no_cluster arch elements = nothing_grows arch elements arch.cluster_size
 
 -- the cluster that grows from the seed
-pub cluster_is : (arch : Arch) (elements : List LogicElement) (free members cleared : List ℕ) (seed : ℕ) → Some seed ≡ first_most (input_count_at elements) free → cleared ≡ [] → members ≡ cleared ++ seed ∷ [] → grown arch elements free members arch.cluster_size ≡ cluster_of arch elements free
+pub cluster_is : (arch : Arch) (elements : List LogicElement) (free members cleared : List ℕ) (seed : ℕ) → Some seed ≡ first_most (input_count_at elements) free → cleared ≡ [] → members ≡ cleared ++ seed ∷ [] → members_after arch elements free members arch.cluster_size ≡ cluster_of arch elements free
 unfolding cluster_of
 cluster_is arch elements free members cleared seed first nothing is =
-    ap (λ ms. grown arch elements free ms arch.cluster_size) (is ∙ ap (λ ms. ms ++ seed ∷ []) nothing ∙ ap option_to_list first)
+    ap (λ ms. members_after arch elements free ms arch.cluster_size) (is ∙ ap (λ ms. ms ++ seed ∷ []) nothing ∙ ap option_to_list first)

@@ -15,12 +15,12 @@ use Rattle.std.proofs.lemmas.Grind.{flat_map-append}
 use Rattle.arch_file.specs.declared.arch.Arch.{Arch}
 use Rattle.arch_file.specs.Arch.{input_count}
 use Rattle.ble_cluster.specs.declared.growing_cluster.GrowingCluster.{GrowingCluster}
-use Rattle.ble_cluster.specs.Nets.{IsOnce, distinct, has, with_nets}
+use Rattle.ble_cluster.specs.Nets.{IsOnce, distinct_nets, has, with_nets}
 use Rattle.ble_cluster.specs.Bles.{LogicElement, element_at}
 use Rattle.ble_cluster.specs.Clusters.{clocks_of, elements_at, fits_in_cluster, nets_of, outputs_of, outside_inputs}
 use Rattle.std.proofs.lemmas.List.Elements.{All-append, All-cons, All-from_get_or, All-nil}
 use Rattle.ble_cluster.specs.NetSets.{NetsAmong, with_net}
-use Rattle.ble_cluster.specs.OutsideInputs.{gained, loses, inputs_of}
+use Rattle.ble_cluster.specs.OutsideInputs.{gained_inputs, loses, inputs_of}
 use Rattle.ble_cluster.specs.SharedNets.{HaveRoom, ShareNothing}
 use Rattle.ble_cluster.specs.GrowingCluster.{AreShared, EntersUnless, IsEntering, IsGrowingCluster, IsTold, MayFit, agree, later_clock, is_new_input, new_inputs_of}
 use Rattle.ble_cluster.specs.BleIndex.{AreLawful, BlesOver}
@@ -57,7 +57,7 @@ module _ (elements : List LogicElement) (nets : ℕ) (growth : GrowingCluster) (
   drives_are net = rw g.drives (has-distinct (outputs_of members) net)
 
   -- the new inputs are those that the BLE adds to the members
-  pub new_are : (element : LogicElement) → new_inputs_of growth.reads.nets growth.drives.nets element.output element.inputs ≡ gained members element
+  pub new_are : (element : LogicElement) → new_inputs_of growth.reads.nets growth.drives.nets element.output element.inputs ≡ gained_inputs members element
   new_are element = filter_agrees (is_new_input growth.reads.nets growth.drives.nets element.output) _ (λ net. let r = reads_are net in let d = drives_are net in grind (arith, r, d)) element.inputs
 
   pub members_more : (number : ℕ) → elements_at elements (growth.members.items ++ number ∷ []) ≡ members ++ element_at elements number ∷ []
@@ -291,16 +291,16 @@ growth_more elements nets old new number outside g small fit counted adding = re
     outputs : outputs_of (elements_at elements new.members.items) ≡ outputs_of before ++ element.output ∷ []
     outputs = ap outputs_of after ∙ map-append (λ (e : LogicElement). e.output) before (element ∷ [])
 
-    read : new.reads.nets ≡ distinct (inputs_of (elements_at elements new.members.items))
-    read = ap (λ (set : NetsAmong). set.nets) adding.reads ∙ ap (λ front. with_nets front element.inputs) g.reads ∙ sym (ap distinct inputs ∙ with_nets-append [] (inputs_of before) element.inputs)
+    read : new.reads.nets ≡ distinct_nets (inputs_of (elements_at elements new.members.items))
+    read = ap (λ (set : NetsAmong). set.nets) adding.reads ∙ ap (λ front. with_nets front element.inputs) g.reads ∙ sym (ap distinct_nets inputs ∙ with_nets-append [] (inputs_of before) element.inputs)
 
-    driven : new.drives.nets ≡ distinct (outputs_of (elements_at elements new.members.items))
-    driven = ap (λ (set : NetsAmong). set.nets) adding.drives ∙ ap (λ front. with_net front element.output) g.drives ∙ sym (ap distinct outputs ∙ with_nets-append [] (outputs_of before) (element.output ∷ []))
+    driven : new.drives.nets ≡ distinct_nets (outputs_of (elements_at elements new.members.items))
+    driven = ap (λ (set : NetsAmong). set.nets) adding.drives ∙ ap (λ front. with_net front element.output) g.drives ∙ sym (ap distinct_nets outputs ∙ with_nets-append [] (outputs_of before) (element.output ∷ []))
 
     same : (net : ℕ) → has (new.reads.nets ++ new.drives.nets) net ≡ has (flat_map nets_of (elements_at elements new.members.items)) net
     same net = has-append new.reads.nets new.drives.nets net
-        ∙ ap (λ front. has front net || has new.drives.nets net) read ∙ ap (λ front. has (distinct (inputs_of (elements_at elements new.members.items))) net || has front net) driven
-        ∙ ap (λ test. test || has (distinct (outputs_of (elements_at elements new.members.items))) net) (has-distinct (inputs_of (elements_at elements new.members.items)) net)
+        ∙ ap (λ front. has front net || has new.drives.nets net) read ∙ ap (λ front. has (distinct_nets (inputs_of (elements_at elements new.members.items))) net || has front net) driven
+        ∙ ap (λ test. test || has (distinct_nets (outputs_of (elements_at elements new.members.items))) net) (has-distinct (inputs_of (elements_at elements new.members.items)) net)
         ∙ ap (λ test. has (inputs_of (elements_at elements new.members.items)) net || test) (has-distinct (outputs_of (elements_at elements new.members.items)) net)
         ∙ sym (has-member_nets (elements_at elements new.members.items) net)
 

@@ -4,10 +4,10 @@ use Rattle.std.proofs.Common.{◌≡◌, ◌≢◌, ℕ, Bool, true, false, List
 use Rattle.std.specs.List.{list_any}
 use Rattle.std.proofs.lemmas.Bool.Decides.{eqb_tells}
 use Rattle.std.proofs.lemmas.List.Elements.{All-tail}
-use Rattle.ble_cluster.specs.Clusters.{leading}
+use Rattle.ble_cluster.specs.Clusters.{leader_of}
 
 -- the leading number has a property that all numbers have
-pub leading_lawful : (P : ℕ → Type 0) (score : ℕ → ℕ) (best : ℕ) (numbers : List ℕ) → P best → All P numbers → P (leading score best numbers)
+pub leading_lawful : (P : ℕ → Type 0) (score : ℕ → ℕ) (best : ℕ) (numbers : List ℕ) → P best → All P numbers → P (leader_of score best numbers)
 leading_lawful P score best [] b h = b
 leading_lawful P score best (number ∷ numbers) b h = leading_lawful P score (if nat_lt (score best) (score number) then number else best) numbers (by (nat_lt (score best) (score number))) (All-tail P number numbers h)
   where

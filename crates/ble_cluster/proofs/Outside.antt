@@ -8,10 +8,10 @@ use Rattle.std.proofs.lemmas.Bool.{eqb-true}
 use Rattle.std.proofs.lemmas.Bool.Decides.{nat_tests}
 use Rattle.std.proofs.lemmas.List.Elements.{filter-append}
 use Rattle.std.proofs.lemmas.List.Folds.{list_any-append}
-use Rattle.ble_cluster.specs.Nets.{IsOnce, distinct, has, with_nets}
+use Rattle.ble_cluster.specs.Nets.{IsOnce, distinct_nets, has, with_nets}
 use Rattle.ble_cluster.specs.NetSets.{with_net}
 use Rattle.ble_cluster.specs.Bles.{LogicElement}
-use Rattle.ble_cluster.specs.OutsideInputs.{gained, loses, inputs_of}
+use Rattle.ble_cluster.specs.OutsideInputs.{gained_inputs, loses, inputs_of}
 use Rattle.ble_cluster.specs.Clusters.{nets_of, outputs_of, outside_inputs}
 
 pub has-append : (xs ys : List ℕ) (net : ℕ) → has (xs ++ ys) net ≡ (has xs net || has ys net)
@@ -29,7 +29,7 @@ pub has-with_nets : (nets others : List ℕ) (net : ℕ) → has (with_nets nets
 has-with_nets nets [] net = grind arith
 has-with_nets nets (other ∷ others) net = let h = has-with_nets (with_net nets other) others net in let k = has-with_net nets other net in grind (arith, h, k)
 
-pub has-distinct : (nets : List ℕ) (net : ℕ) → has (distinct nets) net ≡ has nets net
+pub has-distinct : (nets : List ℕ) (net : ℕ) → has (distinct_nets nets) net ≡ has nets net
 has-distinct nets net = has-with_nets [] nets net
 
 pub with_nets-append : (nets xs ys : List ℕ) → with_nets nets (xs ++ ys) ≡ with_nets (with_nets nets xs) ys
@@ -73,7 +73,7 @@ once-with_nets nets (net ∷ others) once = once-with_nets (with_net nets net) o
     by false e = once-push nets net once e
 
 -- distinct nets occur once
-pub once-distinct : (nets : List ℕ) → IsOnce (distinct nets)
+pub once-distinct : (nets : List ℕ) → IsOnce (distinct_nets nets)
 once-distinct nets = once-with_nets [] nets tt
 
 -- the nets that are not in the list and differ from this net
@@ -93,14 +93,14 @@ left_out driven net (input ∷ inputs) once = by (input == net) refl (has driven
     by false e true f more ih = grind (arith, nat_tests, e, f, more, ih)
     by false e false f more ih = grind (arith, nat_tests, e, f, more, ih)
 
-gained-is : (inputs driven : List ℕ) (output : ℕ) (nets : List ℕ) → beyond (driven ++ output ∷ []) (new_nets (distinct inputs) nets) ≡ filter (λ net. not (has inputs net) && (not (has driven net) && not (net == output))) nets
+gained-is : (inputs driven : List ℕ) (output : ℕ) (nets : List ℕ) → beyond (driven ++ output ∷ []) (new_nets (distinct_nets inputs) nets) ≡ filter (λ net. not (has inputs net) && (not (has driven net) && not (net == output))) nets
 gained-is inputs driven output [] = refl
 gained-is inputs driven output (net ∷ nets) =
     by (has inputs net) refl (has driven net) refl (net == output) refl (has-distinct inputs net) (has-append driven (output ∷ []) net) (gained-is inputs driven output nets)
   where
-    by : (a : Bool) → has inputs net ≡ a → (b : Bool) → has driven net ≡ b → (c : Bool) → (net == output) ≡ c → has (distinct inputs) net ≡ has inputs net → has (driven ++ output ∷ []) net ≡ (has driven net || has (output ∷ []) net)
-        → beyond (driven ++ output ∷ []) (new_nets (distinct inputs) nets) ≡ filter (λ net. not (has inputs net) && (not (has driven net) && not (net == output))) nets
-        → beyond (driven ++ output ∷ []) (new_nets (distinct inputs) (net ∷ nets)) ≡ filter (λ net. not (has inputs net) && (not (has driven net) && not (net == output))) (net ∷ nets)
+    by : (a : Bool) → has inputs net ≡ a → (b : Bool) → has driven net ≡ b → (c : Bool) → (net == output) ≡ c → has (distinct_nets inputs) net ≡ has inputs net → has (driven ++ output ∷ []) net ≡ (has driven net || has (output ∷ []) net)
+        → beyond (driven ++ output ∷ []) (new_nets (distinct_nets inputs) nets) ≡ filter (λ net. not (has inputs net) && (not (has driven net) && not (net == output))) nets
+        → beyond (driven ++ output ∷ []) (new_nets (distinct_nets inputs) (net ∷ nets)) ≡ filter (λ net. not (has inputs net) && (not (has driven net) && not (net == output))) (net ∷ nets)
     by true ea b eb c ec same more ih = grind (arith, nat_tests, ea, same, ih)
     by false ea true eb c ec same more ih = grind (arith, nat_tests, ea, eb, same, more, ih)
     by false ea false eb true ec same more ih = grind (arith, nat_tests, ea, eb, ec, same, more, ih)
@@ -108,17 +108,17 @@ gained-is inputs driven output (net ∷ nets) =
 
 -- the number of outside inputs with one more BLE
 pub outside_more : (members : List LogicElement) (element : LogicElement) → IsOnce element.inputs
-    → length (outside_inputs (members ++ element ∷ [])) + (if loses members element then 1 else 0) ≡ length (outside_inputs members) + length (gained members element)
+    → length (outside_inputs (members ++ element ∷ [])) + (if loses members element then 1 else 0) ≡ length (outside_inputs members) + length (gained_inputs members element)
 outside_more members element once =
     let inputs = inputs_of members in
     let driven = outputs_of members in
     let read : inputs_of (members ++ element ∷ []) ≡ inputs ++ element.inputs = flat_map-append (λ e. e.inputs) members (element ∷ []) ∙ ap (λ last. inputs ++ last) (append-nil element.inputs) in
     let drives : outputs_of (members ++ element ∷ []) ≡ driven ++ element.output ∷ [] = map-append (λ e. e.output) members (element ∷ []) in
-    let each : distinct (inputs ++ element.inputs) ≡ distinct inputs ++ new_nets (distinct inputs) element.inputs = with_nets-append [] inputs element.inputs ∙ with_nets-new (distinct inputs) element.inputs once in
-    let parts : outside_inputs (members ++ element ∷ []) ≡ beyond (driven ++ element.output ∷ []) (distinct inputs) ++ gained members element =
-    rw (read, drives, each) (filter-append (λ net. not (has (driven ++ element.output ∷ []) net)) (distinct inputs) (new_nets (distinct inputs) element.inputs) ∙ ap (λ last. beyond (driven ++ element.output ∷ []) (distinct inputs) ++ last) (gained-is inputs driven element.output element.inputs)) in
-    let sums : length (outside_inputs (members ++ element ∷ [])) ≡ length (beyond (driven ++ element.output ∷ []) (distinct inputs)) + length (gained members element) = ap length parts ∙ length-append (beyond (driven ++ element.output ∷ []) (distinct inputs)) (gained members element) in
-    let left = left_out driven element.output (distinct inputs) (once-distinct inputs) in
+    let each : distinct_nets (inputs ++ element.inputs) ≡ distinct_nets inputs ++ new_nets (distinct_nets inputs) element.inputs = with_nets-append [] inputs element.inputs ∙ with_nets-new (distinct_nets inputs) element.inputs once in
+    let parts : outside_inputs (members ++ element ∷ []) ≡ beyond (driven ++ element.output ∷ []) (distinct_nets inputs) ++ gained_inputs members element =
+    rw (read, drives, each) (filter-append (λ net. not (has (driven ++ element.output ∷ []) net)) (distinct_nets inputs) (new_nets (distinct_nets inputs) element.inputs) ∙ ap (λ last. beyond (driven ++ element.output ∷ []) (distinct_nets inputs) ++ last) (gained-is inputs driven element.output element.inputs)) in
+    let sums : length (outside_inputs (members ++ element ∷ [])) ≡ length (beyond (driven ++ element.output ∷ []) (distinct_nets inputs)) + length (gained_inputs members element) = ap length parts ∙ length-append (beyond (driven ++ element.output ∷ []) (distinct_nets inputs)) (gained_inputs members element) in
+    let left = left_out driven element.output (distinct_nets inputs) (once-distinct inputs) in
     let same = has-distinct inputs element.output in
     grind (arith, sums, left, same)
 
@@ -155,9 +155,9 @@ all_new [] = refl
 all_new (net ∷ nets) = ap (λ rest. net ∷ rest) (all_new nets)
 
 -- nets that occur once are unchanged by distinct
-pub distinct-once : (nets : List ℕ) → IsOnce nets → distinct nets ≡ nets
+pub distinct-once : (nets : List ℕ) → IsOnce nets → distinct_nets nets ≡ nets
 distinct-once nets once = with_nets-new [] nets once ∙ all_new nets
 
 -- nets that occur once, with one more net
-pub distinct-more : (nets : List ℕ) (net : ℕ) → IsOnce nets → distinct (nets ++ net ∷ []) ≡ with_net nets net
+pub distinct-more : (nets : List ℕ) (net : ℕ) → IsOnce nets → distinct_nets (nets ++ net ∷ []) ≡ with_net nets net
 distinct-more nets net once = with_nets-append [] nets (net ∷ []) ∙ ap (λ front. with_net front net) (distinct-once nets once)

@@ -12,7 +12,7 @@ use Rattle.ble_cluster.specs.Clusters.{elements_at, fits_in_cluster, may_join, n
 use Rattle.ble_cluster.specs.SharedNets.{gain_at}
 use Rattle.ble_cluster.specs.BleIndex.{AreLawful, BlesOver}
 use Rattle.ble_cluster.specs.FirstFree.{AreAbove, AreOutsideCounts, own_outside}
-use Rattle.ble_cluster.specs.OutsideInputs.{gained, loses, inputs_of}
+use Rattle.ble_cluster.specs.OutsideInputs.{gained_inputs, loses, inputs_of}
 use Rattle.ble_cluster.specs.FreeBles.{IsElement}
 use Rattle.ble_cluster.specs.GrowingCluster.{IsGrowingCluster}
 use Rattle.ble_cluster.proofs.ElementLemmas.{inputs_once}
@@ -54,7 +54,7 @@ module _ (elements : List LogicElement) (nets : ℕ) (growth : GrowingCluster) (
   own : (net : ℕ) → (has element.inputs net || has (element.output ∷ []) net) ≡ true → has (nets_of element) net ≡ true
   own net there = has-distinct (element.inputs ++ element.output ∷ []) net ∙ has-append element.inputs (element.output ∷ []) net ∙ there
 
-  gains_all : gained members element ≡ own_outside element
+  gains_all : gained_inputs members element ≡ own_outside element
   gains_all = same_kept _ _ element.inputs (λ net there. let a = apart net (own net (grind (arith, there))) in grind (arith, a))
 
   loses_none : loses members element ≡ false

@@ -1,5 +1,6 @@
 -- Private: the BLEs of a circuit, by number and by net.
 use Rattle.std.specs.Prelude.{ℕ, ◌+◌, ◌≡◌, ◌<◌, ◌≤◌, List, [], ◌∷◌, ◌++◌, All, length, slice_index_or}
+use Rattle.blif.specs.declared.circuit.TheConstants.{MAX_NETS}
 use Rattle.rows.specs.declared.by_key.Keyed.{Keyed}
 use Rattle.rows.specs.ByKey.{pairs_with}
 use Rattle.ble_cluster.specs.Nets.{IsOnce, has}
@@ -14,8 +15,8 @@ pub record BlesOver : Type 0 where
 
 -- the numbers of nets and of BLEs are within their limits, and each BLE is lawful
 pub record AreLawful (over : BlesOver) : Type 0 where
-  pub few : over.nets ≤ 8192
-  pub count : length over.elements ≤ 8192
+  pub few : over.nets ≤ MAX_NETS
+  pub count : length over.elements ≤ MAX_NETS
   pub lawful : All (IsElement over.nets) over.elements
 
 -- the BLEs that have the net, each once
@@ -30,8 +31,8 @@ row_at rows net = slice_index_or rows net []
 
 -- the BLEs are lawful, and the row of each net holds the BLEs that have it
 pub record AreElements (elements : List LogicElement) (rows : List (List ℕ)) : Type 0 where
-  pub few : length rows ≤ 8192
-  pub count : length elements ≤ 8192
+  pub few : length rows ≤ MAX_NETS
+  pub count : length elements ≤ MAX_NETS
   pub lawful : All (IsElement (length rows)) elements
   pub having : (net : ℕ) → net < length rows → AreHaving elements net (row_at rows net)
 

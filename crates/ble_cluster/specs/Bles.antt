@@ -5,7 +5,7 @@ use Rattle.std.specs.Option.{option_to_list}
 use Rattle.blif.specs.declared.circuit.Circuit.{Circuit}
 use Rattle.blif.specs.declared.latches.Latch.{Latch}
 use Rattle.blif.specs.LookupTables.{LookupTable}
-use Rattle.ble_cluster.specs.Nets.{distinct}
+use Rattle.ble_cluster.specs.Nets.{distinct_nets}
 
 -- a BLE: the nets that it reads, each once, the net that it drives, which gives it its name, and
 -- its clock, if it has one
@@ -23,13 +23,13 @@ abbrev pub is_read_once : Circuit → ℕ → Bool
 is_read_once circuit net = count_by (λ read. read == net) (reads_of circuit) == 1
 
 -- the latch that is the only reader of the net
-abbrev pub latch_behind : Circuit → ℕ → Option Latch
-latch_behind circuit net = if is_read_once circuit net then find (λ latch. latch.input == net) circuit.latches else None
+abbrev pub latch_after : Circuit → ℕ → Option Latch
+latch_after circuit net = if is_read_once circuit net then find (λ latch. latch.input == net) circuit.latches else None
 
 -- the BLE of a table, with the latch that stores its output if there is one
 abbrev pub element_of_table : LookupTable → Option Latch → LogicElement
-element_of_table table None = record { inputs = distinct table.inputs; output = table.output; clock = None }
-element_of_table table (Some latch) = record { inputs = distinct table.inputs; output = latch.output; clock = latch.control }
+element_of_table table None = record { inputs = distinct_nets table.inputs; output = table.output; clock = None }
+element_of_table table (Some latch) = record { inputs = distinct_nets table.inputs; output = latch.output; clock = latch.control }
 
 -- the BLE of a latch alone
 abbrev pub element_of_latch : Latch → LogicElement
@@ -45,7 +45,7 @@ abbrev pub in_line_order : Circuit → List LookupTable → List Latch → List 
 in_line_order circuit [] latches = map element_of_latch latches
 in_line_order circuit (table ∷ tables) latches =
     map element_of_latch (take_while (λ latch. nat_lt latch.line table.line) latches)
-    ++ element_of_table table (latch_behind circuit table.output)
+    ++ element_of_table table (latch_after circuit table.output)
     ∷ in_line_order circuit tables (drop (prefix_len (λ latch. nat_lt latch.line table.line) latches) latches)
 
 -- the BLEs of a circuit, numbered from 0 in the order of their lines

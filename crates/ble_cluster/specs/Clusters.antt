@@ -6,7 +6,7 @@ use Rattle.std.specs.Option.{option_to_list}
 use Rattle.arch_file.specs.declared.arch.Arch.{Arch}
 use Rattle.arch_file.specs.Arch.{input_count}
 use Rattle.blif.specs.declared.circuit.Circuit.{Circuit}
-use Rattle.ble_cluster.specs.Nets.{has, distinct}
+use Rattle.ble_cluster.specs.Nets.{has, distinct_nets}
 use Rattle.ble_cluster.specs.Bles.{LogicElement, bles_of, element_at}
 
 -- the outputs and the clocks of BLEs
@@ -14,11 +14,11 @@ abbrev pub outputs_of : List LogicElement → List ℕ
 outputs_of elements = map (λ element. element.output) elements
 
 abbrev pub clocks_of : List LogicElement → List ℕ
-clocks_of elements = distinct (flat_map (λ element. option_to_list element.clock) elements)
+clocks_of elements = distinct_nets (flat_map (λ element. option_to_list element.clock) elements)
 
 -- the inputs that none of these BLEs drives, each once, in the order in which they first appear
 abbrev pub outside_inputs : List LogicElement → List ℕ
-outside_inputs elements = filter (λ net. not (has (outputs_of elements) net)) (distinct (flat_map (λ element. element.inputs) elements))
+outside_inputs elements = filter (λ net. not (has (outputs_of elements) net)) (distinct_nets (flat_map (λ element. element.inputs) elements))
 
 -- the BLEs fit into one cluster: there are at most as many BLEs as the cluster size, at most as
 -- many outside inputs as input pins, and at most one clock
@@ -37,18 +37,18 @@ unfoldable pub unfit_of : Circuit → Arch → Option ℕ
 unfit_of circuit arch = unfit_among arch (bles_of circuit)
 
 -- of a number and those after it, the first with the greatest score
-abbrev pub leading : (ℕ → ℕ) → ℕ → List ℕ → ℕ
-leading score best [] = best
-leading score best (number ∷ numbers) = leading score (if nat_lt (score best) (score number) then number else best) numbers
+abbrev pub leader_of : (ℕ → ℕ) → ℕ → List ℕ → ℕ
+leader_of score best [] = best
+leader_of score best (number ∷ numbers) = leader_of score (if nat_lt (score best) (score number) then number else best) numbers
 
 -- the first number with the greatest score, if there is one
 abbrev pub first_most : (ℕ → ℕ) → List ℕ → Option ℕ
 first_most score [] = None
-first_most score (number ∷ numbers) = Some (leading score number numbers)
+first_most score (number ∷ numbers) = Some (leader_of score number numbers)
 
 -- the nets of a BLE except its clock, each once
 abbrev pub nets_of : LogicElement → List ℕ
-nets_of element = distinct (element.inputs ++ element.output ∷ [])
+nets_of element = distinct_nets (element.inputs ++ element.output ∷ [])
 
 -- the BLEs with these numbers
 abbrev pub elements_at : List LogicElement → List ℕ → List LogicElement
@@ -72,9 +72,9 @@ abbrev pub next_member : Arch → List LogicElement → List ℕ → List ℕ �
 next_member arch elements free members = first_most (shared_nets elements members) (filter (may_join arch elements members) free)
 
 -- the members after this number of additions; an addition adds nothing if no BLE may be added
-abbrev pub grown : Arch → List LogicElement → List ℕ → List ℕ → ℕ → List ℕ
-grown arch elements free seed zero = seed
-grown arch elements free seed (suc additions) = grown arch elements free seed additions ++ option_to_list (next_member arch elements free (grown arch elements free seed additions))
+abbrev pub members_after : Arch → List LogicElement → List ℕ → List ℕ → ℕ → List ℕ
+members_after arch elements free seed zero = seed
+members_after arch elements free seed (suc additions) = members_after arch elements free seed additions ++ option_to_list (next_member arch elements free (members_after arch elements free seed additions))
 
 -- the seed: the free BLE with most inputs; of several, the one with the least number
 abbrev pub seed_of : List LogicElement → List ℕ → List ℕ
@@ -82,7 +82,7 @@ seed_of elements free = option_to_list (first_most (input_count_at elements) fre
 
 -- the cluster made of free BLEs
 unfoldable pub cluster_of : Arch → List LogicElement → List ℕ → List ℕ
-cluster_of arch elements free = grown arch elements free (seed_of elements free) arch.cluster_size
+cluster_of arch elements free = members_after arch elements free (seed_of elements free) arch.cluster_size
 
 -- the BLEs that are not in a cluster
 abbrev pub free_of : List LogicElement → List (List ℕ) → List ℕ

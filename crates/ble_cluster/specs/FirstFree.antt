@@ -1,5 +1,6 @@
 -- Private: the least free number whose key is within a bound.
 use Rattle.std.specs.Prelude.{ℕ, ◌≡◌, ◌+◌, ◌<◌, ◌≤◌, ◌⊎◌, Bool, true, false, not, ◌==◌, List, All, Option, None, Some, length, filter, slice_index_or}
+use Rattle.blif.specs.declared.circuit.TheConstants.{MAX_NETS}
 use Rattle.ble_cluster.specs.declared.first_free.FirstFree.{FirstFree}
 use Rattle.ble_cluster.specs.Bles.{LogicElement, element_at}
 use Rattle.ble_cluster.specs.Choosing.{taken_at}
@@ -52,12 +53,12 @@ pub record IsFirstFree (taken : List Bool) (index : FirstFree) : Type 0 where
 -- no key is greater than this one, which is itself at most 8,192
 pub record AreKeysUpTo (keys : List ℕ) (most : ℕ) : Type 0 where
   pub each : All (λ key. key ≤ most) keys
-  pub few : most ≤ 8192
+  pub few : most ≤ MAX_NETS
 
 -- no BLE has more inputs than this number, which is itself at most 8,192
 pub record HaveAtMost (elements : List LogicElement) (most : ℕ) : Type 0 where
   pub each : (number : ℕ) → number < length elements → input_count_at elements number ≤ most
-  pub few : most ≤ 8192
+  pub few : most ≤ MAX_NETS
 
 -- each key is the largest number of inputs minus the number of the BLE's inputs
 pub record AreLacks (elements : List LogicElement) (keys : List ℕ) : Type 0 where
@@ -77,7 +78,7 @@ pub record AreOutsideCounts (elements : List LogicElement) (keys : List ℕ) : T
 -- the index finds free BLEs, of which there are at most 8,192, by the number of nets that they read
 -- from outside
 pub record AreByOutside (bles : List LogicElement) (marks : List Bool) (index : FirstFree) : Type 0 where
-  pub few : length bles ≤ 8192
+  pub few : length bles ≤ MAX_NETS
   pub taken : length marks ≡ length bles
   pub counts : AreOutsideCounts bles index.keys.items
   pub free : IsFirstFree marks index

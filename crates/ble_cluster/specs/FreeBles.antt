@@ -1,9 +1,10 @@
 -- Free BLEs, and the members of a cluster made of them.
 use Rattle.std.specs.Prelude.{ℕ, ◌≡◌, ◌<◌, ◌≤◌, Bool, true, not, List, All, None, filter, length, slice_index_or}
 use Rattle.std.specs.List.{range_with_len}
+use Rattle.blif.specs.declared.circuit.TheConstants.{MAX_NETS}
 use Rattle.arch_file.specs.declared.arch.Arch.{Arch}
 use Rattle.arch_file.specs.Arch.{IsArch}
-use Rattle.ble_cluster.specs.Nets.{distinct}
+use Rattle.ble_cluster.specs.Nets.{distinct_nets}
 use Rattle.ble_cluster.specs.Bles.{LogicElement}
 use Rattle.ble_cluster.specs.Clusters.{unfit_among}
 
@@ -11,11 +12,11 @@ use Rattle.ble_cluster.specs.Clusters.{unfit_among}
 pub record IsElement (count : ℕ) (element : LogicElement) : Type 0 where
   pub inputs : All (λ net. net < count) element.inputs
   pub output : element.output < count
-  pub once : distinct element.inputs ≡ element.inputs
+  pub once : distinct_nets element.inputs ≡ element.inputs
 
 -- at most 8,192 BLEs, whose nets are below the count
 pub record AreBles (count : ℕ) (bles : List LogicElement) : Type 0 where
-  pub few : length bles ≤ 8192
+  pub few : length bles ≤ MAX_NETS
   pub elements : All (IsElement count) bles
 
 -- each BLE fits alone into a cluster of a lawful architecture

@@ -2,11 +2,13 @@
 use Rattle.std.specs.Prelude.{ℕ, ◌≡◌, ◌<◌, ◌≤◌, Bool, true, false, not, ◌||◌, ◌&&◌, ◌==◌, List, [], ◌∷◌, ◌++◌, All, filter, length, Option, Some, None}
 use Rattle.std.specs.List.{flat_map}
 use Rattle.std.specs.Option.{option_to_list}
+use Rattle.arch_file.specs.declared.arch.TheConstants.{MAX_INPUTS}
+use Rattle.blif.specs.declared.circuit.TheConstants.{MAX_NETS}
 use Rattle.arch_file.specs.declared.arch.Arch.{Arch}
 use Rattle.arch_file.specs.Arch.{IsArch}
 use Rattle.ble_cluster.specs.declared.first_free.FirstFree.{FirstFree}
 use Rattle.ble_cluster.specs.declared.growing_cluster.GrowingCluster.{GrowingCluster}
-use Rattle.ble_cluster.specs.Nets.{distinct, has}
+use Rattle.ble_cluster.specs.Nets.{distinct_nets, has}
 use Rattle.ble_cluster.specs.Bles.{LogicElement, element_at}
 use Rattle.ble_cluster.specs.Clusters.{clocks_of, elements_at, first_most, fits_in_cluster, input_count_at, nets_of, outputs_of, outside_inputs}
 use Rattle.ble_cluster.specs.OutsideInputs.{inputs_of}
@@ -38,10 +40,10 @@ pub record IsGrowingCluster (elements : List LogicElement) (count : ℕ) (growth
   pub reads_count : growth.reads.count ≡ count
   pub drives_count : growth.drives.count ≡ count
   pub gains_count : length growth.gains ≡ length elements
-  pub reads : growth.reads.nets ≡ distinct (inputs_of (elements_at elements growth.members.items))
-  pub drives : growth.drives.nets ≡ distinct (outputs_of (elements_at elements growth.members.items))
+  pub reads : growth.reads.nets ≡ distinct_nets (inputs_of (elements_at elements growth.members.items))
+  pub drives : growth.drives.nets ≡ distinct_nets (outputs_of (elements_at elements growth.members.items))
   pub outside : growth.outside ≡ length (outside_inputs (elements_at elements growth.members.items))
-  pub small : growth.outside ≤ 128
+  pub small : growth.outside ≤ MAX_INPUTS
   pub clock : clocks_of (elements_at elements growth.members.items) ≡ option_to_list growth.clock
   pub gains : AreShared elements (flat_map nets_of (elements_at elements growth.members.items)) growth.gains
 
@@ -107,7 +109,7 @@ later_clock clock (Some other) = Some other
 -- them
 pub record AreFreeBles (over : BlesOver) (taken : List Bool) (growth : GrowingCluster) : Type 0 where
   pub marks : length taken ≡ length over.elements
-  pub few : length over.elements ≤ 8192
+  pub few : length over.elements ≤ MAX_NETS
   pub members : All (λ number. number < length over.elements) growth.members.items
   pub room : IsRoomFor over growth
 

@@ -12,8 +12,8 @@ with_nets nets [] = nets
 with_nets nets (net ∷ others) = with_nets (if has nets net then nets else nets ++ net ∷ []) others
 
 -- each of the nets once, in the order in which they first appear
-abbrev pub distinct : List ℕ → List ℕ
-distinct nets = with_nets [] nets
+abbrev pub distinct_nets : List ℕ → List ℕ
+distinct_nets nets = with_nets [] nets
 
 -- no net occurs in the list twice
 abbrev pub IsOnce : List ℕ → Type 0

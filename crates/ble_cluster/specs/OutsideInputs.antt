@@ -10,8 +10,8 @@ abbrev pub inputs_of : List LogicElement → List ℕ
 inputs_of elements = flat_map (λ element. element.inputs) elements
 
 -- the inputs of the BLE that the members don't have yet and that neither they nor the BLE drive
-abbrev pub gained : List LogicElement → LogicElement → List ℕ
-gained members element = filter (λ net. not (has (inputs_of members) net) && (not (has (outputs_of members) net) && not (net == element.output))) element.inputs
+abbrev pub gained_inputs : List LogicElement → LogicElement → List ℕ
+gained_inputs members element = filter (λ net. not (has (inputs_of members) net) && (not (has (outputs_of members) net) && not (net == element.output))) element.inputs
 
 -- whether the BLE drives an outside input of the members
 abbrev pub loses : List LogicElement → LogicElement → Bool

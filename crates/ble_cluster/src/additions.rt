@@ -1,7 +1,7 @@
 //! Grows a cluster from its seed.
 ghost use Rattle.std.specs.Prelude.{◌≡◌, ◌<◌, All, length, IfOk};
 ghost use Rattle.arch_file.specs.Arch.{IsArch};
-ghost use Rattle.ble_cluster.specs.Clusters.{cluster_of, first_most, grown, input_count_at};
+ghost use Rattle.ble_cluster.specs.Clusters.{cluster_of, first_most, members_after, input_count_at};
 ghost use Rattle.ble_cluster.specs.FirstFree.{AreByOutside, IsFirstFree};
 ghost use Rattle.ble_cluster.specs.FreeBles.{AllFit, free_in};
 ghost use Rattle.ble_cluster.specs.GrowingCluster.{IsGrowingCluster, IsRoomFor};
@@ -27,7 +27,8 @@ impl GrowingCluster {
         requires growth { IsGrowingCluster elements.now.elements elements.now.nets self.old }
         requires by_outside { AreByOutside elements.now.elements is_taken.now by_outside.old }
         ensures members { IfOk result (λ _. self.new.members.items
-            ≡ grown arch.now elements.now.elements (free_in is_taken.now) self.old.members.items
+            ≡ members_after arch.now elements.now.elements (free_in is_taken.now)
+            self.old.members.items
             arch.now.cluster_size) }
         ensures within { All (λ number. number < length elements.now.elements)
             self.new.members.items }

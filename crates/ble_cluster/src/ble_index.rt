@@ -1,6 +1,7 @@
 //! The BLEs of a circuit, by number and by net.
 ghost use Rattle.std.specs.Prelude.{◌≡◌, ◌<◌, ◌≤◌, ◌++◌, [], ◌∷◌, ℕ, length, IfOk, slice_get, Some};
-ghost use Rattle.ble_cluster.specs.Nets.{IsOnce, distinct};
+ghost use Rattle.blif.specs.declared.circuit.TheConstants.{MAX_NETS};
+ghost use Rattle.ble_cluster.specs.Nets.{IsOnce, distinct_nets};
 ghost use Rattle.ble_cluster.specs.BleIndex.{AreHaving, AreLawful, pairs_from};
 ghost use Rattle.rows.specs.ByKey.{pairs_with};
 ghost use Rattle.ble_cluster.specs.FreeBles.{IsElement};
@@ -70,7 +71,7 @@ impl BleIndex {
               output = result.output;
               clock = result.clock;
             }) }
-        ensures few { self.now.nets ≤ 8192 }
+        ensures few { self.now.nets ≤ MAX_NETS }
         ensures all { AreLawful self.now }
         ensures lawful { IsElement self.now.nets
             (record { inputs = result.inputs.now; output = result.output; clock = result.clock }) }
@@ -118,7 +119,7 @@ fn push_nets(
 ) -> Result<(), AllocError>
     requires { IsOnce inputs.now }
     ensures { IfOk result (λ _. pairs.new.items
-        ≡ pairs.old.items ++ pairs_with number (distinct (inputs.now ++ output ∷ []))) }
+        ≡ pairs.old.items ++ pairs_with number (distinct_nets (inputs.now ++ output ∷ []))) }
 {
     let mut reads_own = false;
     for net in inputs {

@@ -2,7 +2,7 @@
 ghost use Rattle.std.specs.Prelude.{◌≡◌, ◌<◌, ◌≤◌, ◌++◌, [], ◌∷◌, map, length, slice_get, Some, IfOk, OnErr};
 ghost use Rattle.std.specs.List.{take_while};
 ghost use Rattle.blif.specs.LawfulCircuits.{IsCircuit};
-ghost use Rattle.ble_cluster.specs.Nets.{distinct};
+ghost use Rattle.ble_cluster.specs.Nets.{distinct_nets};
 ghost use Rattle.ble_cluster.specs.Bles.{bles_of, element_of_latch, element_of_table, in_line_order};
 ghost use Rattle.ble_cluster.specs.LineOrder.{is_above};
 
@@ -109,7 +109,7 @@ impl Bles {
     /// Adds a BLE that reads these nets, each of which is kept once.
     fn push(&mut self, nets: &[u32], output: u32, clock: Option<u32>) -> Result<(), AllocError>
         ensures { IfOk result (λ _. self.new
-            ≡ self.old ++ record { inputs = distinct nets.now; output = output; clock = clock }
+            ≡ self.old ++ record { inputs = distinct_nets nets.now; output = output; clock = clock }
             ∷ []) }
     {
         let start = self.inputs.len();
@@ -156,7 +156,7 @@ impl Bles {
             let (above, below) = rest.split_at(count_above(table.line, rest));
             self.push_latches(above)?;
             rest = below;
-            self.push_table(table, readers.latch_behind(circuit, table.output))?;
+            self.push_table(table, readers.latch_after(circuit, table.output))?;
         }
         self.push_latches(rest)
     }
@@ -197,7 +197,8 @@ fn count_above(line: u32, latches: &[Latch]) -> usize
 
 /// Appends each of the nets once, in the order in which they first appear.
 fn push_distinct(inputs: &mut Vec<u32>, nets: &[u32]) -> Result<(), AllocError>
-    ensures added { IfOk result (λ _. inputs.new.items ≡ inputs.old.items ++ distinct nets.now) }
+    ensures added { IfOk result (λ _. inputs.new.items ≡ inputs.old.items
+        ++ distinct_nets nets.now) }
     ensures longer { OnErr result (length inputs.old.items ≤ length inputs.new.items) }
 {
     let start = inputs.len();

@@ -87,7 +87,7 @@ impl Candidates<'_> {
         ensures { IsBestSharing self.now result }
     {
         let mut best = None;
-        for number in self.growth.gains.touched() {
+        for number in self.growth.gains.sharing_bles() {
             if self.prefers(*number, best) {
                 best = Some(*number);
             }

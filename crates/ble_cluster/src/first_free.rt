@@ -61,7 +61,7 @@ impl FirstFree {
     }
 
     /// The free number with the least key; of several, the least number.
-    pub(crate) fn lowest(&mut self, taken: &[bool]) -> Option<usize>
+    pub(crate) fn lowest_free(&mut self, taken: &[bool]) -> Option<usize>
         requires { IsFirstFree taken.now self.old }
         ensures first { IsLowest taken.now self.old.keys.items result }
         ensures keys { self.new.keys.items ≡ self.old.keys.items }

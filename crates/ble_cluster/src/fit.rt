@@ -11,7 +11,7 @@ use arch_file::Arch;
 
 /// The least BLE that doesn't fit into a cluster alone. The numbers of the BLEs' nets are below
 /// `count`.
-pub fn unfit(bles: &Bles, count: usize, arch: &Arch) -> Option<u32>
+pub fn first_unfit(bles: &Bles, count: usize, arch: &Arch) -> Option<u32>
     requires bles { AreBles count bles.now }
     requires arch { IsArch arch.now }
     ensures { result ≡ unfit_among arch.now bles.now }

@@ -83,7 +83,7 @@ impl FreeBles {
     {
         match room_for(alloc, elements.len(), elements.nets()) {
             Ok((taken, growth)) => {
-                let seed = by_lack.lowest(taken.as_slice());
+                let seed = by_lack.lowest_free(taken.as_slice());
                 Ok(FreeBles {
                     elements,
                     taken,
@@ -155,7 +155,7 @@ impl FreeBles {
             self.old.free }
     {
         mark_taken(self.taken.as_mut_slice(), self.growth.members.as_slice());
-        self.seed = self.by_lack.lowest(self.taken.as_slice());
+        self.seed = self.by_lack.lowest_free(self.taken.as_slice());
     }
 }
 

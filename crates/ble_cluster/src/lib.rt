@@ -1,7 +1,8 @@
 //! The tables and latches of a circuit as basic logic elements (BLEs), and clusters of these, as
 //! T-VPack makes them.
 //!
-//! - `Bles` are the BLEs of a circuit; `unfit` finds one that doesn't fit into a cluster alone.
+//! - `Bles` are the BLEs of a circuit; `first_unfit` finds one that doesn't fit into a cluster
+//! alone.
 //! - `FreeBles` makes clusters of the free BLEs, one after another.
 //! - `NetSet` is a set of nets.
 #![tactic(auto)]
@@ -21,6 +22,6 @@ mod readers;
 mod shared_nets;
 
 pub use bles::{Ble, Bles};
-pub use fit::unfit;
+pub use fit::first_unfit;
 pub use free_bles::FreeBles;
 pub use net_set::NetSet;

@@ -3,7 +3,7 @@ ghost use Rattle.std.specs.Prelude.{◌≡◌, ◌<◌, [], ◌∷◌, All, filt
 ghost use Rattle.std.specs.List.{flat_map};
 ghost use Rattle.std.specs.Option.{option_to_list};
 ghost use Rattle.blif.specs.LawfulCircuits.{IsCircuit, IsLatchWithin, IsTableWithin};
-ghost use Rattle.ble_cluster.specs.Bles.{latch_behind, reads_of, stands_alone};
+ghost use Rattle.ble_cluster.specs.Bles.{latch_after, reads_of, stands_alone};
 ghost use Rattle.ble_cluster.specs.Reads.{AreCounts, AreDriven, AreLatches, CountsOn, HasCounts};
 
 use blif::{Circuit, Latch, Tables};
@@ -35,9 +35,9 @@ impl Readers {
     }
 
     /// The latch that is the only reader of the net, if there is one.
-    pub(crate) fn latch_behind(&self, circuit: &Circuit, net: u32) -> Option<Latch>
+    pub(crate) fn latch_after(&self, circuit: &Circuit, net: u32) -> Option<Latch>
         requires { HasReaders circuit.now self.now net }
-        ensures { result ≡ latch_behind circuit.now net }
+        ensures { result ≡ latch_after circuit.now net }
     {
         if self.counts[net as usize] == 1 {
             self.latches[net as usize]

@@ -45,7 +45,7 @@ impl SharedNets {
     }
 
     /// The BLEs that share at least one net.
-    pub(crate) fn touched(&self) -> &[u32]
+    pub(crate) fn sharing_bles(&self) -> &[u32]
         ensures { AreTouched self.now result.now }
     {
         self.touched.as_slice()

@@ -11,14 +11,14 @@ use Rattle.blif.specs.LineByLine.{Parts, circuit_with, lines_to_end, parts_after
 use Rattle.blif.specs.declared.circuit.Circuit.{Circuit}
 use Rattle.blif.specs.declared.fault.BlifFault.{BlifFault}
 use Rattle.blif.specs.declared.fault.BlifFaultKind.TheVariants.{Undriven}
-use Rattle.blif.specs.Names.{first, has_name, number_of, placed, with_names}
+use Rattle.blif.specs.Names.{first_of, has_name, number_of, names_with_index, with_names}
 use Rattle.blif.specs.LineNets.{reads_in, inputs_in, outputs_in}
 use Rattle.blif.specs.Sights.{Sights, sights_of, kind_of, is_end, inputs_of}
-use Rattle.blif.specs.BlifFaults.{at_words, driven}
+use Rattle.blif.specs.BlifFaults.{at_words, driven_nets}
 use Rattle.blif.specs.FirstFaults.{first_fault}
 use Rattle.blif.specs.Circuits.{circuit_from, tables_in, latches_in}
 use Rattle.blif.specs.CircuitOf.{final_faults, undriven_faults}
-use Rattle.blif.specs.Repeats.{undriven}
+use Rattle.blif.specs.Repeats.{undriven_names}
 use Rattle.blif.proofs.Places.{flat_map_push, first_found, first_none, take_place, drop_place}
 use Rattle.blif.proofs.PlacedNames.{first_placed}
 use Rattle.blif.proofs.Sightings.{with_names-append}
@@ -36,26 +36,26 @@ parts_push nets lines line =
     λ i. record { inputs = inputs i; outputs = outputs i; tables = tables i; latches = latches i }
 
 -- the first fault of the lines is at their first line, if that reads this net undriven
-found_first : (drivers : List (List ℕ)) (line : JoinedLine) (rest : List JoinedLine) (net : List ℕ) → Some net ≡ first (undriven drivers (reads_in (kind_of line) line.words)) → first_fault (flat_map (undriven_faults drivers) (line ∷ rest)) ≡ Some (record { line = line.number; kind = Undriven net })
+found_first : (drivers : List (List ℕ)) (line : JoinedLine) (rest : List JoinedLine) (net : List ℕ) → Some net ≡ first_of (undriven_names drivers (reads_in (kind_of line) line.words)) → first_fault (flat_map (undriven_faults drivers) (line ∷ rest)) ≡ Some (record { line = line.number; kind = Undriven net })
 unfolding undriven_faults
 found_first drivers line rest net h =
     let reads : List (List ℕ) = reads_in (kind_of line) line.words in
-    first_found true line.number (at_words Undriven (placed (λ name. not (has_name drivers name)) reads)) (flat_map (undriven_faults drivers) rest) (Undriven net)
-    (of_kinds (undriven drivers reads) h ∙ first_placed Undriven (λ name. not (has_name drivers name)) reads)
+    first_found true line.number (at_words Undriven (names_with_index (λ name. not (has_name drivers name)) reads)) (flat_map (undriven_faults drivers) rest) (Undriven net)
+    (of_kinds (undriven_names drivers reads) h ∙ first_placed Undriven (λ name. not (has_name drivers name)) reads)
   where
-    of_kinds : (nets : List (List ℕ)) → Some net ≡ first nets → Some (Undriven net) ≡ first (map Undriven nets)
+    of_kinds : (nets : List (List ℕ)) → Some net ≡ first_of nets → Some (Undriven net) ≡ first_of (map Undriven nets)
     of_kinds [] h = absurd cc
     of_kinds (n ∷ nets) h = cc
 
 -- if the first line reads driven nets only, the first fault is one of the rest
-none_first : (drivers : List (List ℕ)) (line : JoinedLine) (rest : List JoinedLine) → None ≡ first (undriven drivers (reads_in (kind_of line) line.words)) → first_fault (flat_map (undriven_faults drivers) (line ∷ rest)) ≡ first_fault (flat_map (undriven_faults drivers) rest)
+none_first : (drivers : List (List ℕ)) (line : JoinedLine) (rest : List JoinedLine) → None ≡ first_of (undriven_names drivers (reads_in (kind_of line) line.words)) → first_fault (flat_map (undriven_faults drivers) (line ∷ rest)) ≡ first_fault (flat_map (undriven_faults drivers) rest)
 unfolding undriven_faults
 none_first drivers line rest h =
     let reads : List (List ℕ) = reads_in (kind_of line) line.words in
-    first_none true line.number (at_words Undriven (placed (λ name. not (has_name drivers name)) reads)) (flat_map (undriven_faults drivers) rest)
-    (of_kinds (undriven drivers reads) h ∙ first_placed Undriven (λ name. not (has_name drivers name)) reads)
+    first_none true line.number (at_words Undriven (names_with_index (λ name. not (has_name drivers name)) reads)) (flat_map (undriven_faults drivers) rest)
+    (of_kinds (undriven_names drivers reads) h ∙ first_placed Undriven (λ name. not (has_name drivers name)) reads)
   where
-    of_kinds : (nets : List (List ℕ)) → None ≡ first nets → None ≡ first (map Undriven nets)
+    of_kinds : (nets : List (List ℕ)) → None ≡ first_of nets → None ≡ first_of (map Undriven nets)
     of_kinds [] h = refl
     of_kinds (n ∷ nets) h = absurd cc
 
@@ -68,18 +68,18 @@ module _ (nets drivers : List (List ℕ)) (lines : List JoinedLine) (place : ℕ
       ∙ sym (parts_push nets (take place lines) line) ∙ ap (parts_of nets) (sym (take_place lines place line within at))
 
   -- the line's undriven net is the first one
-  pub undriven_at : (net : List ℕ) → Some net ≡ first (undriven drivers (reads_in (kind_of line) line.words)) → first_fault (flat_map (undriven_faults drivers) (drop place lines)) ≡ first_fault (flat_map (undriven_faults drivers) lines) → first_fault (flat_map (undriven_faults drivers) lines) ≡ Some (record { line = line.number; kind = Undriven net })
+  pub undriven_at : (net : List ℕ) → Some net ≡ first_of (undriven_names drivers (reads_in (kind_of line) line.words)) → first_fault (flat_map (undriven_faults drivers) (drop place lines)) ≡ first_fault (flat_map (undriven_faults drivers) lines) → first_fault (flat_map (undriven_faults drivers) lines) ≡ Some (record { line = line.number; kind = Undriven net })
   undriven_at net found left =
       sym left ∙ ap (λ rest. first_fault (flat_map (undriven_faults drivers) rest)) (drop_place lines place line within at)
       ∙ found_first drivers line _ net found
 
   -- if the line has none, the first one is among those of the later lines
-  pub no_undriven_at : None ≡ first (undriven drivers (reads_in (kind_of line) line.words)) → first_fault (flat_map (undriven_faults drivers) (drop place lines)) ≡ first_fault (flat_map (undriven_faults drivers) lines) → first_fault (flat_map (undriven_faults drivers) (drop (place + 1) lines)) ≡ first_fault (flat_map (undriven_faults drivers) lines)
+  pub no_undriven_at : None ≡ first_of (undriven_names drivers (reads_in (kind_of line) line.words)) → first_fault (flat_map (undriven_faults drivers) (drop place lines)) ≡ first_fault (flat_map (undriven_faults drivers) lines) → first_fault (flat_map (undriven_faults drivers) (drop (place + 1) lines)) ≡ first_fault (flat_map (undriven_faults drivers) lines)
   no_undriven_at none left =
       sym (none_first drivers line _ none) ∙ ap (λ rest. first_fault (flat_map (undriven_faults drivers) rest)) (sym (drop_place lines place line within at)) ∙ left
 
 -- the faults found at the end, if there is a line
-final_faults_lines : (declared : List (List ℕ)) (lines : List JoinedLine) → 0 < length lines → final_faults declared lines ≡ flat_map (undriven_faults (driven (sights_of declared lines))) lines
+final_faults_lines : (declared : List (List ℕ)) (lines : List JoinedLine) → 0 < length lines → final_faults declared lines ≡ flat_map (undriven_faults (driven_nets (sights_of declared lines))) lines
 unfolding final_faults
 final_faults_lines declared [] h = absurd (omega (arith, h))
 final_faults_lines declared (line ∷ lines) h = refl
@@ -89,7 +89,7 @@ module _ (checked : Sights) (lines : List JoinedLine) (nets clocks drivers : Lis
   pub final_faults_is : 0 < length lines → final_faults checked.declared lines ≡ flat_map (undriven_faults (clocks ++ drivers)) lines
   final_faults_is some =
       final_faults_lines checked.declared lines some
-      ∙ ap (λ s. flat_map (undriven_faults (driven s)) lines) (sym sights)
+      ∙ ap (λ s. flat_map (undriven_faults (driven_nets s)) lines) (sym sights)
       ∙ (λ i. flat_map (undriven_faults (sym same_clocks i ++ sym same_drivers i)) lines)
 
   pub circuit_is : (parts : Parts) → parts ≡ parts_of nets lines → circuit_with nets clocks lines parts ≡ circuit_from checked.declared lines
@@ -106,7 +106,7 @@ module _ (checked : Sights) (lines : List JoinedLine) (nets clocks drivers : Lis
 
 -- an error for this fault is an error for the first fault, if they are equal
 pub fails_as : (error : TextError BlifFault) (fault : BlifFault) (found : Option BlifFault) → Fails (Some fault) error → found ≡ Some fault → Fails found error
-fails_as error fault found fails is = subst (λ (first : Option BlifFault). Fails first error) (sym is) fails
+fails_as error fault found fails is = subst (λ (first_of : Option BlifFault). Fails first_of error) (sym is) fails
 
 -- the lines before the end, by one more line
 module _ (line : JoinedLine) (lines : List JoinedLine) where

@@ -13,7 +13,7 @@ use Rattle.blif.specs.declared.fault.BlifFaultKind.{BlifFaultKind}
 use Rattle.blif.specs.declared.fault.BlifFaultKind.TheVariants.{Unknown, BadCover, MixedCover, TooWide, TwoDrivers, Undriven, RepeatedOutput, BadLatch, NoModel, OverLimit}
 use Rattle.blif.specs.declared.keyword.Keyword.{Keyword}
 use Rattle.blif.specs.declared.keyword.Keyword.TheVariants.{Model, Inputs, Outputs, Clock, Names, Latch, Other, Row}
-use Rattle.blif.specs.BlifFaults.{WordFault, at_words, driven, driver_faults, fault_where, faults_in, is_model, kind_faults, of_line, row_faults, table_faults}
+use Rattle.blif.specs.BlifFaults.{WordFault, at_words, driven_nets, driver_faults, fault_where, faults_in, is_model, kind_faults, of_line, row_faults, table_faults}
 use Rattle.blif.specs.CircuitOf.{all_faults, at_line, declared_in, final_faults, line_faults, undriven_faults}
 use Rattle.blif.specs.Covers.{is_row, is_mixed}
 use Rattle.blif.specs.Faults.{number_of}
@@ -21,7 +21,7 @@ use Rattle.blif.specs.FirstFaults.{first_fault}
 use Rattle.blif.specs.Keywords.{args_of}
 use Rattle.blif.specs.LatchLines.{is_latch}
 use Rattle.blif.specs.LineNets.{latch_output, names_in, output_of, reads_in}
-use Rattle.blif.specs.Names.{has_name, placed, repeats_from, with_names}
+use Rattle.blif.specs.Names.{has_name, names_with_index, repeats_from, with_names}
 use Rattle.blif.specs.Sights.{Sights, kind_of, sights_of}
 use Rattle.blif.proofs.PlacedNames.{Rise, all_placed_rise, repeats_rise}
 
@@ -93,11 +93,11 @@ latch_order taken args = by (is_latch args)
 
 kind_order : (lut_size : ℕ) (above : Sights) (keyword : Keyword) (words : List (List ℕ)) → InOrder Tells (kind_faults lut_size above keyword words)
 kind_order lut_size above Model words = where_order above.begun Unknown
-kind_order lut_size above Inputs words = drivers_order (driven above) (args_of words)
+kind_order lut_size above Inputs words = drivers_order (driven_nets above) (args_of words)
 kind_order lut_size above Outputs words = words_order RepeatedOutput 7 (repeats_from 0 above.outputs (args_of words)) (λ name. refl) (repeats_rise 0 above.outputs (args_of words))
 kind_order lut_size above Clock words = words_order TwoDrivers 5 _ (λ name. refl) (all_placed_rise _ (args_of words))
-kind_order lut_size above Names words = table_order lut_size (driven above) (args_of words)
-kind_order lut_size above Latch words = latch_order (driven above) (args_of words)
+kind_order lut_size above Names words = table_order lut_size (driven_nets above) (args_of words)
+kind_order lut_size above Latch words = latch_order (driven_nets above) (args_of words)
 kind_order lut_size above Other words = (tt, tt)
 kind_order lut_size above Row words = row_order above.cover words
 kind_order lut_size above keyword words = tt
@@ -124,11 +124,11 @@ latch_below taken args = by (is_latch args)
 
 kind_below : (lut_size : ℕ) (above : Sights) (keyword : Keyword) (words : List (List ℕ)) → Each (Below 9) (kind_faults lut_size above keyword words)
 kind_below lut_size above Model words = each_where (Below 9) above.begun Unknown (omega arith)
-kind_below lut_size above Inputs words = each_driver (Below 9) (driven above) (args_of words) (λ word net. omega arith)
+kind_below lut_size above Inputs words = each_driver (Below 9) (driven_nets above) (args_of words) (λ word net. omega arith)
 kind_below lut_size above Outputs words = each_word (Below 9) RepeatedOutput (repeats_from 0 above.outputs (args_of words)) (λ word net. omega arith)
 kind_below lut_size above Clock words = each_word (Below 9) TwoDrivers _ (λ word net. omega arith)
-kind_below lut_size above Names words = table_below lut_size (driven above) (args_of words)
-kind_below lut_size above Latch words = latch_below (driven above) (args_of words)
+kind_below lut_size above Names words = table_below lut_size (driven_nets above) (args_of words)
+kind_below lut_size above Latch words = latch_below (driven_nets above) (args_of words)
 kind_below lut_size above Other words = (omega arith, tt)
 kind_below lut_size above Row words = row_below above.cover words
 kind_below lut_size above keyword words = tt
@@ -200,7 +200,7 @@ lines_order lut_size declared above (line ∷ lines) low rises =
 
 -- the nets that a line reads and that are not driven
 abbrev undriven_at : List (List ℕ) → JoinedLine → List WordFault
-undriven_at drivers line = at_words Undriven (placed (λ name. not (has_name drivers name)) (reads_in (kind_of line) line.words))
+undriven_at drivers line = at_words Undriven (names_with_index (λ name. not (has_name drivers name)) (reads_in (kind_of line) line.words))
 
 ends_stand : (drivers : List (List ℕ)) (lines : List JoinedLine) (low : ℕ) → RisesFrom low lines → Each (Stands true low) (flat_map (undriven_faults drivers) lines)
 unfolding undriven_faults
@@ -220,12 +220,12 @@ final_stand : (declared : List (List ℕ)) (lines : List JoinedLine) (low : ℕ)
 unfolding final_faults
 final_stand declared [] low rises = (refl, tt)
 final_stand declared (line ∷ lines) low rises =
-    Each-weaker (Stands true low) (λ found. found.at_end ≡ true) _ (λ found at. at.0) (ends_stand (driven (sights_of declared (line ∷ lines))) (line ∷ lines) low rises)
+    Each-weaker (Stands true low) (λ found. found.at_end ≡ true) _ (λ found at. at.0) (ends_stand (driven_nets (sights_of declared (line ∷ lines))) (line ∷ lines) low rises)
 
 final_order : (declared : List (List ℕ)) (lines : List JoinedLine) (low : ℕ) → RisesFrom low lines → InOrder Precedes (final_faults declared lines)
 unfolding final_faults
 final_order declared [] low rises = (tt, tt)
-final_order declared (line ∷ lines) low rises = ends_order (driven (sights_of declared (line ∷ lines))) (line ∷ lines) low rises
+final_order declared (line ∷ lines) low rises = ends_order (driven_nets (sights_of declared (line ∷ lines))) (line ∷ lines) low rises
 
 all_order : (lut_size : ℕ) (lines : List JoinedLine) → RisesFrom 1 lines → InOrder Precedes (all_faults lut_size lines)
 all_order lut_size lines rises =

@@ -8,12 +8,12 @@ use Rattle.blif.specs.LineByLine.{sights_after}
 use Rattle.blif.specs.declared.fault.BlifFaultKind.TheVariants.{BadLatch, NoModel, OverLimit, Unknown}
 use Rattle.blif.specs.declared.keyword.Keyword.{Keyword}
 use Rattle.blif.specs.Names.{has_name, repeats_from, with_names}
-use Rattle.blif.specs.Repeats.{repeats, undriven}
+use Rattle.blif.specs.Repeats.{repeats, undriven_names}
 use Rattle.blif.specs.LineNets.{latch_output, names_in, output_of, reads_in}
 use Rattle.blif.specs.LatchLines.{is_latch}
 use Rattle.blif.specs.Sights.{Sights, sights_of, kind_of}
 use Rattle.blif.specs.declared.circuit.TheConstants.{MAX_NETS}
-use Rattle.blif.specs.BlifFaults.{driven, driver_faults, fault_where, faults_in, is_model, kind_faults, of_line, table_faults}
+use Rattle.blif.specs.BlifFaults.{driven_nets, driver_faults, fault_where, faults_in, is_model, kind_faults, of_line, table_faults}
 use Rattle.line_text.specs.LeastFault.{Found}
 use Rattle.blif.specs.declared.fault.BlifFault.{BlifFault}
 use Rattle.blif.specs.FirstFaults.{first_fault}
@@ -78,11 +78,11 @@ latch_output_free taken args h = by (is_latch args) h
     by false none = absurd cc
 
 -- if no undriven net is read, all nets that are read are driven
-all_driven : (drivers names : List (List ℕ)) → undriven drivers names ≡ [] → list_all (has_name drivers) names ≡ true
+all_driven : (drivers names : List (List ℕ)) → undriven_names drivers names ≡ [] → list_all (has_name drivers) names ≡ true
 all_driven drivers [] h = refl
 all_driven drivers (name ∷ names) h = by (has_name drivers name) h (λ rest. all_driven drivers names rest)
   where
-    by : (b : Bool) → cond (not b) (name ∷ undriven drivers names) (undriven drivers names) ≡ [] → (undriven drivers names ≡ [] → list_all (has_name drivers) names ≡ true) → (b && list_all (has_name drivers) names) ≡ true
+    by : (b : Bool) → cond (not b) (name ∷ undriven_names drivers names) (undriven_names drivers names) ≡ [] → (undriven_names drivers names ≡ [] → list_all (has_name drivers) names ≡ true) → (b && list_all (has_name drivers) names) ≡ true
     by true none rest = rest none
     by false none rest = absurd cc
 
@@ -96,7 +96,7 @@ reads_driven drivers (line ∷ lines) h =
     list_all-append (has_name drivers) reads _ ∙ (λ i. head i && tail i)
 
 -- if there is no fault at the end, no line reads an undriven net
-pub end_faultless : (declared : List (List ℕ)) (lines : List JoinedLine) → final_faults declared lines ≡ [] → flat_map (undriven_faults (driven (sights_of declared lines))) lines ≡ []
+pub end_faultless : (declared : List (List ℕ)) (lines : List JoinedLine) → final_faults declared lines ≡ [] → flat_map (undriven_faults (driven_nets (sights_of declared lines))) lines ≡ []
 unfolding final_faults
 end_faultless declared [] h = absurd cc
 end_faultless declared (line ∷ lines) h = h

@@ -1,13 +1,13 @@
 -- Parts of a flat list to which items are appended.
 use Rattle.std.proofs.Common.{◌≡◌, ℕ, ◌-◌, ◌≤◌, List, [], ◌∷◌, ◌++◌, length, drop, map, refl, sym, ap, ◌∙◌, arith, length-append, length-drop}
 use Rattle.std.proofs.lemmas.List.{map_push, take-append-le, drop-append-le, drop_at, take_all}
-use Rattle.blif.specs.declared.span.Span.{Span}
+use Rattle.blif.specs.declared.span.IndexSpan.{IndexSpan}
 use Rattle.blif.specs.declared.tables.TableSpan.{TableSpan}
 use Rattle.blif.specs.Spans.{part_of, AreWithin}
 use Rattle.blif.specs.LookupTables.{LookupTable, AreTablesWithin, table_at}
 
 -- a part is unchanged
-pub part_of-append : {A : Type 0} (xs ys : List A) (span : Span) → span.start ≤ span.end → span.end ≤ length xs → part_of (xs ++ ys) span ≡ part_of xs span
+pub part_of-append : {A : Type 0} (xs ys : List A) (span : IndexSpan) → span.start ≤ span.end → span.end ≤ length xs → part_of (xs ++ ys) span ≡ part_of xs span
 part_of-append xs ys span ordered within =
     let starts : span.start ≤ length xs = omega arith in
     let fits : span.end - span.start ≤ length (drop span.start xs) = simp length-drop (omega arith) in
@@ -21,7 +21,7 @@ part_of-added xs ys start end starts ends =
     rw (drop_at xs ys start at) (take_all (end - start) ys all)
 
 -- the parts at spans within the list are unchanged
-pub parts-append : {A : Type 0} (xs ys : List A) (spans : List Span) → AreWithin (length xs) spans → map (part_of (xs ++ ys)) spans ≡ map (part_of xs) spans
+pub parts-append : {A : Type 0} (xs ys : List A) (spans : List IndexSpan) → AreWithin (length xs) spans → map (part_of (xs ++ ys)) spans ≡ map (part_of xs) spans
 parts-append xs ys [] within = refl
 parts-append xs ys (span ∷ spans) within =
     let head = part_of-append xs ys span within.0.0 within.0.1 in
@@ -29,7 +29,7 @@ parts-append xs ys (span ∷ spans) within =
     cc
 
 -- the parts with one more, whose items were appended to the list
-pub parts_push : {A : Type 0} (xs ys : List A) (spans : List Span) (start end : ℕ) → AreWithin (length xs) spans → start ≡ length xs → end ≡ length (xs ++ ys) → map (part_of (xs ++ ys)) (spans ++ record { start = start; end = end } ∷ []) ≡ map (part_of xs) spans ++ ys ∷ []
+pub parts_push : {A : Type 0} (xs ys : List A) (spans : List IndexSpan) (start end : ℕ) → AreWithin (length xs) spans → start ≡ length xs → end ≡ length (xs ++ ys) → map (part_of (xs ++ ys)) (spans ++ record { start = start; end = end } ∷ []) ≡ map (part_of xs) spans ++ ys ∷ []
 parts_push xs ys spans start end within starts ends =
     map_push (part_of (xs ++ ys)) spans (record { start = start; end = end })
     ∙ ap (λ front. front ++ part_of (xs ++ ys) (record { start = start; end = end }) ∷ []) (parts-append xs ys spans within)

@@ -3,10 +3,10 @@ use Rattle.std.proofs.Common.{◌≡◌, ℕ, ◌<◌, Bool, true, false, not, L
 use Rattle.std.specs.Borrow.{Bor}
 use Rattle.std.specs.List.{list_all}
 use Rattle.std.specs.Option.{option_to_list}
-use Rattle.blif.specs.Names.{first, texts, has_name, number_of}
+use Rattle.blif.specs.Names.{first_of, texts, has_name, number_of}
 use Rattle.blif.specs.LatchLines.{is_latch, control_of}
 use Rattle.blif.specs.LineNets.{latch_nets}
-use Rattle.blif.specs.Repeats.{undriven}
+use Rattle.blif.specs.Repeats.{undriven_names}
 use Rattle.line_text.proofs.NameLemmas.{number_of-within}
 use Rattle.blif.proofs.Named.{and_left, and_right, name_at}
 
@@ -58,32 +58,32 @@ module _ (drivers : List (List ℕ)) where
   reads_are (input ∷ []) form = absurd cc
   reads_are (input ∷ output ∷ rest) form = ap (λ b. if b then input ∷ option_to_list (control_of (input ∷ output ∷ rest)) else []) form
 
-  pub input_undriven : (args : List (List ℕ)) → is_latch args ≡ true → has_name drivers (get_or args 0 []) ≡ false → Some (get_or args 0 []) ≡ first (undriven drivers (latch_nets 1 args))
+  pub input_undriven : (args : List (List ℕ)) → is_latch args ≡ true → has_name drivers (get_or args 0 []) ≡ false → Some (get_or args 0 []) ≡ first_of (undriven_names drivers (latch_nets 1 args))
   input_undriven args form h =
       let input = get_or args 0 [] in
       let control = option_to_list (control_of args) in
-      sym (ap (λ b. first (if not b then input ∷ undriven drivers control else undriven drivers control)) h)
-      ∙ ap (λ names. first (undriven drivers names)) (sym (reads_are args form))
+      sym (ap (λ b. first_of (if not b then input ∷ undriven_names drivers control else undriven_names drivers control)) h)
+      ∙ ap (λ names. first_of (undriven_names drivers names)) (sym (reads_are args form))
 
-  control_left : (args : List (List ℕ)) → is_latch args ≡ true → has_name drivers (get_or args 0 []) ≡ true → first (undriven drivers (option_to_list (control_of args))) ≡ first (undriven drivers (latch_nets 1 args))
+  control_left : (args : List (List ℕ)) → is_latch args ≡ true → has_name drivers (get_or args 0 []) ≡ true → first_of (undriven_names drivers (option_to_list (control_of args))) ≡ first_of (undriven_names drivers (latch_nets 1 args))
   control_left args form h =
       let input = get_or args 0 [] in
       let control = option_to_list (control_of args) in
-      sym (ap (λ b. first (if not b then input ∷ undriven drivers control else undriven drivers control)) h)
-      ∙ ap (λ names. first (undriven drivers names)) (sym (reads_are args form))
+      sym (ap (λ b. first_of (if not b then input ∷ undriven_names drivers control else undriven_names drivers control)) h)
+      ∙ ap (λ names. first_of (undriven_names drivers names)) (sym (reads_are args form))
 
-  of_one : (name : List ℕ) (b : Bool) → has_name drivers name ≡ b → first (undriven drivers (name ∷ [])) ≡ (if b then None else Some name)
-  of_one name true h = ap (λ b. first (if not b then name ∷ [] else [])) h
-  of_one name false h = ap (λ b. first (if not b then name ∷ [] else [])) h
+  of_one : (name : List ℕ) (b : Bool) → has_name drivers name ≡ b → first_of (undriven_names drivers (name ∷ [])) ≡ (if b then None else Some name)
+  of_one name true h = ap (λ b. first_of (if not b then name ∷ [] else [])) h
+  of_one name false h = ap (λ b. first_of (if not b then name ∷ [] else [])) h
 
-  pub control_undriven : (args : List (List ℕ)) (net : List ℕ) → is_latch args ≡ true → has_name drivers (get_or args 0 []) ≡ true → control_of args ≡ Some net → has_name drivers net ≡ false → Some net ≡ first (undriven drivers (latch_nets 1 args))
+  pub control_undriven : (args : List (List ℕ)) (net : List ℕ) → is_latch args ≡ true → has_name drivers (get_or args 0 []) ≡ true → control_of args ≡ Some net → has_name drivers net ≡ false → Some net ≡ first_of (undriven_names drivers (latch_nets 1 args))
   control_undriven args net form input is h =
-      sym (ap (λ c. first (undriven drivers (option_to_list c))) is ∙ of_one net false h) ∙ control_left args form input
+      sym (ap (λ c. first_of (undriven_names drivers (option_to_list c))) is ∙ of_one net false h) ∙ control_left args form input
 
-  pub latch_driven : (args : List (List ℕ)) (net : List ℕ) → is_latch args ≡ true → has_name drivers (get_or args 0 []) ≡ true → control_of args ≡ Some net → has_name drivers net ≡ true → None ≡ first (undriven drivers (latch_nets 1 args))
+  pub latch_driven : (args : List (List ℕ)) (net : List ℕ) → is_latch args ≡ true → has_name drivers (get_or args 0 []) ≡ true → control_of args ≡ Some net → has_name drivers net ≡ true → None ≡ first_of (undriven_names drivers (latch_nets 1 args))
   latch_driven args net form input is h =
-      sym (ap (λ c. first (undriven drivers (option_to_list c))) is ∙ of_one net true h) ∙ control_left args form input
+      sym (ap (λ c. first_of (undriven_names drivers (option_to_list c))) is ∙ of_one net true h) ∙ control_left args form input
 
-  pub free_latch_driven : (args : List (List ℕ)) → is_latch args ≡ true → has_name drivers (get_or args 0 []) ≡ true → control_of args ≡ None → None ≡ first (undriven drivers (latch_nets 1 args))
+  pub free_latch_driven : (args : List (List ℕ)) → is_latch args ≡ true → has_name drivers (get_or args 0 []) ≡ true → control_of args ≡ None → None ≡ first_of (undriven_names drivers (latch_nets 1 args))
   free_latch_driven args form input is =
-      sym (ap (λ c. first (undriven drivers (option_to_list c))) is) ∙ control_left args form input
+      sym (ap (λ c. first_of (undriven_names drivers (option_to_list c))) is) ∙ control_left args form input

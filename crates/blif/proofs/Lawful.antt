@@ -7,7 +7,7 @@ use Rattle.line_text.specs.Lines.{JoinedLine}
 use Rattle.blif.specs.declared.circuit.Circuit.{Circuit}
 use Rattle.blif.specs.declared.latches.Latch.{Latch as StoredLatch}
 use Rattle.blif.specs.LookupTables.{LookupTable}
-use Rattle.blif.specs.LineByLine.{clocks_of, drives_of, undeclared}
+use Rattle.blif.specs.LineByLine.{clocks_of, drives_of, undeclared_names}
 use Rattle.blif.specs.Names.{has_name, number_of, with_names}
 use Rattle.blif.specs.LineNets.{reads_in}
 use Rattle.line_text.specs.LineOrder.{RisesFrom}
@@ -36,8 +36,8 @@ is_circuit lut_size declared lines rises few line_faultless faultless =
     let inputs : AllPass test (flat_map inputs_of lines) = each_line test (λ name. test name ≡ true) names_of inputs_of (λ line. inputs_named nets (kind_of line) line.words) lines named in
     let outputs : AllPass test (flat_map outputs_of lines) = each_line test (λ name. test name ≡ true) names_of outputs_of (λ line. outputs_named nets (kind_of line) line.words) lines named in
     let clocks : AllPass test (flat_map clocks_of lines) = each_line test (λ name. test name ≡ true) names_of clocks_of (λ line. clocks_named nets (kind_of line) line.words) lines named in
-    let inner : AllPass test (undeclared declared (flat_map clocks_of lines)) = All-filter (λ name. not (has_name declared name)) (λ name. test name ≡ true) (flat_map clocks_of lines) clocks in
-    let clocks_are_nets : AllPass test sights.clocks = names_pass test [] (undeclared declared (flat_map clocks_of lines)) (All-nil _) inner in
+    let inner : AllPass test (undeclared_names declared (flat_map clocks_of lines)) = All-filter (λ name. not (has_name declared name)) (λ name. test name ≡ true) (flat_map clocks_of lines) clocks in
+    let clocks_are_nets : AllPass test sights.clocks = names_pass test [] (undeclared_names declared (flat_map clocks_of lines)) (All-nil _) inner in
     let circuit : Circuit = circuit_from declared lines in
     let all : List ℕ = drivers_of circuit in
     let drives : AllPass test sights.drivers = each_line test (λ name. test name ≡ true) names_of drives_of (λ line. drives_named nets (kind_of line) line.words) lines named in

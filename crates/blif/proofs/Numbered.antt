@@ -8,9 +8,9 @@ use Rattle.std.proofs.lemmas.List.{length-map, map-append, get_or-map, take_at, 
 use Rattle.std.proofs.lemmas.List.Folds.{position_or_len_push}
 use Rattle.std.proofs.lemmas.Slice.Eq.{bytes_eq-Decides}
 use Rattle.line_text.specs.Lines.{JoinedLine}
-use Rattle.blif.specs.Numbering.{numbered}
-use Rattle.blif.specs.Repeats.{undriven}
-use Rattle.blif.specs.Names.{first, texts, has_name, number_of, with_name, with_names}
+use Rattle.blif.specs.Numbering.{numbers_of}
+use Rattle.blif.specs.Repeats.{undriven_names}
+use Rattle.blif.specs.Names.{first_of, texts, has_name, number_of, with_name, with_names}
 use Rattle.blif.specs.Sights.{names_of}
 use Rattle.line_text.proofs.NameLemmas.{number_of-within}
 use Rattle.blif.proofs.Named.{has_name-with_name, has_name-added, name_at, named_at}
@@ -57,14 +57,14 @@ number_of-with_names names (added ∷ others) name h =
     ∙ number_of-with_name names added name h
 
 -- the numbers of names when they are added are their final numbers
-pub numbered_all : (names others : List (List ℕ)) → numbered names others ≡ map (number_of (with_names names others)) others
+pub numbered_all : (names others : List (List ℕ)) → numbers_of names others ≡ map (number_of (with_names names others)) others
 numbered_all names [] = refl
 numbered_all names (added ∷ others) =
     let head : number_of names added ≡ number_of (with_names (with_name names added) others) added = sym (number_of-with_names (with_name names added) others added (has_name-added names added) ∙ number_of-added names added) in
     let tail = numbered_all (with_name names added) others in
     λ i. head i ∷ tail i
 
-pub numbered-append : (names xs ys : List (List ℕ)) → numbered names (xs ++ ys) ≡ numbered names xs ++ numbered (with_names names xs) ys
+pub numbered-append : (names xs ys : List (List ℕ)) → numbers_of names (xs ++ ys) ≡ numbers_of names xs ++ numbers_of (with_names names xs) ys
 numbered-append names [] ys = refl
 numbered-append names (x ∷ xs) ys = ap (λ rest. number_of names x ∷ rest) (numbered-append (with_name names x) xs ys)
 
@@ -108,15 +108,15 @@ module _ (nets : List (List ℕ)) (slices : List (Bor (List ℕ))) (numbers : Li
 
 -- the first of the names that is not driven, by one more name
 module _ (drivers : List (List ℕ)) (slices : List (Bor (List ℕ))) (i : ℕ) (e : Bor (List ℕ)) (within : i < length slices)
-    (left : first (undriven drivers (texts (drop i slices))) ≡ first (undriven drivers (texts slices))) where
-  pub undriven_here : has_name drivers (get_or slices i e).now ≡ false → Some (get_or slices i e).now ≡ first (undriven drivers (texts slices))
+    (left : first_of (undriven_names drivers (texts (drop i slices))) ≡ first_of (undriven_names drivers (texts slices))) where
+  pub undriven_here : has_name drivers (get_or slices i e).now ≡ false → Some (get_or slices i e).now ≡ first_of (undriven_names drivers (texts slices))
   undriven_here h =
-      sym (ap (λ b. first (if not b then (get_or slices i e).now ∷ undriven drivers (texts (drop (i + 1) slices)) else undriven drivers (texts (drop (i + 1) slices)))) h)
-      ∙ ap (λ names. first (undriven drivers names)) (sym (ap texts (drop_more slices i e within)))
+      sym (ap (λ b. first_of (if not b then (get_or slices i e).now ∷ undriven_names drivers (texts (drop (i + 1) slices)) else undriven_names drivers (texts (drop (i + 1) slices)))) h)
+      ∙ ap (λ names. first_of (undriven_names drivers names)) (sym (ap texts (drop_more slices i e within)))
       ∙ left
 
-  pub driven_here : has_name drivers (get_or slices i e).now ≡ true → first (undriven drivers (texts (drop (i + 1) slices))) ≡ first (undriven drivers (texts slices))
+  pub driven_here : has_name drivers (get_or slices i e).now ≡ true → first_of (undriven_names drivers (texts (drop (i + 1) slices))) ≡ first_of (undriven_names drivers (texts slices))
   driven_here h =
-      sym (ap (λ b. first (if not b then (get_or slices i e).now ∷ undriven drivers (texts (drop (i + 1) slices)) else undriven drivers (texts (drop (i + 1) slices)))) h)
-      ∙ ap (λ names. first (undriven drivers names)) (sym (ap texts (drop_more slices i e within)))
+      sym (ap (λ b. first_of (if not b then (get_or slices i e).now ∷ undriven_names drivers (texts (drop (i + 1) slices)) else undriven_names drivers (texts (drop (i + 1) slices)))) h)
+      ∙ ap (λ names. first_of (undriven_names drivers names)) (sym (ap texts (drop_more slices i e within)))
       ∙ left

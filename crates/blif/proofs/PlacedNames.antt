@@ -6,11 +6,11 @@ use Rattle.blif.specs.declared.fault.BlifFaultKind.{BlifFaultKind}
 use Rattle.blif.specs.declared.fault.BlifFaultKind.TheVariants.{TwoDrivers, RepeatedOutput}
 use Rattle.blif.specs.BlifFaults.{at_words, driver_faults}
 use Rattle.blif.specs.FirstFaults.{first_kind}
-use Rattle.blif.specs.Names.{first, has_name, placed, repeats_from}
+use Rattle.blif.specs.Names.{first_of, has_name, names_with_index, repeats_from}
 use Rattle.blif.specs.Repeats.{repeats}
 
 abbrev names_of : List (ℕ × List ℕ) → List (List ℕ)
-names_of placed = map (λ name. name.1) placed
+names_of names_with_index = map (λ name. name.1) names_with_index
 
 repeats_alone : (place : ℕ) (taken names : List (List ℕ)) → names_of (repeats_from place taken names) ≡ repeats taken names
 repeats_alone place taken [] = refl
@@ -29,37 +29,37 @@ placed_alone test place (name ∷ names) = by (test name) (placed_alone test (pl
     by false rest = rest
 
 -- the first fault of names with indices is that of the names alone
-first_alone : (kind : List ℕ → BlifFaultKind) (placed : List (ℕ × List ℕ)) → first (map kind (names_of placed)) ≡ first_kind (at_words kind placed)
+first_alone : (kind : List ℕ → BlifFaultKind) (names_with_index : List (ℕ × List ℕ)) → first_of (map kind (names_of names_with_index)) ≡ first_kind (at_words kind names_with_index)
 first_alone kind [] = refl
 first_alone kind (name ∷ rest) = refl
 
-pub first_repeat : (kind : List ℕ → BlifFaultKind) (taken names : List (List ℕ)) → first (map kind (repeats taken names)) ≡ first_kind (at_words kind (repeats_from 0 taken names))
+pub first_repeat : (kind : List ℕ → BlifFaultKind) (taken names : List (List ℕ)) → first_of (map kind (repeats taken names)) ≡ first_kind (at_words kind (repeats_from 0 taken names))
 first_repeat kind taken names =
-    ap (λ ns. first (map kind ns)) (sym (repeats_alone 0 taken names)) ∙ first_alone kind (repeats_from 0 taken names)
+    ap (λ ns. first_of (map kind ns)) (sym (repeats_alone 0 taken names)) ∙ first_alone kind (repeats_from 0 taken names)
 
-pub first_placed : (kind : List ℕ → BlifFaultKind) (test : List ℕ → Bool) (names : List (List ℕ)) → first (map kind (filter test names)) ≡ first_kind (at_words kind (placed test names))
+pub first_placed : (kind : List ℕ → BlifFaultKind) (test : List ℕ → Bool) (names : List (List ℕ)) → first_of (map kind (filter test names)) ≡ first_kind (at_words kind (names_with_index test names))
 first_placed kind test names =
-    ap (λ ns. first (map kind ns)) (sym (placed_alone test 0 names)) ∙ first_alone kind (placed test names)
+    ap (λ ns. first_of (map kind ns)) (sym (placed_alone test 0 names)) ∙ first_alone kind (names_with_index test names)
 
-pub first_driver : (taken names : List (List ℕ)) → first (map TwoDrivers (repeats taken names)) ≡ first_kind (driver_faults taken names)
+pub first_driver : (taken names : List (List ℕ)) → first_of (map TwoDrivers (repeats taken names)) ≡ first_kind (driver_faults taken names)
 first_driver taken names = first_repeat TwoDrivers taken names
 
-pub first_output : (taken names : List (List ℕ)) → first (map RepeatedOutput (repeats taken names)) ≡ first_kind (at_words RepeatedOutput (repeats_from 0 taken names))
+pub first_output : (taken names : List (List ℕ)) → first_of (map RepeatedOutput (repeats taken names)) ≡ first_kind (at_words RepeatedOutput (repeats_from 0 taken names))
 first_output taken names = first_repeat RepeatedOutput taken names
 
-pub first_clock : (declared drivers names : List (List ℕ)) → first (map TwoDrivers (filter (λ name. not (has_name declared name) && has_name drivers name) names)) ≡ first_kind (at_words TwoDrivers (placed (λ name. not (has_name declared name) && has_name drivers name) names))
+pub first_clock : (declared drivers names : List (List ℕ)) → first_of (map TwoDrivers (filter (λ name. not (has_name declared name) && has_name drivers name) names)) ≡ first_kind (at_words TwoDrivers (names_with_index (λ name. not (has_name declared name) && has_name drivers name) names))
 first_clock declared drivers names = first_placed TwoDrivers (λ name. not (has_name declared name) && has_name drivers name) names
 
 -- if no name with its index repeats, no name repeats
 pub no_repeats : (taken names : List (List ℕ)) → repeats_from 0 taken names ≡ [] → repeats taken names ≡ []
 no_repeats taken names none = sym (repeats_alone 0 taken names) ∙ ap names_of none
 
-pub none_placed : (test : List ℕ → Bool) (names : List (List ℕ)) → placed test names ≡ [] → filter test names ≡ []
+pub none_placed : (test : List ℕ → Bool) (names : List (List ℕ)) → names_with_index test names ≡ [] → filter test names ≡ []
 none_placed test names none = sym (placed_alone test 0 names) ∙ ap names_of none
 
 -- the indices increase
 abbrev pub Rise : ℕ × List ℕ → ℕ × List ℕ → Type 0
-Rise first second = first.0 ≤ second.0
+Rise first_of second = first_of.0 ≤ second.0
 
 repeats_behind : (low place : ℕ) (taken names : List (List ℕ)) → low ≤ place → Each (λ name. low ≤ name.0) (repeats_from place taken names)
 repeats_behind low place taken [] fits = tt
@@ -93,5 +93,5 @@ placed_rise test place (name ∷ names) = by (test name) (placed_rise test (plac
     by true rest = (placed_behind test place (place + 1) names (omega arith), rest)
     by false rest = rest
 
-pub all_placed_rise : (test : List ℕ → Bool) (names : List (List ℕ)) → InOrder Rise (placed test names)
+pub all_placed_rise : (test : List ℕ → Bool) (names : List (List ℕ)) → InOrder Rise (names_with_index test names)
 all_placed_rise test names = placed_rise test 0 names

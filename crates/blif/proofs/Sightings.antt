@@ -6,8 +6,8 @@ use Rattle.std.proofs.lemmas.List.Folds.{list_any-append}
 use Rattle.std.proofs.lemmas.List.Sums.{fold-append}
 use Rattle.line_text.specs.Lines.{JoinedLine}
 use Rattle.line_text.specs.Words.{is_filled}
-use Rattle.blif.specs.LineByLine.{clocks_of, drives_of, sights_after, undeclared}
-use Rattle.blif.specs.Numbering.{numbered}
+use Rattle.blif.specs.LineByLine.{clocks_of, drives_of, sights_after, undeclared_names}
+use Rattle.blif.specs.Numbering.{numbers_of}
 use Rattle.blif.specs.Covers.{cover_after}
 use Rattle.blif.specs.declared.cover.Cover.{Cover}
 use Rattle.blif.specs.declared.fault.BlifFaultKind.{BlifFaultKind}
@@ -41,7 +41,7 @@ sights_push declared lines line =
     let ended : list_any ends (lines ++ line ∷ []) ≡ (list_any ends lines || is_end (kind_of line)) = list_any-append ends lines (line ∷ []) ∙ or_false (list_any ends lines) (is_end (kind_of line)) in
     let nets : with_names [] (flat_map names_of (lines ++ line ∷ [])) ≡ with_names (with_names [] (flat_map names_of lines)) (names_of line) = ap (with_names []) (flat_map_push names_of lines line) ∙ with_names-append [] (flat_map names_of lines) (names_of line) in
     let drivers = flat_map_push drives_of lines line in
-    let clocks : with_names [] (undeclared declared (flat_map clocks_of (lines ++ line ∷ []))) ≡ with_names (with_names [] (undeclared declared (flat_map clocks_of lines))) (undeclared declared (clocks_of line)) = ap (λ names. with_names [] (undeclared declared names)) (flat_map_push clocks_of lines line) ∙ ap (with_names []) (filter-append _ (flat_map clocks_of lines) (clocks_of line)) ∙ with_names-append [] (undeclared declared (flat_map clocks_of lines)) (undeclared declared (clocks_of line)) in
+    let clocks : with_names [] (undeclared_names declared (flat_map clocks_of (lines ++ line ∷ []))) ≡ with_names (with_names [] (undeclared_names declared (flat_map clocks_of lines))) (undeclared_names declared (clocks_of line)) = ap (λ names. with_names [] (undeclared_names declared names)) (flat_map_push clocks_of lines line) ∙ ap (with_names []) (filter-append _ (flat_map clocks_of lines) (clocks_of line)) ∙ with_names-append [] (undeclared_names declared (flat_map clocks_of lines)) (undeclared_names declared (clocks_of line)) in
     let outputs = flat_map_push outputs_of lines line in
     let below : Option Cover → JoinedLine → Option Cover = λ cover l. cover_after (kind_of l) l.words cover in
     let cover = fold-append below None lines (line ∷ []) in
@@ -68,14 +68,14 @@ module _ (lut_size : ℕ) (declared : List (List ℕ)) (lines : List JoinedLine)
       ∙ sym (sights_push declared (take place lines) line) ∙ ap (sights_of declared) (sym (take_place lines place line within at))
 
   -- the numbers of the line's nets follow those of the lines above
-  pub numbers_so_far : (old new : List ℕ) → old ≡ numbered [] (flat_map names_of (take place lines)) → new ≡ old ++ numbered checked.nets (names_of line) → new ≡ numbered [] (flat_map names_of (take (place + 1) lines))
+  pub numbers_so_far : (old new : List ℕ) → old ≡ numbers_of [] (flat_map names_of (take place lines)) → new ≡ old ++ numbers_of checked.nets (names_of line) → new ≡ numbers_of [] (flat_map names_of (take (place + 1) lines))
   unfolding sights_of
   numbers_so_far old new so_far added =
-      added ∙ ap (λ numbers. numbers ++ numbered checked.nets (names_of line)) so_far
-      ∙ ap (λ s. let t : Sights = s in numbered [] (flat_map names_of (take place lines)) ++ numbered t.nets (names_of line)) sights
+      added ∙ ap (λ numbers. numbers ++ numbers_of checked.nets (names_of line)) so_far
+      ∙ ap (λ s. let t : Sights = s in numbers_of [] (flat_map names_of (take place lines)) ++ numbers_of t.nets (names_of line)) sights
       ∙ sym (numbered-append [] (flat_map names_of (take place lines)) (names_of line))
-      ∙ ap (numbered []) (sym (flat_map_push names_of (take place lines) line))
-      ∙ ap (λ ls. numbered [] (flat_map names_of ls)) (sym (take_place lines place line within at))
+      ∙ ap (numbers_of []) (sym (flat_map_push names_of (take place lines) line))
+      ∙ ap (λ ls. numbers_of [] (flat_map names_of ls)) (sym (take_place lines place line within at))
 
   -- the line's fault is the first one
   pub fault_at : (kind : BlifFaultKind) → Some kind ≡ first_kind (faults_in lut_size checked (kind_of line) line.words) → first_fault (line_faults lut_size declared (take place lines) (drop place lines)) ≡ first_fault (line_faults lut_size declared [] lines) → first_fault (line_faults lut_size declared [] lines) ≡ Some (record { line = line.number; kind = kind })

@@ -6,7 +6,7 @@ use Rattle.blif.specs.declared.keyword.Keyword.{Keyword}
 use Rattle.blif.specs.declared.keyword.Keyword.TheVariants.{Model, Inputs, Outputs, Clock, Names, Latch, Other, Row}
 use Rattle.blif.specs.declared.fault.BlifFaultKind.{BlifFaultKind}
 use Rattle.blif.specs.declared.fault.BlifFaultKind.TheVariants.{Unknown, BadCover, MixedCover, TooWide, TwoDrivers, RepeatedOutput, BadLatch, NoModel, OverLimit}
-use Rattle.blif.specs.Names.{has_name, placed, repeats_from, with_names}
+use Rattle.blif.specs.Names.{has_name, names_with_index, repeats_from, with_names}
 use Rattle.blif.specs.Keywords.{args_of}
 use Rattle.blif.specs.LatchLines.{is_latch}
 use Rattle.blif.specs.LineNets.{names_in, output_of, latch_output}
@@ -32,8 +32,8 @@ abbrev pub at_words : (List ℕ → BlifFaultKind) → List (ℕ × List ℕ) �
 at_words kind names = map (λ name. record { word = name.0; kind = kind name.1 }) names
 
 -- the nets that inputs, clocks, tables and latches drive
-abbrev pub driven : Sights → List (List ℕ)
-driven above = above.clocks ++ above.drivers
+abbrev pub driven_nets : Sights → List (List ℕ)
+driven_nets above = above.clocks ++ above.drivers
 
 -- a fault for each of the names that is driven above, or occurs earlier among them
 abbrev pub driver_faults : List (List ℕ) → List (List ℕ) → List WordFault
@@ -53,11 +53,11 @@ row_faults (Some cover) words = fault_where (not (is_row cover.inputs words)) Ba
 -- a declared input is driven by its `.clock` lines, so nothing else may drive it
 abbrev pub kind_faults : ℕ → Sights → Keyword → List (List ℕ) → List WordFault
 kind_faults lut_size above Model words = fault_where above.begun Unknown
-kind_faults lut_size above Inputs words = driver_faults (driven above) (args_of words)
+kind_faults lut_size above Inputs words = driver_faults (driven_nets above) (args_of words)
 kind_faults lut_size above Outputs words = at_words RepeatedOutput (repeats_from 0 above.outputs (args_of words))
-kind_faults lut_size above Clock words = at_words TwoDrivers (placed (λ name. not (has_name above.declared name) && has_name above.drivers name) (args_of words))
-kind_faults lut_size above Names words = table_faults lut_size (driven above) (args_of words)
-kind_faults lut_size above Latch words = if is_latch (args_of words) then driver_faults (driven above) (latch_output (args_of words)) else of_line BadLatch
+kind_faults lut_size above Clock words = at_words TwoDrivers (names_with_index (λ name. not (has_name above.declared name) && has_name above.drivers name) (args_of words))
+kind_faults lut_size above Names words = table_faults lut_size (driven_nets above) (args_of words)
+kind_faults lut_size above Latch words = if is_latch (args_of words) then driver_faults (driven_nets above) (latch_output (args_of words)) else of_line BadLatch
 kind_faults lut_size above Other words = of_line Unknown
 kind_faults lut_size above Row words = row_faults above.cover words
 kind_faults lut_size above keyword words = []

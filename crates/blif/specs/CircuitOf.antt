@@ -9,11 +9,11 @@ use Rattle.line_text.specs.declared.lines.TheConstants.{MAX_TEXT}
 use Rattle.blif.specs.declared.circuit.Circuit.{Circuit}
 use Rattle.blif.specs.declared.fault.BlifFault.{BlifFault}
 use Rattle.blif.specs.declared.fault.BlifFaultKind.TheVariants.{Undriven, NoModel, OverLimit}
-use Rattle.blif.specs.Names.{has_name, placed, with_names}
+use Rattle.blif.specs.Names.{has_name, names_with_index, with_names}
 use Rattle.blif.specs.Faults.{fault_of_lines, number_of}
 use Rattle.blif.specs.LineNets.{reads_in}
 use Rattle.blif.specs.Sights.{sights_of, kind_of, is_end, inputs_of}
-use Rattle.blif.specs.BlifFaults.{WordFault, at_words, driven, faults_in, of_line}
+use Rattle.blif.specs.BlifFaults.{WordFault, at_words, driven_nets, faults_in, of_line}
 use Rattle.blif.specs.Circuits.{circuit_from}
 use Rattle.blif.specs.LawfulCircuits.{IsCircuit, IsNarrow}
 
@@ -34,12 +34,12 @@ line_faults lut_size declared above (line ∷ lines) =
 
 -- a fault for each net that the line reads and that is not driven
 unfoldable pub undriven_faults : List (List ℕ) → JoinedLine → List (Found BlifFault)
-undriven_faults drivers line = at_line true line.number (at_words Undriven (placed (λ name. not (has_name drivers name)) (reads_in (kind_of line) line.words)))
+undriven_faults drivers line = at_line true line.number (at_words Undriven (names_with_index (λ name. not (has_name drivers name)) (reads_in (kind_of line) line.words)))
 
 -- the faults that are found at the end
 unfoldable pub final_faults : List (List ℕ) → List JoinedLine → List (Found BlifFault)
 final_faults declared [] = at_line true 0 (of_line NoModel)
-final_faults declared (line ∷ lines) = flat_map (undriven_faults (driven (sights_of declared (line ∷ lines)))) (line ∷ lines)
+final_faults declared (line ∷ lines) = flat_map (undriven_faults (driven_nets (sights_of declared (line ∷ lines)))) (line ∷ lines)
 
 -- all faults of the lines, and those that are found at the end
 abbrev pub all_faults : ℕ → List JoinedLine → List (Found BlifFault)

@@ -31,8 +31,8 @@ abbrev pub lines_to_end : List JoinedLine → List JoinedLine
 lines_to_end lines = before_first (λ line. is_end (kind_of line)) lines
 
 -- those of the names that are not declared as inputs
-abbrev pub undeclared : List (List ℕ) → List (List ℕ) → List (List ℕ)
-undeclared declared names = filter (λ name. not (has_name declared name)) names
+abbrev pub undeclared_names : List (List ℕ) → List (List ℕ) → List (List ℕ)
+undeclared_names declared names = filter (λ name. not (has_name declared name)) names
 
 -- the state after one more line, of this kind and with these words
 abbrev pub sights_after : Keyword → List (List ℕ) → Sights → Sights
@@ -42,7 +42,7 @@ sights_after keyword words old = record {
   ended = old.ended || is_end keyword;
   nets = with_names old.nets (names_in keyword words);
   drivers = old.drivers ++ drives_in keyword words;
-  clocks = with_names old.clocks (undeclared old.declared (clocks_in keyword words));
+  clocks = with_names old.clocks (undeclared_names old.declared (clocks_in keyword words));
   outputs = old.outputs ++ outputs_in keyword words;
   cover = cover_after keyword words old.cover;
 }

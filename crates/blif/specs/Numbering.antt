@@ -9,6 +9,6 @@ pub record AreNumbered (nets names : List (List ℕ)) (given : List ℕ) : Type 
   pub numbers : given ≡ map (number_of nets) names
 
 -- the number of each of the others, when they are added one after another
-abbrev pub numbered : List (List ℕ) → List (List ℕ) → List ℕ
-numbered names [] = []
-numbered names (name ∷ others) = number_of names name ∷ numbered (with_name names name) others
+abbrev pub numbers_of : List (List ℕ) → List (List ℕ) → List ℕ
+numbers_of names [] = []
+numbers_of names (name ∷ others) = number_of names name ∷ numbers_of (with_name names name) others

@@ -8,5 +8,5 @@ repeats taken [] = []
 repeats taken (name ∷ names) = (if has_name taken name then name ∷ [] else []) ++ repeats (taken ++ name ∷ []) names
 
 -- those of the names that are not driven
-abbrev pub undriven : List (List ℕ) → List (List ℕ) → List (List ℕ)
-undriven drivers names = filter (λ name. not (has_name drivers name)) names
+abbrev pub undriven_names : List (List ℕ) → List (List ℕ) → List (List ℕ)
+undriven_names drivers names = filter (λ name. not (has_name drivers name)) names

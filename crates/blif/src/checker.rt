@@ -1,8 +1,8 @@
 //! Finds the faults of the lines, one line after another.
 ghost use Rattle.std.specs.Prelude.{◌≡◌, ◌≤◌, ◌||◌, ◌&&◌, ◌++◌, [], not, if◌then◌else◌, length, None, true, false, IfOk, IfNone, IsTrue};
-ghost use Rattle.blif.specs.LineByLine.{sights_after, undeclared};
-ghost use Rattle.blif.specs.Numbering.{numbered};
-ghost use Rattle.blif.specs.Names.{has_name, placed, repeats_from, texts, with_names};
+ghost use Rattle.blif.specs.LineByLine.{sights_after, undeclared_names};
+ghost use Rattle.blif.specs.Numbering.{numbers_of};
+ghost use Rattle.blif.specs.Names.{has_name, names_with_index, repeats_from, texts, with_names};
 ghost use Rattle.blif.specs.FirstFaults.{first_kind};
 ghost use Rattle.blif.specs.LatchLines.{is_latch};
 ghost use Rattle.blif.specs.LineNets.{latch_nets, latch_output, names_in, output_of};
@@ -90,7 +90,7 @@ impl<'t> Checker<'t> {
         ensures few { IfOk result (λ fault. IfNone fault (length self.new.nets ≤ MAX_NETS)) }
         ensures numbers { IfOk result (λ fault.
             IfNone fault (numbers.new
-            ≡ numbers.old ++ numbered self.old.nets (names_of line.now))) }
+            ≡ numbers.old ++ numbers_of self.old.nets (names_of line.now))) }
     {
         if self.ended {
             return Ok(Some(BlifFaultKind::Unknown));
@@ -130,7 +130,7 @@ impl<'t> Checker<'t> {
               cover = self.old.cover;
             })) }
     {
-        let rest = line.behind_first();
+        let rest = line.without_first();
         let args = rest.words();
         match keyword {
             Keyword::Model if self.begun => Ok(Some(BlifFaultKind::Unknown)),
@@ -160,9 +160,9 @@ fn name_nets<'t>(
     ensures nets { IfOk result (λ _.
         nets.new ≡ with_names nets.old (names_in keyword line.now.words)) }
     ensures numbers { IfOk result (λ _. numbers.new
-        ≡ numbers.old ++ numbered nets.old (names_in keyword line.now.words)) }
+        ≡ numbers.old ++ numbers_of nets.old (names_in keyword line.now.words)) }
 {
-    let rest = line.behind_first();
+    let rest = line.without_first();
     match keyword {
         Keyword::Inputs | Keyword::Outputs | Keyword::Clock | Keyword::Names => {
             number_all(nets, rest.words(), numbers)
@@ -222,11 +222,11 @@ fn clock<'t>(
 ) -> Result<Option<BlifFaultKind>, AllocError>
     ensures least { IfOk result (λ fault.
         fault ≡ first_kind (at_words TwoDrivers
-        (placed (λ name. not (has_name declared.now name) && has_name drivers.now name)
+        (names_with_index (λ name. not (has_name declared.now name) && has_name drivers.now name)
         (texts names.now)))) }
     ensures clocks { IfOk result (λ fault.
         IfNone fault (clocks.new
-        ≡ with_names clocks.old (undeclared declared.now (texts names.now)))) }
+        ≡ with_names clocks.old (undeclared_names declared.now (texts names.now)))) }
 {
     for name in names {
         if !declared.contains(name) {
@@ -291,7 +291,7 @@ fn name_latch<'t>(
     requires { IsTrue (is_latch args.now.words) }
     ensures nets { IfOk result (λ _. nets.new ≡ with_names nets.old (latch_nets 2 args.now.words)) }
     ensures numbers { IfOk result (λ _. numbers.new
-        ≡ numbers.old ++ numbered nets.old (latch_nets 2 args.now.words)) }
+        ≡ numbers.old ++ numbers_of nets.old (latch_nets 2 args.now.words)) }
 {
     number_all(nets, &args.words()[..2], numbers)?;
     match control_of(args) {

@@ -1,8 +1,8 @@
 //! Records which nets of a text are driven.
 ghost use Rattle.std.specs.Prelude.{◌≡◌, ◌≤◌, ◌<◌, ◌++◌, [], map, length, IfOk, option_map, slice_index_or};
-ghost use Rattle.blif.specs.Names.{first, has_name, number_of, texts};
+ghost use Rattle.blif.specs.Names.{first_of, has_name, number_of, texts};
 ghost use Rattle.blif.specs.Numbering.{AreNumbered};
-ghost use Rattle.blif.specs.Repeats.{undriven};
+ghost use Rattle.blif.specs.Repeats.{undriven_names};
 
 use crate::circuit::MAX_NETS;
 use line_text::NameSet;
@@ -91,7 +91,7 @@ impl<'t> Driven<'t> {
     pub fn first_undriven(&self, names: &[&'t [u8]], nets: &[u32]) -> Option<&'t [u8]>
         requires { AreNumbered self.now.nets (texts names.now) nets.now }
         ensures { option_map (λ n. n.now) result
-            ≡ first (undriven (self.now.clocks ++ self.now.drivers) (texts names.now)) }
+            ≡ first_of (undriven_names (self.now.clocks ++ self.now.drivers) (texts names.now)) }
     {
         for place in 0..names.len() {
             if !self.is_driven(nets[place]) {

@@ -113,7 +113,7 @@ pub fn is_end(keyword: Keyword) -> bool
 pub fn inputs_in<'a, 't>(keyword: Keyword, line: &Line<'a, 't>) -> &'a [&'t [u8]]
     ensures { texts result.now ≡ inputs_in keyword line.now.words }
 {
-    let args = line.behind_first().words();
+    let args = line.without_first().words();
     match keyword {
         Keyword::Inputs => args,
         _ => &args[..0],

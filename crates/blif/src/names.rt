@@ -1,7 +1,7 @@
 //! Adds names of nets to those of the lines above.
 ghost use Rattle.std.specs.Prelude.{◌≡◌, ◌++◌, [], ◌∷◌, IfOk, IfNone, option_map};
-ghost use Rattle.blif.specs.Numbering.{numbered};
-ghost use Rattle.blif.specs.Names.{first, number_of, texts, with_name, with_names};
+ghost use Rattle.blif.specs.Numbering.{numbers_of};
+ghost use Rattle.blif.specs.Names.{first_of, number_of, texts, with_name, with_names};
 ghost use Rattle.blif.specs.Repeats.{repeats};
 
 use crate::nets::Nets;
@@ -35,7 +35,7 @@ pub fn number_all<'t>(
 ) -> Result<(), AllocError>
     ensures nets { IfOk result (λ _. nets.new ≡ with_names nets.old (texts names.now)) }
     ensures numbers { IfOk result (λ _. numbers.new
-        ≡ numbers.old ++ numbered nets.old (texts names.now)) }
+        ≡ numbers.old ++ numbers_of nets.old (texts names.now)) }
 {
     for name in names {
         number_new(nets, name, numbers)?;
@@ -49,7 +49,7 @@ pub fn add_different<'t>(
     names: &[&'t [u8]],
 ) -> Result<Option<&'t [u8]>, AllocError>
     ensures repeated { IfOk result (λ r. option_map (λ name. name.now) r
-        ≡ first (repeats set.old (texts names.now))) }
+        ≡ first_of (repeats set.old (texts names.now))) }
     ensures names { IfOk result (λ r. IfNone r (set.new ≡ set.old ++ texts names.now)) }
 {
     for name in names {

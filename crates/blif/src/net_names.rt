@@ -1,7 +1,7 @@
 //! The names of a circuit's nets.
 ghost use Rattle.std.specs.Prelude.{◌≡◌, ◌<◌, ◌++◌, [], ◌∷◌, length, slice_get, Some, IfOk};
 
-use crate::span::Span;
+use crate::span::IndexSpan;
 use std::alloc::{AllocError, Global};
 use std::marker::Model;
 
@@ -9,7 +9,7 @@ use std::marker::Model;
 #[derive(Drop)]
 pub struct NetNames {
     bytes: Vec<u8>,
-    spans: Vec<Span>,
+    spans: Vec<IndexSpan>,
 }
 
 impl Model for NetNames {
@@ -57,7 +57,7 @@ impl NetNames {
         let start = self.bytes.len();
         self.bytes.extend_from_slice(name)?;
         let end = self.bytes.len();
-        self.spans.push(Span { start, end })?;
+        self.spans.push(IndexSpan { start, end })?;
         Ok(())
     }
 }

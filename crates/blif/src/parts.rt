@@ -1,12 +1,12 @@
 //! Builds the parts of a circuit, line by line, with nets by number.
 ghost use Rattle.std.specs.Prelude.{◌≡◌, List, ℕ, ◌++◌, [], map, option_map, IfOk, IfNone};
 ghost use Rattle.blif.specs.LineByLine.{parts_after, parts_of};
-ghost use Rattle.blif.specs.Names.{first, number_of};
+ghost use Rattle.blif.specs.Names.{first_of, number_of};
 ghost use Rattle.blif.specs.LatchLines.{is_latch};
 ghost use Rattle.blif.specs.LineNets.{front_of, latch_nets, names_in, reads_in};
 ghost use Rattle.blif.specs.Circuits.{latch_with, table_with};
 ghost use Rattle.blif.specs.Numbering.{AreNumbered};
-ghost use Rattle.blif.specs.Repeats.{undriven};
+ghost use Rattle.blif.specs.Repeats.{undriven_names};
 
 use crate::circuit::Circuit;
 use crate::driven::Driven;
@@ -94,13 +94,13 @@ impl CircuitParts {
         requires { AreNumbered driven.now.nets (names_in keyword line.now.words) nets.now }
         ensures least { IfOk result (λ net.
             option_map (λ n. n.now) net
-            ≡ first (undriven (driven.now.clocks ++ driven.now.drivers)
+            ≡ first_of (undriven_names (driven.now.clocks ++ driven.now.drivers)
             (reads_in keyword line.now.words))) }
         ensures parts { IfOk result (λ net.
             IfNone net (self.new ≡ parts_after driven.now.nets line.now.number keyword
             line.now.words self.old)) }
     {
-        let args = line.behind_first();
+        let args = line.without_first();
         match keyword {
             Keyword::Inputs => {
                 self.inputs.extend(nets)?;
@@ -130,7 +130,8 @@ fn add_table<'t>(
 ) -> Result<Option<&'t [u8]>, AllocError>
     requires { AreNumbered driven.now.nets args.now.words nets.now }
     ensures least { IfOk result (λ net. option_map (λ n. n.now) net
-        ≡ first (undriven (driven.now.clocks ++ driven.now.drivers) (front_of args.now.words))) }
+        ≡ first_of (undriven_names (driven.now.clocks
+        ++ driven.now.drivers) (front_of args.now.words))) }
     ensures tables { IfOk result (λ net.
         IfNone net (tables.new ≡ tables.old
         ++ table_with driven.now.nets args.now.number args.now.words)) }
@@ -162,7 +163,7 @@ fn add_latch<'t>(
 ) -> Result<Option<&'t [u8]>, AllocError>
     requires { AreNumbered driven.now.nets (latch_nets 2 args.now.words) nets.now }
     ensures least { IfOk result (λ net. option_map (λ n. n.now) net
-        ≡ first (undriven (driven.now.clocks ++ driven.now.drivers)
+        ≡ first_of (undriven_names (driven.now.clocks ++ driven.now.drivers)
         (latch_nets 1 args.now.words))) }
     ensures latches { IfOk result (λ net.
         IfNone net (latches.new

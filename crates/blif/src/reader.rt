@@ -3,7 +3,7 @@ ghost use Rattle.std.specs.Prelude.{◌≡◌, ◌≤◌, ◌++◌, [], length, 
 ghost use Rattle.std.specs.List.{flat_map};
 ghost use Rattle.line_text.specs.TextErrors.{Fails, Gives};
 ghost use Rattle.line_text.specs.declared.text_error.TextError.TheVariants.{Fault};
-ghost use Rattle.blif.specs.Numbering.{numbered};
+ghost use Rattle.blif.specs.Numbering.{numbers_of};
 ghost use Rattle.blif.specs.Names.{number_of, with_names};
 ghost use Rattle.blif.specs.FirstFaults.{first_fault};
 ghost use Rattle.blif.specs.declared.fault.BlifFaultKind.TheVariants.{Undriven};
@@ -100,7 +100,7 @@ fn check_lines<'t>(
     ensures { MatchResult result
         (λ checker. (first_fault (line_faults lut_size declared.entry [] lines.now) ≡ None)
         × (checker ≡ sights_of declared.entry lines.now) × (length checker.nets ≤ MAX_NETS)
-        × (numbers.new ≡ numbered [] (flat_map names_of lines.now)))
+        × (numbers.new ≡ numbers_of [] (flat_map names_of lines.now)))
         (Fails (first_fault (line_faults lut_size declared.entry [] lines.now))) }
 {
     let mut checker = Checker::new(alloc, declared);
@@ -127,7 +127,7 @@ fn check_each<'t>(
         (λ _. (first_fault (line_faults lut_size checker.old.declared [] lines.now) ≡ None)
         × (checker.new ≡ sights_of checker.old.declared lines.now)
         × (length checker.new.nets ≤ MAX_NETS)
-        × (numbers.new ≡ numbered [] (flat_map names_of lines.now)))
+        × (numbers.new ≡ numbers_of [] (flat_map names_of lines.now)))
         (Fails (first_fault (line_faults lut_size checker.old.declared [] lines.now))) }
 {
     for place in 0..lines.len() {
@@ -325,7 +325,7 @@ fn undriven_at(alloc: Global, line: u32, net: &[u8]) -> BlifError
 fn net_count(keyword: Keyword, line: &Line<'_, '_>) -> usize
     ensures { result ≡ length (names_in keyword line.now.words) }
 {
-    let args = line.behind_first();
+    let args = line.without_first();
     match keyword {
         Keyword::Inputs | Keyword::Outputs | Keyword::Clock | Keyword::Names => {
             args.words().len()
@@ -342,7 +342,7 @@ fn model_of(alloc: Global, lines: &Lines<'_>) -> Result<Text, AllocError>
     if lines.len() == 0 {
         return Text::from_slice(alloc, b"top");
     }
-    match lines.line(0).behind_first().split_first() {
+    match lines.line(0).without_first().split_first() {
         None => Text::from_slice(alloc, b"top"),
         Some((name, _)) => Text::from_slice(alloc, name),
     }

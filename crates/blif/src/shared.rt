@@ -44,6 +44,13 @@ impl SharedCircuit {
     {
         &self.circuit
     }
+
+    /// The circuit is lawful. Does nothing.
+    pub fn laws(&self)
+        ensures { IsCircuit self.now }
+    {
+        let _ = self.circuit();
+    }
 }
 
 impl Clone for SharedCircuit {

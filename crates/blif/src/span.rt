@@ -2,7 +2,7 @@
 
 /// The index at which a part begins, and the index after its last item.
 #[derive(Clone, Copy)]
-pub struct Span {
+pub struct IndexSpan {
     pub start: usize,
     pub end: usize,
 }

@@ -1,7 +1,7 @@
 //! The lookup tables of a circuit.
 ghost use Rattle.std.specs.Prelude.{◌≡◌, ◌<◌, ◌++◌, [], ◌∷◌, length, slice_get, Some, IfOk};
 
-use crate::span::Span;
+use crate::span::IndexSpan;
 use std::alloc::{AllocError, Global};
 use std::marker::Model;
 
@@ -18,7 +18,7 @@ pub struct Table<'a> {
 #[derive(Clone, Copy)]
 pub(crate) struct TableSpan {
     pub(crate) line: u32,
-    pub(crate) inputs: Span,
+    pub(crate) inputs: IndexSpan,
     pub(crate) output: u32,
 }
 
@@ -90,7 +90,7 @@ impl Tables {
         let end = self.inputs.len();
         self.tables.push(TableSpan {
             line: table.line,
-            inputs: Span { start, end },
+            inputs: IndexSpan { start, end },
             output: table.output,
         })?;
         Ok(())

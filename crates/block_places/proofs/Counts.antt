@@ -8,7 +8,7 @@ use Rattle.cluster.specs.Clusters.{PackedCircuit}
 use Rattle.grid.specs.declared.place.Kind.TheVariants.{Logic, Pad}
 use Rattle.grid.specs.declared.Strip.{Strip}
 use Rattle.grid.specs.Places.{places_of}
-use Rattle.block_places.specs.Fits.{block_count, compared, fit_of, is_for}
+use Rattle.block_places.specs.Fits.{block_count, fit_of_counts, fit_of, is_for}
 
 -- the count of two lists is the sum of their counts
 count_append : {X : Type 0} (p : X → Bool) (xs ys : List X) → count_by p (xs ++ ys) ≡ count_by p xs + count_by p ys
@@ -57,10 +57,10 @@ pad_count packed =
 -- the comparison, with the numbers that the code computed
 pub fit_found : (strip : Strip) (packed : PackedCircuit) (logic_places blocks pad_places pads : ℕ)
     → logic_places ≡ length (places_of strip Logic) → blocks ≡ length packed.clusters → pad_places ≡ length (places_of strip Pad) → pads ≡ block_count packed Pad
-    → compared logic_places blocks pad_places pads ≡ fit_of strip packed
+    → fit_of_counts logic_places blocks pad_places pads ≡ fit_of strip packed
 unfolding fit_of
 fit_found strip packed logic_places blocks pad_places pads a b c d =
-    ap (λ n. compared n blocks pad_places pads) a
-    ∙ ap (λ n. compared (length (places_of strip Logic)) n pad_places pads) (b ∙ sym (logic_count packed))
-    ∙ ap (λ n. compared (length (places_of strip Logic)) (block_count packed Logic) n pads) c
-    ∙ ap (λ n. compared (length (places_of strip Logic)) (block_count packed Logic) (length (places_of strip Pad)) n) d
+    ap (λ n. fit_of_counts n blocks pad_places pads) a
+    ∙ ap (λ n. fit_of_counts (length (places_of strip Logic)) n pad_places pads) (b ∙ sym (logic_count packed))
+    ∙ ap (λ n. fit_of_counts (length (places_of strip Logic)) (block_count packed Logic) n pads) c
+    ∙ ap (λ n. fit_of_counts (length (places_of strip Logic)) (block_count packed Logic) (length (places_of strip Pad)) n) d

@@ -39,8 +39,8 @@ abbrev pub is_for : Kind → Block → Bool
 is_for kind block = is_same_kind kind (kind_of block)
 
 -- Private: the comparison of any four numbers
-abbrev pub compared : ℕ → ℕ → ℕ → ℕ → Fit
-compared logic_places blocks pad_places pads =
+abbrev pub fit_of_counts : ℕ → ℕ → ℕ → ℕ → Fit
+fit_of_counts logic_places blocks pad_places pads =
     if nat_lt logic_places blocks then TooManyBlocks logic_places blocks
     else if nat_lt pad_places pads then TooManyPads pad_places pads
     else Fits

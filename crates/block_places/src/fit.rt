@@ -1,7 +1,7 @@
 //! Whether a packed circuit fits a strip.
 ghost use Rattle.std.specs.Prelude.{◌≡◌};
 ghost use Rattle.grid.specs.Sizes.{IsStripSize};
-ghost use Rattle.block_places.specs.Fits.{compared, fit_of};
+ghost use Rattle.block_places.specs.Fits.{fit_of_counts, fit_of};
 
 use cluster::Packed;
 use grid::{Kind, Strip};
@@ -21,7 +21,7 @@ pub fn fit_of(strip: Strip, packed: &Packed) -> Fit
     requires { IsStripSize strip }
     ensures { result ≡ fit_of strip packed.now }
 {
-    compared(
+    fit_of_counts(
         strip.places(Kind::Logic).len(),
         packed.cluster_count(),
         strip.places(Kind::Pad).len(),
@@ -31,8 +31,8 @@ pub fn fit_of(strip: Strip, packed: &Packed) -> Fit
 
 /// Compares the places for logic blocks with the clusters, and then the places for pads with the
 /// pads.
-fn compared(logic_places: usize, blocks: usize, pad_places: usize, pads: usize) -> Fit
-    ensures { result ≡ compared logic_places blocks pad_places pads }
+fn fit_of_counts(logic_places: usize, blocks: usize, pad_places: usize, pads: usize) -> Fit
+    ensures { result ≡ fit_of_counts logic_places blocks pad_places pads }
 {
     if logic_places < blocks {
         Fit::TooManyBlocks {

@@ -8,14 +8,14 @@ use Rattle.std.proofs.lemmas.List.FromFn.{fill_by_all, length-enumerate_from, ge
 use Rattle.cluster.specs.declared.block.Block.{Block}
 use Rattle.cluster.specs.declared.block.Block.TheVariants.{InputPad, OutputPad, Cluster}
 use Rattle.cluster.specs.declared.net_uses.NetUses.{NetUses}
-use Rattle.ble_cluster.specs.Nets.{has, distinct}
+use Rattle.ble_cluster.specs.Nets.{has, distinct_nets}
 use Rattle.ble_cluster.specs.NetSets.{NetsAmong}
 use Rattle.ble_cluster.specs.Bles.{LogicElement, bles_of, element_at}
 use Rattle.ble_cluster.specs.Clusters.{elements_at, outputs_of, outside_inputs, clocks_of}
 use Rattle.cluster.specs.Clusters.{PackedCircuit}
 use Rattle.cluster.specs.Blocks.{BlockNet, blocks_of, block_net, block_nets, is_global, leaves_block, nets_from, readers_of, reads_net}
 use Rattle.cluster.specs.ClusterPins.{IsElementWithin, clusters_with, members_of, nets_read, pads_with, readers_by_net}
-use Rattle.cluster.specs.NetUses.{cluster_nets, controls_of, driven_nets, input_nets, leaves_by, net_by, others}
+use Rattle.cluster.specs.NetUses.{cluster_nets, controls_of, driven_nets, input_nets, leaves_by, net_by, other_readers}
 use Rattle.cluster.specs.LawfulPackings.{IsPacked}
 use Rattle.ble_cluster.proofs.Outside.{has-distinct, has-with_nets}
 use Rattle.cluster.proofs.ReaderLists.{flat_map-range_more}
@@ -106,7 +106,7 @@ and_false true = refl
 and_false false = refl
 
 -- the readers of a net, gathered from the pads and the clusters
-pub readers_gathered : (packed : PackedCircuit) (driver net : ℕ) → readers_of packed driver net ≡ others driver (pads_with packed.circuit net (length packed.circuit.outputs) ++ clusters_with packed.circuit (bles_of packed.circuit) packed.clusters net (length packed.clusters))
+pub readers_gathered : (packed : PackedCircuit) (driver net : ℕ) → readers_of packed driver net ≡ other_readers driver (pads_with packed.circuit net (length packed.circuit.outputs) ++ clusters_with packed.circuit (bles_of packed.circuit) packed.clusters net (length packed.clusters))
 readers_gathered packed driver net =
     let circuit = packed.circuit in
     let elements = bles_of circuit in
@@ -129,15 +129,15 @@ readers_gathered packed driver net =
 
 -- facts about the uses of the nets of a packed circuit
 pub record AreUsesOf (packed : PackedCircuit) (uses : NetUses) : Type 0 where
-  pub globals : uses.globals ≡ record { count = length packed.circuit.nets; nets = distinct (controls_of packed.circuit.latches) }
+  pub globals : uses.globals ≡ record { count = length packed.circuit.nets; nets = distinct_nets (controls_of packed.circuit.latches) }
   pub readers : uses.readers ≡ readers_by_net packed.circuit (bles_of packed.circuit) packed.clusters
 
 -- the readers, from the uses
-readers_by : (packed : PackedCircuit) (uses : NetUses) (driver net : ℕ) → AreUsesOf packed uses → net < length packed.circuit.nets → others driver (get_or uses.readers net []) ≡ readers_of packed driver net
+readers_by : (packed : PackedCircuit) (uses : NetUses) (driver net : ℕ) → AreUsesOf packed uses → net < length packed.circuit.nets → other_readers driver (get_or uses.readers net []) ≡ readers_of packed driver net
 readers_by packed uses driver net are within =
     let f : ℕ → List ℕ = λ net. pads_with packed.circuit net (length packed.circuit.outputs) ++ clusters_with packed.circuit (bles_of packed.circuit) packed.clusters net (length packed.clusters) in
-    ap (λ (rows : List (List ℕ)). others driver (get_or rows net [])) are.readers
-    ∙ ap (others driver) (get_or-map-range_with_len f 0 (length packed.circuit.nets) net net [] within (omega arith))
+    ap (λ (rows : List (List ℕ)). other_readers driver (get_or rows net [])) are.readers
+    ∙ ap (other_readers driver) (get_or-map-range_with_len f 0 (length packed.circuit.nets) net net [] within (omega arith))
     ∙ sym (readers_gathered packed driver net)
 
 -- whether a net is global, from the uses

@@ -9,15 +9,15 @@ use Rattle.ble_cluster.specs.Nets.{has}
 use Rattle.ble_cluster.specs.Bles.{LogicElement, element_at}
 use Rattle.ble_cluster.specs.Clusters.{elements_at, outputs_of}
 use Rattle.cluster.specs.Blocks.{BlockNet}
-use Rattle.cluster.specs.NetUses.{others, leaves_by, net_by, input_nets, driven_nets, cluster_nets}
+use Rattle.cluster.specs.NetUses.{other_readers, leaves_by, net_by, input_nets, driven_nets, cluster_nets}
 use Rattle.cluster.proofs.ReaderLists.{flat_map-range_more}
 
 -- the net that is built from its uses
-pub net_made : (uses : NetUses) (driver net : ℕ) (readers : List ℕ) (global : Bool) (old new : List BlockNet) → readers ≡ get_or uses.readers net [] → global ≡ has uses.globals.nets net → new ≡ old ++ record { net = net; driver = driver; readers = others driver readers; global = global } ∷ [] → new ≡ old ++ net_by uses driver net ∷ []
+pub net_made : (uses : NetUses) (driver net : ℕ) (readers : List ℕ) (global : Bool) (old new : List BlockNet) → readers ≡ get_or uses.readers net [] → global ≡ has uses.globals.nets net → new ≡ old ++ record { net = net; driver = driver; readers = other_readers driver readers; global = global } ∷ [] → new ≡ old ++ net_by uses driver net ∷ []
 net_made uses driver net readers global old new reads is more =
     more
-    ∙ ap (λ (readers : List ℕ). let n : BlockNet = record { net = net; driver = driver; readers = others driver readers; global = global } in old ++ n ∷ []) reads
-    ∙ ap (λ (global : Bool). let n : BlockNet = record { net = net; driver = driver; readers = others driver (get_or uses.readers net []); global = global } in old ++ n ∷ []) is
+    ∙ ap (λ (readers : List ℕ). let n : BlockNet = record { net = net; driver = driver; readers = other_readers driver readers; global = global } in old ++ n ∷ []) reads
+    ∙ ap (λ (global : Bool). let n : BlockNet = record { net = net; driver = driver; readers = other_readers driver (get_or uses.readers net []); global = global } in old ++ n ∷ []) is
 
 -- one more input pad
 pub inputs_more : (circuit : Circuit) (uses : NetUses) (pad net : ℕ) (start old new : List BlockNet) → net ≡ slice_index circuit.inputs pad → old ≡ start ++ input_nets circuit uses pad → new ≡ old ++ net_by uses pad net ∷ [] → new ≡ start ++ input_nets circuit uses (pad + 1)

@@ -13,7 +13,7 @@ use Rattle.blif.specs.LawfulCircuits.{IsCircuit, IsLatchWithin, IsTableWithin, d
 use Rattle.arch_file.specs.declared.arch.Arch.{Arch}
 use Rattle.ble_cluster.specs.Nets.{has, with_nets}
 use Rattle.ble_cluster.specs.NetSets.{with_net}
-use Rattle.ble_cluster.specs.Bles.{LogicElement, bles_of, element_of_latch, element_of_table, in_line_order, latch_behind, stands_alone, is_read_once}
+use Rattle.ble_cluster.specs.Bles.{LogicElement, bles_of, element_of_latch, element_of_table, in_line_order, latch_after, stands_alone, is_read_once}
 use Rattle.ble_cluster.specs.LineOrder.{is_above}
 use Rattle.ble_cluster.specs.Clusters.{clusters_after, cluster_of, free_of, with_cluster}
 use Rattle.cluster.specs.Clusters.{PackedCircuit, packed_of}
@@ -81,7 +81,7 @@ found_latch count test (first ∷ latches) all = by (test first) (found_latch co
     by true rest = λ latch is. let same : first ≡ latch = cc in subst (IsLatchWithin count) same (All-head (IsLatchWithin count) first latches all)
     by false rest = rest
 
-behind_lawful : (circuit : Circuit) (net : ℕ) → IsCircuit circuit → ForSome (latch_behind circuit net) (IsLatchWithin (length circuit.nets))
+behind_lawful : (circuit : Circuit) (net : ℕ) → IsCircuit circuit → ForSome (latch_after circuit net) (IsLatchWithin (length circuit.nets))
 behind_lawful circuit net c = by (is_read_once circuit net)
   where
     by : (b : Bool) → ForSome (if b then find (λ latch. eqb latch.input net) circuit.latches else None) (IsLatchWithin (length circuit.nets))
@@ -122,8 +122,8 @@ module _ (circuit : Circuit) (lawful : IsCircuit circuit) where
       let late = drop (prefix_len (is_above table.line) latches) latches in
       All-append P (map element_of_latch early) _
       (latch_elements nets early (All-take (IsLatchWithin nets) (prefix_len (is_above table.line) latches) latches l))
-      (All-cons P (element_of_table table (latch_behind circuit table.output)) (in_line_order circuit tables late)
-      (table_element nets table (latch_behind circuit table.output) (All-head (IsTableWithin nets) table tables t) (behind_lawful circuit table.output lawful))
+      (All-cons P (element_of_table table (latch_after circuit table.output)) (in_line_order circuit tables late)
+      (table_element nets table (latch_after circuit table.output) (All-head (IsTableWithin nets) table tables t) (behind_lawful circuit table.output lawful))
       (ordered tables late (All-tail (IsTableWithin nets) table tables t) (All-drop (IsLatchWithin nets) (prefix_len (is_above table.line) latches) latches l)))
 
   -- the BLEs of a circuit have nets of it

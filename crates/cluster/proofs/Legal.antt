@@ -7,7 +7,7 @@ use Rattle.std.proofs.lemmas.Bool.Decides.{nat_tests}
 use Rattle.arch_file.specs.declared.arch.Arch.{Arch}
 use Rattle.ble_cluster.specs.Nets.{IsOnce, has}
 use Rattle.ble_cluster.specs.Bles.{LogicElement}
-use Rattle.ble_cluster.specs.Clusters.{cluster_of, elements_at, first_most, fits_in_cluster, grown, input_count_at, leading, may_join, next_member, seed_of, shared_nets, unfit_among}
+use Rattle.ble_cluster.specs.Clusters.{cluster_of, elements_at, first_most, fits_in_cluster, members_after, input_count_at, leader_of, may_join, next_member, seed_of, shared_nets, unfit_among}
 use Rattle.ble_cluster.proofs.Fitting.{fits_alone}
 use Rattle.ble_cluster.proofs.Leading.{leading_lawful}
 use Rattle.ble_cluster.proofs.Outside.{once-push}
@@ -16,7 +16,7 @@ use Rattle.ble_cluster.proofs.Outside.{once-push}
 pub chosen : (P : ℕ → Type 0) (score : ℕ → ℕ) (numbers : List ℕ) → All P numbers → ForSome (first_most score numbers) P
 chosen P score [] all = λ number is. absurd cc
 chosen P score (number ∷ numbers) all = λ found is.
-    let same : leading score number numbers ≡ found = cc in
+    let same : leader_of score number numbers ≡ found = cc in
     subst P same (leading_lawful P score number numbers (All-head P number numbers all) (All-tail P number numbers all))
 
 -- a cluster that fits, of different BLEs that have a property
@@ -48,10 +48,10 @@ module _ (arch : Arch) (elements : List LogicElement) (P : ℕ → Type 0) (free
         fits = j.1;
       }
 
-  legal_grown : (seed : List ℕ) (additions : ℕ) → IsLegal arch elements P seed → IsLegal arch elements P (grown arch elements free seed additions)
+  legal_grown : (seed : List ℕ) (additions : ℕ) → IsLegal arch elements P seed → IsLegal arch elements P (members_after arch elements free seed additions)
   legal_grown seed zero legal = legal
   legal_grown seed (suc additions) legal =
-      let members = grown arch elements free seed additions in
+      let members = members_after arch elements free seed additions in
       added members (legal_grown seed additions legal) (next_member arch elements free members) refl
 
   -- the cluster made of free BLEs is legal, if each fits alone

@@ -15,9 +15,9 @@ use Rattle.blif.specs.declared.circuit.Circuit.{Circuit}
 use Rattle.blif.specs.declared.latches.Latch.{Latch}
 use Rattle.blif.specs.LookupTables.{LookupTable}
 use Rattle.blif.specs.LawfulCircuits.{IsCircuit, drivers_of}
-use Rattle.ble_cluster.specs.Bles.{LogicElement, bles_of, element_of_latch, element_of_table, in_line_order, latch_behind, stands_alone}
+use Rattle.ble_cluster.specs.Bles.{LogicElement, bles_of, element_of_latch, element_of_table, in_line_order, latch_after, stands_alone}
 use Rattle.ble_cluster.specs.LineOrder.{is_above}
-use Rattle.ble_cluster.specs.Clusters.{cluster_of, clusters_after, first_most, free_of, grown, input_count_at, may_join, seed_of, shared_nets, unfit_of, with_cluster}
+use Rattle.ble_cluster.specs.Clusters.{cluster_of, clusters_after, first_most, free_of, members_after, input_count_at, may_join, seed_of, shared_nets, unfit_of, with_cluster}
 use Rattle.cluster.specs.Clusters.{packed_of}
 use Rattle.cluster.specs.Packing.{IsPacked}
 use Rattle.ble_cluster.proofs.Leading.{found, leading_lawful}
@@ -31,11 +31,11 @@ module _ (arch : Arch) (elements : List LogicElement) where
   abbrev IsElement : ℕ → Type 0
   IsElement number = number < length elements
 
-  grown_lawful : (free seed : List ℕ) (additions : ℕ) → All IsElement free → All IsElement seed → All IsElement (grown arch elements free seed additions)
+  grown_lawful : (free seed : List ℕ) (additions : ℕ) → All IsElement free → All IsElement seed → All IsElement (members_after arch elements free seed additions)
   grown_lawful free seed zero f s = s
   grown_lawful free seed (suc additions) f s =
       let g = grown_lawful free seed additions f s in
-      let members = grown arch elements free seed additions in
+      let members = members_after arch elements free seed additions in
       with_lawful IsElement (shared_nets elements members) members (filter (may_join arch elements members) free) g (All-filter (may_join arch elements members) IsElement free f)
 
   cluster_lawful : (free : List ℕ) → All IsElement free → All IsElement (cluster_of arch elements free)
@@ -84,7 +84,7 @@ module _ (circuit : Circuit) where
       let early = take_while (is_above table.line) latches in
       let late = drop (prefix_len (is_above table.line) latches) latches in
       let rest = in_line_order circuit tables late in
-      let whole = length-append (map element_of_latch early) (element_of_table table (latch_behind circuit table.output) ∷ rest) in
+      let whole = length-append (map element_of_latch early) (element_of_table table (latch_after circuit table.output) ∷ rest) in
       let parts : length early + length late ≡ length latches = sym (length-append early late) ∙ ap length (take-append-drop (prefix_len (is_above table.line) latches) latches) in
       omega (arith, whole, length-map early element_of_latch, in_order_few tables late, parts)
 

@@ -5,7 +5,7 @@ use Rattle.std.specs.Option.{option_to_list}
 use Rattle.std.proofs.lemmas.List.{append-nil, take_more}
 use Rattle.std.proofs.lemmas.List.Concat.{flat_map-append}
 use Rattle.blif.specs.declared.latches.Latch.{Latch}
-use Rattle.ble_cluster.specs.Nets.{with_nets, distinct}
+use Rattle.ble_cluster.specs.Nets.{with_nets, distinct_nets}
 use Rattle.ble_cluster.specs.NetSets.{NetsAmong}
 use Rattle.cluster.specs.NetUses.{controls_of}
 use Rattle.ble_cluster.proofs.Outside.{with_nets-append}
@@ -24,14 +24,14 @@ pub second_test : (a b c : Bool) → a ≡ false → c ≡ b → c ≡ (a || b)
 second_test a b c first second = second ∙ ap (λ (t : Bool). t || b) (sym first)
 
 -- the controls of one more latch
-pub controls_more : (latches : List Latch) (i count : ℕ) (d : Latch) (control : Option ℕ) (old new : NetsAmong) → i < length latches → (get_or latches i d).control ≡ control → old ≡ record { count = count; nets = distinct (controls_of (take i latches)) } → new ≡ record { count = old.count; nets = with_nets old.nets (option_to_list control) } → new ≡ record { count = count; nets = distinct (controls_of (take (i + 1) latches)) }
+pub controls_more : (latches : List Latch) (i count : ℕ) (d : Latch) (control : Option ℕ) (old new : NetsAmong) → i < length latches → (get_or latches i d).control ≡ control → old ≡ record { count = count; nets = distinct_nets (controls_of (take i latches)) } → new ≡ record { count = old.count; nets = with_nets old.nets (option_to_list control) } → new ≡ record { count = count; nets = distinct_nets (controls_of (take (i + 1) latches)) }
 controls_more latches i count d control old new h is before after =
     let f : Latch → List ℕ = λ latch. option_to_list latch.control in
     let last = get_or latches i d in
-    let more : distinct (controls_of (take (i + 1) latches)) ≡ with_nets (distinct (controls_of (take i latches))) (option_to_list control) =
-    ap (λ (front : List Latch). distinct (controls_of front)) (take_more latches i d h)
-    ∙ ap distinct (flat_map-append f (take i latches) (last ∷ []) ∙ ap (λ (nets : List ℕ). controls_of (take i latches) ++ nets) (append-nil (f last)))
+    let more : distinct_nets (controls_of (take (i + 1) latches)) ≡ with_nets (distinct_nets (controls_of (take i latches))) (option_to_list control) =
+    ap (λ (front : List Latch). distinct_nets (controls_of front)) (take_more latches i d h)
+    ∙ ap distinct_nets (flat_map-append f (take i latches) (last ∷ []) ∙ ap (λ (nets : List ℕ). controls_of (take i latches) ++ nets) (append-nil (f last)))
     ∙ with_nets-append [] (controls_of (take i latches)) (f last)
-    ∙ ap (λ (c : Option ℕ). with_nets (distinct (controls_of (take i latches))) (option_to_list c)) is in
+    ∙ ap (λ (c : Option ℕ). with_nets (distinct_nets (controls_of (take i latches))) (option_to_list c)) is in
     after ∙ ap (λ (set : NetsAmong). let s : NetsAmong = record { count = set.count; nets = with_nets set.nets (option_to_list control) } in s) before
     ∙ ap (λ (nets : List ℕ). let s : NetsAmong = record { count = count; nets = nets } in s) (sym more)

@@ -8,7 +8,7 @@ use Rattle.std.proofs.lemmas.List.Concat.{flat_map-append}
 use Rattle.std.proofs.lemmas.List.Elements.{filter-append, filter_agree}
 use Rattle.std.proofs.lemmas.Option.{get_or_from_slice_get}
 use Rattle.std.proofs.lemmas.Bool.{eq-eqb, eqb-true, ne_eqb, false≢true}
-use Rattle.ble_cluster.specs.Nets.{has, with_nets, distinct}
+use Rattle.ble_cluster.specs.Nets.{has, with_nets, distinct_nets}
 use Rattle.ble_cluster.specs.NetSets.{NetsAmong, with_net}
 use Rattle.ble_cluster.specs.Bles.{LogicElement, element_at}
 use Rattle.ble_cluster.specs.Clusters.{elements_at, outputs_of, outside_inputs}
@@ -113,7 +113,7 @@ pub outside_gathered : (elements : List LogicElement) (outputs : List ℕ) → o
 outside_gathered elements outputs are =
     sym (filter-with_nets (λ net. not (has outputs net)) [] (inputs_of elements))
     ∙ filter_agree (λ net. not (has outputs net)) (λ net. not (has (outputs_of elements) net))
-    (λ net. ap not (ap (λ (nets : List ℕ). has nets net) are ∙ has-with_nets [] (outputs_of elements) net)) (distinct (inputs_of elements))
+    (λ net. ap not (ap (λ (nets : List ℕ). has nets net) are ∙ has-with_nets [] (outputs_of elements) net)) (distinct_nets (inputs_of elements))
 
 -- the outside inputs as a set
 pub inputs_gathered : (elements : List LogicElement) (count : ℕ) (no_outputs outputs no_inputs inputs : NetsAmong) → no_outputs.nets ≡ [] → outputs ≡ record { count = no_outputs.count; nets = with_nets no_outputs.nets (outputs_of elements) } → no_inputs ≡ record { count = count; nets = [] } → inputs ≡ record { count = no_inputs.count; nets = with_nets no_inputs.nets (filter (λ net. not (has outputs.nets net)) (inputs_of elements)) } → inputs ≡ record { count = count; nets = outside_inputs elements }

@@ -16,14 +16,14 @@ use Rattle.blif.specs.declared.circuit.Circuit.{Circuit}
 use Rattle.blif.specs.declared.latches.Latch.{Latch}
 use Rattle.blif.specs.LookupTables.{LookupTable}
 use Rattle.blif.specs.LawfulCircuits.{IsCircuit}
-use Rattle.ble_cluster.specs.Bles.{LogicElement, bles_of, element_of_latch, element_of_table, in_line_order, is_read_once, latch_behind, stands_alone}
+use Rattle.ble_cluster.specs.Bles.{LogicElement, bles_of, element_of_latch, element_of_table, in_line_order, is_read_once, latch_after, stands_alone}
 use Rattle.ble_cluster.specs.LineOrder.{is_above}
 use Rattle.ble_cluster.specs.Clusters.{outputs_of}
 use Rattle.cluster.proofs.Pairs.{pairs_across, pairs_append, pairs_back, pairs_front, pairs_map, pairs_of_map, pairs_with}
 
 -- the net that a table drives, itself or through the latch that stores its output
 abbrev out : Circuit → LookupTable → ℕ
-out circuit table = (element_of_table table (latch_behind circuit table.output)).output
+out circuit table = (element_of_table table (latch_after circuit table.output)).output
 
 abbrev latch_out : Latch → ℕ
 latch_out latch = latch.output
@@ -42,8 +42,8 @@ in_order circuit (table ∷ tables) latches =
     let first = out circuit table in
     let behind = map (out circuit) tables in
     let both : early ++ late ≡ latches = take-append-drop (prefix_len (is_above table.line) latches) latches in
-    let parts : outputs_of (map element_of_latch early ++ element_of_table table (latch_behind circuit table.output) ∷ rest) ≡ map latch_out early ++ first ∷ outputs_of rest =
-    map-append (λ (e : LogicElement). e.output) (map element_of_latch early) (element_of_table table (latch_behind circuit table.output) ∷ rest) ∙ ap (λ front. front ++ first ∷ outputs_of rest) (lone_outputs early) in
+    let parts : outputs_of (map element_of_latch early ++ element_of_table table (latch_after circuit table.output) ∷ rest) ≡ map latch_out early ++ first ∷ outputs_of rest =
+    map-append (λ (e : LogicElement). e.output) (map element_of_latch early) (element_of_table table (latch_after circuit table.output) ∷ rest) ∙ ap (λ front. front ++ first ∷ outputs_of rest) (lone_outputs early) in
     let front = IsPermutation-middle (map latch_out early) first (outputs_of rest) in
     let later = IsPermutation-append_right (map latch_out early) (outputs_of rest) (behind ++ map latch_out late) (in_order circuit tables late) in
     let swapped : IsPermutation ((map latch_out early ++ behind) ++ map latch_out late) ((behind ++ map latch_out early) ++ map latch_out late) = IsPermutation-append_left (map latch_out late) (map latch_out early ++ behind) (behind ++ map latch_out early) (IsPermutation-append_comm (map latch_out early) behind) in
@@ -103,7 +103,7 @@ module _ (circuit : Circuit) (lawful : IsCircuit circuit) where
     pub input : latch.input ≡ net
     pub once : is_read_once circuit net ≡ true
 
-  behind : (net : ℕ) (latch : Latch) → latch_behind circuit net ≡ Some latch → IsBehind net latch
+  behind : (net : ℕ) (latch : Latch) → latch_after circuit net ≡ Some latch → IsBehind net latch
   behind net latch is = by (is_read_once circuit net) refl
     where
       by : (b : Bool) → is_read_once circuit net ≡ b → IsBehind net latch
@@ -114,9 +114,9 @@ module _ (circuit : Circuit) (lawful : IsCircuit circuit) where
 
   -- two tables drive different nets
   tables_differ : (table other : LookupTable) → IsIn circuit.tables table → IsIn circuit.tables other → table.output ≢ other.output → out circuit table ≢ out circuit other
-  tables_differ table other in_one in_other differs = by (latch_behind circuit table.output) refl (latch_behind circuit other.output) refl
+  tables_differ table other in_one in_other differs = by (latch_after circuit table.output) refl (latch_after circuit other.output) refl
     where
-      by : (a : Option Latch) → latch_behind circuit table.output ≡ a → (b : Option Latch) → latch_behind circuit other.output ≡ b → out circuit table ≢ out circuit other
+      by : (a : Option Latch) → latch_after circuit table.output ≡ a → (b : Option Latch) → latch_after circuit other.output ≡ b → out circuit table ≢ out circuit other
       by None is None also same = differs (sym (ap (λ (o : Option Latch). (element_of_table table o).output) is) ∙ (same ∙ ap (λ (o : Option Latch). (element_of_table other o).output) also))
       by None is (Some latch) also same =
           across table latch in_one (behind other.output latch also).there (sym (ap (λ (o : Option Latch). (element_of_table table o).output) is) ∙ (same ∙ ap (λ (o : Option Latch). (element_of_table other o).output) also))
@@ -130,14 +130,14 @@ module _ (circuit : Circuit) (lawful : IsCircuit circuit) where
 
   -- a latch that isn't joined with a table drives a net that no table's BLE drives
   alone_differs : (table : LookupTable) (latch : Latch) → IsIn circuit.tables table → IsIn circuit.latches latch → stands_alone circuit latch ≡ true → out circuit table ≢ latch.output
-  alone_differs table latch in_tables in_latches alone = by (latch_behind circuit table.output) refl
+  alone_differs table latch in_tables in_latches alone = by (latch_after circuit table.output) refl
     where
       any_of : (tables : List LookupTable) (k : ℕ) (net : ℕ) (d : LookupTable) → k < length tables → (get_or tables k d).output ≡ net → list_any (λ (t : LookupTable). t.output == net) tables ≡ true
       any_of [] k net d lt is = absurd (omega (arith, lt))
       any_of (first ∷ tables) zero net d lt is = grind (arith, nat_tests, is)
       any_of (first ∷ tables) (suc k) net d lt is = (let rest = any_of tables k net d (omega (arith, lt)) is in grind (arith, rest))
 
-      by : (a : Option Latch) → latch_behind circuit table.output ≡ a → out circuit table ≢ latch.output
+      by : (a : Option Latch) → latch_after circuit table.output ≡ a → out circuit table ≢ latch.output
       by None is same = across table latch in_tables in_latches (sym (ap (λ (o : Option Latch). (element_of_table table o).output) is) ∙ same)
       by (Some second) is same =
           let one = behind table.output second is in

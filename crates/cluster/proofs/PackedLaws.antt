@@ -14,7 +14,7 @@ use Rattle.ble_cluster.specs.Bles.{LogicElement, bles_of, element_at}
 use Rattle.ble_cluster.specs.Clusters.{elements_at, outputs_of, outside_inputs, clocks_of}
 use Rattle.cluster.specs.Clusters.{PackedCircuit}
 use Rattle.cluster.specs.PackedTables.{AreTablesOf}
-use Rattle.cluster.specs.Blocks.{blocks_of, carried, leaves_block, pins_of}
+use Rattle.cluster.specs.Blocks.{blocks_of, net_on_pin, leaves_block, pins_of}
 use Rattle.cluster.specs.ClusterPins.{cluster_block, if_leaving, pin_ranks, rank_of}
 
 -- the number of blocks
@@ -61,16 +61,16 @@ cluster_at packed number within past_inputs past_outputs =
     ∙ ap Cluster (get_or-range_with_len 0 (length packed.clusters) (number - pads) 0 here ∙ omega arith))
 
 -- the net on a pin
-pub pin_at : (packed : PackedCircuit) (cluster pin rank : ℕ) (class : PinClass) (ranks : List ℕ) (d : Pin) (net : Option ℕ) → pin < length packed.arch.pins → (get_or packed.arch.pins pin d).class ≡ class → ranks ≡ pin_ranks packed.arch.pins → rank ≡ get_or ranks pin rank → net ≡ carried packed cluster class rank → slice_get (pins_of packed cluster) pin ≡ Some net
+pub pin_at : (packed : PackedCircuit) (cluster pin rank : ℕ) (class : PinClass) (ranks : List ℕ) (d : Pin) (net : Option ℕ) → pin < length packed.arch.pins → (get_or packed.arch.pins pin d).class ≡ class → ranks ≡ pin_ranks packed.arch.pins → rank ≡ get_or ranks pin rank → net ≡ net_on_pin packed cluster class rank → slice_get (pins_of packed cluster) pin ≡ Some net
 pin_at packed cluster pin rank class ranks d net h is ranks_are read net_is =
     let pins = packed.arch.pins in
     let first : ℕ × Pin = (0, d) in
-    let f : ℕ × Pin → Option ℕ = λ pin. carried packed cluster pin.1.class (rank_of pins pin.0 pin.1.class) in
+    let f : ℕ × Pin → Option ℕ = λ pin. net_on_pin packed cluster pin.1.class (rank_of pins pin.0 pin.1.class) in
     let g : ℕ × Pin → ℕ = λ pin. rank_of pins pin.0 pin.1.class in
     let numbered : pin < length (enumerate_from 0 pins) = omega (arith, length-enumerate_from 0 pins) in
     let here : get_or (enumerate_from 0 pins) pin first ≡ (pin, get_or pins pin d) = get_or-enumerate_from 0 pins pin first h ∙ ap (λ (n : ℕ). let p : ℕ × Pin = (n, get_or pins pin d) in p) (omega arith) in
     let rank_is : rank ≡ rank_of pins pin class = read ∙ ap (λ (ranks : List ℕ). get_or ranks pin rank) ranks_are ∙ get_or-map g (enumerate_from 0 pins) pin first rank numbered ∙ ap g here ∙ ap (rank_of pins pin) is in
-    let carries : f (pin, get_or pins pin d) ≡ net = ap (λ (class : PinClass). carried packed cluster class (rank_of pins pin class)) is ∙ ap (carried packed cluster class) (sym rank_is) ∙ sym net_is in
+    let carries : f (pin, get_or pins pin d) ≡ net = ap (λ (class : PinClass). net_on_pin packed cluster class (rank_of pins pin class)) is ∙ ap (net_on_pin packed cluster class) (sym rank_is) ∙ sym net_is in
     slice_get-get_or (pins_of packed cluster) pin None (omega (arith, length-map (enumerate_from 0 pins) f, length-enumerate_from 0 pins))
     ∙ ap (λ (net : Option ℕ). Some net) (get_or-map f (enumerate_from 0 pins) pin first None numbered ∙ ap f here ∙ carries)
 
@@ -84,7 +84,7 @@ row_at f clusters rows cluster row h are found =
     sym (get_or_from_slice_get rows cluster row [] found) ∙ ap (λ (rows : List (List ℕ)). get_or rows cluster []) are ∙ get_or-map f clusters cluster [] [] h
 
 -- the net on an output pin
-output_at : (packed : PackedCircuit) (cluster place : ℕ) → place < length (get_or packed.clusters cluster []) → carried packed cluster Output place ≡ if_leaving packed (cluster_block packed cluster) (element_at (bles_of packed.circuit) (get_or (get_or packed.clusters cluster []) place 0)).output
+output_at : (packed : PackedCircuit) (cluster place : ℕ) → place < length (get_or packed.clusters cluster []) → net_on_pin packed cluster Output place ≡ if_leaving packed (cluster_block packed cluster) (element_at (bles_of packed.circuit) (get_or (get_or packed.clusters cluster []) place 0)).output
 output_at packed cluster place h =
     let members = get_or packed.clusters cluster [] in
     let elements = elements_at (bles_of packed.circuit) members in
@@ -110,7 +110,7 @@ if_stays packed block net is = by (leaves_block packed block net) is
     by false e = refl
 
 -- the output of the BLE at an index
-pub output_of_member : (packed : PackedCircuit) (elements : List LogicElement) (cluster place : ℕ) (members : List ℕ) (element : LogicElement) → elements ≡ bles_of packed.circuit → slice_get packed.clusters cluster ≡ Some members → place < length members → slice_get elements (get_or members place 0) ≡ Some element → carried packed cluster Output place ≡ if_leaving packed (cluster_block packed cluster) element.output
+pub output_of_member : (packed : PackedCircuit) (elements : List LogicElement) (cluster place : ℕ) (members : List ℕ) (element : LogicElement) → elements ≡ bles_of packed.circuit → slice_get packed.clusters cluster ≡ Some members → place < length members → slice_get elements (get_or members place 0) ≡ Some element → net_on_pin packed cluster Output place ≡ if_leaving packed (cluster_block packed cluster) element.output
 output_of_member packed elements cluster place members element elements_are found h read =
     let none : LogicElement = record { inputs = []; output = 0; clock = None } in
     let at : get_or packed.clusters cluster [] ≡ members = get_or_from_slice_get packed.clusters cluster members [] found in
@@ -120,19 +120,19 @@ output_of_member packed elements cluster place members element elements_are foun
     ∙ ap (λ (members : List ℕ). if_leaving packed (cluster_block packed cluster) (element_at (bles_of packed.circuit) (get_or members place 0)).output) at
     ∙ ap (λ (element : LogicElement). if_leaving packed (cluster_block packed cluster) element.output) is
 
-pub output_leaves : (packed : PackedCircuit) (elements : List LogicElement) (cluster place : ℕ) (members : List ℕ) (element : LogicElement) → elements ≡ bles_of packed.circuit → slice_get packed.clusters cluster ≡ Some members → place < length members → slice_get elements (get_or members place 0) ≡ Some element → leaves_block packed (cluster_block packed cluster) element.output ≡ true → Some element.output ≡ carried packed cluster Output place
+pub output_leaves : (packed : PackedCircuit) (elements : List LogicElement) (cluster place : ℕ) (members : List ℕ) (element : LogicElement) → elements ≡ bles_of packed.circuit → slice_get packed.clusters cluster ≡ Some members → place < length members → slice_get elements (get_or members place 0) ≡ Some element → leaves_block packed (cluster_block packed cluster) element.output ≡ true → Some element.output ≡ net_on_pin packed cluster Output place
 output_leaves packed elements cluster place members element elements_are found h read leaves =
     sym (output_of_member packed elements cluster place members element elements_are found h read ∙ if_leaves packed (cluster_block packed cluster) element.output leaves)
 
-pub output_stays : (packed : PackedCircuit) (elements : List LogicElement) (cluster place : ℕ) (members : List ℕ) (element : LogicElement) → elements ≡ bles_of packed.circuit → slice_get packed.clusters cluster ≡ Some members → place < length members → slice_get elements (get_or members place 0) ≡ Some element → leaves_block packed (cluster_block packed cluster) element.output ≡ false → None ≡ carried packed cluster Output place
+pub output_stays : (packed : PackedCircuit) (elements : List LogicElement) (cluster place : ℕ) (members : List ℕ) (element : LogicElement) → elements ≡ bles_of packed.circuit → slice_get packed.clusters cluster ≡ Some members → place < length members → slice_get elements (get_or members place 0) ≡ Some element → leaves_block packed (cluster_block packed cluster) element.output ≡ false → None ≡ net_on_pin packed cluster Output place
 output_stays packed elements cluster place members element elements_are found h read stays =
     sym (output_of_member packed elements cluster place members element elements_are found h read ∙ if_stays packed (cluster_block packed cluster) element.output stays)
 
 -- the nets on an input pin and on the clock pin
-pub input_entry : (packed : PackedCircuit) (tables : PackedTables) (cluster rank : ℕ) (row : List ℕ) → cluster < length packed.clusters → AreTablesOf packed tables → slice_get tables.inputs cluster ≡ Some row → slice_get row rank ≡ carried packed cluster Input rank
+pub input_entry : (packed : PackedCircuit) (tables : PackedTables) (cluster rank : ℕ) (row : List ℕ) → cluster < length packed.clusters → AreTablesOf packed tables → slice_get tables.inputs cluster ≡ Some row → slice_get row rank ≡ net_on_pin packed cluster Input rank
 input_entry packed tables cluster rank row h kept found =
     ap (λ (row : List ℕ). slice_get row rank) (row_at (λ members. outside_inputs (elements_at (bles_of packed.circuit) members)) packed.clusters tables.inputs cluster row h kept.inputs found)
 
-pub clock_entry : (packed : PackedCircuit) (tables : PackedTables) (cluster rank : ℕ) (row : List ℕ) → cluster < length packed.clusters → AreTablesOf packed tables → slice_get tables.clocks cluster ≡ Some row → slice_get row rank ≡ carried packed cluster Clock rank
+pub clock_entry : (packed : PackedCircuit) (tables : PackedTables) (cluster rank : ℕ) (row : List ℕ) → cluster < length packed.clusters → AreTablesOf packed tables → slice_get tables.clocks cluster ≡ Some row → slice_get row rank ≡ net_on_pin packed cluster Clock rank
 clock_entry packed tables cluster rank row h kept found =
     ap (λ (row : List ℕ). slice_get row rank) (row_at (λ members. clocks_of (elements_at (bles_of packed.circuit) members)) packed.clusters tables.clocks cluster row h kept.clocks found)

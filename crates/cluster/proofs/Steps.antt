@@ -10,7 +10,7 @@ use Rattle.std.proofs.lemmas.List.FromFn.{length-range_with_len}
 use Rattle.arch_file.specs.declared.arch.Arch.{Arch}
 use Rattle.ble_cluster.specs.Nets.{has}
 use Rattle.ble_cluster.specs.Bles.{LogicElement}
-use Rattle.ble_cluster.specs.Clusters.{cluster_of, clusters_after, free_of, grown, input_count_at, leading, next_member, with_cluster}
+use Rattle.ble_cluster.specs.Clusters.{cluster_of, clusters_after, free_of, members_after, input_count_at, leader_of, next_member, with_cluster}
 use Rattle.ble_cluster.proofs.Fitting.{no_cluster}
 
 -- a cluster begins with its seed
@@ -21,16 +21,16 @@ pub record BeginsWith (seed : ℕ) (members : List ℕ) : Type 0 where
 keeps_seed : {seed : ℕ} {members : List ℕ} (added : Option ℕ) → BeginsWith seed members → BeginsWith seed (members ++ option_to_list added)
 keeps_seed added b = record { others = b.others ++ option_to_list added; whole = rw b.whole refl }
 
-grows_on : (arch : Arch) (elements : List LogicElement) (free : List ℕ) (seed additions : ℕ) → BeginsWith seed (grown arch elements free (seed ∷ []) additions)
+grows_on : (arch : Arch) (elements : List LogicElement) (free : List ℕ) (seed additions : ℕ) → BeginsWith seed (members_after arch elements free (seed ∷ []) additions)
 grows_on arch elements free seed zero = record { others = []; whole = refl }
-grows_on arch elements free seed (suc additions) = keeps_seed (next_member arch elements free (grown arch elements free (seed ∷ []) additions)) (grows_on arch elements free seed additions)
+grows_on arch elements free seed (suc additions) = keeps_seed (next_member arch elements free (members_after arch elements free (seed ∷ []) additions)) (grows_on arch elements free seed additions)
 
 -- the leading number is the first or one of the others
-leads_among : (score : ℕ → ℕ) (best : ℕ) (numbers : List ℕ) → has (best ∷ numbers) (leading score best numbers) ≡ true
+leads_among : (score : ℕ → ℕ) (best : ℕ) (numbers : List ℕ) → has (best ∷ numbers) (leader_of score best numbers) ≡ true
 leads_among score best [] = grind (arith, nat_tests)
 leads_among score best (number ∷ numbers) = by (nat_lt (score best) (score number)) (leads_among score number numbers) (leads_among score best numbers)
   where
-    by : (b : Bool) → has (number ∷ numbers) (leading score number numbers) ≡ true → has (best ∷ numbers) (leading score best numbers) ≡ true → has (best ∷ number ∷ numbers) (leading score (if b then number else best) numbers) ≡ true
+    by : (b : Bool) → has (number ∷ numbers) (leader_of score number numbers) ≡ true → has (best ∷ numbers) (leader_of score best numbers) ≡ true → has (best ∷ number ∷ numbers) (leader_of score (if b then number else best) numbers) ≡ true
     by true h k = grind (arith, nat_tests, h)
     by false h k = grind (arith, nat_tests, k)
 
@@ -43,8 +43,8 @@ pub record Seeded (free cluster : List ℕ) : Type 0 where
 pub cluster_seeded : (arch : Arch) (elements : List LogicElement) (number : ℕ) (free : List ℕ) → Seeded (number ∷ free) (cluster_of arch elements (number ∷ free))
 unfolding cluster_of
 cluster_seeded arch elements number free = record {
-  seed = leading (input_count_at elements) number free;
-  begins = grows_on arch elements (number ∷ free) (leading (input_count_at elements) number free) arch.cluster_size;
+  seed = leader_of (input_count_at elements) number free;
+  begins = grows_on arch elements (number ∷ free) (leader_of (input_count_at elements) number free) arch.cluster_size;
   is_free = leads_among (input_count_at elements) number free;
 }
 

@@ -6,7 +6,7 @@ use Rattle.arch_file.specs.declared.arch.Arch.{Arch}
 use Rattle.blif.specs.declared.circuit.Circuit.{Circuit}
 use Rattle.cluster.specs.declared.net_uses.NetUses.{NetUses}
 use Rattle.cluster.specs.declared.packed_tables.PackedTables.{PackedTables}
-use Rattle.ble_cluster.specs.Nets.{distinct}
+use Rattle.ble_cluster.specs.Nets.{distinct_nets}
 use Rattle.ble_cluster.specs.NetSets.{NetsAmong}
 use Rattle.ble_cluster.specs.Bles.{LogicElement, bles_of}
 use Rattle.cluster.specs.Clusters.{PackedCircuit}
@@ -19,14 +19,14 @@ use Rattle.cluster.proofs.BlockLists.{leaves_by_uses, nets_by_uses}
 use Rattle.cluster.proofs.FewBlocks.{elements_within}
 
 -- a row for each net
-pub uses_count : (circuit : Circuit) (elements : List LogicElement) (clusters : List (List ℕ)) (uses : NetUses) → uses.globals ≡ record { count = length circuit.nets; nets = distinct (controls_of circuit.latches) } → uses.readers ≡ readers_by_net circuit elements clusters → length uses.readers ≡ uses.globals.count
+pub uses_count : (circuit : Circuit) (elements : List LogicElement) (clusters : List (List ℕ)) (uses : NetUses) → uses.globals ≡ record { count = length circuit.nets; nets = distinct_nets (controls_of circuit.latches) } → uses.readers ≡ readers_by_net circuit elements clusters → length uses.readers ≡ uses.globals.count
 uses_count circuit elements clusters uses globals readers =
     let f : ℕ → List ℕ = λ net. pads_with circuit net (length circuit.outputs) ++ clusters_with circuit elements clusters net (length clusters) in
     ap (λ (rows : List (List ℕ)). length rows) readers ∙ length-map-range_with_len f 0 (length circuit.nets) ∙ sym (ap (λ (set : NetsAmong). set.count) globals)
 
 -- the tables that were built are those of the packed circuit
 pub tables_made : (circuit : Circuit) (arch : Arch) (elements : List LogicElement) (clusters : List (List ℕ)) (tables : PackedTables) (none inputs : List BlockNet) → elements ≡ bles_of circuit → IsPacked (record { circuit = circuit; arch = arch; clusters = clusters }) → tables.inputs ≡ inputs_of_clusters elements clusters → tables.clocks ≡ clocks_of_clusters elements clusters
-    → tables.uses.globals ≡ record { count = length circuit.nets; nets = distinct (controls_of circuit.latches) } → tables.uses.readers ≡ readers_by_net circuit elements clusters → none ≡ [] → inputs ≡ none ++ input_nets circuit tables.uses (length circuit.inputs) → tables.nets ≡ inputs ++ cluster_nets circuit tables.uses elements clusters (length clusters) → tables.ranks.items ≡ pin_ranks arch.pins
+    → tables.uses.globals ≡ record { count = length circuit.nets; nets = distinct_nets (controls_of circuit.latches) } → tables.uses.readers ≡ readers_by_net circuit elements clusters → none ≡ [] → inputs ≡ none ++ input_nets circuit tables.uses (length circuit.inputs) → tables.nets ≡ inputs ++ cluster_nets circuit tables.uses elements clusters (length clusters) → tables.ranks.items ≡ pin_ranks arch.pins
     → AreTablesOf (record { circuit = circuit; arch = arch; clusters = clusters }) tables
 tables_made circuit arch elements clusters tables none inputs elements_are lawful inputs_are clocks_are globals readers nothing input_nets_are nets_are ranks =
     let packed : PackedCircuit = record { circuit = circuit; arch = arch; clusters = clusters } in

@@ -74,12 +74,12 @@ block_nets packed = flat_map (λ block. map (block_net packed block.0) (nets_fro
 
 -- the net on the pin with this class and rank of a cluster; an open pin has none, such as that of
 -- an output that doesn't leave the cluster
-abbrev pub carried : PackedCircuit → ℕ → PinClass → ℕ → Option ℕ
-carried packed cluster Input rank = slice_get (outside_inputs (elements_in packed cluster)) rank
-carried packed cluster Output rank =
+abbrev pub net_on_pin : PackedCircuit → ℕ → PinClass → ℕ → Option ℕ
+net_on_pin packed cluster Input rank = slice_get (outside_inputs (elements_in packed cluster)) rank
+net_on_pin packed cluster Output rank =
     option_and_then (λ net. if leaves_block packed (length packed.circuit.inputs + length packed.circuit.outputs + cluster) net then Some net else None)
     (slice_get (outputs_of (elements_in packed cluster)) rank)
-carried packed cluster Clock rank = slice_get (clocks_of (elements_in packed cluster)) rank
+net_on_pin packed cluster Clock rank = slice_get (clocks_of (elements_in packed cluster)) rank
 
 -- the two classes are equal
 abbrev pub is_same_class : PinClass → PinClass → Bool
@@ -91,4 +91,4 @@ is_same_class Clock class = is_clock_class class
 -- class before it
 abbrev pub pins_of : PackedCircuit → ℕ → List (Option ℕ)
 pins_of packed cluster =
-    map (λ pin. carried packed cluster pin.1.class (count_by (λ other. is_same_class pin.1.class other.class) (take pin.0 packed.arch.pins))) (enumerate_from 0 packed.arch.pins)
+    map (λ pin. net_on_pin packed cluster pin.1.class (count_by (λ other. is_same_class pin.1.class other.class) (take pin.0 packed.arch.pins))) (enumerate_from 0 packed.arch.pins)

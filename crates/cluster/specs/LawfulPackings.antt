@@ -1,5 +1,6 @@
 -- The invariant of every packed circuit.
 use Rattle.std.specs.Prelude.{◌≡◌, ◌<◌, ◌≤◌, None, All, length}
+use Rattle.blif.specs.declared.circuit.TheConstants.{MAX_NETS}
 use Rattle.arch_file.specs.Arch.{IsArch}
 use Rattle.blif.specs.LawfulCircuits.{IsCircuit}
 use Rattle.ble_cluster.specs.Bles.{bles_of}
@@ -14,5 +15,5 @@ pub record IsPacked (packed : PackedCircuit) : Type 0 where
   pub fit : unfit_of packed.circuit packed.arch ≡ None
   pub members : All (λ cluster. All (λ number. number < length (bles_of packed.circuit)) cluster) packed.clusters
   pub seeds : All (λ cluster. 0 < length cluster) packed.clusters
-  pub few_elements : length (bles_of packed.circuit) ≤ 8192
+  pub few_elements : length (bles_of packed.circuit) ≤ MAX_NETS
   pub exact : packed ≡ packed_of packed.circuit packed.arch

@@ -16,16 +16,16 @@ abbrev pub controls_of : List Latch → List ℕ
 controls_of latches = flat_map (λ latch. option_to_list latch.control) latches
 
 -- the readers without the driver
-abbrev pub others : ℕ → List ℕ → List ℕ
-others driver readers = filter (λ reader. not (reader == driver)) readers
+abbrev pub other_readers : ℕ → List ℕ → List ℕ
+other_readers driver readers = filter (λ reader. not (reader == driver)) readers
 
 -- the net leaves the block that drives it
 abbrev pub leaves_by : NetUses → ℕ → ℕ → Bool
-leaves_by uses driver net = has uses.globals.nets net || nat_lt 0 (length (others driver (slice_index_or uses.readers net [])))
+leaves_by uses driver net = has uses.globals.nets net || nat_lt 0 (length (other_readers driver (slice_index_or uses.readers net [])))
 
 -- the net, as one that the block drives
 abbrev pub net_by : NetUses → ℕ → ℕ → BlockNet
-net_by uses driver net = record { net = net; driver = driver; readers = others driver (slice_index_or uses.readers net []); global = has uses.globals.nets net }
+net_by uses driver net = record { net = net; driver = driver; readers = other_readers driver (slice_index_or uses.readers net []); global = has uses.globals.nets net }
 
 -- the nets that the first `count` input pads drive
 abbrev pub input_nets : Circuit → NetUses → ℕ → List BlockNet

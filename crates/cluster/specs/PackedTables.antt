@@ -1,7 +1,7 @@
 -- Private: the tables that are stored with a packed circuit.
 use Rattle.std.specs.Prelude.{◌≡◌, List, length}
 use Rattle.cluster.specs.declared.packed_tables.PackedTables.{PackedTables}
-use Rattle.ble_cluster.specs.Nets.{distinct}
+use Rattle.ble_cluster.specs.Nets.{distinct_nets}
 use Rattle.ble_cluster.specs.Bles.{LogicElement, bles_of}
 use Rattle.cluster.specs.Clusters.{PackedCircuit}
 use Rattle.cluster.specs.Blocks.{block_nets}
@@ -13,7 +13,7 @@ use Rattle.cluster.specs.LawfulPackings.{IsPacked}
 pub record AreTablesOf (packed : PackedCircuit) (tables : PackedTables) : Type 0 where
   pub inputs : tables.inputs ≡ inputs_of_clusters (bles_of packed.circuit) packed.clusters
   pub clocks : tables.clocks ≡ clocks_of_clusters (bles_of packed.circuit) packed.clusters
-  pub globals : tables.uses.globals ≡ record { count = length packed.circuit.nets; nets = distinct (controls_of packed.circuit.latches) }
+  pub globals : tables.uses.globals ≡ record { count = length packed.circuit.nets; nets = distinct_nets (controls_of packed.circuit.latches) }
   pub readers : tables.uses.readers ≡ readers_by_net packed.circuit (bles_of packed.circuit) packed.clusters
   pub nets : tables.nets ≡ block_nets packed
   pub ranks : tables.ranks.items ≡ pin_ranks packed.arch.pins

@@ -2,6 +2,8 @@
 use Rattle.std.specs.Prelude.{ℕ, ◌≡◌, ◌≢◌, ◌<◌, ◌≤◌, ◌↔◌, true, IsTrue, All, AllPairs, Contains, length}
 use Rattle.std.specs.List.{concat, flat_map}
 use Rattle.std.specs.Option.{option_to_list}
+use Rattle.arch_file.specs.declared.arch.TheConstants.{MAX_PINS}
+use Rattle.blif.specs.declared.circuit.TheConstants.{MAX_NETS}
 use Rattle.blif.specs.declared.circuit.Circuit.{Circuit}
 use Rattle.ble_cluster.specs.Bles.{bles_of}
 use Rattle.ble_cluster.specs.Clusters.{elements_at, fits_in_cluster}
@@ -37,5 +39,5 @@ pub record IsLawfulPacking (packed : PackedCircuit) : Type 0 where
   pub output_pads : AllPairs (λ net other. net ≢ other) packed.circuit.outputs
   pub keys : AllPairs (λ key other. key ≢ other) (keys_of packed)
   pub few_blocks : length (blocks_of packed) ≤ 16384
-  pub few_nets : length (block_nets packed) ≤ 8192
-  pub few_pins : length packed.arch.pins ≤ 145
+  pub few_nets : length (block_nets packed) ≤ MAX_NETS
+  pub few_pins : length packed.arch.pins ≤ MAX_PINS

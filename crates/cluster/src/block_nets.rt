@@ -1,6 +1,6 @@
 //! The nets between blocks.
 ghost use Rattle.std.specs.Prelude.{◌≡◌, ◌<◌, ◌≤◌, ◌++◌, [], ◌∷◌, IfOk, OnOk, length, slice_get, Some};
-ghost use Rattle.cluster.specs.NetUses.{others};
+ghost use Rattle.cluster.specs.NetUses.{other_readers};
 
 use crate::block::BlockNet;
 use rows::Span;
@@ -79,7 +79,7 @@ impl BlockNets {
             ≡ self.old ++ record {
               net = net.entry.net;
               driver = net.entry.driver;
-              readers = others net.entry.driver net.entry.readers.now;
+              readers = other_readers net.entry.driver net.entry.readers.now;
               global = net.entry.global;
             }
             ∷ []) }
@@ -100,7 +100,7 @@ impl BlockNets {
 /// Appends the blocks that aren't the driver.
 fn add_others(readers: &mut Vec<u32>, driver: u32, blocks: &[u32]) -> Result<(), AllocError>
     ensures added { OnOk result (readers.new.items
-        ≡ readers.old.items ++ others driver blocks.now) }
+        ≡ readers.old.items ++ other_readers driver blocks.now) }
     ensures grown { length readers.old.items ≤ length readers.new.items }
 {
     for block in blocks {

@@ -2,7 +2,7 @@
 ghost use Rattle.std.specs.Prelude.{◌≡◌, ◌<◌, ◌==◌, [], IfOk, length, not};
 ghost use Rattle.std.specs.List.{list_any, slice_index_or};
 ghost use Rattle.blif.specs.LawfulCircuits.{IsCircuit};
-ghost use Rattle.ble_cluster.specs.Nets.{has, distinct};
+ghost use Rattle.ble_cluster.specs.Nets.{has, distinct_nets};
 ghost use Rattle.cluster.specs.NetUses.{IsUsed, controls_of, leaves_by};
 
 use ble_cluster::NetSet;
@@ -24,7 +24,7 @@ impl NetUses {
         ensures globals { IfOk result (λ uses.
             uses.globals ≡ record {
               count = length circuit.now.nets;
-              nets = distinct (controls_of circuit.now.latches);
+              nets = distinct_nets (controls_of circuit.now.latches);
             }) }
         ensures readers { IfOk result (λ uses. uses.readers ≡ readers) }
     {
@@ -68,7 +68,7 @@ fn globals_of(alloc: Global, circuit: &Circuit) -> Result<NetSet, AllocError>
     ensures { IfOk result (λ globals.
         globals ≡ record {
           count = length circuit.now.nets;
-          nets = distinct (controls_of circuit.now.latches);
+          nets = distinct_nets (controls_of circuit.now.latches);
         }) }
 {
     let mut globals = NetSet::new(alloc, circuit.nets.len())?;
@@ -88,7 +88,7 @@ fn add_controls(globals: &mut NetSet, circuit: &Circuit) -> Result<(), AllocErro
     ensures { IfOk result (λ _. globals.new
         ≡ record {
           count = length circuit.now.nets;
-          nets = distinct (controls_of circuit.now.latches);
+          nets = distinct_nets (controls_of circuit.now.latches);
         }) }
 {
     for latch in circuit.latches.as_slice() {

@@ -1,7 +1,7 @@
 //! A packed circuit.
 ghost use Rattle.std.specs.Prelude.{◌≡◌, ◌+◌, ◌<◌, length, slice_get, Some};
 ghost use Rattle.ble_cluster.specs.Bles.{bles_of};
-ghost use Rattle.cluster.specs.Blocks.{block_name, blocks_of, block_nets, carried, net_name, pins_of};
+ghost use Rattle.cluster.specs.Blocks.{block_name, blocks_of, block_nets, net_on_pin, net_name, pins_of};
 ghost use Rattle.cluster.specs.Keys.{keys_of};
 ghost use Rattle.cluster.specs.LawfulPackings.{IsPacked};
 ghost use Rattle.cluster.specs.PackedTables.{ArePartsOf};
@@ -77,6 +77,13 @@ impl Packed {
         self.arch.arch()
     }
 
+    /// The packing is lawful. Does nothing.
+    pub fn laws(&self)
+        ensures { IsPacked self.now }
+    {
+        let _ = self.circuit();
+    }
+
     /// The number of BLEs of the circuit.
     pub fn ble_count(&self) -> usize
         ensures { result ≡ length (bles_of self.now.circuit) }
@@ -149,7 +156,7 @@ impl Packed {
         ensures { slice_get (keys_of self.now) number
             ≡ Some (record { kind = result.kind; name = result.name.now }) }
     {
-        let _ = self.circuit();
+        self.laws();
         match self.block(number) {
             Block::InputPad(net) => BlockKey {
                 kind: BlockKind::InputPad,
@@ -222,7 +229,7 @@ impl Packed {
     /// The output of the BLE at this index of a cluster, if the net leaves the cluster.
     fn leaving_output(&self, cluster: usize, place: usize) -> Option<u32>
         requires { cluster < length self.now.clusters }
-        ensures { result ≡ carried self.now cluster PinClass.Output place }
+        ensures { result ≡ net_on_pin self.now cluster PinClass.Output place }
     {
         let members = self.clusters.row(cluster);
         if place >= members.len() {

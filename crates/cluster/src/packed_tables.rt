@@ -1,7 +1,7 @@
 //! The tables that are stored with a packed circuit, so that its pins and nets can be looked up
 //! quickly.
 ghost use Rattle.std.specs.Prelude.{◌≡◌, ◌++◌, IfOk, length};
-ghost use Rattle.ble_cluster.specs.Nets.{distinct};
+ghost use Rattle.ble_cluster.specs.Nets.{distinct_nets};
 ghost use Rattle.cluster.specs.ClusterPins.{pin_ranks, readers_by_net};
 ghost use Rattle.cluster.specs.NetUses.{UsesBlocks, cluster_nets, controls_of, input_nets};
 ghost use Rattle.cluster.specs.PackedTables.{AreTablesOf, IsPackedOf};
@@ -86,7 +86,7 @@ fn uses_of(
     ensures globals { IfOk result (λ made.
         made.0.globals ≡ record {
           count = length circuit.now.nets;
-          nets = distinct (controls_of circuit.now.latches);
+          nets = distinct_nets (controls_of circuit.now.latches);
         }) }
     ensures readers { IfOk result (λ made.
         made.0.readers ≡ readers_by_net circuit.now bles.now clusters.now) }

@@ -11,7 +11,7 @@ use crate::fault::{PackError, PackFault};
 use crate::packed::Packed;
 use crate::packed_tables::PackedTables;
 use arch_file::{Arch, SharedArch};
-use ble_cluster::{Bles, FreeBles, unfit};
+use ble_cluster::{Bles, FreeBles, first_unfit};
 use blif::{Circuit, SharedCircuit};
 use rows::Rows;
 use std::alloc::{AllocError, Global};
@@ -25,7 +25,7 @@ pub fn check(alloc: Global, circuit: &Circuit, arch: &Arch) -> Result<(), PackEr
     ensures { IsChecked (unfit_of circuit.now arch.now) result }
 {
     let bles = Bles::new(alloc, circuit)?;
-    match unfit(&bles, circuit.nets.len(), arch) {
+    match first_unfit(&bles, circuit.nets.len(), arch) {
         None => Ok(()),
         Some(number) => Err(PackError::Fault(PackFault::CannotFit(number))),
     }

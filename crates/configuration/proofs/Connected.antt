@@ -19,7 +19,7 @@ use Rattle.grid.specs.declared.place.Place.{Place}
 use Rattle.grid.specs.Sizes.{IsStripSize}
 use Rattle.implements.specs.Holding.{holds_latch, holds_table, is_latch, is_pair, is_same_net, is_table, receives}
 use Rattle.implements.specs.Implements.{Implements, output_at}
-use Rattle.implements.specs.Layouts.{LaidBlock, Layout, traced, traced_bles}
+use Rattle.implements.specs.Layouts.{LaidBlock, Layout, traced_ble, traced_bles}
 use Rattle.implements.proofs.Members.{counted, from_all, from_any, from_flat_map, from_has, from_map, in_cases, in_none, to_any}
 use Rattle.configuration.specs.Configuration.{configuration_of}
 use Rattle.configuration.specs.Wired.{Configures, IsClockedBy, Shows, Spot, TakesAt}
@@ -85,33 +85,33 @@ module _ (circuit : Circuit) where
           record { data' = inr (table, sym (eqb-true latch.input table.output input), grind (arith, any)); clock = same_net element.clock latch.control c; output = eqb-true element.output latch.output o }
 
 module _ (lines : List JoinedLine) (circuit : Circuit) (arch : Arch) (strip : Strip) (layout : Layout) (size : IsStripSize strip) (h : Implements circuit arch strip layout) where
-  spotted : (element : LogicElement) → Contains (traced_bles arch layout) element → (spot : Spot layout) × (traced arch spot.laid spot.ble ≡ element)
+  spotted : (element : LogicElement) → Contains (traced_bles arch layout) element → (spot : Spot layout) × (traced_ble arch spot.laid spot.ble ≡ element)
   spotted element c =
-      let outer = from_flat_map (λ (block : LaidBlock). map (traced arch block) block.bles) layout.blocks element c in
-      let inner = from_map (traced arch outer.0) outer.0.bles element outer.2 in
+      let outer = from_flat_map (λ (block : LaidBlock). map (traced_ble arch block) block.bles) layout.blocks element c in
+      let inner = from_map (traced_ble arch outer.0) outer.0.bles element outer.2 in
       let at = get_at outer.0.bles inner.0 inner.1 in
       (record { laid = outer.0; there = outer.1; index = at.0; ble = inner.0; is = at.1 }, inner.2)
 
-  received : (spot : Spot layout) (net : ℕ) → Contains (traced arch spot.laid spot.ble).inputs net → (j : ℕ) × TakesAt arch strip layout (configuration_of lines circuit arch strip layout) spot j net
-  received spot net c = let at = get_at (traced arch spot.laid spot.ble).inputs net c in (at.0, taken lines circuit arch strip layout size h spot at.0 net at.1)
+  received : (spot : Spot layout) (net : ℕ) → Contains (traced_ble arch spot.laid spot.ble).inputs net → (j : ℕ) × TakesAt arch strip layout (configuration_of lines circuit arch strip layout) spot j net
+  received spot net c = let at = get_at (traced_ble arch spot.laid spot.ble).inputs net c in (at.0, taken lines circuit arch strip layout size h spot at.0 net at.1)
 
-  tables_there : (table : LookupTable) → Contains circuit.tables table → (spot : Spot layout) × (holds_table circuit (traced arch spot.laid spot.ble) table ≡ true)
+  tables_there : (table : LookupTable) → Contains circuit.tables table → (spot : Spot layout) × (holds_table circuit (traced_ble arch spot.laid spot.ble) table ≡ true)
       × ((net : ℕ) → has table.inputs net ≡ true → (j : ℕ) × TakesAt arch strip layout (configuration_of lines circuit arch strip layout) spot j net)
   tables_there table c =
       let once = All-contains (λ table. count_by (λ element. holds_table circuit element table) (traced_bles arch layout) ≡ 1) circuit.tables table h.held.tables c in
       let found = from_any (λ element. holds_table circuit element table) (traced_bles arch layout) (counted (λ element. holds_table circuit element table) (traced_bles arch layout) once) in
       let at = spotted found.0 found.1 in
-      let holds : holds_table circuit (traced arch at.0.laid at.0.ble) table ≡ true = ap (λ element. holds_table circuit element table) at.1 ∙ found.2 in
-      (at.0, holds, λ net is. received at.0 net (receives_all (traced arch at.0.laid at.0.ble) table.inputs net (reads_table circuit (traced arch at.0.laid at.0.ble) table holds) is))
+      let holds : holds_table circuit (traced_ble arch at.0.laid at.0.ble) table ≡ true = ap (λ element. holds_table circuit element table) at.1 ∙ found.2 in
+      (at.0, holds, λ net is. received at.0 net (receives_all (traced_ble arch at.0.laid at.0.ble) table.inputs net (reads_table circuit (traced_ble arch at.0.laid at.0.ble) table holds) is))
 
-  latches_there : (latch : Latch) → Contains circuit.latches latch → (spot : Spot layout) × (holds_latch circuit (traced arch spot.laid spot.ble) latch ≡ true)
-      × (((j : ℕ) × TakesAt arch strip layout (configuration_of lines circuit arch strip layout) spot j latch.input) ⊎ ((table : LookupTable) × (table.output ≡ latch.input) × (holds_table circuit (traced arch spot.laid spot.ble) table ≡ true)))
+  latches_there : (latch : Latch) → Contains circuit.latches latch → (spot : Spot layout) × (holds_latch circuit (traced_ble arch spot.laid spot.ble) latch ≡ true)
+      × (((j : ℕ) × TakesAt arch strip layout (configuration_of lines circuit arch strip layout) spot j latch.input) ⊎ ((table : LookupTable) × (table.output ≡ latch.input) × (holds_table circuit (traced_ble arch spot.laid spot.ble) table ≡ true)))
       × ((net : ℕ) → latch.control ≡ Some net → IsClockedBy arch strip layout (configuration_of lines circuit arch strip layout) spot net)
   latches_there latch c =
       let once = All-contains (λ latch. count_by (λ element. holds_latch circuit element latch) (traced_bles arch layout) ≡ 1) circuit.latches latch h.held.latches c in
       let found = from_any (λ element. holds_latch circuit element latch) (traced_bles arch layout) (counted (λ element. holds_latch circuit element latch) (traced_bles arch layout) once) in
       let at = spotted found.0 found.1 in
-      let element = traced arch at.0.laid at.0.ble in
+      let element = traced_ble arch at.0.laid at.0.ble in
       let holds : holds_latch circuit element latch ≡ true = ap (λ element. holds_latch circuit element latch) at.1 ∙ found.2 in
       let parts = latch_parts circuit element latch c holds in
       (at.0, holds, elim parts.data' [ inl e ↦ inl (received at.0 latch.input e) | inr e ↦ inr e ], λ net is. clocked lines circuit arch strip layout size h at.0 latch net c is parts.output (parts.clock ∙ is))

@@ -29,7 +29,7 @@ use Rattle.pathfinder.specs.Terminals.{is_same_node, sink_at}
 use Rattle.pathfinder.proofs.NodeNumbers.{same_node}
 use Rattle.rr_graph.specs.declared.node.Node.{Node}
 use Rattle.rr_graph.specs.declared.node.NodeKind.TheVariants.{Ipin}
-use Rattle.rr_graph.specs.Geometry.{is_chan_y, is_node, is_slot, moved}
+use Rattle.rr_graph.specs.Geometry.{is_chan_y, is_node, is_slot, node_at_offset}
 use Rattle.rr_graph.specs.Graph.{make_node}
 use Rattle.configuration.specs.Lines.{BlePlace, ConfigurationLine, Device, Driver, Feeds, FromBle, FromGlobal, FromPin, PadAt, BleAt, PadIn, PadOut, Signal, Stores, Switch, Takes, Used, Values}
 use Rattle.configuration.specs.RoutedPins.{ble_at, paths_of, pin_in}
@@ -161,7 +161,7 @@ column_of (PadNamed place) = place.x
 column_of (BleNamed place) = place.x
 
 moved_thing : ℕ → Thing → Thing
-moved_thing columns (NodeNamed node) = NodeNamed (moved columns node)
+moved_thing columns (NodeNamed node) = NodeNamed (node_at_offset columns node)
 moved_thing columns (PadNamed place) = PadNamed (moved_pad columns place)
 moved_thing columns (BleNamed place) = BleNamed (moved_ble columns place)
 

@@ -18,7 +18,7 @@ use Rattle.cluster.proofs.Pairs.{pairs_back, pairs_front}
 use Rattle.grid.specs.declared.Strip.{Strip}
 use Rattle.implements.specs.Holding.{holds_table, is_pair, is_same_net, is_table, receives}
 use Rattle.implements.specs.Implements.{Implements, ble_places}
-use Rattle.implements.specs.Layouts.{LaidBle, LaidBlock, Layout, traced}
+use Rattle.implements.specs.Layouts.{LaidBle, LaidBlock, Layout, traced_ble}
 use Rattle.implements.proofs.Members.{all_members, from_all, from_any, from_get, from_has, to_any, to_flat_map, to_map}
 use Rattle.implements.proofs.Unique.{AreApart, count-append, never_both, same_by, some_counted}
 use Rattle.table_rows.specs.CellLines.{rows_at}
@@ -84,51 +84,51 @@ module _ (circuit : Circuit) (lawful : IsCircuit circuit) where
       omega (arith, one, two, p, q, r, count)
 
   module _ (arch : Arch) (laid : LaidBlock) (ble : LaidBle) where
-    table_is : (table : LookupTable) → Contains circuit.tables table → holds_table circuit (traced arch laid ble) table ≡ true → table_within circuit arch laid ble ≡ Some table
-    table_is table c holds = by (is_table (traced arch laid ble) table) refl
+    table_is : (table : LookupTable) → Contains circuit.tables table → holds_table circuit (traced_ble arch laid ble) table ≡ true → table_within circuit arch laid ble ≡ Some table
+    table_is table c holds = by (is_table (traced_ble arch laid ble) table) refl
       where
-        by : (b : Bool) → is_table (traced arch laid ble) table ≡ b → table_within circuit arch laid ble ≡ Some table
+        by : (b : Bool) → is_table (traced_ble arch laid ble) table ≡ b → table_within circuit arch laid ble ≡ Some table
         by true is =
-            let output : (ble.name == table.output) ≡ true = (and_parts (ble.name == table.output) (receives (traced arch laid ble) table.inputs && is_same_net (traced arch laid ble).clock None) is).0 in
+            let output : (ble.name == table.output) ≡ true = (and_parts (ble.name == table.output) (receives (traced_ble arch laid ble) table.inputs && is_same_net (traced_ble arch laid ble).clock None) is).0 in
             let same : table.output ≡ ble.name = sym (eqb-true ble.name table.output output) in
-            ap (λ (o : Option Latch). option_map_or (λ (latch : Latch). cond (receives (traced arch laid ble) (latch.input ∷ [])) None (table_driving circuit latch.input)) o (table_driving circuit ble.name)) (no_latch table ble.name c same)
+            ap (λ (o : Option Latch). option_map_or (λ (latch : Latch). cond (receives (traced_ble arch laid ble) (latch.input ∷ [])) None (table_driving circuit latch.input)) o (table_driving circuit ble.name)) (no_latch table ble.name c same)
             ∙ table_found table ble.name c same
         by false is =
-            let pair = from_any (is_pair circuit (traced arch laid ble) table) circuit.latches (sym (ap (λ (b : Bool). b || list_any (is_pair circuit (traced arch laid ble) table) circuit.latches) is) ∙ holds) in
+            let pair = from_any (is_pair circuit (traced_ble arch laid ble) table) circuit.latches (sym (ap (λ (b : Bool). b || list_any (is_pair circuit (traced_ble arch laid ble) table) circuit.latches) is) ∙ holds) in
             let latch = pair.0 in
-            let outer = and_parts ((latch.input == table.output) && is_read_once circuit table.output) ((ble.name == latch.output) && (receives (traced arch laid ble) table.inputs && is_same_net (traced arch laid ble).clock latch.control)) pair.2 in
+            let outer = and_parts ((latch.input == table.output) && is_read_once circuit table.output) ((ble.name == latch.output) && (receives (traced_ble arch laid ble) table.inputs && is_same_net (traced_ble arch laid ble).clock latch.control)) pair.2 in
             let left = and_parts (latch.input == table.output) (is_read_once circuit table.output) outer.0 in
-            let right = and_parts (ble.name == latch.output) (receives (traced arch laid ble) table.inputs && is_same_net (traced arch laid ble).clock latch.control) outer.1 in
+            let right = and_parts (ble.name == latch.output) (receives (traced_ble arch laid ble) table.inputs && is_same_net (traced_ble arch laid ble).clock latch.control) outer.1 in
             let same : latch.input ≡ table.output = eqb-true latch.input table.output left.0 in
             let name : latch.output ≡ ble.name = sym (eqb-true ble.name latch.output right.0) in
-            ap (λ (o : Option Latch). option_map_or (λ (latch : Latch). cond (receives (traced arch laid ble) (latch.input ∷ [])) None (table_driving circuit latch.input)) o (table_driving circuit ble.name)) (latch_found latch ble.name pair.1 name)
+            ap (λ (o : Option Latch). option_map_or (λ (latch : Latch). cond (receives (traced_ble arch laid ble) (latch.input ∷ [])) None (table_driving circuit latch.input)) o (table_driving circuit ble.name)) (latch_found latch ble.name pair.1 name)
             ∙ (ap (λ (b : Bool). cond b None (table_driving circuit latch.input)) (not_alone latch pair.1 same left.1) ∙ table_found table latch.input c (sym same))
           where
-            not_alone : (latch : Latch) → Contains circuit.latches latch → latch.input ≡ table.output → is_read_once circuit table.output ≡ true → receives (traced arch laid ble) (latch.input ∷ []) ≡ false
-            not_alone latch d same once = split (receives (traced arch laid ble) (latch.input ∷ [])) refl
+            not_alone : (latch : Latch) → Contains circuit.latches latch → latch.input ≡ table.output → is_read_once circuit table.output ≡ true → receives (traced_ble arch laid ble) (latch.input ∷ []) ≡ false
+            not_alone latch d same once = split (receives (traced_ble arch laid ble) (latch.input ∷ [])) refl
               where
-                split : (b : Bool) → receives (traced arch laid ble) (latch.input ∷ []) ≡ b → receives (traced arch laid ble) (latch.input ∷ []) ≡ false
+                split : (b : Bool) → receives (traced_ble arch laid ble) (latch.input ∷ []) ≡ b → receives (traced_ble arch laid ble) (latch.input ∷ []) ≡ false
                 split false is = is
                 split true is =
-                    let inputs = (traced arch laid ble).inputs in
+                    let inputs = (traced_ble arch laid ble).inputs in
                     let there : has inputs latch.input ≡ true = grind (arith, is) in
-                    let reads = reads_table circuit (traced arch laid ble) table holds in
+                    let reads = reads_table circuit (traced_ble arch laid ble) table holds in
                     let all : list_all (has table.inputs) inputs ≡ true = grind (arith, reads) in
                     let read : has table.inputs latch.input ≡ true = from_all (has table.inputs) inputs latch.input all (from_has inputs latch.input there) in
                     absurd (not_twice table latch table.output c d (subst (λ n. has table.inputs n ≡ true) same read) same once)
 
 pub has_table_values : (netlist : List JoinedLine) (circuit : Circuit) (arch : Arch) (strip : Strip) (layout : Layout) → IsCircuit circuit → Implements circuit arch strip layout → (table : LookupTable) → Contains circuit.tables table →
-    (spot : Spot layout) → holds_table circuit (traced arch spot.laid spot.ble) table ≡ true → HasValues netlist circuit arch layout (configuration_of netlist circuit arch strip layout) spot table
+    (spot : Spot layout) → holds_table circuit (traced_ble arch spot.laid spot.ble) table ≡ true → HasValues netlist circuit arch layout (configuration_of netlist circuit arch strip layout) spot table
 has_table_values netlist circuit arch strip layout lawful h table c spot holds =
     let place = place_of_spot arch layout spot in
-    let inputs = (traced arch spot.laid spot.ble).inputs in
+    let inputs = (traced_ble arch spot.laid spot.ble).inputs in
     let bits = bits_of arch.lut_size (rows_at netlist table.line) table.inputs inputs in
     let is : values_in netlist circuit arch spot.laid spot.ble ≡ bits =
     ap (λ (o : Option LookupTable). option_map_or (λ (table : LookupTable). bits_of arch.lut_size (rows_at netlist table.line) table.inputs inputs) o (wire_bits arch.lut_size)) (table_is circuit lawful arch spot.laid spot.ble table c holds) in
     let few = All-contains (λ (laid : LaidBlock). length laid.bles ≤ ble_places arch laid.block) layout.blocks spot.laid h.few_bles spot.there in
     let some = (from_get spot.laid.bles spot.index spot.ble spot.is).0 in
     let cluster = a_cluster arch spot.laid.block (omega (arith, few, some)) in
-    let reads = reads_table circuit (traced arch spot.laid spot.ble) table holds in
+    let reads = reads_table circuit (traced_ble arch spot.laid spot.ble) table holds in
     let all : list_all (has inputs) table.inputs ≡ true = grind (arith, reads) in
     record {
       bits = bits;

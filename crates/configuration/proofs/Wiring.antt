@@ -31,7 +31,7 @@ use Rattle.rr_graph.specs.Graph.{make_node}
 use Rattle.implements.specs.declared.feed.Feed.{Feed}
 use Rattle.implements.specs.declared.feed.Feed.TheVariants.{Pin, Ble}
 use Rattle.implements.specs.Implements.{Implements, IsLaid, ble_places, drives, has_on, sinks_of, wants, wants_as}
-use Rattle.implements.specs.Layouts.{IsFed, LaidBle, LaidBlock, LaidNet, Layout, fed, on_pin, traced}
+use Rattle.implements.specs.Layouts.{IsFed, LaidBle, LaidBlock, LaidNet, Layout, input_net, on_pin, traced_ble}
 use Rattle.implements.proofs.Coming.{has_pin}
 use Rattle.implements.proofs.Members.{from_get, from_has, from_map, in_first, in_later, in_none, one_only, to_any, to_filter, to_flat_map, to_has, to_map}
 use Rattle.table_rows.specs.CellLines.{args_at, init_in, type_in}
@@ -186,7 +186,7 @@ module _ (lines : List JoinedLine) (circuit : Circuit) (arch : Arch) (strip : St
   pub is_used : (spot : Spot layout) → Contains (configuration_of lines circuit arch strip layout) (Used (place_of_spot arch layout spot))
   is_used spot = line_of spot (Used (place_of_spot arch layout spot)) (has_used lines circuit arch strip layout spot.laid (place_of_spot arch layout spot) spot.ble)
 
-  takes : (spot : Spot layout) (j net : ℕ) (feed : Feed) → slice_get spot.ble.inputs j ≡ Some feed → fed arch spot.laid feed ≡ Some net → TakesAt arch strip layout (configuration_of lines circuit arch strip layout) spot j net
+  takes : (spot : Spot layout) (j net : ℕ) (feed : Feed) → slice_get spot.ble.inputs j ≡ Some feed → input_net arch spot.laid feed ≡ Some net → TakesAt arch strip layout (configuration_of lines circuit arch strip layout) spot j net
   takes spot j net (Ble index) at is = by (slice_get spot.laid.bles index) refl is
     where
       by : (o : Option LaidBle) → slice_get spot.laid.bles index ≡ o → option_map (λ (ble : LaidBle). ble.name) o ≡ Some net → TakesAt arch strip layout (configuration_of lines circuit arch strip layout) spot j net
@@ -239,23 +239,23 @@ module _ (lines : List JoinedLine) (circuit : Circuit) (arch : Arch) (strip : St
           }
 
   -- by the nets that come to the inputs
-  fed_at : (laid : LaidBlock) (feeds : List Feed) (j net : ℕ) → ((feed : Feed) → Contains feeds feed → is_some (fed arch laid feed) ≡ true) →
-      slice_get (flat_map (λ feed. option_to_list (fed arch laid feed)) feeds) j ≡ Some net → (feed : Feed) × (slice_get feeds j ≡ Some feed) × (fed arch laid feed ≡ Some net)
+  fed_at : (laid : LaidBlock) (feeds : List Feed) (j net : ℕ) → ((feed : Feed) → Contains feeds feed → is_some (input_net arch laid feed) ≡ true) →
+      slice_get (flat_map (λ feed. option_to_list (input_net arch laid feed)) feeds) j ≡ Some net → (feed : Feed) × (slice_get feeds j ≡ Some feed) × (input_net arch laid feed ≡ Some net)
   fed_at laid [] j net all e = absurd cc
-  fed_at laid (feed ∷ feeds) j net all e = by (fed arch laid feed) refl (all feed (in_first feed feeds)) (λ j. fed_at laid feeds j net (λ f c. all f (in_later feed f feeds c))) j e
+  fed_at laid (feed ∷ feeds) j net all e = by (input_net arch laid feed) refl (all feed (in_first feed feeds)) (λ j. fed_at laid feeds j net (λ f c. all f (in_later feed f feeds c))) j e
     where
-      by : (o : Option ℕ) → fed arch laid feed ≡ o → is_some o ≡ true → ((j : ℕ) → slice_get (flat_map (λ feed. option_to_list (fed arch laid feed)) feeds) j ≡ Some net → (other : Feed) × (slice_get feeds j ≡ Some other) × (fed arch laid other ≡ Some net)) →
-          (j : ℕ) → slice_get (option_to_list o ++ flat_map (λ feed. option_to_list (fed arch laid feed)) feeds) j ≡ Some net →
-          (other : Feed) × (slice_get (feed ∷ feeds) j ≡ Some other) × (fed arch laid other ≡ Some net)
+      by : (o : Option ℕ) → input_net arch laid feed ≡ o → is_some o ≡ true → ((j : ℕ) → slice_get (flat_map (λ feed. option_to_list (input_net arch laid feed)) feeds) j ≡ Some net → (other : Feed) × (slice_get feeds j ≡ Some other) × (input_net arch laid other ≡ Some net)) →
+          (j : ℕ) → slice_get (option_to_list o ++ flat_map (λ feed. option_to_list (input_net arch laid feed)) feeds) j ≡ Some net →
+          (other : Feed) × (slice_get (feed ∷ feeds) j ≡ Some other) × (input_net arch laid other ≡ Some net)
       by None is wrong more j e = absurd (false≢true wrong)
       by (Some other) is some more zero e = (feed, refl, is ∙ e)
       by (Some other) is some more (suc j) e = let q = more j e in (q.0, q.1, q.2)
 
-  pub taken : (spot : Spot layout) (j net : ℕ) → slice_get (traced arch spot.laid spot.ble).inputs j ≡ Some net → TakesAt arch strip layout (configuration_of lines circuit arch strip layout) spot j net
+  pub taken : (spot : Spot layout) (j net : ℕ) → slice_get (traced_ble arch spot.laid spot.ble).inputs j ≡ Some net → TakesAt arch strip layout (configuration_of lines circuit arch strip layout) spot j net
   taken spot j net e =
       let here = All-contains (λ (laid : LaidBlock). All (IsFed arch laid) laid.bles) layout.blocks spot.laid h.fed spot.there in
       let mine = All-contains (IsFed arch spot.laid) spot.laid.bles spot.ble here (from_get spot.laid.bles spot.index spot.ble spot.is).1 in
-      let q = fed_at spot.laid spot.ble.inputs j net (λ feed c. All-contains (λ (feed : Feed). is_some (fed arch spot.laid feed) ≡ true) spot.ble.inputs feed mine.inputs c) e in
+      let q = fed_at spot.laid spot.ble.inputs j net (λ feed c. All-contains (λ (feed : Feed). is_some (input_net arch spot.laid feed) ≡ true) spot.ble.inputs feed mine.inputs c) e in
       takes spot j net q.0 q.1 q.2
 
   -- ---- clocks and outputs
@@ -266,7 +266,7 @@ module _ (lines : List JoinedLine) (circuit : Circuit) (arch : Arch) (strip : St
       (to_flat_map (λ (latch : Latch). option_to_list latch.control) circuit.latches latch net c (one_only latch.control net is)) in
       (prefix_len (λ other. not (other == net)) layout.globals, ap (λ (b : Bool). cond b (Some (prefix_len (λ other. not (other == net)) layout.globals)) None) (h.globals net ∙ one))
 
-  pub clocked : (spot : Spot layout) (latch : Latch) (net : ℕ) → Contains circuit.latches latch → latch.control ≡ Some net → (spot.ble.name ≡ latch.output) → (traced arch spot.laid spot.ble).clock ≡ Some net →
+  pub clocked : (spot : Spot layout) (latch : Latch) (net : ℕ) → Contains circuit.latches latch → latch.control ≡ Some net → (spot.ble.name ≡ latch.output) → (traced_ble arch spot.laid spot.ble).clock ≡ Some net →
       IsClockedBy arch strip layout (configuration_of lines circuit arch strip layout) spot net
   clocked spot latch net c is name clock =
       let g = global_of latch net c is in

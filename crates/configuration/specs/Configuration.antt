@@ -20,7 +20,7 @@ use Rattle.rr_graph.specs.declared.node.Node.{Node}
 use Rattle.implements.specs.Holding.{receives}
 use Rattle.implements.specs.declared.feed.Feed.{Feed}
 use Rattle.implements.specs.declared.feed.Feed.TheVariants.{Pin, Ble}
-use Rattle.implements.specs.Layouts.{LaidBle, LaidBlock, LaidNet, Layout, on_pin, traced}
+use Rattle.implements.specs.Layouts.{LaidBle, LaidBlock, LaidNet, Layout, on_pin, traced_ble}
 use Rattle.table_rows.specs.CellLines.{args_at, init_in, rows_at, type_in}
 use Rattle.table_rows.specs.TableBits.{bits_of, wire_bits}
 use Rattle.configuration.specs.Lines.{BlePlace, ConfigurationLine, Device, Driver, Feeds, FromBle, FromGlobal, FromPin, PadAt, BleAt, PadIn, PadOut, Signal, Stores, Switch, Takes, Used, Values}
@@ -56,17 +56,17 @@ table_driving circuit net = find (λ table. table.output == net) circuit.tables
 -- has the latch alone, which then receives its data
 abbrev pub table_within : Circuit → Arch → LaidBlock → LaidBle → Option LookupTable
 table_within circuit arch laid ble =
-    option_map_or (λ latch. if receives (traced arch laid ble) (latch.input ∷ []) then None else table_driving circuit latch.input)
+    option_map_or (λ latch. if receives (traced_ble arch laid ble) (latch.input ∷ []) then None else table_driving circuit latch.input)
     (latch_driving circuit ble.name) (table_driving circuit ble.name)
 
 -- the values of the BLE's table, those of a wire if it has a latch alone
 abbrev pub values_in : List JoinedLine → Circuit → Arch → LaidBlock → LaidBle → List Bool
 values_in lines circuit arch laid ble =
-    option_map_or (λ table. bits_of arch.lut_size (rows_at lines table.line) table.inputs (traced arch laid ble).inputs) (table_within circuit arch laid ble) (wire_bits arch.lut_size)
+    option_map_or (λ table. bits_of arch.lut_size (rows_at lines table.line) table.inputs (traced_ble arch laid ble).inputs) (table_within circuit arch laid ble) (wire_bits arch.lut_size)
 
 -- the global net that controls the BLE's latch
 abbrev pub control_in : Arch → Layout → LaidBlock → LaidBle → Option ℕ
-control_in arch layout laid ble = option_and_then (global_number layout) (traced arch laid ble).clock
+control_in arch layout laid ble = option_and_then (global_number layout) (traced_ble arch laid ble).clock
 
 -- the line of the BLE's latch, if it has one
 abbrev pub latch_lines : List JoinedLine → Circuit → Arch → Layout → LaidBlock → BlePlace → LaidBle → List ConfigurationLine

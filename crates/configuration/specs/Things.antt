@@ -8,7 +8,7 @@ use Rattle.grid.specs.declared.place.Place.{Place}
 use Rattle.grid.specs.Places.{places_of}
 use Rattle.rr_graph.specs.declared.node.Node.{Node}
 use Rattle.rr_graph.specs.declared.node.NodeKind.TheVariants.{Ipin}
-use Rattle.rr_graph.specs.Geometry.{is_node, moved}
+use Rattle.rr_graph.specs.Geometry.{is_node, node_at_offset}
 use Rattle.rr_graph.specs.Graph.{make_node}
 use Rattle.configuration.specs.Lines.{BlePlace, ConfigurationLine, Device, Driver, Feeds, FromBle, FromGlobal, FromPin, PadAt, BleAt, PadIn, PadOut, Signal, Stores, Switch, Takes, Used, Values}
 
@@ -71,7 +71,7 @@ moved_line columns (Takes place j signal) = Takes (moved_ble columns place) j si
 moved_line columns (Values place bits) = Values (moved_ble columns place) bits
 moved_line columns (Stores place type init control) = Stores (moved_ble columns place) type init control
 moved_line columns (Feeds number driver) = Feeds number (moved_driver columns driver)
-moved_line columns (Switch a b) = Switch (moved columns a) (moved columns b)
+moved_line columns (Switch a b) = Switch (node_at_offset columns a) (node_at_offset columns b)
 
 -- on the device, no line of the one configuration names what a line of the other names
 abbrev pub ShareNothing : ℕ → List ConfigurationLine → ℕ → List ConfigurationLine → Type 0

@@ -12,7 +12,7 @@ use Rattle.cluster.specs.declared.block.Block.TheVariants.{InputPad}
 use Rattle.grid.specs.declared.Strip.{Strip}
 use Rattle.grid.specs.declared.place.Place.{Place}
 use Rattle.implements.specs.Holding.{holds_latch, holds_table}
-use Rattle.implements.specs.Layouts.{LaidBle, LaidBlock, Layout, traced}
+use Rattle.implements.specs.Layouts.{LaidBle, LaidBlock, Layout, traced_ble}
 use Rattle.configuration.specs.Lines.{BlePlace, ConfigurationLine, Driver, Feeds, PadAt, BleAt, PadOut, Signal, Stores, Takes, Used, Values}
 use Rattle.configuration.specs.RoutedPins.{ble_at}
 use Rattle.rr_graph.specs.declared.node.Node.{Node}
@@ -68,11 +68,11 @@ pub record Shows (arch : Arch) (strip : Strip) (layout : Layout) (lines : List C
 -- pad, which shows what drives it.
 pub record Configures (circuit : Circuit) (arch : Arch) (strip : Strip) (layout : Layout) (lines : List ConfigurationLine) : Type 0 where
   pub used : (spot : Spot layout) → Contains lines (Used (place_of_spot arch layout spot))
-  pub inputs : (spot : Spot layout) (j net : ℕ) → slice_get (traced arch spot.laid spot.ble).inputs j ≡ Some net → TakesAt arch strip layout lines spot j net
-  pub tables : (table : LookupTable) → Contains circuit.tables table → (spot : Spot layout) × (holds_table circuit (traced arch spot.laid spot.ble) table ≡ true)
+  pub inputs : (spot : Spot layout) (j net : ℕ) → slice_get (traced_ble arch spot.laid spot.ble).inputs j ≡ Some net → TakesAt arch strip layout lines spot j net
+  pub tables : (table : LookupTable) → Contains circuit.tables table → (spot : Spot layout) × (holds_table circuit (traced_ble arch spot.laid spot.ble) table ≡ true)
       × ((net : ℕ) → has table.inputs net ≡ true → (j : ℕ) × TakesAt arch strip layout lines spot j net)
-  pub latches : (latch : Latch) → Contains circuit.latches latch → (spot : Spot layout) × (holds_latch circuit (traced arch spot.laid spot.ble) latch ≡ true)
-      × (((j : ℕ) × TakesAt arch strip layout lines spot j latch.input) ⊎ ((table : LookupTable) × (table.output ≡ latch.input) × (holds_table circuit (traced arch spot.laid spot.ble) table ≡ true)))
+  pub latches : (latch : Latch) → Contains circuit.latches latch → (spot : Spot layout) × (holds_latch circuit (traced_ble arch spot.laid spot.ble) latch ≡ true)
+      × (((j : ℕ) × TakesAt arch strip layout lines spot j latch.input) ⊎ ((table : LookupTable) × (table.output ≡ latch.input) × (holds_table circuit (traced_ble arch spot.laid spot.ble) table ≡ true)))
       × ((net : ℕ) → latch.control ≡ Some net → IsClockedBy arch strip layout lines spot net)
   pub outputs : (net : ℕ) → Contains circuit.outputs net → (place : Place) × Shows arch strip layout lines place net
 
@@ -88,7 +88,7 @@ pub record HasOneDriver (arch : Arch) (strip : Strip) (lines : List Configuratio
 pub record HasValues (netlist : List JoinedLine) (circuit : Circuit) (arch : Arch) (layout : Layout) (lines : List ConfigurationLine) (spot : Spot layout) (table : LookupTable) : Type 0 where
   pub bits : List Bool
   pub configured : Contains lines (Values (place_of_spot arch layout spot) bits)
-  pub given : (number : ℕ) (values : ℕ → Bool) → number < 2 ^ arch.lut_size → ((j net : ℕ) → slice_get (traced arch spot.laid spot.ble).inputs j ≡ Some net → values net ≡ bit_of number j) →
+  pub given : (number : ℕ) (values : ℕ → Bool) → number < 2 ^ arch.lut_size → ((j net : ℕ) → slice_get (traced_ble arch spot.laid spot.ble).inputs j ≡ Some net → values net ≡ bit_of number j) →
       slice_get bits number ≡ Some (value_of (rows_at netlist table.line) (map values table.inputs))
 
 -- No two BLEs of the layout are at one place.

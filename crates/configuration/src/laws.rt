@@ -10,7 +10,7 @@ ghost use Rattle.grid.specs.Sizes.{IsStripSize};
 ghost use Rattle.grid.specs.declared.Strip.{Strip};
 ghost use Rattle.implements.specs.Holding.{holds_table};
 ghost use Rattle.implements.specs.Implements.{Implements};
-ghost use Rattle.implements.specs.Layouts.{Layout, traced};
+ghost use Rattle.implements.specs.Layouts.{Layout, traced_ble};
 ghost use Rattle.line_text.specs.Lines.{JoinedLine};
 ghost use Rattle.std.specs.Prelude.{◌≡◌, ◌+◌, ◌≤◌, ℕ, true, Contains, List};
 
@@ -51,7 +51,7 @@ pub fn values_are_rows()
     ensures { (netlist : List JoinedLine) (circuit : Circuit) (arch : Arch) (strip : Strip)
         (layout : Layout) → IsCircuit circuit → Implements circuit arch strip layout →
         (table : LookupTable) → Contains circuit.tables table → (spot : Spot layout) →
-        holds_table circuit (traced arch spot.laid spot.ble) table ≡ true →
+        holds_table circuit (traced_ble arch spot.laid spot.ble) table ≡ true →
         HasValues netlist circuit arch layout
         (configuration_of netlist circuit arch strip layout) spot table }
 {}

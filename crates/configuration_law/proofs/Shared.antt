@@ -11,13 +11,13 @@ use Rattle.line_text.specs.Lines.{JoinedLine}
 use Rattle.service_core.proofs.Parted.{are_parted}
 use Rattle.service_core.specs.Headline.{AreParted}
 use Rattle.service_core.specs.Run.{Call, Run}
-use Rattle.service_core.specs.Service.{ServiceState, empty, strip_on}
+use Rattle.service_core.specs.Service.{ServiceState, empty_service, strip_on}
 use Rattle.service_core.specs.declared.device.Device.{Device}
 use Rattle.strips.proofs.Laid.{apart_of}
 use Rattle.strips.specs.Plan.{strip_of}
 use Rattle.strips.specs.declared.placed_strip.PlacedStrip.{PlacedStrip}
 
-pub share_nothing : (device : Device) (calls : List Call) (state : ServiceState) → Run (empty device) calls state → (id other : ℕ) (strip its : PlacedStrip) → id ≢ other →
+pub share_nothing : (device : Device) (calls : List Call) (state : ServiceState) → Run (empty_service device) calls state → (id other : ℕ) (strip its : PlacedStrip) → id ≢ other →
     strip_of state.plan.strips id ≡ Some strip → strip_of state.plan.strips other ≡ Some its → IsStripSize (strip_on device strip.width) → IsStripSize (strip_on device its.width) →
     (lines others : List JoinedLine) (circuit other_circuit : Circuit) (layout other_layout : Layout) →
     Implements circuit device.arch (strip_on device strip.width) layout → Implements other_circuit device.arch (strip_on device its.width) other_layout →

@@ -7,7 +7,7 @@ ghost use Rattle.implements.specs.Implements.{Implements};
 ghost use Rattle.implements.specs.Layouts.{Layout};
 ghost use Rattle.line_text.specs.Lines.{JoinedLine};
 ghost use Rattle.service_core.specs.Run.{Call, Run};
-ghost use Rattle.service_core.specs.Service.{ServiceState, empty, strip_on};
+ghost use Rattle.service_core.specs.Service.{ServiceState, empty_service, strip_on};
 ghost use Rattle.service_core.specs.declared.device.Device.{Device};
 ghost use Rattle.std.specs.Prelude.{◌≡◌, ◌≢◌, ℕ, List, Some};
 ghost use Rattle.strips.specs.Plan.{strip_of};
@@ -20,7 +20,8 @@ ghost use Rattle.strips.specs.declared.placed_strip.PlacedStrip.{PlacedStrip};
 /// layout.
 pub fn configurations_apart()
     ensures { (device : Device) (calls : List Call) (state : ServiceState) →
-        Run (empty device) calls state → (id other : ℕ) (strip its : PlacedStrip) → id ≢ other →
+        Run (empty_service device) calls state → (id other : ℕ) (strip its : PlacedStrip)
+        → id ≢ other →
         strip_of state.plan.strips id ≡ Some strip → strip_of state.plan.strips other ≡ Some its →
         IsStripSize (strip_on device strip.width) → IsStripSize (strip_on device its.width) →
         (lines others : List JoinedLine) (circuit other_circuit : Circuit)

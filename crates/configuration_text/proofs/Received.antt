@@ -4,11 +4,11 @@ use Rattle.std.specs.List.{list_all}
 use Rattle.std.proofs.lemmas.Bool.{eqb-true}
 use Rattle.std.proofs.lemmas.Bool.Decides.{nat_tests}
 use Rattle.ble_cluster.specs.Bles.{LogicElement}
-use Rattle.ble_cluster.specs.Nets.{distinct, has}
+use Rattle.ble_cluster.specs.Nets.{distinct_nets, has}
 use Rattle.implements.specs.Holding.{receives}
 
 abbrev got : List ℕ → ℕ → Bool
-got inputs net = (length inputs == length (distinct (net ∷ []))) && (list_all (has (net ∷ [])) inputs && list_all (has inputs) (net ∷ []))
+got inputs net = (length inputs == length (distinct_nets (net ∷ []))) && (list_all (has (net ∷ [])) inputs && list_all (has inputs) (net ∷ []))
 
 pub none_received : (element : LogicElement) (net : ℕ) → element.inputs ≡ [] → false ≡ receives element (net ∷ [])
 none_received element net e = sym (ap (λ inputs. got inputs net) e)

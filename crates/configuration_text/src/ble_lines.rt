@@ -6,7 +6,7 @@ ghost use Rattle.configuration.specs.ConfigurationText.{line_words, lines_text};
 ghost use Rattle.configuration.specs.Lines.{Takes, Values};
 ghost use Rattle.configuration.specs.RoutedPins.{ble_numbers};
 ghost use Rattle.configuration_text.specs.Parts.{latch_line};
-ghost use Rattle.implements.specs.Layouts.{traced};
+ghost use Rattle.implements.specs.Layouts.{traced_ble};
 ghost use Rattle.vpr_files.specs.TextLines.{line_of};
 
 use crate::bits::push_bits;
@@ -108,7 +108,7 @@ fn push_values_of(
     seat: Seat<'_>,
     nets: &[u32],
 ) -> Result<(), AllocError>
-    requires { nets.now ≡ (traced design.arch.now seat.laid.now seat.ble.now).inputs }
+    requires { nets.now ≡ (traced_ble design.arch.now seat.laid.now seat.ble.now).inputs }
     ensures { IfOk result (λ _. text.new.items ≡ text.old.items
         ++ line_of (line_words (Values seat.entry.place (values_in design.entry.netlist.now
         design.entry.circuit.now design.entry.arch.now seat.entry.laid.now seat.entry.ble.now)))) }

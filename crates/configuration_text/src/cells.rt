@@ -6,7 +6,7 @@ ghost use Rattle.blif.specs.LookupTables.{LookupTable};
 ghost use Rattle.configuration.specs.Configuration.{latch_driving, table_driving, table_within};
 ghost use Rattle.configuration_text.specs.Parts.{table_read};
 ghost use Rattle.implements.specs.Holding.{receives};
-ghost use Rattle.implements.specs.Layouts.{LaidBle, LaidBlock, traced};
+ghost use Rattle.implements.specs.Layouts.{LaidBle, LaidBlock, traced_ble};
 
 use blif::{Circuit, Latch, Table};
 
@@ -41,7 +41,7 @@ fn table_driving(circuit: &Circuit, net: u32) -> Option<Table<'_>>
 /// The table in the BLE of this name that receives these nets, if it has one.
 pub(crate) fn table_within<'a>(circuit: &'a Circuit, name: u32, nets: &[u32]) -> Option<Table<'a>>
     ensures { (arch : Arch) (laid : LaidBlock) (ble : LaidBle) → ble.name ≡ name →
-        (traced arch laid ble).inputs ≡ nets.now →
+        (traced_ble arch laid ble).inputs ≡ nets.now →
         option_map table_read result ≡ table_within circuit.now arch laid ble }
 {
     match latch_driving(circuit, name) {

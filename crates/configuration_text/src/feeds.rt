@@ -4,7 +4,7 @@ ghost use Rattle.std.specs.List.{flat_map};
 ghost use Rattle.std.specs.Option.{option_to_list};
 ghost use Rattle.configuration.specs.Configuration.{control_in, signal_for};
 ghost use Rattle.configuration.specs.RoutedPins.{ble_numbers};
-ghost use Rattle.implements.specs.Layouts.{fed, traced};
+ghost use Rattle.implements.specs.Layouts.{input_net, traced_ble};
 
 use crate::pins::{global_number, on_pin, signal_of};
 use arch_file::{Arch, PinClass};
@@ -60,8 +60,8 @@ pub(crate) fn place_at(laid: &LaidBlock, numbers: &[usize], index: usize) -> Ble
 }
 
 /// The net that comes to an input of a BLE.
-fn fed(arch: &Arch, laid: &LaidBlock, feed: Feed) -> Option<u32>
-    ensures { result ≡ fed arch.now laid.now feed }
+fn input_net(arch: &Arch, laid: &LaidBlock, feed: Feed) -> Option<u32>
+    ensures { result ≡ input_net arch.now laid.now feed }
 {
     match feed {
         Feed::Pin(pin) => on_pin(arch, laid, PinClass::Input, pin),
@@ -79,7 +79,7 @@ pub(crate) fn nets_in(
     laid: &LaidBlock,
     ble: &LaidBle,
 ) -> Result<Vec<u32>, AllocError>
-    ensures { IfOk result (λ nets. nets.items ≡ (traced arch.now laid.now ble.now).inputs) }
+    ensures { IfOk result (λ nets. nets.items ≡ (traced_ble arch.now laid.now ble.now).inputs) }
 {
     let mut nets = Vec::new(alloc);
     match add_nets(arch, laid, ble.inputs(), &mut nets) {
@@ -99,10 +99,10 @@ fn add_nets(
     nets: &mut Vec<u32>,
 ) -> Result<(), AllocError>
     ensures { IfOk result (λ _. nets.new.items ≡ nets.old.items
-        ++ flat_map (λ feed. option_to_list (fed arch.now laid.now feed)) feeds.now) }
+        ++ flat_map (λ feed. option_to_list (input_net arch.now laid.now feed)) feeds.now) }
 {
     for feed in feeds {
-        add_net(fed(arch, laid, *feed), nets)?;
+        add_net(input_net(arch, laid, *feed), nets)?;
     }
     Ok(())
 }
@@ -134,7 +134,7 @@ pub(crate) fn control_in(
 
 /// The net that clocks the BLE.
 fn clock_of(arch: &Arch, laid: &LaidBlock, ble: &LaidBle) -> Option<u32>
-    ensures { result ≡ (traced arch.now laid.now ble.now).clock }
+    ensures { result ≡ (traced_ble arch.now laid.now ble.now).clock }
 {
     match ble.clock() {
         Some(pin) => on_pin(arch, laid, PinClass::Clock, pin),

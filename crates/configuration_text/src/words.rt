@@ -3,7 +3,7 @@ ghost use Rattle.std.specs.Prelude.{◌≡◌, ◌++◌, decimal, IfOk};
 ghost use Rattle.std.specs.List.{flat_map};
 ghost use Rattle.configuration.specs.ConfigurationText.{global_words, node_words, place_words, signal_words};
 ghost use Rattle.vpr_files.specs.NodeText.{kind_word};
-ghost use Rattle.vpr_files.specs.TextLines.{spaced};
+ghost use Rattle.vpr_files.specs.TextLines.{word_after_space};
 
 use configuration::{BlePlace, Signal};
 use itoa::Buffer;
@@ -12,7 +12,7 @@ use std::alloc::AllocError;
 
 /// Appends a space and a word.
 pub(crate) fn push_word(text: &mut Vec<u8>, word: &[u8]) -> Result<(), AllocError>
-    ensures { IfOk result (λ _. text.new.items ≡ text.old.items ++ spaced word.now) }
+    ensures { IfOk result (λ _. text.new.items ≡ text.old.items ++ word_after_space word.now) }
 {
     text.push(b' ')?;
     text.extend_from_slice(word)
@@ -20,7 +20,8 @@ pub(crate) fn push_word(text: &mut Vec<u8>, word: &[u8]) -> Result<(), AllocErro
 
 /// Appends a space and a number.
 pub(crate) fn push_number(text: &mut Vec<u8>, number: usize) -> Result<(), AllocError>
-    ensures { IfOk result (λ _. text.new.items ≡ text.old.items ++ spaced (decimal number)) }
+    ensures { IfOk result (λ _. text.new.items ≡ text.old.items
+        ++ word_after_space (decimal number)) }
 {
     let mut digits = Buffer::new();
     push_word(text, digits.format(number).as_bytes())
@@ -29,7 +30,8 @@ pub(crate) fn push_number(text: &mut Vec<u8>, number: usize) -> Result<(), Alloc
 /// Appends three numbers, each after a space.
 pub(crate) fn push_three(text: &mut Vec<u8>, x: u32, y: u32, n: usize) -> Result<(), AllocError>
     ensures { IfOk result (λ _. text.new.items
-        ≡ text.old.items ++ (spaced (decimal x) ++ (spaced (decimal y) ++ spaced (decimal n)))) }
+        ≡ text.old.items ++ (word_after_space (decimal x) ++ (word_after_space (decimal y)
+        ++ word_after_space (decimal n)))) }
 {
     push_number(text, x as usize)?;
     push_number(text, y as usize)?;
@@ -39,7 +41,7 @@ pub(crate) fn push_three(text: &mut Vec<u8>, x: u32, y: u32, n: usize) -> Result
 /// Appends the place of a BLE.
 pub(crate) fn push_place(text: &mut Vec<u8>, place: BlePlace) -> Result<(), AllocError>
     ensures { IfOk result (λ _.
-        text.new.items ≡ text.old.items ++ flat_map spaced (place_words place)) }
+        text.new.items ≡ text.old.items ++ flat_map word_after_space (place_words place)) }
 {
     push_three(text, place.x, place.y, place.n)
 }
@@ -47,7 +49,7 @@ pub(crate) fn push_place(text: &mut Vec<u8>, place: BlePlace) -> Result<(), Allo
 /// Appends a node.
 pub(crate) fn push_node(text: &mut Vec<u8>, node: Node) -> Result<(), AllocError>
     ensures { IfOk result (λ _.
-        text.new.items ≡ text.old.items ++ flat_map spaced (node_words node)) }
+        text.new.items ≡ text.old.items ++ flat_map word_after_space (node_words node)) }
 {
     push_word(text, kind_word(node.kind))?;
     push_three(text, node.x, node.y, node.n as usize)
@@ -70,7 +72,8 @@ fn kind_word(kind: NodeKind) -> &'static [u8]
 /// Appends a word and a number.
 fn push_named(text: &mut Vec<u8>, word: &[u8], number: usize) -> Result<(), AllocError>
     ensures { IfOk result (λ _.
-        text.new.items ≡ text.old.items ++ (spaced word.now ++ spaced (decimal number))) }
+        text.new.items ≡ text.old.items ++ (word_after_space word.now
+        ++ word_after_space (decimal number))) }
 {
     push_word(text, word)?;
     push_number(text, number)
@@ -79,7 +82,7 @@ fn push_named(text: &mut Vec<u8>, word: &[u8], number: usize) -> Result<(), Allo
 /// Appends the number of a global net, if there is one.
 pub(crate) fn push_global(text: &mut Vec<u8>, number: Option<usize>) -> Result<(), AllocError>
     ensures { IfOk result (λ _.
-        text.new.items ≡ text.old.items ++ flat_map spaced (global_words number)) }
+        text.new.items ≡ text.old.items ++ flat_map word_after_space (global_words number)) }
 {
     match number {
         Some(number) => push_named(text, b"global", number),
@@ -90,7 +93,7 @@ pub(crate) fn push_global(text: &mut Vec<u8>, number: Option<usize>) -> Result<(
 /// Appends what an input takes.
 pub(crate) fn push_signal(text: &mut Vec<u8>, signal: Signal) -> Result<(), AllocError>
     ensures { IfOk result (λ _.
-        text.new.items ≡ text.old.items ++ flat_map spaced (signal_words signal)) }
+        text.new.items ≡ text.old.items ++ flat_map word_after_space (signal_words signal)) }
 {
     match signal {
         Signal::FromPin(pin) => push_named(text, b"pin", pin),

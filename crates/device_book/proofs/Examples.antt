@@ -5,7 +5,7 @@ use Rattle.rr_graph.specs.declared.resource.Resource.{Resource}
 use Rattle.device_book.specs.declared.book.Extent.{Extent}
 use Rattle.rr_graph.specs.Resources.{has}
 use Rattle.device_book.specs.Columns.{column_size}
-use Rattle.device_book.specs.Owners.{in_book, nobody, number_of, owner_of, size_of}
+use Rattle.device_book.specs.Owners.{in_book, no_owners, number_of, owner_of, size_of}
 
 -- one column, one row, numbers 0 to 3
 abbrev small : Extent
@@ -33,7 +33,7 @@ where_the_pad_stands = refl
 not_there : in_book small (record pin { x = 2 }) ≡ false
 not_there = refl
 
-nobodys : owner_of (nobody small) pin ≡ None
+nobodys : owner_of (no_owners small) pin ≡ None
 nobodys = refl
 
 among_both : has (pin ∷ pad ∷ []) pad ≡ true

@@ -1,5 +1,7 @@
 -- Who owns which resource of a device.
 use Rattle.std.specs.Prelude.{ℕ, ◌≡◌, ◌+◌, ◌*◌, ◌<◌, ◌≤◌, ◌⊎◌, List, length, map, replicate, All, Bool, true, ◌&&◌, nat_le, nat_lt, max, Option, Some, None, if◌then◌else◌, slice_index_or, AllPairs, Contains, ◌↔◌}
+use Rattle.arch_file.specs.declared.arch.TheConstants.{MAX_PINS}
+use Rattle.grid.specs.declared.TheConstants.{MAX_COLUMNS, MAX_ROWS}
 use Rattle.arch_file.specs.declared.arch.Arch.{Arch}
 use Rattle.arch_file.specs.Arch.{IsArch}
 use Rattle.rr_graph.specs.declared.resource.Resource.{Resource}
@@ -29,8 +31,8 @@ abbrev pub size_of : Extent → ℕ
 size_of extent = (extent.columns + 1) * 5 * (extent.rows + 2) * extent.numbers
 
 -- nobody owns anything
-abbrev pub nobody : Extent → Owners
-nobody extent = record { extent = extent; owners = replicate (size_of extent) None }
+abbrev pub no_owners : Extent → Owners
+no_owners extent = record { extent = extent; owners = replicate (size_of extent) None }
 
 -- who owns a resource
 abbrev pub owner_of : Owners → Resource → Option ℕ
@@ -88,14 +90,14 @@ pub record ListsOwners (book : Owners) (list : List Owned) : Type 0 where
 -- the largest device: 256 columns and 64 rows
 pub record KeepsLimits (arch : Arch) (columns rows : ℕ) : Type 0 where
   pub lawful : IsArch arch
-  pub wide : columns ≤ 256
-  pub high : rows ≤ 64
+  pub wide : columns ≤ MAX_COLUMNS
+  pub high : rows ≤ MAX_ROWS
 
 -- the largest extent: 256 columns, 64 rows, and numbers up to 145
 pub record IsExtent (extent : Extent) : Type 0 where
-  pub columns : extent.columns ≤ 256
-  pub rows : extent.rows ≤ 64
-  pub numbers : extent.numbers ≤ 145
+  pub columns : extent.columns ≤ MAX_COLUMNS
+  pub rows : extent.rows ≤ MAX_ROWS
+  pub numbers : extent.numbers ≤ MAX_PINS
 
 -- private: the resource has a place
 pub record HasPlace (extent : Extent) (resource : Resource) : Type 0 where

@@ -1,8 +1,9 @@
 //! The book of owners.
 ghost use Rattle.std.specs.Prelude.{◌≡◌, [], ◌∷◌, ◌+◌, ◌<◌, ◌≤◌, ◌*◌, IfOk, None, OnOk, Some, length, map, max, true};
+ghost use Rattle.arch_file.specs.declared.arch.TheConstants.{MAX_PINS};
 ghost use Rattle.arch_file.specs.Arch.{IsArch};
 ghost use Rattle.device_book.specs.Columns.{IsWhole, ListsBefore, column_size};
-ghost use Rattle.device_book.specs.Owners.{AreOwned, CanClaim, CanShift, Claims, HasPlace, IsExtent, IsPlace, KeepsLimits, ListsOwners, Releases, Shifts, StandIn, extent_of, in_book, nobody, number_of, owner_of, size_of};
+ghost use Rattle.device_book.specs.Owners.{AreOwned, CanClaim, CanShift, Claims, HasPlace, IsExtent, IsPlace, KeepsLimits, ListsOwners, Releases, Shifts, StandIn, extent_of, in_book, no_owners, number_of, owner_of, size_of};
 ghost use Rattle.rr_graph.specs.Resources.{moved_resource, resource_rank};
 
 use arch_file::Arch;
@@ -46,7 +47,7 @@ impl Book {
     /// memory runs out.
     pub fn new(alloc: Global, arch: &Arch, columns: u32, rows: u32) -> Result<Self, AllocError>
         requires { KeepsLimits arch.now columns rows }
-        ensures { IfOk result (λ book. book ≡ nobody (extent_of arch.now columns rows)) }
+        ensures { IfOk result (λ book. book ≡ no_owners (extent_of arch.now columns rows)) }
     {
         let numbers = numbers(arch);
         let extent = Extent {
@@ -75,7 +76,7 @@ impl Book {
 
     /// Lists each owned resource with its owner, in node order. It skips the columns in which
     /// nothing is owned. Fails with [`AllocError`] if memory runs out.
-    pub fn owned(&self, alloc: Global) -> Result<Vec<Owned>, AllocError>
+    pub fn owned_resources(&self, alloc: Global) -> Result<Vec<Owned>, AllocError>
         ensures { IfOk result (λ list. ListsOwners self.now list.items) }
     {
         let mut list = Vec::new(alloc);
@@ -133,7 +134,7 @@ impl Book {
         ensures { AreOwned self.old (moved_resource offset resource ∷ []) owner self.new }
     {
         let extent = self.extent;
-        let resource = resource.moved(offset);
+        let resource = resource.at_offset(offset);
         let place = number_of(extent, resource);
         let column = resource.x as usize;
         let was_owned = u32::from(self.owners[place].is_some());
@@ -172,7 +173,7 @@ pub struct Owned {
 fn numbers(arch: &Arch) -> u32
     requires { IsArch arch.now }
     ensures value { result ≡ max (max (length arch.now.pins) arch.now.tracks) arch.now.io_rat }
-    ensures few { result ≤ 145 }
+    ensures few { result ≤ MAX_PINS }
 {
     let pins = arch.pins.as_slice().len() as u32;
     pins.max(arch.tracks).max(arch.io_rat)

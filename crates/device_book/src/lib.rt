@@ -2,10 +2,10 @@
 //!
 //! A [`Book`] has an owner, or `None`, for each [`rr_graph::Resource`] of a device, in one flat
 //! table. [`Book::claim`] and [`Book::release`] change the owners of exactly the resources that
-//! they are given. Only [`Book::new`] and the list of [`Book::owned`] take memory.
+//! they are given. Only [`Book::new`] and the list of [`Book::owned_resources`] take memory.
 //!
-//! Beside the table it counts the owned places of each column, so that [`Book::owned`] skips the
-//! columns in which nobody owns anything.
+//! Beside the table it counts the owned places of each column, so that [`Book::owned_resources`]
+//! skips the columns in which nobody owns anything.
 #![tactic(auto)]
 
 mod book;

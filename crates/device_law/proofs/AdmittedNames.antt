@@ -21,7 +21,7 @@ use Rattle.arch_file.specs.declared.fault.ArchFault.{ArchFault}
 use Rattle.line_text.specs.Lines.{physical_lines}
 use Rattle.fpgad_run.specs.declared.inputs.Architecture.{Architecture}
 use Rattle.fpgad_run.specs.declared.inputs.Architecture.TheVariants.{InScript, Text, Unreadable}
-use Rattle.fpgad_run.specs.Program.{checked, start_of}
+use Rattle.fpgad_run.specs.Program.{checked_start, start_of}
 use Rattle.device_lines.specs.Lines.{is_name as is_listed_name}
 use Rattle.device_law.proofs.Each.{Each}
 
@@ -124,7 +124,7 @@ script_has : (number : ℕ) (within : Bool) (lines : List (List ℕ)) (acts : Li
 script_has number within lines acts is = subst AllHave is (acts_have number within lines)
 
 -- the acts of a script
-checked_has : (r : Result Arch ArchFault) (within : Bool) (lines : List (List ℕ)) (said : Acts) → acts_from 1 within lines ≡ said → (arch : Arch) (acts : List (Act (List ℕ))) → checked r said ≡ Ok (arch, acts) → Each HasName acts
+checked_has : (r : Result Arch ArchFault) (within : Bool) (lines : List (List ℕ)) (said : Acts) → acts_from 1 within lines ≡ said → (arch : Arch) (acts : List (Act (List ℕ))) → checked_start r said ≡ Ok (arch, acts) → Each HasName acts
 checked_has (Err fault) within lines said is arch acts e = cc
 checked_has (Ok own) within lines (Err line) is arch acts e = cc
 checked_has (Ok own) within lines (Ok said) is arch acts e =

@@ -8,7 +8,7 @@ use Rattle.std.proofs.lemmas.List.Folds.{list_all-append}
 use Rattle.std.proofs.lemmas.List.Sums.{fold-append}
 use Rattle.std.proofs.lemmas.Bool.Decides.{nat_tests}
 use Rattle.std.proofs.lemmas.Fmt.{decimal_by_steps, decimal_nonempty}
-use Rattle.device_lines.specs.Words.{after_text, first_number, given, is_other, is_space, number_field, word_field}
+use Rattle.device_lines.specs.Words.{after_text, first_number, if_given, is_other, is_space, number_field, word_field}
 
 -- the digits of a number, and their value
 digit_one : (n : ℕ) → n < 10 → (list_all is_digit ((48 + n) ∷ []) ≡ true) × (value_of ((48 + n) ∷ []) ≡ n)
@@ -84,7 +84,7 @@ space_after rest = refl
 pub number_is : (n : ℕ) (rest : List ℕ) → n < 2 ^ 32 → number_field (decimal n ++ 32 ∷ rest) ≡ Some (n, rest)
 unfolding number_field
 number_is n rest small =
-    ap (λ o. given o (λ (taken : ℕ × List ℕ). option_map (λ (r : List ℕ). (taken.0, r)) (after_text (codes " ") taken.1))) (first_is n (32 ∷ rest) small refl)
+    ap (λ o. if_given o (λ (taken : ℕ × List ℕ). option_map (λ (r : List ℕ). (taken.0, r)) (after_text (codes " ") taken.1))) (first_is n (32 ∷ rest) small refl)
     ∙ ap (option_map (λ (r : List ℕ). (n, r))) (space_after rest)
 
 pub word_is : (word rest : List ℕ) → list_all (λ b. not (is_space b)) word ≡ true → word_field (word ++ 32 ∷ rest) ≡ Some (word, rest)

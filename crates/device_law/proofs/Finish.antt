@@ -5,12 +5,12 @@ use Rattle.std.specs.Option.{option_or}
 use Rattle.std.proofs.lemmas.Bool.{false≢true}
 use Rattle.std.proofs.lemmas.Bool.Decides.{nat_tests}
 use Rattle.strips.specs.declared.placed_strip.PlacedStrip.{PlacedStrip}
-use Rattle.service_core.specs.Service.{empty}
+use Rattle.service_core.specs.Service.{empty_service}
 use Rattle.operator.specs.Serving.{Stage}
-use Rattle.device_lines.specs.declared.fault.Fault.TheVariants.{NoList, NoOwners, Unfinished}
+use Rattle.device_lines.specs.declared.fault.DeviceFault.TheVariants.{NoList, NoOwners, Unfinished}
 use Rattle.device_lines.specs.declared.fault.InputFault.{InputFault}
 use Rattle.device_lines.specs.Lines.{Listed, OwnedNode}
-use Rattle.device_lines.specs.Reading.{Seen, at_line, ended, first_foreign, foreign, last_fault, missing, missing_inside}
+use Rattle.device_lines.specs.Reading.{Seen, at_line, unless_fault, first_foreign, owner_fault, last_fault, missing_part, missing_inside}
 use Rattle.device_law.specs.ReadBack.{entries}
 use Rattle.device_law.specs.Shown.{IsReadFrom, Shown, without_state}
 use Rattle.device_law.proofs.Each.{Each}
@@ -39,8 +39,8 @@ module _ (strips : List PlacedStrip) (names : List (List ℕ)) (shown : Shown) (
   all_live (Some xs) listed now live is = ap (map without_state) listed ∙ now
   all_live None listed now live is =
       let none : length final.listed ≡ 0 = ap (λ ys. length ys) listed in
-      let empty : length (strip_entries strips names) ≡ 0 = grind (arith, nat_tests, live, none, is) in
-      ap (map without_state) listed ∙ sym (nothing (strip_entries strips names) empty)
+      let empty_service : length (strip_entries strips names) ≡ 0 = grind (arith, nat_tests, live, none, is) in
+      ap (map without_state) listed ∙ sym (nothing (strip_entries strips names) empty_service)
     where
       nothing : (xs : List Listed) → length xs ≡ 0 → xs ≡ []
       nothing [] e = refl
@@ -49,13 +49,13 @@ module _ (strips : List PlacedStrip) (names : List (List ℕ)) (shown : Shown) (
   -- by what is missing
   by_owned : (o : Option (List OwnedNode)) → shown.owned ≡ o → final.owned ≡ unwrap_or o [] → final.has_owners ≡ is_some o → IfSome o (Each (OwnedIn strips (length names))) →
       map without_state final.listed ≡ strip_entries strips names → map without_state (entries last.service last.names) ≡ strip_entries strips names → final.listed ≡ unwrap_or shown.listed [] →
-      IsReadFrom shown last (ended final (option_or (cond (not final.has_owners) (Some (record { fault = NoOwners; line = final.changed })) None) (option_map (foreign final) (first_foreign final))))
+      IsReadFrom shown last (unless_fault final (option_or (cond (not final.has_owners) (Some (record { fault = NoOwners; line = final.changed })) None) (option_map (owner_fault final) (first_foreign final))))
   by_owned None is owned has each now all listed =
-      let P : Bool → Type 0 = λ b. IsReadFrom shown last (ended final (option_or (cond (not b) (Some (record { fault = NoOwners; line = final.changed })) None) (option_map (foreign final) (first_foreign final)))) in
+      let P : Bool → Type 0 = λ b. IsReadFrom shown last (unless_fault final (option_or (cond (not b) (Some (record { fault = NoOwners; line = final.changed })) None) (option_map (owner_fault final) (first_foreign final)))) in
       subst P (sym has) (inr (refl, is))
   by_owned (Some xs) is owned has each now all listed =
-      let P : Bool → Type 0 = λ b. IsReadFrom shown last (ended final (option_or (cond (not b) (Some (record { fault = NoOwners; line = final.changed })) None) (option_map (foreign final) (first_foreign final)))) in
-      let Q : Option ℕ → Type 0 = λ o. IsReadFrom shown last (ended final (option_map (foreign final) o)) in
+      let P : Bool → Type 0 = λ b. IsReadFrom shown last (unless_fault final (option_or (cond (not b) (Some (record { fault = NoOwners; line = final.changed })) None) (option_map (owner_fault final) (first_foreign final)))) in
+      let Q : Option ℕ → Type 0 = λ o. IsReadFrom shown last (unless_fault final (option_map (owner_fault final) o)) in
       let R : List OwnedNode → Type 0 = λ ys. Each (OwnedIn strips (length names)) ys in
       let none : first_foreign final ≡ None = none_foreign strips names final.listed final.owned now (subst R (sym owned) each) in
       subst P (sym has) (subst Q (sym none) (listed, ap (λ ys. Some ys) owned ∙ sym is, now ∙ sym all))
@@ -63,15 +63,15 @@ module _ (strips : List PlacedStrip) (names : List (List ℕ)) (shown : Shown) (
   by_missing : (b : Bool) → (nat_lt 0 final.live && (length final.listed == 0)) ≡ b → final.listed ≡ unwrap_or shown.listed [] → IsNow shown.listed → final.live ≡ length (strip_entries strips names) →
       final.owned ≡ unwrap_or shown.owned [] → final.has_owners ≡ is_some shown.owned → IfSome shown.owned (Each (OwnedIn strips (length names))) →
       map without_state (entries last.service last.names) ≡ strip_entries strips names →
-      IsReadFrom shown last (ended final (option_or (cond b (Some (record { fault = NoList; line = final.changed })) (cond (not final.has_owners) (Some (record { fault = NoOwners; line = final.changed })) None)) (option_map (foreign final) (first_foreign final))))
+      IsReadFrom shown last (unless_fault final (option_or (cond b (Some (record { fault = NoList; line = final.changed })) (cond (not final.has_owners) (Some (record { fault = NoOwners; line = final.changed })) None)) (option_map (owner_fault final) (first_foreign final))))
   by_missing true is listed now live owned has each all = inl (refl, no_list shown.listed listed now live is)
   by_missing false is listed now live owned has each all = by_owned shown.owned refl owned has each (all_live shown.listed listed now live is) all listed
 
-  pub finish : final.awaited ≡ 0 → missing final lines ≡ missing_inside final lines → final.listed ≡ unwrap_or shown.listed [] → IsNow shown.listed → final.live ≡ length (strip_entries strips names) →
+  pub finish : final.awaited ≡ 0 → missing_part final lines ≡ missing_inside final lines → final.listed ≡ unwrap_or shown.listed [] → IsNow shown.listed → final.live ≡ length (strip_entries strips names) →
       final.owned ≡ unwrap_or shown.owned [] → final.has_owners ≡ is_some shown.owned → IfSome shown.owned (Each (OwnedIn strips (length names))) →
-      map without_state (entries last.service last.names) ≡ strip_entries strips names → IsReadFrom shown last (ended final (last_fault final lines))
+      map without_state (entries last.service last.names) ≡ strip_entries strips names → IsReadFrom shown last (unless_fault final (last_fault final lines))
   unfolding last_fault
   finish awaited missing_is listed now live owned has each all =
-      let P : Option InputFault → Type 0 = λ o. IsReadFrom shown last (ended final (option_or o (option_map (foreign final) (first_foreign final)))) in
+      let P : Option InputFault → Type 0 = λ o. IsReadFrom shown last (unless_fault final (option_or o (option_map (owner_fault final) (first_foreign final)))) in
       let Q : ℕ → Type 0 = λ k. P (cond (nat_lt 0 k) (Some (at_line lines Unfinished)) (cond (nat_lt 0 final.live && (length final.listed == 0)) (Some (at_line final.changed NoList)) (cond (not final.has_owners) (Some (at_line final.changed NoOwners)) None))) in
       subst P (sym missing_is) (subst Q (sym awaited) (by_missing (nat_lt 0 final.live && (length final.listed == 0)) refl listed now live owned has each all))

@@ -6,21 +6,21 @@ use Rattle.service_core.specs.History.{History, state_of}
 use Rattle.service_core.specs.Service.{live_of}
 use Rattle.strips.specs.Plan.{offset_of}
 use Rattle.tenant_slot.specs.Names.{state_text}
-use Rattle.operator.specs.OperatorText.{list_text, listed, listed_text}
-use Rattle.device_lines.specs.declared.fault.Fault.TheVariants.{NotParted}
+use Rattle.operator.specs.OperatorText.{list_text, list_lines, listed_text}
+use Rattle.device_lines.specs.declared.fault.DeviceFault.TheVariants.{NotParted}
 use Rattle.device_lines.specs.Lines.{Listed, listed_on}
-use Rattle.device_lines.specs.Reading.{Seen, after_line, are_parted, begun, is_feed, lines_of, lines_read, list_line, plus}
+use Rattle.device_lines.specs.Reading.{Seen, after_line, are_parted, seen_in_list, is_feed, lines_of, lines_read, list_line, plus}
 use Rattle.device_law.specs.ReadBack.{ArePrintable, IsInside, IsListReadBack, IsPrintable, Reading, entries, entries_read, entry_of}
 use Rattle.device_law.proofs.LineLemmas.{first_of_lines, line_is, line_solid, list_bytes, state_solid}
 
 -- what was read, with one more tenancy
 abbrev added : Seen → Listed → Seen
-added seen one = record (begun seen one.id) { listed = (begun seen one.id).listed ++ one ∷ [] }
+added seen one = record (seen_in_list seen one.id) { listed = (seen_in_list seen one.id).listed ++ one ∷ [] }
 
 -- two continuations that agree after a tenancy agree after its line
 by_one : (xs ys : Seen → ℕ → Reading) (seen : Seen) (number : ℕ) (o : Option Listed) → ((one : Listed) → xs (added seen one) number ≡ ys (added seen one) number) → after_line xs number (list_line seen o) ≡ after_line ys number (list_line seen o)
 by_one xs ys seen number None same = refl
-by_one xs ys seen number (Some one) same = by_test (list_all (λ other. are_parted other one) (begun seen one.id).listed)
+by_one xs ys seen number (Some one) same = by_test (list_all (λ other. are_parted other one) (seen_in_list seen one.id).listed)
   where
     by_test : (b : Bool) → after_line xs number (cond b (Ok (added seen one)) (Err NotParted)) ≡ after_line ys number (cond b (Ok (added seen one)) (Err NotParted))
     by_test true = same one
@@ -71,8 +71,8 @@ list_is_read service (newest ∷ older) rest seen number fits inside =
     let offset = offset_of service.plan.strips id in
     let front = entries service older in
     let last = entry_of live offset id newest in
-    ap (λ (t : List ℕ). lines_read (lines_of t) seen number) (append_assoc (list_text service older) (listed service id newest) rest)
-    ∙ list_is_read service older (listed service id newest ++ rest) seen number (print_front front last fits) inside
-    ∙ under front seen number (λ s n. lines_read (lines_of (listed service id newest ++ rest)) s n) (λ s n. entries_read last s n (λ t m. lines_read (lines_of rest) t m)) inside
+    ap (λ (t : List ℕ). lines_read (lines_of t) seen number) (append_assoc (list_text service older) (list_lines service id newest) rest)
+    ∙ list_is_read service older (list_lines service id newest ++ rest) seen number (print_front front last fits) inside
+    ∙ under front seen number (λ s n. lines_read (lines_of (list_lines service id newest ++ rest)) s n) (λ s n. entries_read last s n (λ t m. lines_read (lines_of rest) t m)) inside
     (λ s n is. one_read live offset id newest rest s n (print_back front last fits) is)
     ∙ sym (joined front last seen number (λ s n. lines_read (lines_of rest) s n))

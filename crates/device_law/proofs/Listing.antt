@@ -4,10 +4,10 @@ use Rattle.std.specs.Prelude.{⊤, ◌&&◌, nat_lt, slice_get}
 use Rattle.std.specs.List.{list_all}
 use Rattle.std.proofs.lemmas.Bool.Decides.{nat_tests}
 use Rattle.std.proofs.lemmas.Option.{same_Some}
-use Rattle.device_lines.specs.declared.fault.Fault.TheVariants.{NotParted}
+use Rattle.device_lines.specs.declared.fault.DeviceFault.TheVariants.{NotParted}
 use Rattle.device_lines.specs.declared.size.DeviceSize.{DeviceSize}
 use Rattle.device_lines.specs.Lines.{Listed, listed_on}
-use Rattle.device_lines.specs.Reading.{Seen, Step, after_line, are_parted, begun, last_of, list_before, list_line, plus, rises}
+use Rattle.device_lines.specs.Reading.{Seen, Step, after_line, are_parted, seen_in_list, last_of, list_before, list_line, plus, rises}
 use Rattle.device_law.specs.ReadBack.{Reading, entries_read}
 use Rattle.device_law.proofs.Each.{Each, each-get}
 

@@ -39,7 +39,7 @@ use Rattle.layout_law.specs.Tenancies.{AreLawfulTexts, ImplementsItsText}
 use Rattle.layout_law.proofs.Ends.{placed_end}
 use Rattle.pathfinder.specs.Negotiation.{Tree, Standing, More, Done, GaveUp as GivenUp, NoPath as WithoutPath, Routed as RoutedTrees, routed_after}
 use Rattle.pathfinder.specs.PlacedNets.{wiring_of}
-use Rattle.pathfinder.specs.Routings.{told_by_node}
+use Rattle.pathfinder.specs.Routings.{routes_by_node}
 use Rattle.pathfinder.specs.Wiring.{Net}
 use Rattle.rr_graph.specs.declared.node.NodeKind.{NodeKind}
 use Rattle.rr_graph.specs.declared.node.NodeKind.TheVariants as Nodes
@@ -112,9 +112,9 @@ module _ (arch : Arch) (strip : Strip) where
   on_tree_there [] = All-nil IsThere
   on_tree_there (path ∷ tree) = All-append IsThere (on_path (map (graph_of basis).node path)) (on_tree (map (λ path. map (graph_of basis).node path) tree)) (on_path_there path) (on_tree_there tree)
 
-  on_trees_there : (trees : List Tree) → All IsThere (on_trees (told_by_node (graph_of basis) trees))
+  on_trees_there : (trees : List Tree) → All IsThere (on_trees (routes_by_node (graph_of basis) trees))
   on_trees_there [] = All-nil IsThere
-  on_trees_there (tree ∷ trees) = All-append IsThere (on_tree (map (λ path. map (graph_of basis).node path) tree)) (on_trees (told_by_node (graph_of basis) trees)) (on_tree_there tree) (on_trees_there trees)
+  on_trees_there (tree ∷ trees) = All-append IsThere (on_tree (map (λ path. map (graph_of basis).node path) tree)) (on_trees (routes_by_node (graph_of basis) trees)) (on_tree_there tree) (on_trees_there trees)
 
   -- the pads of blocks that are on places for them
   pad_there : (place : Place) → IsPlaceIn strip Pad place → IsThere (record { x = place.x; kind = PadResource; y = place.y; n = place.subblock })
@@ -139,7 +139,7 @@ module _ (arch : Arch) (strip : Strip) where
   -- so is what a routing occupies at its end
   standing_there : (pads : List Resource) (nets : List Net) (steps : ℕ) (routed : RoutedTrees) (standing : Standing) → All IsThere pads → All IsThere (held_at_end (Ok (routing_stands basis pads nets steps routed standing)))
   standing_there pads nets steps routed More all = All-nil IsThere
-  standing_there pads nets steps routed Done all = All-append IsThere (on_trees (told_by_node (graph_of basis) routed.trees)) pads (on_trees_there routed.trees) all
+  standing_there pads nets steps routed Done all = All-append IsThere (on_trees (routes_by_node (graph_of basis) routed.trees)) pads (on_trees_there routed.trees) all
   standing_there pads nets steps routed GivenUp all = All-nil IsThere
   standing_there pads nets steps routed (WithoutPath net) all = All-nil IsThere
 

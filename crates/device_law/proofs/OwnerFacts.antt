@@ -20,7 +20,7 @@ use Rattle.service_core.specs.History.{History, state_of}
 use Rattle.service_core.specs.Kept.{IsDevice, IsService}
 use Rattle.service_core.specs.Owners.{IsOwner}
 use Rattle.service_core.specs.Run.{Call, Run}
-use Rattle.service_core.specs.Service.{IsAloneOn, ServiceState, empty, history_of, live_of, strip_on}
+use Rattle.service_core.specs.Service.{IsAloneOn, ServiceState, empty_service, history_of, live_of, strip_on}
 use Rattle.service_core.proofs.Booking.{its_width}
 use Rattle.service_core.proofs.Effects.{run_device, run_keeps}
 use Rattle.service_core.proofs.Holdings.{has-moved, moved_left}
@@ -41,11 +41,11 @@ pub record Stands (device : Device) (state : ServiceState) : Type 0 where
   pub parted : AreParted device state
   pub wide : All IsWide state.histories
 
-pub after_run : (device : Device) (calls : List Call) (state : ServiceState) → Run (empty device) calls state → Stands device state
+pub after_run : (device : Device) (calls : List Call) (state : ServiceState) → Run (empty_service device) calls state → Stands device state
 after_run device calls state run =
-    let on : state.device ≡ device = run_device (empty device) calls state run in
+    let on : state.device ≡ device = run_device (empty_service device) calls state run in
     record {
-      kept = subst (λ d. IsService d state.plan.strips state.histories) on (run_keeps (empty device) calls state run (IsService-empty device));
+      kept = subst (λ d. IsService d state.plan.strips state.histories) on (run_keeps (empty_service device) calls state run (IsService-empty device));
       on = on;
       parted = are_parted device calls state run;
       wide = are_wide device calls state run;
@@ -136,7 +136,7 @@ live_within state id h is = (
   elim (cases_lt (length state.histories) id) [ inl past ↦ (let wrong : None ≡ Some h = sym (history_of-past state.histories id past) ∙ is in absurd cc) | inr few ↦ few ],
 )
 
-pub are_on_device : Laws → (device : Device) (calls : List Call) (state : ServiceState) → (known : IsDevice device) → AreLawfulTexts device.arch.lut_size → Run (empty device) calls state → AreOnDevice device known state
+pub are_on_device : Laws → (device : Device) (calls : List Call) (state : ServiceState) → (known : IsDevice device) → AreLawfulTexts device.arch.lut_size → Run (empty_service device) calls state → AreOnDevice device known state
 are_on_device laws device calls state known texts run = λ r id owns.
     let at = owned_at laws device state r id (after_run device calls state run) known texts owns in
     (at.on, subst (λ o. IsSomeAnd o (λ (s : PlacedStrip). is_in_strip r (strip_listed s) ≡ true)) (sym at.lives.found) at.inside)

@@ -12,14 +12,14 @@ use Rattle.rr_graph.specs.Resources.{IsEarlier}
 use Rattle.vpr_files.specs.NodeText.{node_text_of, number_word, position_text}
 use Rattle.device_book.specs.declared.book.Owned.{Owned}
 use Rattle.operator.specs.OwnersText.{owned_text, owners_text, resource_text}
-use Rattle.device_lines.specs.declared.fault.Fault.{Fault}
-use Rattle.device_lines.specs.declared.fault.Fault.TheVariants.{NotThere, OutOfOrder}
+use Rattle.device_lines.specs.declared.fault.DeviceFault.{DeviceFault}
+use Rattle.device_lines.specs.declared.fault.DeviceFault.TheVariants.{NotThere, OutOfOrder}
 use Rattle.device_lines.specs.declared.size.DeviceSize.{DeviceSize}
 use Rattle.device_lines.specs.Lines.{OwnedNode, first_counted, first_kind, is_within, owned_in, owner_count, owner_line}
 use Rattle.device_lines.specs.Reading.{Seen, after_line, follows, is_earlier, last_of, line_at, line_read, lines_of, lines_read, owner_seen, plus, reply_line}
 use Rattle.device_lines.specs.Words.{after_text}
-use Rattle.device_law.specs.OwnersBack.{AreExactlyRead, AreOwnersReadBack, IsSmall, announced, is_on, is_pad_on, last_line, node_of, owned_as, owners_read}
-use Rattle.device_law.specs.ReadBack.{IsInside, Reading, headed}
+use Rattle.device_law.specs.OwnersBack.{AreExactlyRead, AreOwnersReadBack, IsSmall, after_count, is_on, is_pad_on, last_line, node_of, owned_as, owners_read}
+use Rattle.device_law.specs.ReadBack.{IsInside, Reading, after_heading}
 use Rattle.device_law.proofs.FieldLemmas.{decimal_is, first_is}
 use Rattle.device_law.proofs.LineLemmas.{decimal_solid, first_of_lines, is_solid, solid_append}
 
@@ -81,7 +81,7 @@ record IsRead (size : DeviceSize) (owned : Owned) : Type 0 where
 abbrev node_bytes : List ℕ → List ℕ → ℕ → ℕ → ℕ → ℕ → List ℕ
 node_bytes word counted x y n id = (word ++ 32 ∷ position_text x y ++ 32 ∷ counted ++ 32 ∷ decimal n) ++ codes " owner " ++ decimal id
 
-abbrev owned_if : Bool → Owned → Result OwnedNode Fault
+abbrev owned_if : Bool → Owned → Result OwnedNode DeviceFault
 owned_if b owned = if b then Ok (node_of owned) else Err NotThere
 
 by_kind : (size : DeviceSize) (kind : ResourceKind) (x y n id : ℕ) → IsSmall (owned_by kind x y n id) → IsRead size (owned_by kind x y n id)
@@ -157,7 +157,7 @@ owned_solid size owned small =
     (solid_append (decimal r.n) last (decimal_solid r.n small.n) (solid_append (codes " owner ") (decimal owned.id) refl (decimal_solid owned.id small.id)))))))
 
 -- the line that announces them
-heading_read : (seen : Seen) (number count : ℕ) → count < 2 ^ 32 → IsInside seen → line_read seen (codes "owners " ++ decimal count) number ≡ Ok (announced seen number count)
+heading_read : (seen : Seen) (number count : ℕ) → count < 2 ^ 32 → IsInside seen → line_read seen (codes "owners " ++ decimal count) number ≡ Ok (after_count seen number count)
 unfolding owner_count after_text
 heading_read seen number count small inside =
     let line : List ℕ = codes "owners " ++ decimal count in
@@ -166,7 +166,7 @@ heading_read seen number count small inside =
     ∙ rw (decimal_is count small) refl)
 
 -- an owner's line
-owner_read : (seen : Seen) (number rest : ℕ) (owned : Owned) → IsSmall owned → seen.place ≡ (headed seen.size).place → seen.awaited ≡ rest + 1 → line_read seen (owner_bytes seen.size.rows owned) number ≡ owner_seen seen (seen.awaited - 1) (owned_as seen.size owned)
+owner_read : (seen : Seen) (number rest : ℕ) (owned : Owned) → IsSmall owned → seen.place ≡ (after_heading seen.size).place → seen.awaited ≡ rest + 1 → line_read seen (owner_bytes seen.size.rows owned) number ≡ owner_seen seen (seen.awaited - 1) (owned_as seen.size owned)
 owner_read seen number rest owned small place awaited =
     let line : List ℕ = owner_bytes seen.size.rows owned in
     let some : (seen.awaited == 0) ≡ false = grind (arith, nat_tests, awaited) in
@@ -186,7 +186,7 @@ by_one xs ys seen number rest (Ok one) same = by_test (follows (last_of seen.own
     by_test true = same one
     by_test false = refl
 
-all_read : (owners : List Owned) (rest : List ℕ) (seen : Seen) (number : ℕ) → All IsSmall owners → seen.place ≡ (headed seen.size).place → seen.awaited ≡ length owners →
+all_read : (owners : List Owned) (rest : List ℕ) (seen : Seen) (number : ℕ) → All IsSmall owners → seen.place ≡ (after_heading seen.size).place → seen.awaited ≡ length owners →
     lines_read (lines_of (flat_map (owned_text seen.size.rows) owners ++ rest)) seen number ≡ owners_read owners seen number (λ s n. lines_read (lines_of rest) s n)
 unfolding lines_read
 all_read [] rest seen number small place awaited = refl
@@ -213,7 +213,7 @@ are_read_back owners rest seen number few small inside =
     ap (λ (t : List ℕ). lines_read (lines_of t) seen number) regrouped
     ∙ (ap (λ (ls : List (List ℕ)). lines_read ls seen number) (first_of_lines line after (solid_append (codes "owners ") (decimal count) refl (decimal_solid count few)))
     ∙ (ap (after_line (lines_read (lines_of after)) (plus number 1)) (heading_read seen (plus number 1) count few inside)
-    ∙ all_read owners rest (announced seen (plus number 1) count) (plus number 1) small inside.place refl))
+    ∙ all_read owners rest (after_count seen (plus number 1) count) (plus number 1) small inside.place refl))
 
 -- in node order
 is_before : (a b : Resource) → IsEarlier a b → is_earlier a b ≡ true
@@ -262,4 +262,4 @@ first_goes (one ∷ more) = refl
 pub are_exactly_read : AreExactlyRead
 are_exactly_read owners rest seen number few small inside on order =
     are_read_back owners rest seen number few small inside
-    ∙ exactly owners (announced seen (plus number 1) (length owners)) (plus number 1) (λ s n. lines_read (lines_of rest) s n) on order (first_goes owners) refl
+    ∙ exactly owners (after_count seen (plus number 1) (length owners)) (plus number 1) (λ s n. lines_read (lines_of rest) s n) on order (first_goes owners) refl

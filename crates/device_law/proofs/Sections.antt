@@ -2,9 +2,9 @@
 use Rattle.std.proofs.Common.{◌≡◌, ℕ, ◌+◌, ◌-◌, cond, List, [], ◌∷◌, ◌++◌, codes, Ok, refl, ap, ◌∙◌}
 use Rattle.std.specs.Prelude.{◌==◌}
 use Rattle.std.specs.List.{flat_map, onto_first, slice_split}
-use Rattle.fpgad_run.specs.Run.{Section, section_text}
+use Rattle.script_text.specs.Replies.{Section, section_text}
 use Rattle.device_lines.specs.Lines.{change_in, owned_in, owner_count}
-use Rattle.device_lines.specs.Reading.{Seen, after_line, is_feed, line_at, line_read, lines_of, lines_read, missing, missing_at, missing_inside, owner_seen, plus, reply_line}
+use Rattle.device_lines.specs.Reading.{Seen, after_line, is_feed, line_at, line_read, lines_of, lines_read, missing_part, missing_at, missing_inside, owner_seen, plus, reply_line}
 use Rattle.device_lines.specs.Words.{after_text}
 use Rattle.device_law.specs.ReadBack.{IsInside, from_step}
 use Rattle.device_law.proofs.ReplyLines.{quiet}
@@ -22,7 +22,7 @@ pub record Rest (seen : Seen) (number : ℕ) (text : List ℕ) : Type 0 where
   pub listed_is : new.listed ≡ seen.listed
   pub owned_is : new.owned ≡ seen.owned
   pub has_is : new.has_owners ≡ seen.has_owners
-  pub missing_is : missing new lines ≡ missing_inside new lines
+  pub missing_is : missing_part new lines ≡ missing_inside new lines
 
 inside_is : (seen : Seen) (number : ℕ) (line : List ℕ) → IsInside seen → line_read seen line number ≡ reply_line seen line number
 inside_is seen number line inside =
@@ -45,7 +45,7 @@ unfolding lines_read after_text
 behind_read [] seen number = record { last = number; reads = refl }
 behind_read (line ∷ lines) seen number = let rest = behind_read lines seen (plus number 1) in record { last = rest.last; reads = rest.reads }
 
-behind_missing : (seen : Seen) (lines : ℕ) → missing (behind_of seen) lines ≡ missing_inside (behind_of seen) lines
+behind_missing : (seen : Seen) (lines : ℕ) → missing_part (behind_of seen) lines ≡ missing_inside (behind_of seen) lines
 unfolding after_text
 behind_missing seen lines = refl
 

@@ -7,7 +7,7 @@ use Rattle.std.proofs.lemmas.Bool.{and_from, false≢true}
 use Rattle.std.proofs.lemmas.Bool.Decides.{nat_tests}
 use Rattle.job_state.specs.Job.{JobState}
 use Rattle.strips.specs.declared.placed_strip.PlacedStrip.{PlacedStrip}
-use Rattle.strips.specs.Plan.{IsParted, Plan, moved_strip, strip_of, with_moved, without}
+use Rattle.strips.specs.Plan.{IsParted, Plan, moved_strip, strip_of, with_moved, strips_without}
 use Rattle.strips.proofs.Laid.{IsParted-with-inside}
 use Rattle.service_core.specs.declared.device.Device.{Device}
 use Rattle.service_core.specs.declared.op_refusal.OpRefusal.{OpRefusal}
@@ -148,8 +148,8 @@ module _ (device : Device) (known : IsDevice device) (old new : Stage) (fine : F
       let low = within.0 in
       let high = within.1 in
       let fewer = entries_evicted strips old.names id l.strip low (omega (arith, high, even)) l.found in
-      let now : length (strip_entries new.service.plan.strips new.names) ≡ length (strip_entries (without strips id) old.names) =
-      ap (λ ss. length (strip_entries ss new.names)) (ap (λ (st : ServiceState). st.plan.strips) evicts.1) ∙ ap (λ ns. length (strip_entries (without strips id) ns)) names in
+      let now : length (strip_entries new.service.plan.strips new.names) ≡ length (strip_entries (strips_without strips id) old.names) =
+      ap (λ ss. length (strip_entries ss new.names)) (ap (λ (st : ServiceState). st.plan.strips) evicts.1) ∙ ap (λ ns. length (strip_entries (strips_without strips id) ns)) names in
       let live = shows.live_is in
       let counted : one_less seen.live ≡ length (strip_entries new.service.plan.strips new.names) = omega (arith, live, now, fewer) in
       reply_changed (size_of device known) strips old.names shown seen number shows (codes "ok") text one_less new.service.plan.strips new.names word_ok told counted

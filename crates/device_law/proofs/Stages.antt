@@ -10,7 +10,7 @@ use Rattle.service_core.specs.declared.put_reply.PutReply.TheVariants.{Recorded 
 use Rattle.service_core.specs.History.{History}
 use Rattle.service_core.specs.Run.{Call, Happens, Run, IsGivenBackTo}
 use Rattle.service_core.specs.Run.Call.{Admit as AdmitCall, Evict as EvictCall, Move as MoveCall, Tenant, Take as TakeCall, Put as PutCall, GiveBack, Owners as OwnersCall}
-use Rattle.service_core.specs.Service.{ServiceState, empty, live_of}
+use Rattle.service_core.specs.Service.{ServiceState, empty_service, live_of}
 use Rattle.sessions.specs.declared.steps.StepOutcome.{StepOutcome}
 use Rattle.sessions.specs.Steps.{MakesStep}
 use Rattle.sessions.proofs.StepLemmas.{Run-append}
@@ -39,7 +39,7 @@ pub record IsNamed (stage : Stage) : Type 0 where
 
 pub record Fine (device : Device) (stage : Stage) : Type 0 where
   pub before : List Call
-  pub runs : Run (empty device) before stage.service
+  pub runs : Run (empty_service device) before stage.service
   pub names : IsNamed stage
 
 pub stands_in : (device : Device) (stage : Stage) → Fine device stage → Stands device stage.service
@@ -119,6 +119,6 @@ names_next old new (Operator Owners) calls text is printable named = no_change o
 pub fine_next : (device : Device) (old new : Stage) (act : Act (List ℕ)) (calls : List Call) (text : List ℕ) → IsAnswered old act calls text new → HasName act → Fine device old → Fine device new
 fine_next device old new act calls text is printable fine = record {
   before = fine.before ++ calls;
-  runs = Run-append (empty device) fine.before old.service calls new.service fine.runs (answered_runs old act calls text new is);
+  runs = Run-append (empty_service device) fine.before old.service calls new.service fine.runs (answered_runs old act calls text new is);
   names = names_next old new act calls text is printable fine.names;
 }

@@ -5,7 +5,7 @@ use Rattle.std.proofs.lemmas.Bool.{cases_lt}
 use Rattle.std.proofs.lemmas.Bool.Decides.{nat_tests}
 use Rattle.std.proofs.lemmas.Option.{same_Some}
 use Rattle.strips.specs.declared.placed_strip.PlacedStrip.{PlacedStrip}
-use Rattle.strips.specs.Plan.{moved_strip, strip_of, without}
+use Rattle.strips.specs.Plan.{moved_strip, strip_of, strips_without}
 use Rattle.strips.proofs.Laid.{strip_of-push, strip_of-without}
 use Rattle.service_core.specs.History.{History}
 use Rattle.service_core.specs.Service.{ServiceState, live_of, live_width, placed_width}
@@ -81,34 +81,34 @@ entries_admitted strips names name s id new =
     omega (arith, both, front, back)
 
 -- without one
-gone : (strips : List PlacedStrip) (id other : ℕ) (b : Bool) → eqb other id ≡ b → strip_of (without strips id) other ≡ cond b None (strip_of strips other)
+gone : (strips : List PlacedStrip) (id other : ℕ) (b : Bool) → eqb other id ≡ b → strip_of (strips_without strips id) other ≡ cond b None (strip_of strips other)
 gone strips id other b e = strip_of-without strips id other ∙ ap (λ t. cond t None (strip_of strips other)) e
 
 pub entries_evicted : (strips : List PlacedStrip) (names : List (List ℕ)) (id : ℕ) (s : PlacedStrip) → 0 < id → id ≤ length names → strip_of strips id ≡ Some s →
-    length (strip_entries (without strips id) names) + 1 ≡ length (strip_entries strips names)
+    length (strip_entries (strips_without strips id) names) + 1 ≡ length (strip_entries strips names)
 entries_evicted strips [] id s some few found = absurd (omega (arith, some, few))
 entries_evicted strips (newest ∷ older) id s some few found = by (cases_lt id (length older + 1)) (λ less. entries_evicted strips older id s some (omega (arith, less)) found)
   where
-    now : length (strip_entries (without strips id) (newest ∷ older)) ≡ length (strip_entries (without strips id) older) + length (strip_entry (strip_of (without strips id) (length older + 1)) (length older + 1) newest)
-    now = length-append (strip_entries (without strips id) older) (strip_entry (strip_of (without strips id) (length older + 1)) (length older + 1) newest)
+    now : length (strip_entries (strips_without strips id) (newest ∷ older)) ≡ length (strip_entries (strips_without strips id) older) + length (strip_entry (strip_of (strips_without strips id) (length older + 1)) (length older + 1) newest)
+    now = length-append (strip_entries (strips_without strips id) older) (strip_entry (strip_of (strips_without strips id) (length older + 1)) (length older + 1) newest)
 
     was : length (strip_entries strips (newest ∷ older)) ≡ length (strip_entries strips older) + length (strip_entry (strip_of strips (length older + 1)) (length older + 1) newest)
     was = length-append (strip_entries strips older) (strip_entry (strip_of strips (length older + 1)) (length older + 1) newest)
 
-    by : (id < length older + 1) ⊎ (length older + 1 ≤ id) → (id < length older + 1 → length (strip_entries (without strips id) older) + 1 ≡ length (strip_entries strips older)) → length (strip_entries (without strips id) (newest ∷ older)) + 1 ≡ length (strip_entries strips (newest ∷ older))
+    by : (id < length older + 1) ⊎ (length older + 1 ≤ id) → (id < length older + 1 → length (strip_entries (strips_without strips id) older) + 1 ≡ length (strip_entries strips older)) → length (strip_entries (strips_without strips id) (newest ∷ older)) + 1 ≡ length (strip_entries strips (newest ∷ older))
     by (inl less) fewer =
         let rest = fewer less in
         let other : eqb (length older + 1) id ≡ false = grind (arith, nat_tests, less) in
-        let last : length (strip_entry (strip_of (without strips id) (length older + 1)) (length older + 1) newest) ≡ length (strip_entry (strip_of strips (length older + 1)) (length older + 1) newest) =
+        let last : length (strip_entry (strip_of (strips_without strips id) (length older + 1)) (length older + 1) newest) ≡ length (strip_entry (strip_of strips (length older + 1)) (length older + 1) newest) =
         ap (λ o. length (strip_entry o (length older + 1) newest)) (gone strips id (length older + 1) false other) in
         omega (arith, now, was, rest, last)
     by (inr more) fewer =
         let same : id ≡ length older + 1 = omega (arith, more, few) in
         let own : eqb (length older + 1) id ≡ true = grind (arith, nat_tests, same) in
-        let last : length (strip_entry (strip_of (without strips id) (length older + 1)) (length older + 1) newest) ≡ 0 = ap (λ o. length (strip_entry o (length older + 1) newest)) (gone strips id (length older + 1) true own) in
+        let last : length (strip_entry (strip_of (strips_without strips id) (length older + 1)) (length older + 1) newest) ≡ 0 = ap (λ o. length (strip_entry o (length older + 1) newest)) (gone strips id (length older + 1) true own) in
         let here : length (strip_entry (strip_of strips (length older + 1)) (length older + 1) newest) ≡ 1 = ap (λ o. length (strip_entry o (length older + 1) newest)) (ap (strip_of strips) (sym same) ∙ found) in
-        let rest : length (strip_entries (without strips id) older) ≡ length (strip_entries strips older) =
-        ap (λ xs. length xs) (entries_same strips (without strips id) older (λ i below. let other : eqb i id ≡ false = grind (arith, nat_tests, same, below) in gone strips id i false other)) in
+        let rest : length (strip_entries (strips_without strips id) older) ≡ length (strip_entries strips older) =
+        ap (λ xs. length xs) (entries_same strips (strips_without strips id) older (λ i below. let other : eqb i id ≡ false = grind (arith, nat_tests, same, below) in gone strips id i false other)) in
         omega (arith, now, was, rest, last, here)
 
 -- or with one moved

@@ -6,13 +6,14 @@ use Rattle.layout_law.specs.Tenancies.{AreLawfulTexts}
 use Rattle.rr_graph.specs.Graph.{Basis}
 use Rattle.service_core.specs.declared.device.Device.{Device}
 use Rattle.service_core.specs.Kept.{IsDevice}
-use Rattle.service_core.specs.Service.{empty}
+use Rattle.service_core.specs.Service.{empty_service}
 use Rattle.operator.specs.Serving.{Stage}
-use Rattle.fpgad_run.specs.Run.{Telling, Tells, section_text, sections_after, told_operator, written}
+use Rattle.script_text.specs.Replies.{section_text}
+use Rattle.fpgad_run.specs.Run.{Telling, Tells, sections_after, told_operator, replies_text}
 use Rattle.device_lines.specs.declared.fault.InputFault.{InputFault}
 use Rattle.device_lines.specs.declared.size.DeviceSize.{DeviceSize}
 use Rattle.device_lines.specs.Reading.{Seen, device_in, end_of, lines_of, lines_read, nothing_seen}
-use Rattle.device_law.specs.ReadBack.{headed}
+use Rattle.device_law.specs.ReadBack.{after_heading}
 use Rattle.device_law.specs.Shown.{IsReadFrom, nothing_shown, shown_after, size_of, IsOutputRead, shown_in}
 use Rattle.device_law.proofs.AdmittedNames.{HasName, start_has}
 use Rattle.device_law.proofs.Each.{Each}
@@ -28,30 +29,30 @@ use Rattle.device_law.proofs.Sections.{rest_read}
 use Rattle.device_law.proofs.Tellings.{tells_then}
 
 -- the whole output
-heading_is : (size : DeviceSize) (rest : List ℕ) → lines_read (lines_of ((codes "== op" ++ 10 ∷ []) ++ rest)) (nothing_seen size) 0 ≡ lines_read (lines_of rest) (headed size) 1
+heading_is : (size : DeviceSize) (rest : List ℕ) → lines_read (lines_of ((codes "== op" ++ 10 ∷ []) ++ rest)) (nothing_seen size) 0 ≡ lines_read (lines_of rest) (after_heading size) 1
 unfolding lines_read
 heading_is size rest =
     ap (λ (ls : List (List ℕ)). lines_read ls (nothing_seen size) 0) (first_of_lines (codes "== op") rest refl)
 
-start_shows : (size : DeviceSize) → Shows size [] [] nothing_shown (headed size)
+start_shows : (size : DeviceSize) → Shows size [] [] nothing_shown (after_heading size)
 start_shows size = record { size_is = refl; inside = record { place = refl; awaited = refl }; live_is = refl; listed_is = refl; list_now = tt; owned_is = refl; has_is = refl; owned_now = tt }
 
 output_read : Laws → (device : Device) (known : IsDevice device) → AreLawfulTexts device.arch.lut_size → (graph : Basis) (ts : List Telling) (last : Stage) →
-    (told : Tells (record { names = []; jobs = []; service = empty device; graph = graph }) ts last) → Each HasName (map (λ (t : Telling). t.act) ts) →
-    IsReadFrom (shown_after (record { names = []; jobs = []; service = empty device; graph = graph }) ts last told nothing_shown) last (device_in (size_of device known) (written ts))
+    (told : Tells (record { names = []; jobs = []; service = empty_service device; graph = graph }) ts last) → Each HasName (map (λ (t : Telling). t.act) ts) →
+    IsReadFrom (shown_after (record { names = []; jobs = []; service = empty_service device; graph = graph }) ts last told nothing_shown) last (device_in (size_of device known) (replies_text ts))
 unfolding device_in
 output_read laws device known texts graph ts last told named =
     let size = size_of device known in
-    let start : Stage = record { names = []; jobs = []; service = empty device; graph = graph } in
+    let start : Stage = record { names = []; jobs = []; service = empty_service device; graph = graph } in
     let fine : Fine device start = record { before = []; runs = refl; names = record { even = refl; named = tt } } in
-    let all = tells_then laws device known texts start ts last told named fine nothing_shown (headed size) 1 (start_shows size) in
+    let all = tells_then laws device known texts start ts last told named fine nothing_shown (after_heading size) 1 (start_shows size) in
     let shows = all.after.shows in
     let operator = flat_map (λ (t : Telling). told_operator t.act t.text) ts in
     let sections = sections_after [] ts in
     let text = flat_map section_text sections in
     let rest = rest_read all.after.new all.after.reads.next sections shows.inside in
     let shown = shown_after start ts last told nothing_shown in
-    let read : lines_read (lines_of (written ts)) (nothing_seen size) 0 ≡ Ok (rest.new, rest.lines) =
+    let read : lines_read (lines_of (replies_text ts)) (nothing_seen size) 0 ≡ Ok (rest.new, rest.lines) =
     ap (λ (t : List ℕ). lines_read (lines_of t) (nothing_seen size) 0) (append_assoc (codes "== op" ++ 10 ∷ []) operator text) ∙ heading_is size (operator ++ text) ∙ all.after.reads.reads text ∙ rest.reads in
     let P : Result (Seen × ℕ) InputFault → Type 0 = λ r. IsReadFrom shown last (end_of r) in
     subst P (sym read)

@@ -1,13 +1,14 @@
 -- What the service prints for `op owners` is read back.
 use Rattle.std.specs.Prelude.{ℕ, ◌≡◌, ◌+◌, ◌-◌, ◌^◌, ◌<◌, Bool, ◌&&◌, ◌||◌, ◌==◌, nat_le, nat_lt, List, [], ◌∷◌, ◌++◌, length, map, true, false, Result, Ok, Err, All, AllPairs, if◌then◌else◌}
+use Rattle.arch_file.specs.declared.arch.TheConstants.{MAX_PINS}
 use Rattle.rr_graph.specs.declared.resource.Resource.{Resource}
 use Rattle.rr_graph.specs.declared.resource.ResourceKind.{ResourceKind}
 use Rattle.rr_graph.specs.declared.resource.ResourceKind.TheVariants.{Opin, Ipin, ChanX, ChanY, Pad}
 use Rattle.rr_graph.specs.Resources.{IsEarlier}
 use Rattle.device_book.specs.declared.book.Owned.{Owned}
 use Rattle.operator.specs.OwnersText.{owners_text}
-use Rattle.device_lines.specs.declared.fault.Fault.{Fault}
-use Rattle.device_lines.specs.declared.fault.Fault.TheVariants.{NotThere}
+use Rattle.device_lines.specs.declared.fault.DeviceFault.{DeviceFault}
+use Rattle.device_lines.specs.declared.fault.DeviceFault.TheVariants.{NotThere}
 use Rattle.device_lines.specs.declared.size.DeviceSize.{DeviceSize}
 use Rattle.device_lines.specs.Lines.{OwnedNode, is_end, is_within}
 use Rattle.device_lines.specs.Reading.{Seen, after_line, lines_of, lines_read, owner_seen, plus}
@@ -20,7 +21,7 @@ is_pad_on size r = is_within r.x size.columns && (is_end r.y size.rows && nat_lt
 -- a pin is a pad's in the rows of pads, and a block's in the other rows; a block has at most 145
 -- pins
 abbrev pub is_pin_on : DeviceSize → Resource → Bool
-is_pin_on size r = if (r.y == 0) || nat_lt size.rows r.y then is_pad_on size r else is_within r.x size.columns && (is_within r.y size.rows && nat_lt r.n 145)
+is_pin_on size r = if (r.y == 0) || nat_lt size.rows r.y then is_pad_on size r else is_within r.x size.columns && (is_within r.y size.rows && nat_lt r.n MAX_PINS)
 
 -- a device of that size has the wire, pin or pad of that kind
 abbrev pub is_on_by : ResourceKind → DeviceSize → Resource → Bool
@@ -37,7 +38,7 @@ is_on size r = is_on_by r.kind size r
 abbrev pub node_of : Owned → OwnedNode
 node_of owned = record { node = owned.resource; owner = owned.id }
 
-abbrev pub owned_as : DeviceSize → Owned → Result OwnedNode Fault
+abbrev pub owned_as : DeviceSize → Owned → Result OwnedNode DeviceFault
 owned_as size owned = if is_on size owned.resource then Ok (node_of owned) else Err NotThere
 
 -- numbers of 32 bits
@@ -49,8 +50,8 @@ pub record IsSmall (owned : Owned) : Type 0 where
 
 -- what follows when that many owners are announced in a line, and when they are read, one after
 -- another
-abbrev pub announced : Seen → ℕ → ℕ → Seen
-announced seen number count = record seen { in_list = false; owned = []; awaited = count; heading = number; has_owners = true }
+abbrev pub after_count : Seen → ℕ → ℕ → Seen
+after_count seen number count = record seen { in_list = false; owned = []; awaited = count; heading = number; has_owners = true }
 
 abbrev pub owners_read : List Owned → Seen → ℕ → (Seen → ℕ → Reading) → Reading
 owners_read [] seen number next = next seen number
@@ -60,7 +61,7 @@ owners_read (one ∷ more) seen number next = after_line (λ s n. owners_read mo
 -- comes after
 abbrev pub AreOwnersReadBack : Type 0
 AreOwnersReadBack = (owners : List Owned) (rest : List ℕ) (seen : Seen) (number : ℕ) → length owners < 2 ^ 32 → All IsSmall owners → IsInside seen →
-    lines_read (lines_of (owners_text seen.size.rows owners ++ rest)) seen number ≡ owners_read owners (announced seen (plus number 1) (length owners)) (plus number 1) (λ s n. lines_read (lines_of rest) s n)
+    lines_read (lines_of (owners_text seen.size.rows owners ++ rest)) seen number ≡ owners_read owners (after_count seen (plus number 1) (length owners)) (plus number 1) (λ s n. lines_read (lines_of rest) s n)
 
 -- the number of the last of their lines, after that many lines
 abbrev pub last_line : ℕ → List Owned → ℕ
@@ -69,7 +70,7 @@ last_line number (one ∷ more) = last_line (plus number 1) more
 
 -- the owners that were read
 abbrev pub with_owners : Seen → ℕ → List Owned → Seen
-with_owners seen number owners = record (announced seen number 0) { owned = map node_of owners }
+with_owners seen number owners = record (after_count seen number 0) { owned = map node_of owners }
 
 -- If the device has all of them, and they are in node order, then what is read is exactly the list:
 -- each node with its owner.

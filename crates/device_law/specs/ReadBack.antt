@@ -44,12 +44,12 @@ abbrev pub from_step : Seen → Step → Seen
 from_step seen (Ok new) = new
 from_step seen (Err fault) = seen
 
-abbrev pub headed : DeviceSize → Seen
-headed size = from_step (nothing_seen size) (first_line (nothing_seen size) (codes "== op") 1)
+abbrev pub after_heading : DeviceSize → Seen
+after_heading size = from_step (nothing_seen size) (first_line (nothing_seen size) (codes "== op") 1)
 
 -- the next line is in the operator's section, as right after its heading, and isn't an owner's
 pub record IsInside (seen : Seen) : Type 0 where
-  pub place : seen.place ≡ (headed seen.size).place
+  pub place : seen.place ≡ (after_heading seen.size).place
   pub awaited : seen.awaited ≡ 0
 
 -- reading the printed list is reading its tenancies, whatever was read before and comes after

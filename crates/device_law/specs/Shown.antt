@@ -20,7 +20,7 @@ use Rattle.fpgad_run.specs.declared.options.Options.{Options}
 use Rattle.fpgad_run.specs.Program.{IsReplies, Start, device_of, start_of}
 use Rattle.fpgad_run.specs.Run.{Telling, Tells}
 use Rattle.layout_law.specs.Tenancies.{AreLawfulTexts}
-use Rattle.device_lines.specs.declared.fault.Fault.TheVariants.{NoList, NoOwners}
+use Rattle.device_lines.specs.declared.fault.DeviceFault.TheVariants.{NoList, NoOwners}
 use Rattle.device_lines.specs.declared.fault.InputFault.{InputFault}
 use Rattle.device_lines.specs.declared.size.DeviceSize.{DeviceSize}
 use Rattle.device_lines.specs.Lines.{Listed, OwnedNode, change_in}

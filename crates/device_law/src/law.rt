@@ -4,7 +4,7 @@ ghost use Rattle.layout_law.specs.Tenancies.{AreLawfulTexts};
 ghost use Rattle.service_core.specs.declared.device.Device.{Device};
 ghost use Rattle.service_core.specs.Kept.{IsDevice};
 ghost use Rattle.service_core.specs.Run.{Call, Run};
-ghost use Rattle.service_core.specs.Service.{ServiceState, empty};
+ghost use Rattle.service_core.specs.Service.{ServiceState, empty_service};
 ghost use Rattle.device_law.specs.OwnersBack.{AreExactlyRead, AreOwnersReadBack};
 ghost use Rattle.device_law.specs.ReadBack.{IsListReadBack};
 ghost use Rattle.device_law.specs.Shown.{AreOnDevice, IsOutputRead};
@@ -31,7 +31,7 @@ pub fn owners_are_read()
 pub fn owners_are_on_device()
     ensures { (device : Device) (known : IsDevice device) (calls : List Call)
         (state : ServiceState) → AreLawfulTexts device.arch.lut_size →
-        Run (empty device) calls state → AreOnDevice device known state }
+        Run (empty_service device) calls state → AreOnDevice device known state }
 {
     routed_implements();
     laws_of_passes();

@@ -3,7 +3,7 @@ ghost use Rattle.std.specs.Prelude.{◌≤◌};
 
 use crate::geometry::Geometry;
 use crate::view::longest_name;
-use device_lines::Device;
+use device_lines::ListedDevice;
 use line_text::Sink;
 use picture_lines::{Sheet, begin_group, end_group, write_numbers, write_rows};
 use text_parts::{Part, Pen};
@@ -43,7 +43,7 @@ pub(crate) struct Frame {
 
 impl Frame {
     /// The layout for a device.
-    pub(crate) fn of(device: &Device<'_>) -> Self {
+    pub(crate) fn of(device: &ListedDevice<'_>) -> Self {
         let geometry = Geometry::of(device);
         let font = (geometry.length() / 90).max(1);
         let entry = (longest_name(device) + 34) * font * 3 / 5 + 2 * font;
@@ -61,7 +61,7 @@ impl Frame {
     }
 
     /// The distance of the device from the left.
-    fn left(&self) -> u32
+    fn left_margin(&self) -> u32
         ensures { result ≤ 1200 }
     {
         3 * self.font
@@ -131,7 +131,7 @@ impl Frame {
     }
 
     /// Writes the heading: the size of the device.
-    pub(crate) fn write_heading<K: Sink>(&self, pen: &mut Pen<'_, K>, device: &Device<'_>) {
+    pub(crate) fn write_heading<K: Sink>(&self, pen: &mut Pen<'_, K>, device: &ListedDevice<'_>) {
         let size = device.size;
         pen.write(&[
             Part::Text("<text x=\""),
@@ -154,7 +154,7 @@ impl Frame {
         begin_group(
             pen,
             self.geometry.lattice,
-            self.left(),
+            self.left_margin(),
             base,
             " scale(1 -1)\">\n",
         );
@@ -165,7 +165,7 @@ impl Frame {
         begin_group(
             pen,
             self.geometry.lattice,
-            self.left(),
+            self.left_margin(),
             4 * self.font,
             "\" text-anchor=\"middle\">\n",
         );
@@ -178,7 +178,7 @@ impl Frame {
         begin_group(
             pen,
             lattice,
-            self.left(),
+            self.left_margin(),
             base,
             "\" text-anchor=\"middle\">\n",
         );

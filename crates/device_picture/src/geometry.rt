@@ -1,9 +1,11 @@
 //! The positions in the picture: columns, rows and tracks as [`picture_lines::Lattice`] has them.
 //! The pads of row 0 are at its upper end, those above the last row at the lower end of theirs.
-ghost use Rattle.std.specs.Prelude.{◌+◌, ◌*◌, ◌≤◌};
+ghost use Rattle.std.specs.Prelude.{◌-◌, ◌+◌, ◌*◌, ◌≤◌};
+ghost use Rattle.arch_file.specs.declared.arch.TheConstants.{MAX_PINS};
+ghost use Rattle.grid.specs.declared.TheConstants.{MAX_COLUMNS, MAX_ROWS};
 
 use crate::view::last_pin;
-use device_lines::Device;
+use device_lines::ListedDevice;
 use picture_lines::Lattice;
 
 /// The positions in the picture. Heights count upwards.
@@ -25,8 +27,8 @@ pub(crate) struct Geometry {
     pub(crate) pin: u32,
     /// The distance of the pins from the sides of their block.
     pub(crate) inset: u32,
-    ghost columns_small: { (1 ≤ columns) × (columns ≤ 256) },
-    ghost rows_small: { (1 ≤ rows) × (rows ≤ 64) },
+    ghost columns_small: { (1 ≤ columns) × (columns ≤ MAX_COLUMNS) },
+    ghost rows_small: { (1 ≤ rows) × (rows ≤ MAX_ROWS) },
     ghost pad_small: { (2 ≤ pad) × (pad ≤ 65) },
     ghost pad_low: { (2 ≤ pad_height) × (pad_height ≤ lattice.block) },
     ghost side_small: { (1 ≤ side) × (side ≤ 13) },
@@ -36,7 +38,7 @@ pub(crate) struct Geometry {
 
 impl Geometry {
     /// The positions for a device: pins are as large as the largest pin number allows.
-    pub(crate) fn of(device: &Device<'_>) -> Self {
+    pub(crate) fn of(device: &ListedDevice<'_>) -> Self {
         let size = device.size;
         let side = side_of(last_pin(device));
         let channel = size.tracks + 1;
@@ -78,7 +80,7 @@ impl Geometry {
 
 /// The side, in pins, of the smallest square that holds the pins up to this one.
 fn side_of(last_pin: u32) -> u32
-    requires { last_pin ≤ 144 }
+    requires { last_pin ≤ MAX_PINS - 1 }
     ensures { (1 ≤ result) × (result ≤ 13) }
 {
     for side in 1..13 {

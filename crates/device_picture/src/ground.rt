@@ -1,16 +1,21 @@
 //! The background of what the tenancies own: tracks, blocks, pads, strips and guard columns.
 ghost use Rattle.std.specs.Prelude.{◌≤◌};
+ghost use Rattle.arch_file.specs.declared.arch.TheConstants.{MAX_IO_RAT, MAX_TRACKS};
 
 use crate::colours::write_colour;
 use crate::geometry::Geometry;
 use crate::view::is_guard;
-use device_lines::{Device, Tenancy};
+use device_lines::{ListedDevice, Tenancy};
 use line_text::Sink;
 use picture_lines::{write_box, write_line};
 use text_parts::{Part, Pen};
 
 /// Writes the background of what the tenancies own.
-pub(crate) fn write_ground<K: Sink>(pen: &mut Pen<'_, K>, geometry: Geometry, device: &Device<'_>) {
+pub(crate) fn write_ground<K: Sink>(
+    pen: &mut Pen<'_, K>,
+    geometry: Geometry,
+    device: &ListedDevice<'_>,
+) {
     write_strips(pen, geometry, device);
     write_tracks(pen, geometry, device.size.tracks);
     write_columns(pen, geometry);
@@ -19,7 +24,7 @@ pub(crate) fn write_ground<K: Sink>(pen: &mut Pen<'_, K>, geometry: Geometry, de
 
 /// Writes what the background refers to: the blocks and pads of a column, as if it were column 0.
 pub(crate) fn write_column<K: Sink>(pen: &mut Pen<'_, K>, geometry: Geometry, pads: u32)
-    requires { pads ≤ 8 }
+    requires { pads ≤ MAX_IO_RAT }
 {
     pen.text("<defs><path id=\"c\" class=\"b\" d=\"");
     for row in 1..=geometry.rows {
@@ -66,7 +71,7 @@ fn write_columns<K: Sink>(pen: &mut Pen<'_, K>, geometry: Geometry) {
 
 /// Writes a line for each track of each channel.
 fn write_tracks<K: Sink>(pen: &mut Pen<'_, K>, geometry: Geometry, tracks: u32)
-    requires { tracks ≤ 64 }
+    requires { tracks ≤ MAX_TRACKS }
 {
     pen.text("<path class=\"t\" d=\"");
     for track in 0..tracks {
@@ -78,7 +83,7 @@ fn write_tracks<K: Sink>(pen: &mut Pen<'_, K>, geometry: Geometry, tracks: u32)
 
 /// Writes the lines of that track in the horizontal channels.
 fn write_across<K: Sink>(pen: &mut Pen<'_, K>, geometry: Geometry, track: u32)
-    requires { track ≤ 64 }
+    requires { track ≤ MAX_TRACKS }
 {
     let end = geometry.lattice.track(geometry.columns, track);
     let length = geometry.lattice.span(geometry.columns);
@@ -89,7 +94,7 @@ fn write_across<K: Sink>(pen: &mut Pen<'_, K>, geometry: Geometry, track: u32)
 
 /// Writes the lines of that track in the vertical channels.
 fn write_upwards<K: Sink>(pen: &mut Pen<'_, K>, geometry: Geometry, track: u32)
-    requires { track ≤ 64 }
+    requires { track ≤ MAX_TRACKS }
 {
     let end = geometry.lattice.track(geometry.rows, track);
     let length = geometry.lattice.span(geometry.rows);
@@ -104,7 +109,7 @@ fn write_upwards<K: Sink>(pen: &mut Pen<'_, K>, geometry: Geometry, track: u32)
     }
 }
 
-fn write_strips<K: Sink>(pen: &mut Pen<'_, K>, geometry: Geometry, device: &Device<'_>) {
+fn write_strips<K: Sink>(pen: &mut Pen<'_, K>, geometry: Geometry, device: &ListedDevice<'_>) {
     for (place, tenancy) in device.tenancies.iter().enumerate() {
         pen.text("<path class=\"s\" color=\"");
         write_colour(pen, place);
@@ -122,7 +127,7 @@ fn write_strip<K: Sink>(pen: &mut Pen<'_, K>, geometry: Geometry, tenancy: Tenan
 }
 
 /// Writes the guard columns.
-fn write_guards<K: Sink>(pen: &mut Pen<'_, K>, geometry: Geometry, device: &Device<'_>) {
+fn write_guards<K: Sink>(pen: &mut Pen<'_, K>, geometry: Geometry, device: &ListedDevice<'_>) {
     pen.text("<path class=\"g\" d=\"");
     for column in 1..=geometry.columns {
         if is_guard(device, column) {

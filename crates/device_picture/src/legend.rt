@@ -3,7 +3,7 @@
 use crate::colours::write_colour;
 use crate::frame::Frame;
 use crate::strip_names::write_name;
-use device_lines::{Device, Tenancy};
+use device_lines::{ListedDevice, Tenancy};
 use line_text::Sink;
 use picture_lines::write_swatch;
 use text_parts::{Part, Pen};
@@ -16,7 +16,7 @@ const KEYS: [(&str, &str); 4] = [
     ("g", "guard column"),
 ];
 
-pub(crate) fn write_legend<K: Sink>(pen: &mut Pen<'_, K>, frame: Frame, device: &Device<'_>) {
+pub(crate) fn write_legend<K: Sink>(pen: &mut Pen<'_, K>, frame: Frame, device: &ListedDevice<'_>) {
     for (place, tenancy) in device.tenancies.iter().enumerate() {
         write_tenancy(pen, frame, *tenancy, place);
     }

@@ -2,7 +2,7 @@
 ghost use Rattle.std.specs.Prelude.{◌≤◌};
 
 use crate::geometry::Geometry;
-use device_lines::Owned;
+use device_lines::OwnedResource;
 use line_text::Sink;
 use rr_graph::ResourceKind;
 use text_parts::{Part, Pen};
@@ -23,7 +23,7 @@ struct Mark {
 pub(crate) fn write_marks<K: Sink>(
     pen: &mut Pen<'_, K>,
     geometry: Geometry,
-    owned: &[Owned],
+    owned: &[OwnedResource],
     kind: ResourceKind,
     class: &str,
 ) {
@@ -42,7 +42,7 @@ pub(crate) fn write_marks<K: Sink>(
 fn write_path<K: Sink>(
     pen: &mut Pen<'_, K>,
     geometry: Geometry,
-    owned: &[Owned],
+    owned: &[OwnedResource],
     kind: ResourceKind,
 ) {
     for one in owned {
@@ -70,7 +70,7 @@ fn write_mark<K: Sink>(pen: &mut Pen<'_, K>, mark: Mark) {
 }
 
 /// The rectangle of a pin or a pad.
-fn mark_of(geometry: Geometry, owned: Owned) -> Mark {
+fn mark_of(geometry: Geometry, owned: OwnedResource) -> Mark {
     let node = owned.node;
     let is_pad = node.y == 0 || node.y > geometry.rows;
     if !is_pad {
@@ -84,7 +84,7 @@ fn mark_of(geometry: Geometry, owned: Owned) -> Mark {
 }
 
 /// The part of a pad with that height, on the side of the channel.
-fn pad_mark(geometry: Geometry, owned: Owned, height: u32) -> Mark
+fn pad_mark(geometry: Geometry, owned: OwnedResource, height: u32) -> Mark
     requires { height ≤ geometry.pad_height }
 {
     let node = owned.node;
@@ -101,7 +101,7 @@ fn pad_mark(geometry: Geometry, owned: Owned, height: u32) -> Mark
 }
 
 /// The place of a pin in its block: pins are side by side, from the lower left corner.
-fn pin_mark(geometry: Geometry, owned: Owned) -> Mark {
+fn pin_mark(geometry: Geometry, owned: OwnedResource) -> Mark {
     let node = owned.node;
     let length = geometry.pin - geometry.pin / 4;
     Mark {

@@ -9,7 +9,7 @@ use crate::runs::Runs;
 use crate::strip_names::{write_name, write_strip_names};
 use crate::view::owned_by;
 use crate::wires::write_wires;
-use device_lines::{Device, Owned, Tenancy};
+use device_lines::{ListedDevice, OwnedResource, Tenancy};
 use line_text::Sink;
 use picture_lines::{Direction, DrawError, end_group};
 use rr_graph::ResourceKind;
@@ -30,7 +30,11 @@ const LANES: usize = 4225;
 ///   lower left corner; the sides that they face are not shown.
 /// - Each tenancy's name is above its strip.
 /// - The legend has each tenancy's name, offset, width and state.
-pub fn draw<K: Sink>(alloc: Global, device: &Device<'_>, sink: &mut K) -> Result<(), DrawError> {
+pub fn draw<K: Sink>(
+    alloc: Global,
+    device: &ListedDevice<'_>,
+    sink: &mut K,
+) -> Result<(), DrawError> {
     let mut runs = Runs::new(alloc, LANES)?;
     let mut pen = Pen::new(sink);
     draw_with(device, &mut pen, &mut runs);
@@ -39,7 +43,7 @@ pub fn draw<K: Sink>(alloc: Global, device: &Device<'_>, sink: &mut K) -> Result
 }
 
 /// Writes the picture, with memory for these runs.
-fn draw_with<K: Sink>(device: &Device<'_>, pen: &mut Pen<'_, K>, runs: &mut Runs) {
+fn draw_with<K: Sink>(device: &ListedDevice<'_>, pen: &mut Pen<'_, K>, runs: &mut Runs) {
     let frame = Frame::of(device);
     frame.write_head(pen);
     write_column(pen, frame.geometry, device.size.pads);
@@ -59,7 +63,7 @@ fn draw_with<K: Sink>(device: &Device<'_>, pen: &mut Pen<'_, K>, runs: &mut Runs
 fn write_tenancies<K: Sink>(
     pen: &mut Pen<'_, K>,
     geometry: Geometry,
-    device: &Device<'_>,
+    device: &ListedDevice<'_>,
     runs: &mut Runs,
 ) {
     for (place, tenancy) in device.tenancies.iter().enumerate() {
@@ -83,7 +87,7 @@ fn begin_tenancy<K: Sink>(pen: &mut Pen<'_, K>, tenancy: Tenancy<'_>, place: usi
 fn write_owned<K: Sink>(
     pen: &mut Pen<'_, K>,
     geometry: Geometry,
-    owned: &[Owned],
+    owned: &[OwnedResource],
     runs: &mut Runs,
 ) {
     if owned.is_empty() {

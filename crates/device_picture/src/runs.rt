@@ -1,5 +1,7 @@
 //! Wires that adjoin.
-ghost use Rattle.std.specs.Prelude.{◌+◌, ◌≤◌};
+ghost use Rattle.std.specs.Prelude.{◌-◌, ◌+◌, ◌≤◌};
+ghost use Rattle.arch_file.specs.declared.arch.TheConstants.{MAX_PINS};
+ghost use Rattle.grid.specs.declared.TheConstants.{MAX_COLUMNS};
 
 use std::alloc::{AllocError, Global};
 
@@ -13,18 +15,18 @@ pub(crate) struct Run {
     pub(crate) last: u32,
     /// The number of wires.
     pub(crate) count: u32,
-    ghost channel_small: { channel ≤ 256 },
-    ghost track_small: { track ≤ 144 },
-    ghost last_small: { last ≤ 256 },
+    ghost channel_small: { channel ≤ MAX_COLUMNS },
+    ghost track_small: { track ≤ MAX_PINS - 1 },
+    ghost last_small: { last ≤ MAX_COLUMNS },
     ghost count_small: { count ≤ last + 1 },
 }
 
 impl Run {
     /// A wire alone.
     pub(crate) fn new(channel: u32, track: u32, last: u32) -> Self
-        requires channel { channel ≤ 256 }
-        requires track { track ≤ 144 }
-        requires last { last ≤ 256 }
+        requires channel { channel ≤ MAX_COLUMNS }
+        requires track { track ≤ MAX_PINS - 1 }
+        requires last { last ≤ MAX_COLUMNS }
     {
         Run {
             channel,

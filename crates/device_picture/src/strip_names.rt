@@ -1,6 +1,6 @@
 //! The names of the tenancies, each above its strip.
 use crate::frame::Frame;
-use device_lines::{Device, Tenancy};
+use device_lines::{ListedDevice, Tenancy};
 use line_text::Sink;
 use picture_lines::{end_group, write_escaped};
 use text_parts::{Part, Pen};
@@ -11,7 +11,11 @@ pub(crate) fn write_name<K: Sink>(pen: &mut Pen<'_, K>, name: &[u8]) {
 }
 
 /// Writes the name of each tenancy above its strip, in letters that fit the strip.
-pub(crate) fn write_strip_names<K: Sink>(pen: &mut Pen<'_, K>, frame: Frame, device: &Device<'_>) {
+pub(crate) fn write_strip_names<K: Sink>(
+    pen: &mut Pen<'_, K>,
+    frame: Frame,
+    device: &ListedDevice<'_>,
+) {
     frame.begin_names(pen);
     for tenancy in device.tenancies.iter() {
         write_strip_name(pen, frame, *tenancy);

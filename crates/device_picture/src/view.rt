@@ -1,11 +1,12 @@
 //! What the picture needs to know of a device.
-ghost use Rattle.std.specs.Prelude.{◌≤◌};
+ghost use Rattle.std.specs.Prelude.{◌-◌, ◌≤◌};
+ghost use Rattle.arch_file.specs.declared.arch.TheConstants.{MAX_PINS};
 
-use device_lines::{Device, Owned, Tenancy};
+use device_lines::{ListedDevice, OwnedResource, Tenancy};
 use rr_graph::ResourceKind;
 
 /// Returns whether a column is in a strip.
-fn is_used(device: &Device<'_>, column: u32) -> bool {
+fn is_used(device: &ListedDevice<'_>, column: u32) -> bool {
     device
         .tenancies
         .iter()
@@ -18,7 +19,7 @@ fn is_beside(strip: &Tenancy<'_>, column: u32) -> bool {
 }
 
 /// Returns whether a column is unused and beside a strip.
-pub(crate) fn is_guard(device: &Device<'_>, column: u32) -> bool {
+pub(crate) fn is_guard(device: &ListedDevice<'_>, column: u32) -> bool {
     let beside = device
         .tenancies
         .iter()
@@ -28,7 +29,7 @@ pub(crate) fn is_guard(device: &Device<'_>, column: u32) -> bool {
 
 /// What a tenancy owns: the first contiguous run of owned nodes that are its own. There are no
 /// others, if each node is in its owner's strip.
-pub(crate) fn owned_by<'d>(device: &'d Device<'_>, id: u32) -> &'d [Owned] {
+pub(crate) fn owned_by<'d>(device: &'d ListedDevice<'_>, id: u32) -> &'d [OwnedResource] {
     let all = device.owned.as_slice();
     let first = all.iter().position(|owned| owned.owner == id);
     let (_, rest) = all.split_at(first.unwrap_or(all.len()));
@@ -38,7 +39,7 @@ pub(crate) fn owned_by<'d>(device: &'d Device<'_>, id: u32) -> &'d [Owned] {
 }
 
 /// The length of the longest name.
-pub(crate) fn longest_name(device: &Device<'_>) -> u32
+pub(crate) fn longest_name(device: &ListedDevice<'_>) -> u32
     ensures { result ≤ 32 }
 {
     let mut longest = 0;
@@ -55,8 +56,8 @@ fn name_length(tenancy: &Tenancy<'_>) -> u32
 }
 
 /// The largest number of a block's pin among those that are owned.
-pub(crate) fn last_pin(device: &Device<'_>) -> u32
-    ensures { result ≤ 144 }
+pub(crate) fn last_pin(device: &ListedDevice<'_>) -> u32
+    ensures { result ≤ MAX_PINS - 1 }
 {
     let mut last = 0;
     for owned in device.owned.iter() {

@@ -3,7 +3,7 @@
 use crate::geometry::Geometry;
 use crate::marks::LONGEST_PATH;
 use crate::runs::{Run, Runs};
-use device_lines::Owned;
+use device_lines::OwnedResource;
 use line_text::Sink;
 use picture_lines::{Direction, write_line};
 use rr_graph::ResourceKind;
@@ -13,7 +13,7 @@ use text_parts::Pen;
 pub(crate) fn write_wires<K: Sink>(
     pen: &mut Pen<'_, K>,
     geometry: Geometry,
-    owned: &[Owned],
+    owned: &[OwnedResource],
     direction: Direction,
     runs: &mut Runs,
 ) {
@@ -41,7 +41,7 @@ fn end_path<K: Sink>(pen: &mut Pen<'_, K>) {
 fn write_ended<K: Sink>(
     pen: &mut Pen<'_, K>,
     geometry: Geometry,
-    owned: &[Owned],
+    owned: &[OwnedResource],
     direction: Direction,
     runs: &mut Runs,
 ) {
@@ -70,7 +70,7 @@ fn write_open<K: Sink>(
 }
 
 /// A node as a wire of that direction; `None` if it isn't one.
-fn wire_of(owned: Owned, direction: Direction) -> Option<Run> {
+fn wire_of(owned: OwnedResource, direction: Direction) -> Option<Run> {
     let node = owned.node;
     match (node.kind, direction) {
         (ResourceKind::ChanX, Direction::Across) => Some(Run::new(node.y, node.n, node.x)),

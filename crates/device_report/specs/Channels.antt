@@ -4,14 +4,14 @@ use Rattle.std.specs.List.{range_with_len}
 use Rattle.std.specs.List.Sorted.{IsPermutation, IsSortedBy, IsStableBy}
 use Rattle.rr_graph.specs.declared.resource.ResourceKind.{ResourceKind}
 use Rattle.rr_graph.specs.declared.resource.ResourceKind.TheVariants.{Opin, Ipin, ChanX, ChanY, Pad}
-use Rattle.device_lines.specs.declared.device.Owned.{Owned}
-use Rattle.device_report.specs.declared.channels.Direction.{Direction}
-use Rattle.device_report.specs.declared.channels.Direction.TheVariants.{Across, Up}
+use Rattle.device_lines.specs.declared.device.OwnedResource.{OwnedResource}
+use Rattle.device_report.specs.declared.channels.ChannelDirection.{ChannelDirection}
+use Rattle.device_report.specs.declared.channels.ChannelDirection.TheVariants.{Across, Up}
 use Rattle.device_report.specs.declared.channels.ChannelUse.{ChannelUse}
 use Rattle.device_report.specs.declared.channels.TheConstants.{MAX_SHOWN}
 
 -- a wire of a channel above a row, or right of a column
-abbrev pub is_wire : Direction → ResourceKind → Bool
+abbrev pub is_wire : ChannelDirection → ResourceKind → Bool
 is_wire Across ChanX = true
 is_wire Across Opin = false
 is_wire Across Ipin = false
@@ -24,12 +24,12 @@ is_wire Up ChanX = false
 is_wire Up Pad = false
 
 -- how many wires of a channel are owned
-abbrev pub wires_in : List Owned → Direction → ℕ → ℕ → ℕ
+abbrev pub wires_in : List OwnedResource → ChannelDirection → ℕ → ℕ → ℕ
 wires_in owned direction x y = count_by (λ one. is_wire direction one.node.kind && (one.node.x == x) && (one.node.y == y)) owned
 
 -- the channel of that number, in node order: column by column, first those above its rows, from row
 -- 0, and then those right of it
-abbrev pub channel_at : ℕ → List Owned → ℕ → ChannelUse
+abbrev pub channel_at : ℕ → List OwnedResource → ℕ → ChannelUse
 channel_at rows owned number =
     let lines = rows + 1 in
     let x = number / (2 * lines) in
@@ -38,7 +38,7 @@ channel_at rows owned number =
     record { x = x; direction = direction; y = y; wires = wires_in owned direction x y }
 
 -- the channels of a device that have owned wires, in node order
-abbrev pub channels_in : ℕ → ℕ → List Owned → List ChannelUse
+abbrev pub channels_in : ℕ → ℕ → List OwnedResource → List ChannelUse
 channels_in columns rows owned =
     filter (λ channel. nat_lt 0 channel.wires) (map (channel_at rows owned) (range_with_len 0 ((columns + 1) * (2 * (rows + 1)))))
 

@@ -1,7 +1,7 @@
 -- How full a device is.
 use Rattle.std.specs.Prelude.{◌≡◌, List, map}
 use Rattle.strips.specs.declared.placed_strip.PlacedStrip.{PlacedStrip}
-use Rattle.device_lines.specs.declared.device.Device.{Device}
+use Rattle.device_lines.specs.declared.device.ListedDevice.{ListedDevice}
 use Rattle.device_lines.specs.declared.tenancy.Tenancy.{Tenancy}
 use Rattle.device_report.specs.declared.tenancies.TenancyUse.{TenancyUse}
 use Rattle.device_report.specs.declared.report.Report.{Report}
@@ -11,16 +11,16 @@ use Rattle.device_report.specs.Tenancies.{use_of}
 use Rattle.device_report.specs.Widest.{IsWidest}
 
 -- the strips of a device's live tenancies
-abbrev pub strips_of : Device → List PlacedStrip
+abbrev pub strips_of : ListedDevice → List PlacedStrip
 strips_of device = map (λ (tenancy : Tenancy). record { id = tenancy.id; offset = tenancy.offset; width = tenancy.width }) device.tenancies.items
 
 -- what each of them uses
-abbrev pub uses_of : Device → List TenancyUse
+abbrev pub uses_of : ListedDevice → List TenancyUse
 uses_of device = map (use_of device.size device.owned.items) device.tenancies.items
 
 -- a report of a device: what each tenancy uses, which columns are used, the widest strip that would
 -- be admitted, and the fullest channels
-pub record IsReport (device : Device) (report : Report) : Type 0 where
+pub record IsReport (device : ListedDevice) (report : Report) : Type 0 where
   pub size : report.size ≡ device.size
   pub tenancies : report.tenancies.items ≡ uses_of device
   pub columns : IsColumnUse device.size.columns (strips_of device) report.columns

@@ -1,8 +1,8 @@
 -- The report as a text.
 use Rattle.std.specs.Prelude.{ℕ, List, [], ◌∷◌, ◌++◌, codes, decimal, flat_map, Option, Some, None}
 use Rattle.std.specs.List.{concat}
-use Rattle.device_report.specs.declared.channels.Direction.{Direction}
-use Rattle.device_report.specs.declared.channels.Direction.TheVariants.{Across, Up}
+use Rattle.device_report.specs.declared.channels.ChannelDirection.{ChannelDirection}
+use Rattle.device_report.specs.declared.channels.ChannelDirection.TheVariants.{Across, Up}
 use Rattle.device_report.specs.declared.channels.ChannelUse.{ChannelUse}
 use Rattle.device_report.specs.declared.columns.ColumnUse.{ColumnUse}
 use Rattle.device_report.specs.declared.report.Report.{Report}
@@ -32,7 +32,7 @@ widest_line (Some room) = concat (codes "widest " ∷ decimal room.width ∷ cod
 widest_line None = concat (codes "widest none\n" ∷ [])
 
 -- the word for a channel
-abbrev pub channel_word : Direction → List ℕ
+abbrev pub channel_word : ChannelDirection → List ℕ
 channel_word Across = codes "CHANX"
 channel_word Up = codes "CHANY"
 

@@ -2,7 +2,7 @@
 ghost use Rattle.std.specs.Prelude.{◌≡◌, ◌+◌, ◌*◌, ◌≤◌, ◌<◌, IfOk, count_by};
 ghost use Rattle.device_report.specs.Channels.{AreFullest, channel_at, channels_in, is_wire, wires_in};
 
-use device_lines::{DeviceSize, Owned};
+use device_lines::{DeviceSize, OwnedResource};
 use rr_graph::ResourceKind;
 use std::alloc::{AllocError, Global};
 
@@ -11,7 +11,7 @@ pub const MAX_SHOWN: usize = 10;
 
 /// The direction of a channel's wires.
 #[derive(Clone, Copy, PartialEq, Eq)]
-pub enum Direction {
+pub enum ChannelDirection {
     /// Horizontal, above a row.
     Across,
     /// Vertical, right of a column.
@@ -22,17 +22,17 @@ pub enum Direction {
 #[derive(Clone, Copy, PartialEq, Eq)]
 pub struct ChannelUse {
     pub x: u32,
-    pub direction: Direction,
+    pub direction: ChannelDirection,
     pub y: u32,
     pub wires: usize,
 }
 
 /// The fullest channels of a device with these owned nodes: of the channels with owned wires the
 /// ten that have most, in falling order. Equally full ones are in node order.
-pub(crate) fn fullest(
+pub(crate) fn fullest_channels(
     alloc: Global,
     size: DeviceSize,
-    owned: &[Owned],
+    owned: &[OwnedResource],
 ) -> Result<Vec<ChannelUse>, AllocError>
     ensures { IfOk result (λ shown.
         AreFullest (channels_in size.columns size.rows owned.now) shown.items) }
@@ -47,7 +47,7 @@ pub(crate) fn fullest(
 fn channels_in(
     alloc: Global,
     size: DeviceSize,
-    owned: &[Owned],
+    owned: &[OwnedResource],
 ) -> Result<Vec<ChannelUse>, AllocError>
     ensures { IfOk result (λ channels.
         channels.items ≡ channels_in size.columns size.rows owned.now) }
@@ -61,15 +61,15 @@ fn channels_in(
 
 /// The channel of that number: column by column, first those above the rows and then those right of
 /// the column.
-fn channel_at(size: DeviceSize, owned: &[Owned], number: u32) -> ChannelUse
+fn channel_at(size: DeviceSize, owned: &[OwnedResource], number: u32) -> ChannelUse
     ensures { result ≡ channel_at size.rows owned.now number }
 {
     let lines = size.rows + 1;
     let x = number / (2 * lines);
     let direction = if number % (2 * lines) < lines {
-        Direction::Across
+        ChannelDirection::Across
     } else {
-        Direction::Up
+        ChannelDirection::Up
     };
     let y = number % lines;
     let wires = wires_in(owned, direction, x, y);
@@ -82,7 +82,7 @@ fn channel_at(size: DeviceSize, owned: &[Owned], number: u32) -> ChannelUse
 }
 
 /// The number of owned wires of a channel.
-fn wires_in(owned: &[Owned], direction: Direction, x: u32, y: u32) -> usize
+fn wires_in(owned: &[OwnedResource], direction: ChannelDirection, x: u32, y: u32) -> usize
     ensures { result ≡ wires_in owned.now direction x y }
 {
     owned
@@ -92,11 +92,11 @@ fn wires_in(owned: &[Owned], direction: Direction, x: u32, y: u32) -> usize
 }
 
 /// Returns whether it is a wire of that direction.
-pub(crate) fn is_wire(direction: Direction, kind: ResourceKind) -> bool
+pub(crate) fn is_wire(direction: ChannelDirection, kind: ResourceKind) -> bool
     ensures { result ≡ is_wire direction kind }
 {
     match direction {
-        Direction::Across => matches!(kind, ResourceKind::ChanX),
-        Direction::Up => matches!(kind, ResourceKind::ChanY),
+        ChannelDirection::Across => matches!(kind, ResourceKind::ChanX),
+        ChannelDirection::Up => matches!(kind, ResourceKind::ChanY),
     }
 }

@@ -1,5 +1,6 @@
 //! The use of columns.
 ghost use Rattle.std.specs.Prelude.{◌≡◌, ◌≤◌};
+ghost use Rattle.grid.specs.declared.TheConstants.{MAX_COLUMNS};
 ghost use Rattle.device_report.specs.Columns.{IsColumnUse, columns_that, is_beside, is_beside_any, is_free, is_guard, is_in, is_used};
 
 use strips::PlacedStrip;
@@ -18,7 +19,7 @@ pub struct ColumnUse {
 impl ColumnUse {
     /// The use of the columns of a device with `columns` columns and these strips.
     pub(crate) fn of(columns: u32, strips: &[PlacedStrip]) -> Self
-        requires { columns ≤ 256 }
+        requires { columns ≤ MAX_COLUMNS }
         ensures { IsColumnUse columns strips.now result }
     {
         ColumnUse {
@@ -31,7 +32,7 @@ impl ColumnUse {
 
 /// The number of columns in strips.
 fn used_columns(columns: u32, strips: &[PlacedStrip]) -> usize
-    requires { columns ≤ 256 }
+    requires { columns ≤ MAX_COLUMNS }
     ensures { result ≡ columns_that columns (is_used strips.now) }
 {
     (1..columns + 1)
@@ -41,7 +42,7 @@ fn used_columns(columns: u32, strips: &[PlacedStrip]) -> usize
 
 /// The number of unused columns beside a strip.
 fn guard_columns(columns: u32, strips: &[PlacedStrip]) -> usize
-    requires { columns ≤ 256 }
+    requires { columns ≤ MAX_COLUMNS }
     ensures { result ≡ columns_that columns (is_guard strips.now) }
 {
     (1..columns + 1)
@@ -51,7 +52,7 @@ fn guard_columns(columns: u32, strips: &[PlacedStrip]) -> usize
 
 /// The number of unused columns that aren't beside a strip.
 fn free_columns(columns: u32, strips: &[PlacedStrip]) -> usize
-    requires { columns ≤ 256 }
+    requires { columns ≤ MAX_COLUMNS }
     ensures { result ≡ columns_that columns (is_free strips.now) }
 {
     (1..columns + 1)

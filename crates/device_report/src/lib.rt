@@ -18,9 +18,9 @@ mod tenancies;
 mod text;
 mod widest;
 
-pub use channels::{ChannelUse, Direction, MAX_SHOWN};
+pub use channels::{ChannelDirection, ChannelUse, MAX_SHOWN};
 pub use columns::ColumnUse;
 pub use report::Report;
-pub use tenancies::{Share, TenancyUse};
+pub use tenancies::{ResourceUse, TenancyUse};
 pub use text::{write_channel, write_report};
 pub use widest::Room;

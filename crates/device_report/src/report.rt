@@ -1,12 +1,13 @@
 //! The report.
 ghost use Rattle.std.specs.Prelude.{◌≡◌, ◌+◌, ◌≤◌, map, All, IfOk};
+ghost use Rattle.grid.specs.declared.TheConstants.{MAX_COLUMNS};
 ghost use Rattle.device_report.specs.Report.{IsReport, strips_of, uses_of};
 
-use crate::channels::{ChannelUse, fullest};
+use crate::channels::{ChannelUse, fullest_channels};
 use crate::columns::ColumnUse;
 use crate::tenancies::TenancyUse;
-use crate::widest::{Room, widest};
-use device_lines::{Device, DeviceSize};
+use crate::widest::{Room, widest_strip};
+use device_lines::{DeviceSize, ListedDevice};
 use std::alloc::{AllocError, Global};
 use strips::PlacedStrip;
 
@@ -27,7 +28,7 @@ pub struct Report<'t> {
 
 impl<'t> Report<'t> {
     /// Returns the report of a device. Fails with [`AllocError`] if memory runs out.
-    pub fn new(alloc: Global, device: &Device<'t>) -> Result<Self, AllocError>
+    pub fn new(alloc: Global, device: &ListedDevice<'t>) -> Result<Self, AllocError>
         ensures { IfOk result (IsReport device.now) }
     {
         let columns = device.size.columns;
@@ -36,15 +37,16 @@ impl<'t> Report<'t> {
             size: device.size,
             tenancies: uses_of(alloc, device)?,
             columns: ColumnUse::of(columns, &strips),
-            widest: widest(columns, &strips),
-            fullest: fullest(alloc, device.size, &device.owned)?,
+            widest: widest_strip(columns, &strips),
+            fullest: fullest_channels(alloc, device.size, &device.owned)?,
         })
     }
 }
 
-fn strips_of(alloc: Global, device: &Device<'_>) -> Result<Vec<PlacedStrip>, AllocError>
+fn strips_of(alloc: Global, device: &ListedDevice<'_>) -> Result<Vec<PlacedStrip>, AllocError>
     ensures value { IfOk result (λ strips. strips.items ≡ strips_of device.now) }
-    ensures small { IfOk result (λ strips. All (λ s. s.offset + s.width ≤ 256) strips.items) }
+    ensures small { IfOk result (λ strips. All (λ s. s.offset + s.width ≤ MAX_COLUMNS)
+        strips.items) }
 {
     device
         .tenancies
@@ -58,7 +60,7 @@ fn strips_of(alloc: Global, device: &Device<'_>) -> Result<Vec<PlacedStrip>, All
 }
 
 /// What each tenancy of a device uses.
-fn uses_of<'t>(alloc: Global, device: &Device<'t>) -> Result<Vec<TenancyUse<'t>>, AllocError>
+fn uses_of<'t>(alloc: Global, device: &ListedDevice<'t>) -> Result<Vec<TenancyUse<'t>>, AllocError>
     ensures { IfOk result (λ uses. uses.items ≡ uses_of device.now) }
 {
     device

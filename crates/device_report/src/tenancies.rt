@@ -1,14 +1,16 @@
 //! How much of its strip a tenancy uses.
 ghost use Rattle.std.specs.Prelude.{◌≡◌, ◌+◌, ◌*◌, ◌≤◌, ◌<◌, count_by};
+ghost use Rattle.arch_file.specs.declared.arch.TheConstants.{MAX_TRACKS};
+ghost use Rattle.grid.specs.declared.TheConstants.{MAX_COLUMNS, MAX_ROWS};
 ghost use Rattle.device_report.specs.Tenancies.{blocks_used, has_pin, is_pad, is_pin, pads_used, use_of, wires_used};
 
-use crate::channels::{Direction, is_wire};
-use device_lines::{DeviceSize, Owned, Tenancy};
+use crate::channels::{ChannelDirection, is_wire};
+use device_lines::{DeviceSize, OwnedResource, Tenancy};
 use rr_graph::ResourceKind;
 
 /// How many resources of one kind a strip uses.
 #[derive(Clone, Copy, PartialEq, Eq)]
-pub struct Share {
+pub struct ResourceUse {
     pub used: usize,
     /// How many of them the strip has.
     pub there: u32,
@@ -19,37 +21,37 @@ pub struct Share {
 pub struct TenancyUse<'t> {
     pub tenancy: Tenancy<'t>,
     /// Blocks with an owned pin.
-    pub blocks: Share,
-    pub pads: Share,
+    pub blocks: ResourceUse,
+    pub pads: ResourceUse,
     /// Wires above rows.
-    pub across: Share,
+    pub across: ResourceUse,
     /// Wires right of columns, and those left of the strip.
-    pub up: Share,
+    pub up: ResourceUse,
 }
 
 impl<'t> TenancyUse<'t> {
     /// What a tenancy uses on a device of that size with these owned nodes.
-    pub(crate) fn of(size: DeviceSize, owned: &[Owned], tenancy: &Tenancy<'t>) -> Self
+    pub(crate) fn of(size: DeviceSize, owned: &[OwnedResource], tenancy: &Tenancy<'t>) -> Self
         ensures { result ≡ use_of size owned.now tenancy.now }
     {
         let id = tenancy.id;
         let width = tenancy.width;
         TenancyUse {
             tenancy: *tenancy,
-            blocks: Share {
+            blocks: ResourceUse {
                 used: blocks_used(owned, size.rows, tenancy.offset, width),
                 there: width * size.rows,
             },
-            pads: Share {
+            pads: ResourceUse {
                 used: pads_used(owned, id),
                 there: product(width, 2, size.pads),
             },
-            across: Share {
-                used: wires_used(owned, Direction::Across, id),
+            across: ResourceUse {
+                used: wires_used(owned, ChannelDirection::Across, id),
                 there: product(width, size.rows + 1, size.tracks),
             },
-            up: Share {
-                used: wires_used(owned, Direction::Up, id),
+            up: ResourceUse {
+                used: wires_used(owned, ChannelDirection::Up, id),
                 there: product(width + 1, size.rows, size.tracks),
             },
         }
@@ -58,9 +60,9 @@ impl<'t> TenancyUse<'t> {
 
 /// The product of three.
 fn product(a: u32, b: u32, c: u32) -> u32
-    requires a { a ≤ 257 }
-    requires b { b ≤ 65 }
-    requires c { c ≤ 64 }
+    requires a { a ≤ MAX_COLUMNS + 1 }
+    requires b { b ≤ MAX_ROWS + 1 }
+    requires c { c ≤ MAX_TRACKS }
     ensures { result ≡ a * b * c }
 {
     let ab = a * b;
@@ -69,9 +71,9 @@ fn product(a: u32, b: u32, c: u32) -> u32
 }
 
 /// How many blocks in `width` columns, after the first `offset`, have an owned pin.
-fn blocks_used(owned: &[Owned], rows: u32, offset: u32, width: u32) -> usize
-    requires rows { (1 ≤ rows) × (rows ≤ 64) }
-    requires strip { offset + width ≤ 256 }
+fn blocks_used(owned: &[OwnedResource], rows: u32, offset: u32, width: u32) -> usize
+    requires rows { (1 ≤ rows) × (rows ≤ MAX_ROWS) }
+    requires strip { offset + width ≤ MAX_COLUMNS }
     ensures { result ≡ blocks_used owned.now rows offset width }
 {
     (0..width * rows)
@@ -80,14 +82,14 @@ fn blocks_used(owned: &[Owned], rows: u32, offset: u32, width: u32) -> usize
 }
 
 /// Returns whether a block has an owned pin.
-fn has_pin(owned: &[Owned], x: u32, y: u32) -> bool
+fn has_pin(owned: &[OwnedResource], x: u32, y: u32) -> bool
     ensures { result ≡ has_pin owned.now x y }
 {
     owned.iter().any(|one| is_pin(one.node.kind) && one.node.x == x && one.node.y == y)
 }
 
 /// How many pads a tenancy owns.
-fn pads_used(owned: &[Owned], id: u32) -> usize
+fn pads_used(owned: &[OwnedResource], id: u32) -> usize
     ensures { result ≡ pads_used owned.now id }
 {
     owned
@@ -97,7 +99,7 @@ fn pads_used(owned: &[Owned], id: u32) -> usize
 }
 
 /// How many wires of that direction a tenancy owns.
-fn wires_used(owned: &[Owned], direction: Direction, id: u32) -> usize
+fn wires_used(owned: &[OwnedResource], direction: ChannelDirection, id: u32) -> usize
     ensures { result ≡ wires_used owned.now direction id }
 {
     owned

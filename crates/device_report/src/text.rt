@@ -3,7 +3,7 @@ ghost use Rattle.std.specs.Prelude.{◌≡◌, flat_map};
 ghost use Rattle.line_text.specs.Writing.{Writes};
 ghost use Rattle.device_report.specs.Text.{channel_line, channel_word, columns_line, report_text, tenancy_line, widest_line};
 
-use crate::channels::{ChannelUse, Direction};
+use crate::channels::{ChannelDirection, ChannelUse};
 use crate::columns::ColumnUse;
 use crate::report::Report;
 use crate::tenancies::TenancyUse;
@@ -146,11 +146,11 @@ pub fn write_channel<K: Sink>(sink: &mut K, channel: ChannelUse, tracks: u32) ->
     )
 }
 
-fn channel_word(direction: Direction) -> &'static str
+fn channel_word(direction: ChannelDirection) -> &'static str
     ensures { result.now ≡ channel_word direction }
 {
     match direction {
-        Direction::Across => "CHANX",
-        Direction::Up => "CHANY",
+        ChannelDirection::Across => "CHANX",
+        ChannelDirection::Up => "CHANY",
     }
 }

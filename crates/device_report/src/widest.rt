@@ -1,5 +1,6 @@
 //! The widest strip that would be admitted now.
 ghost use Rattle.std.specs.Prelude.{◌≡◌, ◌↔◌, ◌+◌, ◌≤◌, ◌<◌, All, AllPairs, IsTrue};
+ghost use Rattle.grid.specs.declared.TheConstants.{MAX_COLUMNS};
 ghost use Rattle.strips.specs.Plan.{AreApart, IsFirstFit, IsParted};
 ghost use Rattle.device_report.specs.Widest.{IsWidest};
 
@@ -16,9 +17,9 @@ pub struct Room {
 
 /// The widest strip that a device with `columns` columns and these strips would admit, at the
 /// offset that the service would choose; `None` if it would admit no strip.
-pub(crate) fn widest(columns: u32, strips: &[PlacedStrip]) -> Option<Room>
-    requires columns { columns ≤ 256 }
-    requires strips { All (λ s. s.offset + s.width ≤ 256) strips.now }
+pub(crate) fn widest_strip(columns: u32, strips: &[PlacedStrip]) -> Option<Room>
+    requires columns { columns ≤ MAX_COLUMNS }
+    requires strips { All (λ s. s.offset + s.width ≤ MAX_COLUMNS) strips.now }
     ensures { IsWidest (record { columns = columns; strips = strips.now }) result }
 {
     if strips.len() >= MAX_STRIPS || !are_parted(columns, strips) {
@@ -35,7 +36,7 @@ pub(crate) fn widest(columns: u32, strips: &[PlacedStrip]) -> Option<Room>
 
 /// The least offset at which a strip of that width is separated from all others.
 fn first_fit(columns: u32, strips: &[PlacedStrip], width: u32) -> Option<u32>
-    requires columns { columns ≤ 256 }
+    requires columns { columns ≤ MAX_COLUMNS }
     requires width { (1 ≤ width) × (width ≤ columns) }
     requires parted { IsParted (record { columns = columns; strips = strips.now }) }
     ensures { IsFirstFit (record { columns = columns; strips = strips.now }) width result }
@@ -55,8 +56,8 @@ fn first_fit(columns: u32, strips: &[PlacedStrip], width: u32) -> Option<u32>
 
 /// Returns whether each strip is within the device, and a column between any two is unused.
 fn are_parted(columns: u32, strips: &[PlacedStrip]) -> bool
-    requires columns { columns ≤ 256 }
-    requires strips { All (λ s. s.offset + s.width ≤ 256) strips.now }
+    requires columns { columns ≤ MAX_COLUMNS }
+    requires strips { All (λ s. s.offset + s.width ≤ MAX_COLUMNS) strips.now }
     ensures { IsTrue result ↔ IsParted (record { columns = columns; strips = strips.now }) }
 {
     are_inside(columns, strips) && are_apart(strips)
@@ -64,7 +65,7 @@ fn are_parted(columns: u32, strips: &[PlacedStrip]) -> bool
 
 /// Returns whether each strip is within the device.
 fn are_inside(columns: u32, strips: &[PlacedStrip]) -> bool
-    requires { All (λ s. s.offset + s.width ≤ 256) strips.now }
+    requires { All (λ s. s.offset + s.width ≤ MAX_COLUMNS) strips.now }
     ensures { IsTrue result ↔ All (λ s. s.offset + s.width ≤ columns) strips.now }
 {
     strips
@@ -74,7 +75,7 @@ fn are_inside(columns: u32, strips: &[PlacedStrip]) -> bool
 
 /// Returns whether a column between any two of the strips is unused.
 fn are_apart(strips: &[PlacedStrip]) -> bool
-    requires { All (λ s. s.offset + s.width ≤ 256) strips.now }
+    requires { All (λ s. s.offset + s.width ≤ MAX_COLUMNS) strips.now }
     ensures { IsTrue result ↔ AllPairs AreApart strips.now }
 {
     for place in 0..strips.len() {
@@ -88,8 +89,8 @@ fn are_apart(strips: &[PlacedStrip]) -> bool
 
 /// Returns whether a column between the strip and each of those is unused.
 fn is_apart_from_all(strips: &[PlacedStrip], strip: PlacedStrip) -> bool
-    requires strip { strip.offset + strip.width ≤ 256 }
-    requires strips { All (λ s. s.offset + s.width ≤ 256) strips.now }
+    requires strip { strip.offset + strip.width ≤ MAX_COLUMNS }
+    requires strips { All (λ s. s.offset + s.width ≤ MAX_COLUMNS) strips.now }
     ensures { IsTrue result ↔ All (λ s. AreApart s strip) strips.now }
 {
     strips.iter().all(|s| {

@@ -2,7 +2,7 @@
 use Rattle.std.specs.Prelude.{ℕ, ◌≡◌, ◌<◌, ◌≤◌, List, [], ◌∷◌, ◌++◌, length, take, Bool, true, Option, Some, None, Result, Ok, Err, ⊤}
 use Rattle.std.specs.List.{flat_map}
 use Rattle.std.specs.Io.KnownBytes.{Appends, Consumes, IsAtEnd, Keeps}
-use Rattle.dialogue.specs.declared.dialogue.Fault.{Fault}
+use Rattle.dialogue.specs.declared.dialogue.FailedDevice.{FailedDevice}
 
 -- bytes of the input were kept, or bytes were written to the output
 pub data Event : Type 0 where
@@ -33,7 +33,7 @@ pub record View : Type 0 where
   pub log : Option (List ℕ)
   pub output : Option (List ℕ)
   pub history : Option (List Event)
-  pub has_failed : Fault → Bool
+  pub has_failed : FailedDevice → Bool
 
 -- known events are followed by those events
 abbrev pub Follows : Option (List Event) → Option (List Event) → List Event → Type 0
@@ -48,7 +48,7 @@ pub record Happens (old new : View) (events : List Event) : Type 0 where
   pub in_order : Follows old.history new.history events
 
 -- a device has failed, and has taken a beginning
-pub record Fails (old new : View) (fault : Fault) (event : List ℕ → Event) (bytes : List ℕ) : Type 0 where
+pub record Fails (old new : View) (fault : FailedDevice) (event : List ℕ → Event) (bytes : List ℕ) : Type 0 where
   pub count : ℕ
   pub happens : Happens old new (event (take count bytes) ∷ [])
   pub failed : new.has_failed fault ≡ true
@@ -60,15 +60,15 @@ pub record ReadsBytes (old new : View) (buffer : List ℕ) (count : ℕ) : Type 
   pub consumes : Consumes old.remaining new.remaining (take count buffer)
   pub end : count ≡ 0 → 0 < length buffer → IsAtEnd new.remaining
 
-abbrev pub Reads : View → View → List ℕ → Result ℕ Fault → Type 0
+abbrev pub Reads : View → View → List ℕ → Result ℕ FailedDevice → Type 0
 Reads old new buffer (Ok count) = ReadsBytes old new buffer count
 Reads old new buffer (Err fault) = Fails old new fault Kept buffer
 
-abbrev pub EndsLine : View → View → Result (Unit {0}) Fault → Type 0
+abbrev pub EndsLine : View → View → Result (Unit {0}) FailedDevice → Type 0
 EndsLine old new (Ok u) = Happens old new (Kept (10 ∷ []) ∷ [])
 EndsLine old new (Err fault) = Fails old new fault Kept (10 ∷ [])
 
 -- bytes are written; the input stays as it is
-abbrev pub Writes : View → View → List ℕ → Result (Unit {0}) Fault → Type 0
+abbrev pub Writes : View → View → List ℕ → Result (Unit {0}) FailedDevice → Type 0
 Writes old new bytes (Ok u) = Happens old new (Told bytes ∷ []) × Keeps old.remaining new.remaining
 Writes old new bytes (Err fault) = Fails old new fault Told bytes

@@ -2,7 +2,7 @@
 ghost use Rattle.std.specs.Prelude.{◌≡◌, None, Some};
 ghost use Rattle.dialogue.specs.Keeping.{KeepsBytes};
 
-use crate::dialogue::{Dialogue, Fault};
+use crate::dialogue::{Dialogue, FailedDevice};
 use crate::log::Log;
 use line_text::{Sink, Source, write_all};
 
@@ -57,13 +57,13 @@ impl<R: Source + Drop, W: Sink + Drop, L: Log + Drop> Connection<R, W, L> {
 }
 
 /// Keeps bytes on the log, if there is one.
-fn keep_bytes<L: Log>(log: &mut Option<L>, bytes: &[u8]) -> Result<(), Fault>
+fn keep_bytes<L: Log>(log: &mut Option<L>, bytes: &[u8]) -> Result<(), FailedDevice>
     ensures { KeepsBytes L.kept L.has_failed log.old log.new bytes.now result }
 {
     match log {
         Some(log) => match log.keep(bytes) {
             Ok(()) => Ok(()),
-            Err(_) => Err(Fault::Log),
+            Err(_) => Err(FailedDevice::Log),
         },
         None => Ok(()),
     }
@@ -82,22 +82,22 @@ impl<R: Source + Drop, W: Sink + Drop, L: Log + Drop> Dialogue for Connection<R,
       has_failed = failed_device (R.has_failed c.reader) L.has_failed c.log (W.has_failed c.writer);
     } };
 
-    fn read(&mut self, buffer: &mut [u8]) -> Result<usize, Fault> {
+    fn read(&mut self, buffer: &mut [u8]) -> Result<usize, FailedDevice> {
         let Ok(count) = self.reader.read(buffer) else {
-            return Err(Fault::Input);
+            return Err(FailedDevice::Input);
         };
         keep_bytes(&mut self.log, &buffer[..count])?;
         Ok(count)
     }
 
-    fn end_line(&mut self) -> Result<(), Fault> {
+    fn end_line(&mut self) -> Result<(), FailedDevice> {
         keep_bytes(&mut self.log, b"\n")
     }
 
-    fn write(&mut self, bytes: &[u8]) -> Result<(), Fault> {
+    fn write(&mut self, bytes: &[u8]) -> Result<(), FailedDevice> {
         match write_all(&mut self.writer, bytes) {
             Ok(()) => Ok(()),
-            Err(_) => Err(Fault::Output),
+            Err(_) => Err(FailedDevice::Output),
         }
     }
 }

@@ -3,7 +3,7 @@ ghost use Rattle.dialogue.specs.History.{EndsLine, Reads, Writes};
 
 /// Which device of a dialogue failed.
 #[derive(Clone, Copy, PartialEq, Eq)]
-pub enum Fault {
+pub enum FailedDevice {
     Input,
     Log,
     Output,
@@ -22,20 +22,20 @@ pub trait Dialogue {
     /// # Errors
     /// The device that failed, the input or the log. A log that failed has kept a beginning of the
     /// bytes.
-    fn read(&mut self, buffer: &mut [u8]) -> Result<usize, Fault>
+    fn read(&mut self, buffer: &mut [u8]) -> Result<usize, FailedDevice>
         ensures { Reads (view self.old) (view self.new) buffer.new result };
 
     /// Keeps LF, which ends a last line without its end.
     ///
     /// # Errors
     /// As for `read`.
-    fn end_line(&mut self) -> Result<(), Fault>
+    fn end_line(&mut self) -> Result<(), FailedDevice>
         ensures { EndsLine (view self.old) (view self.new) result };
 
     /// Writes all of the bytes to the output.
     ///
     /// # Errors
     /// The device that failed. The output has then taken a beginning of the bytes.
-    fn write(&mut self, bytes: &[u8]) -> Result<(), Fault>
+    fn write(&mut self, bytes: &[u8]) -> Result<(), FailedDevice>
         ensures { Writes (view self.old) (view self.new) bytes.now result };
 }

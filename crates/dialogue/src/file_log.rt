@@ -9,7 +9,7 @@ use std::fs::OpenFile;
 use std::io::{ErrorKind, Write};
 
 /// The largest number of tries of a call that is interrupted.
-const MOST_TRIES: u32 = 1_000_000;
+const MAX_TRIES: u32 = 1_000_000;
 
 /// A file that is written to. From the first failure on it returns [`Failed`].
 #[derive(Drop)]
@@ -25,7 +25,7 @@ fn write_once<W: Write>(writer: &mut W, bytes: &[u8]) -> Result<usize, Failed>
         (take n bytes.now)) }
     ensures err { OnErr result (Keeps (W.contents writer.old) (W.contents writer.new)) }
 {
-    for _ in 0..MOST_TRIES {
+    for _ in 0..MAX_TRIES {
         match writer.write(bytes) {
             Ok(count) => return Ok(count),
             Err(e) => {

@@ -14,7 +14,7 @@ mod log;
 mod replay;
 
 pub use connection::Connection;
-pub use dialogue::{Dialogue, Fault};
+pub use dialogue::{Dialogue, FailedDevice};
 pub use file_log::FileLog;
 pub use log::Log;
 pub use replay::Replay;

@@ -1,7 +1,7 @@
 //! A dialogue over a source alone.
 ghost use Rattle.std.specs.Prelude.{◌≡◌};
 
-use crate::dialogue::{Dialogue, Fault};
+use crate::dialogue::{Dialogue, FailedDevice};
 use line_text::Source;
 
 /// A dialogue over a source alone: what it reads is kept already, and what is written to it is
@@ -32,18 +32,18 @@ impl<R: Source + Drop> Dialogue for Replay<R> {
       has_failed = λ fault. R.has_failed replay.reader;
     } };
 
-    fn read(&mut self, buffer: &mut [u8]) -> Result<usize, Fault> {
+    fn read(&mut self, buffer: &mut [u8]) -> Result<usize, FailedDevice> {
         match self.reader.read(buffer) {
             Ok(count) => Ok(count),
-            Err(_) => Err(Fault::Input),
+            Err(_) => Err(FailedDevice::Input),
         }
     }
 
-    fn end_line(&mut self) -> Result<(), Fault> {
+    fn end_line(&mut self) -> Result<(), FailedDevice> {
         Ok(())
     }
 
-    fn write(&mut self, _bytes: &[u8]) -> Result<(), Fault> {
+    fn write(&mut self, _bytes: &[u8]) -> Result<(), FailedDevice> {
         Ok(())
     }
 }

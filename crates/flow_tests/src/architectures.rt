@@ -1,13 +1,14 @@
 //! The fault of each text that isn't an architecture, and the number of tracks that pins reach.
 ghost use Rattle.std.specs.Prelude.{◌≤◌};
+ghost use Rattle.arch_file.specs.declared.arch.TheConstants.{MAX_TRACKS};
 
-use arch_file::{ArchError, ArchFault, ArchFaultKind, Keyword, read_arch};
+use arch_file::{ArchError, ArchFault, ArchFaultKind, ArchKeyword, read_arch};
 use fixtures::ARCHITECTURE;
 use line_text::{LineError, LineFault};
 use std::alloc::{AllocError, Global};
 
 /// The smallest architecture's text, with the lines of these numbers replaced.
-fn changed(alloc: Global, changes: &[(usize, &str)]) -> Result<String, AllocError> {
+fn with_changes(alloc: Global, changes: &[(usize, &str)]) -> Result<String, AllocError> {
     let mut text = String::new(alloc);
     for (place, own) in ARCHITECTURE.lines().enumerate() {
         let mut line: &str = own;
@@ -31,7 +32,7 @@ fn told_of(alloc: Global, text: &[u8]) -> Result<String, AllocError> {
 }
 
 /// The reader's result for characters.
-fn told(alloc: Global, text: &str) -> Result<String, AllocError> {
+fn read_text(alloc: Global, text: &str) -> Result<String, AllocError> {
     told_of(alloc, text.as_bytes())
 }
 
@@ -100,8 +101,8 @@ const ROWS: [(usize, &str, &str); 35] = [
 
 /// The result for the smallest architecture with one line changed.
 fn told_with(alloc: Global, number: usize, line: &str) -> Result<String, AllocError> {
-    let text = changed(alloc, &[(number, line)])?;
-    told(alloc, text.as_str())
+    let text = with_changes(alloc, &[(number, line)])?;
+    read_text(alloc, text.as_str())
 }
 
 /// Returns whether the result is that one, and memory sufficed.
@@ -124,8 +125,8 @@ fn first_wrong(alloc: Global) -> Option<usize> {
 
 /// The result for a text with two faults.
 fn told_of_two(alloc: Global) -> Result<String, AllocError> {
-    let text = changed(alloc, &[(1, "io_rat 9"), (17, "switch \u{e9}")])?;
-    told(alloc, text.as_str())
+    let text = with_changes(alloc, &[(1, "io_rat 9"), (17, "switch \u{e9}")])?;
+    read_text(alloc, text.as_str())
 }
 
 /// The reader's results for the text's prefixes: each row is for the lengths after the previous
@@ -235,7 +236,7 @@ fn first_wrong_beginning(alloc: Global, text: &[u8]) -> Option<usize> {
 
 /// Returns whether each prefix of the smallest architecture has its result.
 fn answers_beginnings(alloc: Global) -> bool {
-    match changed(alloc, &[]) {
+    match with_changes(alloc, &[]) {
         Ok(text) => first_wrong_beginning(alloc, text.as_bytes()).is_none(),
         Err(_) => false,
     }
@@ -243,7 +244,7 @@ fn answers_beginnings(alloc: Global) -> bool {
 
 /// Returns whether the results are right at the limits of a text.
 fn tells_limits(alloc: Global) -> bool {
-    is(told(alloc, ""), "3 Missing 0")
+    is(read_text(alloc, ""), "3 Missing 0")
         && is(told_of_two(alloc), "9 NotAscii 17")
         && is(told_with_inputs(alloc, 127), "ok")
         && is(told_with_inputs(alloc, 128), "8 OverLimit 133")
@@ -270,8 +271,8 @@ fn told_with_inputs(alloc: Global, count: u32) -> Result<String, AllocError> {
 /// The result with `count` outputs and the largest clusters.
 fn told_with_outputs(alloc: Global, count: u32) -> Result<String, AllocError> {
     let outputs = pins(alloc, count, "outpin class: 1 top\n")?;
-    let text = changed(alloc, &[(7, outputs.as_str()), (9, "subblocks_per_clb 16")])?;
-    told(alloc, text.as_str())
+    let text = with_changes(alloc, &[(7, outputs.as_str()), (9, "subblocks_per_clb 16")])?;
+    read_text(alloc, text.as_str())
 }
 
 /// The result for `count` blanks.
@@ -282,9 +283,9 @@ fn told_of_blanks(alloc: Global, count: usize) -> Result<String, AllocError> {
 
 /// The numbers of tracks that outputs, inputs and pads reach, for an architecture with that
 /// `fc_type`.
-fn reached(alloc: Global, fc_type: &str, tracks: u32) -> Result<[u32; 3], ArchError>
+fn tracks_reached(alloc: Global, fc_type: &str, tracks: u32) -> Result<[u32; 3], ArchError>
     requires few { 1 ≤ tracks }
-    requires many { tracks ≤ 64 }
+    requires many { tracks ≤ MAX_TRACKS }
 {
     let changes = [
         (11, fc_type),
@@ -292,7 +293,7 @@ fn reached(alloc: Global, fc_type: &str, tracks: u32) -> Result<[u32; 3], ArchEr
         (13, "Fc_input 3.9"),
         (14, "Fc_pad 0"),
     ];
-    let Ok(text) = changed(alloc, &changes) else {
+    let Ok(text) = with_changes(alloc, &changes) else {
         return Err(ArchError::NoMemory);
     };
     let arch = read_arch(alloc, text.as_bytes(), tracks)?;
@@ -309,16 +310,16 @@ fn reach(found: Result<[u32; 3], ArchError>, want: [u32; 3]) -> bool {
 
 /// Returns whether tracks are counted down.
 fn counts_tracks_down(alloc: Global) -> bool {
-    reach(reached(alloc, "Fc_type fractional", 5), [2, 5, 1])
-        && reach(reached(alloc, "Fc_type absolute", 64), [1, 3, 1])
-        && reach(reached(alloc, "Fc_type absolute", 1), [1, 1, 1])
+    reach(tracks_reached(alloc, "Fc_type fractional", 5), [2, 5, 1])
+        && reach(tracks_reached(alloc, "Fc_type absolute", 64), [1, 3, 1])
+        && reach(tracks_reached(alloc, "Fc_type absolute", 1), [1, 1, 1])
 }
 
 /// Returns whether faults are shown with number, name and line.
 fn tells_faults(alloc: Global) -> bool {
     let missing = ArchFault {
         line: 0,
-        kind: ArchFaultKind::Missing(Keyword::IoRat),
+        kind: ArchFaultKind::Missing(ArchKeyword::IoRat),
     };
     let long: ArchError = LineError::Fault(LineFault::LineTooLong(12)).told_as();
     is(missing.to_string(alloc), "3 Missing 0")

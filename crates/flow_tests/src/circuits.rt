@@ -1,5 +1,6 @@
 //! How a test packs a netlist and places it.
 ghost use Rattle.std.specs.Prelude.{◌≡◌, ◌≤◌, IfSome};
+ghost use Rattle.strip_place.specs.declared.placing.TheConstants.{MAX_EFFORT};
 ghost use Rattle.grid.specs.Sizes.{IsStripSize};
 ghost use Rattle.strip_place.specs.Keeping.{AreKeptOn};
 
@@ -29,7 +30,7 @@ fn circuit(alloc: Global, netlist: &str) -> Option<SharedCircuit> {
 }
 
 /// The packing of a circuit, with no step made.
-fn begun(alloc: Global, circuit: &SharedCircuit, arch: &SharedArch) -> Option<Packing> {
+fn new_packing(alloc: Global, circuit: &SharedCircuit, arch: &SharedArch) -> Option<Packing> {
     if check(alloc, circuit.circuit(), arch.arch()).is_err() {
         return None;
     }
@@ -40,7 +41,7 @@ fn begun(alloc: Global, circuit: &SharedCircuit, arch: &SharedArch) -> Option<Pa
 fn begun_on_smallest(alloc: Global, circuit: &SharedCircuit) -> Option<Packing> {
     match architecture(alloc) {
         Some(arch) => {
-            let packing = begun(alloc, circuit, &arch);
+            let packing = new_packing(alloc, circuit, &arch);
             drop(arch);
             packing
         }
@@ -49,7 +50,7 @@ fn begun_on_smallest(alloc: Global, circuit: &SharedCircuit) -> Option<Packing> 
 }
 
 /// The packing of a netlist on the smallest architecture, with no step made.
-pub(crate) fn started(alloc: Global, netlist: &str) -> Option<Packing> {
+pub(crate) fn start_packing(alloc: Global, netlist: &str) -> Option<Packing> {
     match circuit(alloc, netlist) {
         Some(circuit) => {
             let packing = begun_on_smallest(alloc, &circuit);
@@ -61,7 +62,7 @@ pub(crate) fn started(alloc: Global, netlist: &str) -> Option<Packing> {
 }
 
 /// The result of a packing, if it takes less than 100 steps.
-fn finished(packing: Packing) -> Option<Packed> {
+fn finish_packing(packing: Packing) -> Option<Packed> {
     let mut packing = packing;
     for _ in 0..100 {
         match packing.next() {
@@ -78,9 +79,9 @@ fn finished(packing: Packing) -> Option<Packed> {
 }
 
 /// The packed circuit of a netlist on the smallest architecture.
-pub(crate) fn packed(alloc: Global, netlist: &str) -> Option<SharedPacked> {
-    match started(alloc, netlist) {
-        Some(packing) => match finished(packing) {
+pub(crate) fn packed_netlist(alloc: Global, netlist: &str) -> Option<SharedPacked> {
+    match start_packing(alloc, netlist) {
+        Some(packing) => match finish_packing(packing) {
             Some(packed) => SharedPacked::new(alloc, packed).ok(),
             None => None,
         },
@@ -89,7 +90,7 @@ pub(crate) fn packed(alloc: Global, netlist: &str) -> Option<SharedPacked> {
 }
 
 /// The placing of a packed circuit before its first pass, if it fits.
-pub(crate) fn placed(
+pub(crate) fn start_placing(
     alloc: Global,
     packed: &SharedPacked,
     strip: Strip,
@@ -99,7 +100,7 @@ pub(crate) fn placed(
 ) -> Option<Placing>
     requires size { IsStripSize strip }
     requires kept { AreKeptOn strip kept.now }
-    requires effort { effort ≤ 100 }
+    requires effort { effort ≤ MAX_EFFORT }
     ensures packed { IfSome result (λ placing. placing.packed ≡ packed.now) }
     ensures strip { IfSome result (λ placing. placing.strip ≡ strip) }
 {
@@ -118,13 +119,13 @@ pub(crate) fn placed_anew(
     effort: u32,
 ) -> Option<Placing>
     requires size { IsStripSize strip }
-    requires effort { effort ≤ 100 }
+    requires effort { effort ≤ MAX_EFFORT }
     ensures packed { IfSome result (λ placing. placing.packed ≡ packed.now) }
     ensures strip { IfSome result (λ placing. placing.strip ≡ strip) }
 {
     laws_of_kept();
     let none = Kept::none();
-    let placing = placed(alloc, packed, strip, &none, seed, effort);
+    let placing = start_placing(alloc, packed, strip, &none, seed, effort);
     drop(none);
     placing
 }

@@ -5,14 +5,14 @@ ghost use Rattle.pathfinder.specs.Negotiation.{More};
 ghost use Rattle.pathfinder.specs.PlacedNets.{wiring_of};
 ghost use Rattle.pathfinder.specs.Routings.{IsAfter};
 
-use crate::circuits::{packed, placed_anew};
+use crate::circuits::{packed_netlist, placed_anew};
 use crate::graphs::NARROW;
 use arch_file::Arch;
 use cluster::{Packed, SharedPacked};
 use fixtures::AND;
 use grid::{Place, Strip};
 use pathfinder::{IterEnd, Routes, Routing};
-use rr_graph::{Ends, Node, NodeKind, Numbers, StripGraph};
+use rr_graph::{EdgeEnds, Node, NodeKind, Numbers, StripGraph};
 use std::alloc::Global;
 use std::cell::Cell;
 use strip_place::Placing;
@@ -52,7 +52,7 @@ impl StripGraph for Counted<'_> {
         self.window.numbers_at(kind, x, y)
     }
 
-    fn ends(&self, node: usize) -> Ends<'_> {
+    fn ends(&self, node: usize) -> EdgeEnds<'_> {
         self.note();
         self.window.ends(node)
     }
@@ -62,7 +62,7 @@ impl StripGraph for Counted<'_> {
         self.window.edge(node, k)
     }
 
-    fn ends_towards(&self, node: usize, place: Node, sink: Node) -> Ends<'_> {
+    fn ends_towards(&self, node: usize, place: Node, sink: Node) -> EdgeEnds<'_> {
         self.note();
         self.window.ends_towards(node, place, sink)
     }
@@ -93,7 +93,7 @@ impl StripGraph for Counted<'_> {
 }
 
 /// The result of a routing, if it takes less than 40 iterations.
-fn finished<G: StripGraph>(alloc: Global, graph: &G, routing: Routing) -> Option<Routes>
+fn finish_routing<G: StripGraph>(alloc: Global, graph: &G, routing: Routing) -> Option<Routes>
     requires { IsAfter (wiring_of (G.basis graph.now)) routing More }
 {
     let mut routing = routing;
@@ -122,13 +122,13 @@ fn routed_between<G: StripGraph>(
     requires placed { ArePlaced (G.basis graph.now).strip packed.now places.now }
 {
     match Routing::start(alloc, graph, packed, places) {
-        Ok(routing) => finished(alloc, graph, routing),
+        Ok(routing) => finish_routing(alloc, graph, routing),
         Err(_) => None,
     }
 }
 
 /// The routes of placed blocks on a graph.
-fn routed<G: StripGraph>(alloc: Global, graph: &G, placing: &Placing) -> Option<Routes>
+fn routed_on<G: StripGraph>(alloc: Global, graph: &G, placing: &Placing) -> Option<Routes>
     requires arch { placing.now.packed.arch ≡ (G.basis graph.now).arch }
     requires strip { placing.now.strip ≡ (G.basis graph.now).strip }
 {
@@ -177,7 +177,7 @@ fn routes_again<G: StripGraph>(alloc: Global, graph: &G, placing: &Placing, rout
     requires arch { placing.now.packed.arch ≡ (G.basis graph.now).arch }
     requires strip { placing.now.strip ≡ (G.basis graph.now).strip }
 {
-    match routed(alloc, graph, placing) {
+    match routed_on(alloc, graph, placing) {
         Some(others) => {
             let is_so = are_same(routes, &others);
             drop(others);
@@ -198,7 +198,7 @@ fn reads_the_window(alloc: Global, window: &Window<'_>, placing: &Placing) -> bo
         window,
         reads: &reads,
     };
-    match routed(alloc, window, placing) {
+    match routed_on(alloc, window, placing) {
         Some(routes) => {
             let is_so = routes_again(alloc, &counted, placing, &routes);
             drop(routes);
@@ -237,7 +237,7 @@ fn reads_when_placed(alloc: Global, packed: &SharedPacked) -> bool {
 
 #[test]
 fn routing_reads_its_window(rt: HostRuntime) {
-    let is_so = match packed(rt.alloc(), AND) {
+    let is_so = match packed_netlist(rt.alloc(), AND) {
         Some(packed) => {
             let is_so = reads_when_placed(rt.alloc(), &packed);
             drop(packed);

@@ -1,5 +1,6 @@
 //! Nodes, pairs and capacities of strips of a few blocks.
 ghost use Rattle.std.specs.Prelude.{◌≤◌};
+ghost use Rattle.arch_file.specs.declared.arch.TheConstants.{MAX_TRACKS};
 ghost use Rattle.grid.specs.Sizes.{IsStripSize};
 
 use arch_file::read_arch;
@@ -29,7 +30,7 @@ pub(crate) fn node(kind: NodeKind, x: u32, y: u32, n: u32) -> Node {
 /// The routing graph of a strip on a device of that architecture with `tracks` tracks.
 pub(crate) fn fabric_of(alloc: Global, text: &str, tracks: u32, strip: Strip) -> Option<Fabric>
     requires few { 1 ≤ tracks }
-    requires many { tracks ≤ 64 }
+    requires many { tracks ≤ MAX_TRACKS }
     requires strip { IsStripSize strip }
 {
     match read_arch(alloc, text.as_bytes(), tracks) {

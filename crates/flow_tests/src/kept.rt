@@ -3,7 +3,7 @@ ghost use Rattle.std.specs.Prelude.{IfSome};
 ghost use Rattle.grid.specs.Sizes.{IsStripSize};
 ghost use Rattle.strip_place.specs.Keeping.{AreKeptOn};
 
-use crate::circuits::{packed, placed, placed_anew};
+use crate::circuits::{packed_netlist, placed_anew, start_placing};
 use cluster::SharedPacked;
 use grid::Strip;
 use std::alloc::Global;
@@ -79,7 +79,7 @@ fn kept_of(alloc: Global, packed: &SharedPacked, strip: Strip) -> Option<Kept>
 {
     match placed_anew(alloc, packed, strip, 7, 0) {
         Some(placing) => {
-            let kept = placing.kept(alloc);
+            let kept = placing.to_kept_places(alloc);
             drop(placing);
             kept.ok()
         }
@@ -96,7 +96,7 @@ fn kept_from(alloc: Global, before: Option<&str>, strip: Strip) -> Option<Kept>
     let Some(netlist) = before else {
         return Some(Kept::none());
     };
-    match packed(alloc, netlist) {
+    match packed_netlist(alloc, netlist) {
         Some(packed) => {
             let kept = kept_of(alloc, &packed, strip);
             drop(packed);
@@ -127,7 +127,7 @@ fn start_on(alloc: Global, packed: &SharedPacked, strip: Strip, kept: &Kept, pla
     requires size { IsStripSize strip }
     requires kept { AreKeptOn strip kept.now }
 {
-    match placed(alloc, packed, strip, kept, 7, 0) {
+    match start_placing(alloc, packed, strip, kept, 7, 0) {
         Some(placing) => {
             let is_so = stand_on(&placing, places);
             drop(placing);
@@ -142,7 +142,7 @@ fn keeps(alloc: Global, change: &Change, strip: Strip, kept: &Kept) -> bool
     requires size { IsStripSize strip }
     requires kept { AreKeptOn strip kept.now }
 {
-    match packed(alloc, change.after) {
+    match packed_netlist(alloc, change.after) {
         Some(packed) => {
             let is_so = start_on(alloc, &packed, strip, kept, change.places);
             drop(packed);

@@ -1,5 +1,5 @@
 //! The BLEs of a circuit, and a packing that is given up.
-use crate::circuits::{packed, started};
+use crate::circuits::{packed_netlist, start_packing};
 use blif::SharedCircuit;
 use cluster::{Bles, Packing};
 use std::alloc::Global;
@@ -51,7 +51,7 @@ fn leaves_its_circuit(alloc: Global, packing: Packing) -> bool {
 
 /// Returns whether the circuit is there when its packing is given up.
 fn packing_is_given_up(alloc: Global) -> bool {
-    match started(alloc, STORED) {
+    match start_packing(alloc, STORED) {
         Some(packing) => leaves_its_circuit(alloc, packing),
         None => false,
     }
@@ -59,7 +59,7 @@ fn packing_is_given_up(alloc: Global) -> bool {
 
 /// Returns whether what is packed has one BLE.
 fn packs_one_ble(alloc: Global) -> bool {
-    match packed(alloc, STORED) {
+    match packed_netlist(alloc, STORED) {
         Some(packed) => {
             let count = packed.packed().ble_count();
             drop(packed);

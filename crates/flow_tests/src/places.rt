@@ -1,8 +1,9 @@
 //! The places of blocks after a pass, the number of passes, and the words that draws take.
 ghost use Rattle.std.specs.Prelude.{◌≤◌};
+ghost use Rattle.strip_place.specs.declared.placing.TheConstants.{MAX_EFFORT};
 ghost use Rattle.grid.specs.Sizes.{IsStripSize};
 
-use crate::circuits::{packed, placed_anew};
+use crate::circuits::{packed_netlist, placed_anew};
 use cluster::SharedPacked;
 use grid::{Place, Strip};
 use rand_core::utils::NextWord;
@@ -111,7 +112,7 @@ fn passes_so(placing: &mut Placing, row: &Row) -> bool {
 /// Returns whether a packed circuit is placed as the row says.
 fn is_placed_so(alloc: Global, packed: &SharedPacked, strip: Strip, row: &Row) -> bool
     requires size { IsStripSize strip }
-    requires effort { row.now.effort ≤ 100 }
+    requires effort { row.now.effort ≤ MAX_EFFORT }
 {
     match placed_anew(alloc, packed, strip, row.seed, row.effort) {
         Some(mut placing) => {
@@ -133,7 +134,7 @@ fn is_so(alloc: Global, row: &Row) -> bool {
         rows: 1,
         io_rat: 2,
     };
-    match packed(alloc, row.netlist) {
+    match packed_netlist(alloc, row.netlist) {
         Some(packed) => {
             let is_so = is_placed_so(alloc, &packed, strip, row);
             drop(packed);

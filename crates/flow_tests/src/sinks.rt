@@ -1,5 +1,5 @@
 //! How a sink's failure is reported.
-use crate::circuits::{packed, placed_anew};
+use crate::circuits::{packed_netlist, placed_anew};
 use crate::graphs::NARROW;
 use cluster::SharedPacked;
 use fixtures::{AND, ROUTED_AND, ShortSink};
@@ -72,7 +72,7 @@ fn files_go(alloc: Global, packed: &SharedPacked) -> bool {
 
 #[test]
 fn sinks_that_fail(rt: HostRuntime) {
-    let is_so = match packed(rt.alloc(), AND) {
+    let is_so = match packed_netlist(rt.alloc(), AND) {
         Some(packed) => {
             let is_so = files_go(rt.alloc(), &packed);
             drop(packed);

@@ -106,18 +106,24 @@ fn is(found: Result<Option<Path>, AllocError>, cost: u64, nodes: &[usize]) -> bo
 fn finds_the_least_of_ties(alloc: Global, pairs: &Pairs, search: &mut Search) -> bool
     requires { length pairs.now.costs.items ≡ 7 }
 {
-    is(search.least(alloc, pairs, &[0], 6), 4, &[0, 1, 3, 4, 6])
-        && is(search.least(alloc, pairs, &[0], 6), 4, &[0, 1, 3, 4, 6])
-        && is(search.least(alloc, pairs, &[2, 1, 2], 3), 1, &[1, 3])
-        && is(search.least(alloc, pairs, &[4, 3], 3), 0, &[3])
+    is(
+        search.least_path(alloc, pairs, &[0], 6),
+        4,
+        &[0, 1, 3, 4, 6],
+    ) && is(
+        search.least_path(alloc, pairs, &[0], 6),
+        4,
+        &[0, 1, 3, 4, 6],
+    ) && is(search.least_path(alloc, pairs, &[2, 1, 2], 3), 1, &[1, 3])
+        && is(search.least_path(alloc, pairs, &[4, 3], 3), 0, &[3])
 }
 
 /// A goal that no path reaches, and a search without starts.
 fn finds_none(alloc: Global, pairs: &Pairs, search: &mut Search) -> bool
     requires { length pairs.now.costs.items ≡ 7 }
 {
-    matches!(search.least(alloc, pairs, &[5, 6, 3], 0), Ok(None))
-        && matches!(search.least(alloc, pairs, &[], 3), Ok(None))
+    matches!(search.least_path(alloc, pairs, &[5, 6, 3], 0), Ok(None))
+        && matches!(search.least_path(alloc, pairs, &[], 3), Ok(None))
 }
 
 /// Returns whether edges are returned one by one.

@@ -51,7 +51,7 @@ fn path_between(alloc: Global, fabric: &Fabric, from: Node, to: Node) -> Found {
     let (Some(start), Some(goal)) = (fabric.number(from), fabric.number(to)) else {
         return Found::Unknown;
     };
-    match Search::new(alloc).least(alloc, &UnitRoads { fabric }, &[start], goal) {
+    match Search::new(alloc).least_path(alloc, &UnitRoads { fabric }, &[start], goal) {
         Ok(Some(path)) => Found::Path(path),
         Ok(None) => Found::NoPath,
         Err(_) => Found::Unknown,

@@ -20,12 +20,12 @@ fn main(rt: HostRuntime) -> ExitCode {
     let words = match words(&rt) {
         Ok(words) => words,
         Err(error) if error.kind() == ErrorKind::OutOfMemory => {
-            return ended(&rt, Outcome::NoMemory);
+            return report_outcome(&rt, Outcome::NoMemory);
         }
-        Err(_) => return refused(&rt, "error: an argument is not valid UTF-8\n"),
+        Err(_) => return report_refusal(&rt, "error: an argument is not valid UTF-8\n"),
     };
     let Ok(buffer) = BufWriter::new(rt.alloc(), io::writer(&rt)) else {
-        return ended(&rt, Outcome::NoMemory);
+        return report_outcome(&rt, Outcome::NoMemory);
     };
     let mut reader = StdSource::new(rt.reader());
     let mut writer = StdSink::new(buffer);
@@ -40,9 +40,9 @@ fn main(rt: HostRuntime) -> ExitCode {
     let outcome = run_words(&rt, words.as_slice(), streams);
     let flushed = writer.into_writer().flush().is_ok();
     match outcome {
-        Ok(Outcome::Done) if !flushed => ended(&rt, Outcome::OutputFailed),
-        Ok(outcome) => ended(&rt, outcome),
-        Err(error) => refused(&rt, error),
+        Ok(Outcome::Done) if !flushed => report_outcome(&rt, Outcome::OutputFailed),
+        Ok(outcome) => report_outcome(&rt, outcome),
+        Err(error) => report_refusal(&rt, error),
     }
 }
 
@@ -52,7 +52,7 @@ fn words(rt: &HostRuntime) -> io::Result<Vec<String>> {
 }
 
 /// Writes the errand's message to standard error, if that can be written, and returns its status.
-fn ended(rt: &HostRuntime, outcome: Outcome) -> ExitCode {
+fn report_outcome(rt: &HostRuntime, outcome: Outcome) -> ExitCode {
     let status = outcome.status();
     if status != 0 {
         let _ = rt.eprintln(outcome);
@@ -61,7 +61,7 @@ fn ended(rt: &HostRuntime, outcome: Outcome) -> ExitCode {
 }
 
 /// Writes to standard error why the words are refused.
-fn refused<M: Display + Drop>(rt: &HostRuntime, message: M) -> ExitCode {
+fn report_refusal<M: Display + Drop>(rt: &HostRuntime, message: M) -> ExitCode {
     let _ = rt.eprint(message);
     ExitCode::from(2)
 }

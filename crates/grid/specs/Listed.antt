@@ -5,5 +5,5 @@ use Rattle.grid.specs.declared.place.Places.{Places}
 use Rattle.grid.specs.Places.{places_of}
 
 -- the places in order
-abbrev pub listed : Places → List Place
-listed places = places_of places.strip places.kind
+abbrev pub places_in_order : Places → List Place
+places_in_order places = places_of places.strip places.kind

@@ -13,6 +13,12 @@ mod places;
 pub use laws::laws_of_places;
 pub use place::{Kind, Place, Places};
 
+/// The most rows of logic blocks that a device can have.
+pub const MAX_ROWS: u32 = 64;
+
+/// The most columns of logic blocks that a device can have.
+pub const MAX_COLUMNS: u32 = 256;
+
 /// The size of a strip: the part of the device that a tenancy has, whatever its offset.
 #[derive(Clone, Copy, PartialEq, Eq)]
 pub struct Strip {

@@ -2,7 +2,7 @@
 ghost use Rattle.std.specs.Prelude.{◌≡◌, ◌<◌, ◌≤◌, Contains, length, slice_get, Some};
 ghost use Rattle.grid.specs.Sizes.{IsStripSize};
 ghost use Rattle.grid.specs.Places.{column_len, place_in, places_of};
-ghost use Rattle.grid.specs.Listed.{listed};
+ghost use Rattle.grid.specs.Listed.{places_in_order};
 ghost use Rattle.grid.specs.Numbers.{number_in_column};
 ghost use Rattle.grid.specs.PlaceLaws.{IsInRow};
 
@@ -13,7 +13,7 @@ impl Strip {
     /// The places of this kind, by column, then row, then number. Takes no memory.
     pub fn places(self, kind: Kind) -> Places
         requires { IsStripSize self }
-        ensures { listed result ≡ places_of self kind }
+        ensures { places_in_order result ≡ places_of self kind }
     {
         Places { strip: self, kind }
     }
@@ -22,15 +22,15 @@ impl Strip {
 impl Places {
     /// The number of places.
     pub fn len(self) -> usize
-        ensures { result ≡ length (listed self) }
+        ensures { result ≡ length (places_in_order self) }
     {
         self.strip.width as usize * self.column_len() as usize
     }
 
     /// The place with this number, from 0.
     pub fn place(self, number: usize) -> Place
-        requires { number < length (listed self) }
-        ensures { slice_get (listed self) number ≡ Some result }
+        requires { number < length (places_in_order self) }
+        ensures { slice_get (places_in_order self) number ≡ Some result }
     {
         let column_len = self.column_len() as usize;
         self.place_in(
@@ -41,8 +41,8 @@ impl Places {
 
     /// The number of a place, computed by arithmetic.
     pub fn number_of(self, place: Place) -> usize
-        requires { Contains (listed self) place }
-        ensures { slice_get (listed self) result ≡ Some place }
+        requires { Contains (places_in_order self) place }
+        ensures { slice_get (places_in_order self) result ≡ Some place }
     {
         (place.x as usize - 1) * self.column_len() as usize + self.number_in_column(place) as usize
     }

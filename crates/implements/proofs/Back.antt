@@ -7,7 +7,7 @@ use Rattle.std.proofs.lemmas.Bool.Decides.{nat_tests}
 use Rattle.std.proofs.lemmas.List.{length-map}
 use Rattle.arch_file.specs.declared.arch.Pin.{Pin as ArchPin}
 use Rattle.arch_file.specs.declared.arch.PinClass.TheVariants.{Input, Output, Clock}
-use Rattle.ble_cluster.specs.Nets.{distinct, has}
+use Rattle.ble_cluster.specs.Nets.{distinct_nets, has}
 use Rattle.ble_cluster.specs.Clusters.{clocks_of, outside_inputs}
 use Rattle.ble_cluster.proofs.Outside.{has-distinct}
 use Rattle.ble_cluster.specs.Bles.{LogicElement}
@@ -19,7 +19,7 @@ use Rattle.grid.specs.declared.place.Place.{Place}
 use Rattle.vpr_files.specs.NetFile.{pin_with}
 use Rattle.implements.specs.declared.feed.Feed.{Feed}
 use Rattle.implements.specs.LayoutOf.{feed_of, laid_ble}
-use Rattle.implements.specs.Layouts.{IsFed, LaidBlock, fed, on_pin, traced}
+use Rattle.implements.specs.Layouts.{IsFed, LaidBlock, input_net, on_pin, traced_ble}
 use Rattle.implements.proofs.Results.{IsTracedBack, laid_cluster}
 use Rattle.implements.proofs.Inside.{clock_there, feed_is, pin_is}
 use Rattle.implements.proofs.Members.{all_members, from_flat_map, from_has, from_map, in_first, in_later, one_only, only_one, to_filter, to_flat_map, to_has}
@@ -37,34 +37,34 @@ module _ (packed : PackedCircuit) (cluster : ℕ) (place : Place)
   among : (element : LogicElement) (net : ℕ) → Contains elements element → Contains element.inputs net → Contains (outputs_of elements) net ⊎ Contains (outside_inputs elements) net
   among element net in' reads = by (has (outputs_of elements) net) refl
     where
-      read : Contains (distinct (flat_map (λ (element : LogicElement). element.inputs) elements)) net
+      read : Contains (distinct_nets (flat_map (λ (element : LogicElement). element.inputs) elements)) net
       read =
           let all = flat_map (λ (element : LogicElement). element.inputs) elements in
-          from_has (distinct all) net (has-distinct all net ∙ to_has all net (to_flat_map (λ (element : LogicElement). element.inputs) elements element net in' reads))
+          from_has (distinct_nets all) net (has-distinct all net ∙ to_has all net (to_flat_map (λ (element : LogicElement). element.inputs) elements element net in' reads))
 
       by : (b : Bool) → has (outputs_of elements) net ≡ b → Contains (outputs_of elements) net ⊎ Contains (outside_inputs elements) net
       by true is = inl (from_has (outputs_of elements) net is)
-      by false is = inr (to_filter (λ net. not (has (outputs_of elements) net)) (distinct (flat_map (λ (element : LogicElement). element.inputs) elements)) net read (ap not is))
+      by false is = inr (to_filter (λ net. not (has (outputs_of elements) net)) (distinct_nets (flat_map (λ (element : LogicElement). element.inputs) elements)) net read (ap not is))
 
-  pub input_is : (element : LogicElement) (net : ℕ) → Contains elements element → Contains element.inputs net → (feed : Feed) × (feed_of packed cluster net ≡ Some feed) × (fed packed.arch here feed ≡ Some net)
+  pub input_is : (element : LogicElement) (net : ℕ) → Contains elements element → Contains element.inputs net → (feed : Feed) × (feed_of packed cluster net ≡ Some feed) × (input_net packed.arch here feed ≡ Some net)
   input_is element net in' reads = feed_is packed cluster place net few_inputs (among element net in' reads)
 
   -- the nets that come to the inputs are those that are read, in order
-  inputs_back : (nets : List ℕ) → ((net : ℕ) → Contains nets net → (feed : Feed) × (feed_of packed cluster net ≡ Some feed) × (fed packed.arch here feed ≡ Some net)) →
-      flat_map (λ feed. option_to_list (fed packed.arch here feed)) (flat_map (λ net. option_to_list (feed_of packed cluster net)) nets) ≡ nets
+  inputs_back : (nets : List ℕ) → ((net : ℕ) → Contains nets net → (feed : Feed) × (feed_of packed cluster net ≡ Some feed) × (input_net packed.arch here feed ≡ Some net)) →
+      flat_map (λ feed. option_to_list (input_net packed.arch here feed)) (flat_map (λ net. option_to_list (feed_of packed cluster net)) nets) ≡ nets
   inputs_back [] each = refl
   inputs_back (net ∷ nets) each =
       let q = each net (in_first net nets) in
       let rest = flat_map (λ net. option_to_list (feed_of packed cluster net)) nets in
-      ap (λ (o : Option Feed). flat_map (λ feed. option_to_list (fed packed.arch here feed)) (option_to_list o ++ rest)) q.1
-      ∙ ap (λ (o : Option ℕ). option_to_list o ++ flat_map (λ feed. option_to_list (fed packed.arch here feed)) rest) q.2
+      ap (λ (o : Option Feed). flat_map (λ feed. option_to_list (input_net packed.arch here feed)) (option_to_list o ++ rest)) q.1
+      ∙ ap (λ (o : Option ℕ). option_to_list o ++ flat_map (λ feed. option_to_list (input_net packed.arch here feed)) rest) q.2
       ∙ ap (λ (more : List ℕ). net ∷ more) (inputs_back nets (λ other c. each other (in_later net other nets c)))
 
   clock_is : (element : LogicElement) (net : ℕ) → Contains elements element → element.clock ≡ Some net → (j : ℕ) × (pin_with packed cluster Clock net ≡ Some j)
   clock_is element net in' is =
       let all = flat_map (λ (element : LogicElement). option_to_list element.clock) elements in
       let there = to_flat_map (λ (element : LogicElement). option_to_list element.clock) elements element net in' (one_only element.clock net is) in
-      clock_there packed cluster place net few_clocks (from_has (distinct all) net (has-distinct all net ∙ to_has all net there))
+      clock_there packed cluster place net few_clocks (from_has (distinct_nets all) net (has-distinct all net ∙ to_has all net there))
 
   clock_back : (element : LogicElement) → Contains elements element → option_and_then (on_pin packed.arch here Clock) (option_and_then (pin_with packed cluster Clock) element.clock) ≡ element.clock
   clock_back element in' = by element.clock refl
@@ -75,26 +75,26 @@ module _ (packed : PackedCircuit) (cluster : ℕ) (place : Place)
           let q = clock_is element net in' is in
           ap (option_and_then (on_pin packed.arch here Clock)) q.1 ∙ pin_is packed cluster place Clock net q.0 q.1
 
-  element_back : (element : LogicElement) → Contains elements element → traced packed.arch here (laid_ble packed cluster element) ≡ element
+  element_back : (element : LogicElement) → Contains elements element → traced_ble packed.arch here (laid_ble packed cluster element) ≡ element
   element_back element in' =
       let clock = option_and_then (on_pin packed.arch here Clock) (option_and_then (pin_with packed cluster Clock) element.clock) in
       ap (λ (inputs : List ℕ). let e : LogicElement = record { inputs = inputs; output = element.output; clock = clock } in e) (inputs_back element.inputs (λ net c. input_is element net in' c))
       ∙ ap (λ (clock : Option ℕ). let e : LogicElement = record { inputs = element.inputs; output = element.output; clock = clock } in e) (clock_back element in')
 
-  all_back : (some : List LogicElement) → ((element : LogicElement) → Contains some element → Contains elements element) → map (traced packed.arch here) (map (laid_ble packed cluster) some) ≡ some
+  all_back : (some : List LogicElement) → ((element : LogicElement) → Contains some element → Contains elements element) → map (traced_ble packed.arch here) (map (laid_ble packed cluster) some) ≡ some
   all_back [] h = refl
   all_back (element ∷ some) h =
-      ap (λ (e : LogicElement). e ∷ map (traced packed.arch here) (map (laid_ble packed cluster) some)) (element_back element (h element (in_first element some)))
+      ap (λ (e : LogicElement). e ∷ map (traced_ble packed.arch here) (map (laid_ble packed cluster) some)) (element_back element (h element (in_first element some)))
       ∙ ap (λ (rest : List LogicElement). element ∷ rest) (all_back some (λ other c. h other (in_later element other some c)))
 
   fed_back : (element : LogicElement) → Contains elements element → IsFed packed.arch here (laid_ble packed cluster element)
   fed_back element in' = record {
-    inputs = all_members (λ feed. is_some (fed packed.arch here feed) ≡ true) (laid_ble packed cluster element).inputs (λ feed c.
+    inputs = all_members (λ feed. is_some (input_net packed.arch here feed) ≡ true) (laid_ble packed cluster element).inputs (λ feed c.
         let q = from_flat_map (λ net. option_to_list (feed_of packed cluster net)) element.inputs feed c in
         let came = input_is element q.0 in' q.1 in
         let same : Some came.0 ≡ Some feed = sym came.1 ∙ only_one (feed_of packed cluster q.0) feed q.2 in
         let feed_same : came.0 ≡ feed = cc in
-        ap (λ (f : Feed). is_some (fed packed.arch here f)) (sym feed_same) ∙ ap is_some came.2);
+        ap (λ (f : Feed). is_some (input_net packed.arch here f)) (sym feed_same) ∙ ap is_some came.2);
     clock = λ pin is. clocked element.clock refl pin is;
     output = λ pin is. pin_is packed cluster place Output element.output pin is;
   }

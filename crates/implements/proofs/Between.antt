@@ -15,7 +15,7 @@ use Rattle.arch_file.specs.declared.arch.PinClass.TheVariants.{Input, Clock}
 use Rattle.ble_cluster.specs.Nets.{has}
 use Rattle.ble_cluster.specs.Clusters.{clocks_of, outside_inputs}
 use Rattle.cluster.specs.Clusters.{PackedCircuit}
-use Rattle.cluster.specs.Blocks.{BlockNet, block_nets, carried, elements_in, is_same_class, pins_of, reads_net}
+use Rattle.cluster.specs.Blocks.{BlockNet, block_nets, net_on_pin, elements_in, is_same_class, pins_of, reads_net}
 use Rattle.cluster.specs.LawfulPackings.{IsPacked}
 use Rattle.cluster.specs.PackingLaws.{IsLawfulPacking}
 use Rattle.cluster.specs.declared.block.Block.{Block}
@@ -46,7 +46,7 @@ on_parts : (arch : Arch) (laid : LaidBlock) (class : PinClass) (pin net : ℕ) �
 on_parts arch laid class pin net h = by (slice_get arch.pins pin) refl
   where
     body : Option ArchPin → Option (Option ℕ) → Option ℕ
-    body o carried = cond (option_map_or (λ (found : ArchPin). is_same_class class found.class) o false) (option_and_then (λ (net : Option ℕ). net) carried) None
+    body o net_on_pin = cond (option_map_or (λ (found : ArchPin). is_same_class class found.class) o false) (option_and_then (λ (net : Option ℕ). net) net_on_pin) None
 
     carries : (o : Option (Option ℕ)) → option_and_then (λ (net : Option ℕ). net) o ≡ Some net → o ≡ Some (Some net)
     carries None e = absurd cc
@@ -65,15 +65,15 @@ on_parts arch laid class pin net h = by (slice_get arch.pins pin) refl
 
 module _ (packed : PackedCircuit) (cluster : ℕ) (place : Place) where
   -- what a pin carries
-  pin_carries : (k : ℕ) (pin : ArchPin) → slice_get packed.arch.pins k ≡ Some pin → slice_get (pins_of packed cluster) k ≡ Some (carried packed cluster pin.class (count_by (λ (other : ArchPin). is_same_class pin.class other.class) (take k packed.arch.pins)))
+  pin_carries : (k : ℕ) (pin : ArchPin) → slice_get packed.arch.pins k ≡ Some pin → slice_get (pins_of packed cluster) k ≡ Some (net_on_pin packed cluster pin.class (count_by (λ (other : ArchPin). is_same_class pin.class other.class) (take k packed.arch.pins)))
   pin_carries k pin at =
       let pins = packed.arch.pins in
-      let f : ℕ × ArchPin → Option ℕ = λ pin. carried packed cluster pin.1.class (count_by (λ (other : ArchPin). is_same_class pin.1.class other.class) (take pin.0 pins)) in
+      let f : ℕ × ArchPin → Option ℕ = λ pin. net_on_pin packed cluster pin.1.class (count_by (λ (other : ArchPin). is_same_class pin.1.class other.class) (take pin.0 pins)) in
       let here : 0 + k ≡ k = omega arith in
       slice_get-map f (enumerate_from 0 pins) k ∙ ap (option_map f) (enumerated 0 pins k pin at) ∙ ap (λ (n : ℕ). Some (f (n, pin))) here
 
   -- the pins of a class have just the nets that are carried by rank
-  has_just : (class : PinClass) (nets : List ℕ) → ((r : ℕ) → carried packed cluster class r ≡ slice_get nets r) → length nets ≤ count_by (λ (pin : ArchPin). is_same_class class pin.class) packed.arch.pins → (net : ℕ) →
+  has_just : (class : PinClass) (nets : List ℕ) → ((r : ℕ) → net_on_pin packed cluster class r ≡ slice_get nets r) → length nets ≤ count_by (λ (pin : ArchPin). is_same_class class pin.class) packed.arch.pins → (net : ℕ) →
       has_on packed.arch (laid_cluster packed cluster place) class net ≡ has nets net
   has_just class nets by_rank few net = same_truth (has_on packed.arch laid class net) (has nets net) there back
     where
@@ -85,9 +85,9 @@ module _ (packed : PackedCircuit) (cluster : ℕ) (place : Place) where
           let q = from_any (λ pin. is_net net (on_pin packed.arch (laid_cluster packed cluster place) class pin)) (range_with_len 0 (length packed.arch.pins)) h in
           let parts = on_parts packed.arch (laid_cluster packed cluster place) class q.0 net (is_some_net (on_pin packed.arch (laid_cluster packed cluster place) class q.0) net q.2) in
           let rank = count_by (λ (other : ArchPin). is_same_class parts.0.class other.class) (take q.0 packed.arch.pins) in
-          let is : Some (carried packed cluster parts.0.class rank) ≡ Some (Some net) = sym (pin_carries q.0 parts.0 parts.1) ∙ parts.3 in
-          let carries : carried packed cluster parts.0.class rank ≡ Some net = cc in
-          let found : slice_get nets rank ≡ Some net = sym (by_rank rank) ∙ ap (λ (c : PinClass). carried packed cluster c rank) (sym (same_class class parts.0.class parts.2)) ∙ carries in
+          let is : Some (net_on_pin packed cluster parts.0.class rank) ≡ Some (Some net) = sym (pin_carries q.0 parts.0 parts.1) ∙ parts.3 in
+          let carries : net_on_pin packed cluster parts.0.class rank ≡ Some net = cc in
+          let found : slice_get nets rank ≡ Some net = sym (by_rank rank) ∙ ap (λ (c : PinClass). net_on_pin packed cluster c rank) (sym (same_class class parts.0.class parts.2)) ∙ carries in
           to_has nets net (from_get nets rank net found).1
 
       back : has nets net ≡ true → has_on packed.arch (laid_cluster packed cluster place) class net ≡ true

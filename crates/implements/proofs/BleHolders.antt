@@ -9,7 +9,7 @@ use Rattle.blif.specs.declared.circuit.Circuit.{Circuit}
 use Rattle.blif.specs.declared.latches.Latch.{Latch}
 use Rattle.blif.specs.LawfulCircuits.{IsCircuit}
 use Rattle.blif.specs.LookupTables.{LookupTable}
-use Rattle.ble_cluster.specs.Bles.{LogicElement, bles_of, element_of_latch, element_of_table, is_read_once, latch_behind, reads_of, stands_alone}
+use Rattle.ble_cluster.specs.Bles.{LogicElement, bles_of, element_of_latch, element_of_table, is_read_once, latch_after, reads_of, stands_alone}
 use Rattle.cluster.proofs.Pairs.{pairs_back, pairs_front}
 use Rattle.implements.specs.Holding.{holds_latch, holds_table, is_latch, is_pair, is_table}
 use Rattle.implements.proofs.BleMembers.{IsOneOf, alone, from_bles, latch_in_bles, of_table, table_in_bles}
@@ -89,10 +89,10 @@ module _ (circuit : Circuit) where
       same_counted (λ (latch : Latch). latch.input == net) circuit.latches latch other few c d (grind (arith, nat_tests, is)) (grind (arith, nat_tests, also))
 
   -- which is found
-  pub behind_there : (net : ℕ) (latch : Latch) → is_read_once circuit net ≡ true → Contains circuit.latches latch → latch.input ≡ net → latch_behind circuit net ≡ Some latch
+  pub behind_there : (net : ℕ) (latch : Latch) → is_read_once circuit net ≡ true → Contains circuit.latches latch → latch.input ≡ net → latch_after circuit net ≡ Some latch
   behind_there net latch once c is =
       let q = find_some (λ (latch : Latch). latch.input == net) circuit.latches latch c (grind (arith, nat_tests, is)) in
-      let found : latch_behind circuit net ≡ Some q.0 = ap (λ (b : Bool). cond b (find (λ (latch : Latch). latch.input == net) circuit.latches) None) once ∙ q.1 in
+      let found : latch_after circuit net ≡ Some q.0 = ap (λ (b : Bool). cond b (find (λ (latch : Latch). latch.input == net) circuit.latches) None) once ∙ q.1 in
       let it = behind_is circuit net q.0 found in
       found ∙ ap (λ (l : Latch). Some l) (one_reader net q.0 latch once it.1.0 (eqb-true q.0.input net it.1.1) c is)
 
@@ -120,13 +120,13 @@ module _ (circuit : Circuit) where
     same_output : (element : LogicElement) (table : LookupTable) → Contains (bles_of circuit) element → Contains circuit.tables table → element.output ≡ table.output → element.output ≡ (of_table circuit table).output
     same_output element table c d same = by (from_bles circuit element c)
       where
-        of : (other : LookupTable) → Contains circuit.tables other → (o : Option Latch) → latch_behind circuit other.output ≡ o → (element_of_table other o).output ≡ table.output → other ≡ table
+        of : (other : LookupTable) → Contains circuit.tables other → (o : Option Latch) → latch_after circuit other.output ≡ o → (element_of_table other o).output ≡ table.output → other ≡ table
         of other e None is out = same_table other table e d out
         of other e (Some latch) is out = absurd (never_driven_twice table latch d (behind_is circuit other.output latch is).1.0 out)
 
         by : IsOneOf circuit circuit.tables (alone circuit) element → element.output ≡ (of_table circuit table).output
         by (inl t) =
-            let it = of t.0 t.1 (latch_behind circuit t.0.output) refl (ap (λ (e : LogicElement). e.output) t.2 ∙ same) in
+            let it = of t.0 t.1 (latch_after circuit t.0.output) refl (ap (λ (e : LogicElement). e.output) t.2 ∙ same) in
             sym (ap (λ (e : LogicElement). e.output) t.2) ∙ ap (λ (t : LookupTable). (of_table circuit t).output) it
         by (inr l) = absurd (never_driven_twice table l.0 d (from_filter (stands_alone circuit) circuit.latches l.0 l.1).0 (ap (λ (e : LogicElement). e.output) l.2 ∙ same))
 
@@ -176,7 +176,7 @@ module _ (circuit : Circuit) where
       by true is true eq =
           let q = from_any (λ (table : LookupTable). table.output == latch.input) circuit.tables eq in
           let same : q.0.output ≡ latch.input = eqb-true q.0.output latch.input q.2 in
-          let behind : latch_behind circuit q.0.output ≡ Some latch = behind_there q.0.output latch (ap (is_read_once circuit) same ∙ is) c (sym same) in
+          let behind : latch_after circuit q.0.output ≡ Some latch = behind_there q.0.output latch (ap (is_read_once circuit) same ∙ is) c (sym same) in
           let pair = pair_held circuit q.0 latch behind in
           let element = element_of_table q.0 (Some latch) in
           let some = to_any (λ (table : LookupTable). is_pair circuit element table latch) circuit.tables q.0 q.1 pair in

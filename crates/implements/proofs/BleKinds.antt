@@ -6,9 +6,9 @@ use Rattle.std.proofs.lemmas.Bool.Decides.{nat_tests}
 use Rattle.blif.specs.declared.circuit.Circuit.{Circuit}
 use Rattle.blif.specs.declared.latches.Latch.{Latch}
 use Rattle.blif.specs.LookupTables.{LookupTable}
-use Rattle.ble_cluster.specs.Nets.{distinct, has}
+use Rattle.ble_cluster.specs.Nets.{distinct_nets, has}
 use Rattle.ble_cluster.proofs.Outside.{has-distinct}
-use Rattle.ble_cluster.specs.Bles.{LogicElement, bles_of, element_of_latch, element_of_table, is_read_once, latch_behind, stands_alone}
+use Rattle.ble_cluster.specs.Bles.{LogicElement, bles_of, element_of_latch, element_of_table, is_read_once, latch_after, stands_alone}
 use Rattle.implements.specs.Holding.{holds_latch, holds_table, is_latch, is_pair, is_same_net, is_table, receives}
 use Rattle.implements.proofs.BleMembers.{from_bles}
 use Rattle.implements.proofs.Members.{from_filter, in_first, in_later, to_any, to_has}
@@ -24,13 +24,13 @@ same_option : (o : Option ℕ) → is_same_net o o ≡ true
 same_option None = refl
 same_option (Some net) = grind (arith, nat_tests)
 
-reads_distinct : (nets : List ℕ) (output : ℕ) (clock : Option ℕ) → receives (record { inputs = distinct nets; output = output; clock = clock }) nets ≡ true
+reads_distinct : (nets : List ℕ) (output : ℕ) (clock : Option ℕ) → receives (record { inputs = distinct_nets nets; output = output; clock = clock }) nets ≡ true
 reads_distinct nets output clock =
-    let a : (length (distinct nets) == length (distinct nets)) ≡ true = grind (arith, nat_tests) in
-    let b : list_all (has nets) (distinct nets) ≡ true = all_has (distinct nets) nets (λ x c. sym (has-distinct nets x) ∙ to_has (distinct nets) x c) in
-    let d : list_all (has (distinct nets)) nets ≡ true = all_has nets (distinct nets) (λ x c. has-distinct nets x ∙ to_has nets x c) in
-    ap (λ (t : Bool). t && (list_all (has nets) (distinct nets) && list_all (has (distinct nets)) nets)) a
-    ∙ ap (λ (t : Bool). t && list_all (has (distinct nets)) nets) b ∙ d
+    let a : (length (distinct_nets nets) == length (distinct_nets nets)) ≡ true = grind (arith, nat_tests) in
+    let b : list_all (has nets) (distinct_nets nets) ≡ true = all_has (distinct_nets nets) nets (λ x c. sym (has-distinct nets x) ∙ to_has (distinct_nets nets) x c) in
+    let d : list_all (has (distinct_nets nets)) nets ≡ true = all_has nets (distinct_nets nets) (λ x c. has-distinct nets x ∙ to_has nets x c) in
+    ap (λ (t : Bool). t && (list_all (has nets) (distinct_nets nets) && list_all (has (distinct_nets nets)) nets)) a
+    ∙ ap (λ (t : Bool). t && list_all (has (distinct_nets nets)) nets) b ∙ d
 
 found_by : {X : Type 0} (test : X → Bool) (xs : List X) (x : X) → find test xs ≡ Some x → Contains xs x × (test x ≡ true)
 found_by test [] x h = absurd cc
@@ -62,7 +62,7 @@ module _ (circuit : Circuit) where
       ap (λ (b : Bool). b && (receives element table.inputs && is_same_net element.clock None)) out ∙ ap (λ (b : Bool). b && is_same_net element.clock None) reads
 
   -- the latch that is found after a table
-  pub behind_is : (net : ℕ) (latch : Latch) → latch_behind circuit net ≡ Some latch → (is_read_once circuit net ≡ true) × (Contains circuit.latches latch × ((latch.input == net) ≡ true))
+  pub behind_is : (net : ℕ) (latch : Latch) → latch_after circuit net ≡ Some latch → (is_read_once circuit net ≡ true) × (Contains circuit.latches latch × ((latch.input == net) ≡ true))
   behind_is net latch is = by (is_read_once circuit net) is
     where
       by : (b : Bool) → cond b (find (λ (l : Latch). l.input == net) circuit.latches) None ≡ Some latch → (b ≡ true) × (Contains circuit.latches latch × ((latch.input == net) ≡ true))
@@ -70,7 +70,7 @@ module _ (circuit : Circuit) where
       by false h = absurd cc
 
   -- a table with the latch that alone reads it is both
-  pub pair_held : (table : LookupTable) (latch : Latch) → latch_behind circuit table.output ≡ Some latch → is_pair circuit (element_of_table table (Some latch)) table latch ≡ true
+  pub pair_held : (table : LookupTable) (latch : Latch) → latch_after circuit table.output ≡ Some latch → is_pair circuit (element_of_table table (Some latch)) table latch ≡ true
   pair_held table latch is =
       let element = element_of_table table (Some latch) in
       let q = behind_is table.output latch is in
@@ -90,19 +90,19 @@ module _ (circuit : Circuit) where
       grind (arith, any)
 
   -- a table's BLE holds it
-  pub table_holds : (table : LookupTable) → holds_table circuit (element_of_table table (latch_behind circuit table.output)) table ≡ true
-  table_holds table = by (latch_behind circuit table.output) refl
+  pub table_holds : (table : LookupTable) → holds_table circuit (element_of_table table (latch_after circuit table.output)) table ≡ true
+  table_holds table = by (latch_after circuit table.output) refl
     where
-      by : (o : Option Latch) → latch_behind circuit table.output ≡ o → holds_table circuit (element_of_table table o) table ≡ true
+      by : (o : Option Latch) → latch_after circuit table.output ≡ o → holds_table circuit (element_of_table table o) table ≡ true
       by None is = ap (λ (b : Bool). b || list_any (is_pair circuit (element_of_table table None) table) circuit.latches) (table_held table)
       by (Some latch) is =
           let q = behind_is table.output latch is in
           let some = to_any (is_pair circuit (element_of_table table (Some latch)) table) circuit.latches latch q.1.0 (pair_held table latch is) in
           grind (arith, some)
 
-  table_is : (table : LookupTable) → Contains circuit.tables table → is_some_of (element_of_table table (latch_behind circuit table.output)) ≡ true
+  table_is : (table : LookupTable) → Contains circuit.tables table → is_some_of (element_of_table table (latch_after circuit table.output)) ≡ true
   table_is table c =
-      let element = element_of_table table (latch_behind circuit table.output) in
+      let element = element_of_table table (latch_after circuit table.output) in
       let any = to_any (holds_table circuit element) circuit.tables table c (table_holds table) in
       ap (λ (b : Bool). b || list_any (holds_latch circuit element) circuit.latches) any
 

@@ -7,13 +7,13 @@ use Rattle.std.proofs.lemmas.List.{take-append-drop}
 use Rattle.blif.specs.declared.circuit.Circuit.{Circuit}
 use Rattle.blif.specs.declared.latches.Latch.{Latch}
 use Rattle.blif.specs.LookupTables.{LookupTable}
-use Rattle.ble_cluster.specs.Bles.{LogicElement, bles_of, element_of_latch, element_of_table, in_line_order, latch_behind, stands_alone}
+use Rattle.ble_cluster.specs.Bles.{LogicElement, bles_of, element_of_latch, element_of_table, in_line_order, latch_after, stands_alone}
 use Rattle.implements.proofs.Members.{from_append, from_drop, from_map, from_take, in_cases, in_first, in_later, in_none, to_append_left, to_append_right, to_filter, to_map}
 
 module _ (circuit : Circuit) where
   -- the BLE of a table
   abbrev pub of_table : LookupTable → LogicElement
-  of_table table = element_of_table table (latch_behind circuit table.output)
+  of_table table = element_of_table table (latch_after circuit table.output)
 
   -- the BLE is that of one of the tables, or one of the latches
   abbrev pub IsOneOf : List LookupTable → List Latch → LogicElement → Type 0

@@ -17,7 +17,7 @@ use Rattle.vpr_files.specs.BlockClusters.{HasCluster}
 use Rattle.vpr_files.proofs.ClusterLemmas.{block_is_there}
 use Rattle.implements.specs.Implements.{ble_places}
 use Rattle.implements.specs.LayoutOf.{laid_block, layout_of}
-use Rattle.implements.specs.Layouts.{IsFed, LaidBlock, traced, traced_bles}
+use Rattle.implements.specs.Layouts.{IsFed, LaidBlock, traced_ble, traced_bles}
 use Rattle.implements.proofs.Results.{packed_bles}
 use Rattle.implements.proofs.Back.{traced_back}
 use Rattle.implements.proofs.Led.{block_number}
@@ -35,7 +35,7 @@ module _ (packed : PackedCircuit) (places : List Place) (lawful : IsPacked packe
   few_in (OutputPad net) place there = omega arith
   few_in (Cluster cluster) place there = (traced_back packed lawful laws cluster place there).few
 
-  same_in : (block : Block) (place : Place) → HasCluster packed block → map (traced packed.arch (laid_block packed block place)) (laid_block packed block place).bles ≡ packed_bles packed block
+  same_in : (block : Block) (place : Place) → HasCluster packed block → map (traced_ble packed.arch (laid_block packed block place)) (laid_block packed block place).bles ≡ packed_bles packed block
   same_in (InputPad net) place there = refl
   same_in (OutputPad net) place there = refl
   same_in (Cluster cluster) place there = (traced_back packed lawful laws cluster place there).same
@@ -55,10 +55,10 @@ module _ (packed : PackedCircuit) (places : List Place) (lawful : IsPacked packe
   all_few routes = each_block (λ (laid : LaidBlock). length laid.bles ≤ ble_places packed.arch laid.block) few_in
 
   same_from : (es : List (ℕ × Block)) → ((e : ℕ × Block) → Contains es e → HasCluster packed e.1) →
-      flat_map (λ (laid : LaidBlock). map (traced packed.arch laid) laid.bles) (map (laid_at packed places) es) ≡ flat_map (λ (e : ℕ × Block). packed_bles packed e.1) es
+      flat_map (λ (laid : LaidBlock). map (traced_ble packed.arch laid) laid.bles) (map (laid_at packed places) es) ≡ flat_map (λ (e : ℕ × Block). packed_bles packed e.1) es
   same_from [] there = refl
   same_from (e ∷ es) there =
-      ap (λ (l : List LogicElement). l ++ flat_map (λ (laid : LaidBlock). map (traced packed.arch laid) laid.bles) (map (laid_at packed places) es)) (same_in e.1 (place_of places e.0) (there e (in_first e es)))
+      ap (λ (l : List LogicElement). l ++ flat_map (λ (laid : LaidBlock). map (traced_ble packed.arch laid) laid.bles) (map (laid_at packed places) es)) (same_in e.1 (place_of places e.0) (there e (in_first e es)))
       ∙ ap (λ (l : List LogicElement). packed_bles packed e.1 ++ l) (same_from es (λ other c. there other (in_later e other es c)))
 
   second : (start : ℕ) (blocks : List Block) → flat_map (λ (e : ℕ × Block). packed_bles packed e.1) (enumerate_from start blocks) ≡ flat_map (packed_bles packed) blocks

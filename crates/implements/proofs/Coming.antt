@@ -27,7 +27,7 @@ use Rattle.implements.specs.declared.feed.Feed.{Feed}
 use Rattle.implements.specs.declared.feed.Feed.TheVariants.{Pin, Ble}
 use Rattle.implements.specs.Holding.{holds_latch, holds_table, is_latch, is_pair, is_same_net, is_table, receives}
 use Rattle.implements.specs.Implements.{Implements, IsLaid, ble_places, drives, has_on, is_net, output_at, sinks_of, wants, wants_as}
-use Rattle.implements.specs.Layouts.{LaidBle, LaidBlock, LaidNet, Layout, fed, on_pin, traced, traced_bles}
+use Rattle.implements.specs.Layouts.{LaidBle, LaidBlock, LaidNet, Layout, input_net, on_pin, traced_ble, traced_bles}
 use Rattle.implements.specs.Connects.{ComesIn, ComesTo, Connects, LeadsTo, Receives, Spot}
 use Rattle.implements.proofs.Members.{counted, from_all, from_any, from_flat_map, from_get, from_has, from_map, in_none, in_range, to_any, to_filter, to_map}
 
@@ -114,19 +114,19 @@ module _ (circuit : Circuit) (arch : Arch) (strip : Strip) (layout : Layout) (h 
       omega (arith, few, inside.1)
 
   -- the BLE of a traced one
-  spotted : (element : LogicElement) → Contains (traced_bles arch layout) element → (spot : Spot layout) × (traced arch spot.laid spot.ble ≡ element)
+  spotted : (element : LogicElement) → Contains (traced_bles arch layout) element → (spot : Spot layout) × (traced_ble arch spot.laid spot.ble ≡ element)
   spotted element c =
-      let outer = from_flat_map (λ (block : LaidBlock). map (traced arch block) block.bles) layout.blocks element c in
-      let inner = from_map (traced arch outer.0) outer.0.bles element outer.2 in
+      let outer = from_flat_map (λ (block : LaidBlock). map (traced_ble arch block) block.bles) layout.blocks element c in
+      let inner = from_map (traced_ble arch outer.0) outer.0.bles element outer.2 in
       (record { laid = outer.0; there = outer.1; ble = inner.0; inside = inner.1 }, inner.2)
 
   -- a net that a traced BLE receives comes in
-  received : (spot : Spot layout) (net : ℕ) → Contains (traced arch spot.laid spot.ble).inputs net → Receives circuit arch strip layout spot net
+  received : (spot : Spot layout) (net : ℕ) → Contains (traced_ble arch spot.laid spot.ble).inputs net → Receives circuit arch strip layout spot net
   received spot net c =
-      let feeds = from_flat_map (λ (feed : Feed). option_to_list (fed arch spot.laid feed)) spot.ble.inputs net c in
-      (feeds.0, feeds.1, by feeds.0 (only (fed arch spot.laid feeds.0) net feeds.2))
+      let feeds = from_flat_map (λ (feed : Feed). option_to_list (input_net arch spot.laid feed)) spot.ble.inputs net c in
+      (feeds.0, feeds.1, by feeds.0 (only (input_net arch spot.laid feeds.0) net feeds.2))
     where
-      by : (feed : Feed) → fed arch spot.laid feed ≡ Some net → ComesIn circuit arch strip layout spot.laid net feed
+      by : (feed : Feed) → input_net arch spot.laid feed ≡ Some net → ComesIn circuit arch strip layout spot.laid net feed
       by (Pin pin) is =
           let has : has_on arch spot.laid Input net ≡ true = has_pin arch spot.laid Input pin net is in
           came spot.laid net spot.there (wanted_in arch spot.laid net spot.laid.block (placed spot.laid spot.ble spot.there spot.inside) (ap (λ (b : Bool). b || has_on arch spot.laid Clock net) has))
@@ -137,7 +137,7 @@ module _ (circuit : Circuit) (arch : Arch) (strip : Strip) (layout : Layout) (h 
           inside (Some ble) some = let found : Some ble.name ≡ Some net = sym (ap (option_map (λ (ble : LaidBle). ble.name)) some) ∙ is in (ble, some, grind (arith, found))
 
   -- its clock too
-  clocked : (spot : Spot layout) (net : ℕ) → (traced arch spot.laid spot.ble).clock ≡ Some net → ComesTo circuit arch strip layout spot.laid net
+  clocked : (spot : Spot layout) (net : ℕ) → (traced_ble arch spot.laid spot.ble).clock ≡ Some net → ComesTo circuit arch strip layout spot.laid net
   clocked spot net is = by spot.ble.clock is
     where
       by : (o : Option ℕ) → option_and_then (on_pin arch spot.laid Clock) o ≡ Some net → ComesTo circuit arch strip layout spot.laid net
@@ -164,13 +164,13 @@ module _ (circuit : Circuit) (arch : Arch) (strip : Strip) (layout : Layout) (h 
           let both = pair.2 in grind (arith, both)
 
   tables_connected : (table : LookupTable) → Contains circuit.tables table →
-      (spot : Spot layout) × (holds_table circuit (traced arch spot.laid spot.ble) table ≡ true) × ((net : ℕ) → has table.inputs net ≡ true → Receives circuit arch strip layout spot net)
+      (spot : Spot layout) × (holds_table circuit (traced_ble arch spot.laid spot.ble) table ≡ true) × ((net : ℕ) → has table.inputs net ≡ true → Receives circuit arch strip layout spot net)
   tables_connected table c =
       let once = All-contains (λ table. count_by (λ element. holds_table circuit element table) (traced_bles arch layout) ≡ 1) circuit.tables table h.held.tables c in
       let found = from_any (λ element. holds_table circuit element table) (traced_bles arch layout) (counted (λ element. holds_table circuit element table) (traced_bles arch layout) once) in
       let at = spotted found.0 found.1 in
-      let holds : holds_table circuit (traced arch at.0.laid at.0.ble) table ≡ true = ap (λ element. holds_table circuit element table) at.1 ∙ found.2 in
-      (at.0, holds, λ net is. received at.0 net (receives_all (traced arch at.0.laid at.0.ble) table.inputs net (reads_table (traced arch at.0.laid at.0.ble) table holds) is))
+      let holds : holds_table circuit (traced_ble arch at.0.laid at.0.ble) table ≡ true = ap (λ element. holds_table circuit element table) at.1 ∙ found.2 in
+      (at.0, holds, λ net is. received at.0 net (receives_all (traced_ble arch at.0.laid at.0.ble) table.inputs net (reads_table (traced_ble arch at.0.laid at.0.ble) table holds) is))
 
   -- what a BLE that holds a latch is
   latch_parts : (element : LogicElement) (latch : Latch) → Contains circuit.latches latch → holds_latch circuit element latch ≡ true →
@@ -192,14 +192,14 @@ module _ (circuit : Circuit) (arch : Arch) (strip : Strip) (layout : Layout) (h 
           (inr (table, sym (eqb-true latch.input table.output input), grind (arith, any)), same_net element.clock latch.control c)
 
   latches_connected : (latch : Latch) → Contains circuit.latches latch →
-      (spot : Spot layout) × (holds_latch circuit (traced arch spot.laid spot.ble) latch ≡ true)
-      × (Receives circuit arch strip layout spot latch.input ⊎ ((table : LookupTable) × (table.output ≡ latch.input) × (holds_table circuit (traced arch spot.laid spot.ble) table ≡ true)))
+      (spot : Spot layout) × (holds_latch circuit (traced_ble arch spot.laid spot.ble) latch ≡ true)
+      × (Receives circuit arch strip layout spot latch.input ⊎ ((table : LookupTable) × (table.output ≡ latch.input) × (holds_table circuit (traced_ble arch spot.laid spot.ble) table ≡ true)))
       × ((net : ℕ) → latch.control ≡ Some net → ComesTo circuit arch strip layout spot.laid net)
   latches_connected latch c =
       let once = All-contains (λ latch. count_by (λ element. holds_latch circuit element latch) (traced_bles arch layout) ≡ 1) circuit.latches latch h.held.latches c in
       let found = from_any (λ element. holds_latch circuit element latch) (traced_bles arch layout) (counted (λ element. holds_latch circuit element latch) (traced_bles arch layout) once) in
       let at = spotted found.0 found.1 in
-      let element = traced arch at.0.laid at.0.ble in
+      let element = traced_ble arch at.0.laid at.0.ble in
       let holds : holds_latch circuit element latch ≡ true = ap (λ element. holds_latch circuit element latch) at.1 ∙ found.2 in
       let parts = latch_parts element latch c holds in
       (at.0, holds, elim parts.0 [ inl e ↦ inl (received at.0 latch.input e) | inr e ↦ inr e ], λ net is. clocked at.0 net (parts.1 ∙ is))

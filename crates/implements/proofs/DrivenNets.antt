@@ -10,8 +10,8 @@ use Rattle.blif.specs.declared.circuit.Circuit.{Circuit}
 use Rattle.blif.specs.declared.latches.Latch.{Latch}
 use Rattle.blif.specs.LawfulCircuits.{IsCircuit, IsLatchDriven, drivers_of, has_net}
 use Rattle.blif.specs.LookupTables.{LookupTable}
-use Rattle.ble_cluster.specs.Bles.{LogicElement, bles_of, element_of_latch, element_of_table, is_read_once, latch_behind, stands_alone}
-use Rattle.ble_cluster.specs.Nets.{distinct}
+use Rattle.ble_cluster.specs.Bles.{LogicElement, bles_of, element_of_latch, element_of_table, is_read_once, latch_after, stands_alone}
+use Rattle.ble_cluster.specs.Nets.{distinct_nets}
 use Rattle.ble_cluster.proofs.Outside.{has-distinct}
 use Rattle.implements.proofs.BleKinds.{behind_is}
 use Rattle.implements.proofs.BleHolders.{IsReadElsewhere, behind_there, read_by_latch}
@@ -31,7 +31,7 @@ bles_drive circuit element c = by (from_bles circuit element c)
         to_append_right (map (λ (table : LookupTable). table.output) circuit.tables) (map (λ (latch : Latch). latch.output) circuit.latches) latch.output
         (to_map (λ (latch : Latch). latch.output) circuit.latches latch d)
 
-    of : (table : LookupTable) → Contains circuit.tables table → (o : Option Latch) → latch_behind circuit table.output ≡ o →
+    of : (table : LookupTable) → Contains circuit.tables table → (o : Option Latch) → latch_after circuit table.output ≡ o →
         Contains (map (λ (table : LookupTable). table.output) circuit.tables ++ map (λ (latch : Latch). latch.output) circuit.latches) (element_of_table table o).output
     of table d None is =
         to_append_left (map (λ (table : LookupTable). table.output) circuit.tables) (map (λ (latch : Latch). latch.output) circuit.latches) table.output
@@ -42,7 +42,7 @@ bles_drive circuit element c = by (from_bles circuit element c)
         Contains (map (λ (table : LookupTable). table.output) circuit.tables ++ map (λ (latch : Latch). latch.output) circuit.latches) element.output
     by (inl t) =
         subst (λ (e : LogicElement). Contains (map (λ (table : LookupTable). table.output) circuit.tables ++ map (λ (latch : Latch). latch.output) circuit.latches) e.output) t.2
-        (of t.0 t.1 (latch_behind circuit t.0.output) refl)
+        (of t.0 t.1 (latch_after circuit t.0.output) refl)
     by (inr l) =
         subst (λ (e : LogicElement). Contains (map (λ (table : LookupTable). table.output) circuit.tables ++ map (λ (latch : Latch). latch.output) circuit.latches) e.output) l.2
         (of_latch l.0 (from_filter (stands_alone circuit) circuit.latches l.0 l.1).0)
@@ -80,7 +80,7 @@ module _ (circuit : Circuit) (lawful : IsCircuit circuit) where
 
   -- the net of a table, unless its latch alone reads it
   by_table : (table : LookupTable) → Contains circuit.tables table → IsReadOutside table.output → DrivingBle table.output
-  by_table table c read = by (latch_behind circuit table.output) refl
+  by_table table c read = by (latch_after circuit table.output) refl
     where
       never : (latch : Latch) → is_read_once circuit table.output ≡ true → Contains circuit.latches latch → latch.input ≡ table.output →
           IsReadElsewhere circuit table.output ⊎ ((other : Latch) × Contains (alone circuit) other × (other.input ≡ table.output)) → ⊥
@@ -93,7 +93,7 @@ module _ (circuit : Circuit) (lawful : IsCircuit circuit) where
           let wrong : false ≡ true = sym (ap (λ (b : Bool). not (b && list_any (λ (table : LookupTable). table.output == other.0.input) circuit.tables)) single ∙ ap not any) ∙ passes in
           absurd cc
 
-      by : (o : Option Latch) → latch_behind circuit table.output ≡ o → DrivingBle table.output
+      by : (o : Option Latch) → latch_after circuit table.output ≡ o → DrivingBle table.output
       by None is = record { element = of_table circuit table; there = table_in_bles circuit table c; drives = ap (λ (o : Option Latch). (element_of_table table o).output) is }
       by (Some latch) is =
           let q = behind_is circuit table.output latch is in
@@ -112,7 +112,7 @@ module _ (circuit : Circuit) (lawful : IsCircuit circuit) where
       by true is true eq =
           let q = from_any (λ (table : LookupTable). table.output == latch.input) circuit.tables eq in
           let same : q.0.output ≡ latch.input = eqb-true q.0.output latch.input q.2 in
-          let behind : latch_behind circuit q.0.output ≡ Some latch = behind_there circuit q.0.output latch (ap (is_read_once circuit) same ∙ is) c (sym same) in
+          let behind : latch_after circuit q.0.output ≡ Some latch = behind_there circuit q.0.output latch (ap (is_read_once circuit) same ∙ is) c (sym same) in
           record { element = of_table circuit q.0; there = table_in_bles circuit q.0 q.1; drives = ap (λ (o : Option Latch). (element_of_table q.0 o).output) behind }
 
   pub driven_by : (net : ℕ) → IsReadOutside net → Contains circuit.inputs net ⊎ DrivingBle net
@@ -131,14 +131,14 @@ module _ (circuit : Circuit) (lawful : IsCircuit circuit) where
   pub read_by_ble : (element : LogicElement) (net : ℕ) → Contains (bles_of circuit) element → Contains element.inputs net → IsReadOutside net
   read_by_ble element net c reads = by (from_bles circuit element c)
     where
-      inputs : (table : LookupTable) (o : Option Latch) → (element_of_table table o).inputs ≡ distinct table.inputs
+      inputs : (table : LookupTable) (o : Option Latch) → (element_of_table table o).inputs ≡ distinct_nets table.inputs
       inputs table None = refl
       inputs table (Some latch) = refl
 
       by : ((table : LookupTable) × Contains circuit.tables table × (of_table circuit table ≡ element)) ⊎ ((latch : Latch) × Contains (alone circuit) latch × (element_of_latch latch ≡ element)) → IsReadOutside net
       by (inl t) =
-          let all : Contains (distinct t.0.inputs) net = subst (λ (l : List ℕ). Contains l net) (sym (ap (λ (e : LogicElement). e.inputs) t.2) ∙ inputs t.0 (latch_behind circuit t.0.output)) reads in
-          let read : Contains t.0.inputs net = from_has t.0.inputs net (sym (has-distinct t.0.inputs net) ∙ to_has (distinct t.0.inputs) net all) in
+          let all : Contains (distinct_nets t.0.inputs) net = subst (λ (l : List ℕ). Contains l net) (sym (ap (λ (e : LogicElement). e.inputs) t.2) ∙ inputs t.0 (latch_after circuit t.0.output)) reads in
+          let read : Contains t.0.inputs net = from_has t.0.inputs net (sym (has-distinct t.0.inputs net) ∙ to_has (distinct_nets t.0.inputs) net all) in
           record { place = inl (record { place = inl (to_flat_map (λ (table : LookupTable). table.inputs) circuit.tables t.0 net t.1 read) }) }
       by (inr l) =
           let read : Contains (l.0.input ∷ []) net = subst (λ (ns : List ℕ). Contains ns net) (sym (ap (λ (e : LogicElement). e.inputs) l.2)) reads in

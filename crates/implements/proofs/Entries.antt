@@ -11,7 +11,7 @@ use Rattle.blif.specs.declared.latches.Latch.{Latch}
 use Rattle.blif.specs.LookupTables.{LookupTable}
 use Rattle.ble_cluster.specs.Bles.{LogicElement}
 use Rattle.ble_cluster.specs.Clusters.{clocks_of, outputs_of, outside_inputs}
-use Rattle.ble_cluster.specs.Nets.{distinct, has}
+use Rattle.ble_cluster.specs.Nets.{distinct_nets, has}
 use Rattle.ble_cluster.proofs.Outside.{has-distinct}
 use Rattle.cluster.specs.Clusters.{PackedCircuit}
 use Rattle.cluster.specs.Blocks.{BlockNet, block_net, block_nets, blocks_of, elements_in, is_global, leaves_block, nets_from, reads_net, readers_of}
@@ -228,8 +228,8 @@ module _ (packed : PackedCircuit) where
         by true outside b eq =
             let elements = elements_in packed cluster in
             let inputs = flat_map (λ (element : LogicElement). element.inputs) elements in
-            let read = (from_filter (λ net. not (has (outputs_of elements) net)) (distinct inputs) net (from_has (outside_inputs elements) net outside)).0 in
-            let q = from_flat_map (λ (element : LogicElement). element.inputs) elements net (from_has inputs net (sym (has-distinct inputs net) ∙ to_has (distinct inputs) net read)) in
+            let read = (from_filter (λ net. not (has (outputs_of elements) net)) (distinct_nets inputs) net (from_has (outside_inputs elements) net outside)).0 in
+            let q = from_flat_map (λ (element : LogicElement). element.inputs) elements net (from_has inputs net (sym (has-distinct inputs net) ∙ to_has (distinct_nets inputs) net read)) in
             let packed_in = to_flat_map (packed_bles packed) (blocks_of packed) (Cluster cluster) q.0 c q.1 in
             read_by_ble packed.circuit lawful.circuit q.0 net (from_packed packed lawful laws q.0 packed_in) q.2
 

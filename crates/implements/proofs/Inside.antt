@@ -15,7 +15,7 @@ use Rattle.arch_file.specs.declared.arch.PinClass.TheVariants.{Input, Output, Cl
 use Rattle.ble_cluster.specs.Clusters.{clocks_of, outside_inputs}
 use Rattle.ble_cluster.specs.Bles.{LogicElement}
 use Rattle.cluster.specs.Clusters.{PackedCircuit, outputs_of}
-use Rattle.cluster.specs.Blocks.{carried, elements_in, is_same_class, pins_of}
+use Rattle.cluster.specs.Blocks.{net_on_pin, elements_in, is_same_class, pins_of}
 use Rattle.cluster.specs.declared.block.Block.TheVariants.{Cluster}
 use Rattle.grid.specs.declared.place.Place.{Place}
 use Rattle.vpr_files.specs.NetFile.{driver_place, pin_with}
@@ -24,7 +24,7 @@ use Rattle.implements.specs.declared.feed.Feed.{Feed}
 use Rattle.implements.specs.declared.feed.Feed.TheVariants.{Pin, Ble}
 use Rattle.implements.specs.Implements.{is_net}
 use Rattle.implements.specs.LayoutOf.{feed_of, laid_ble, laid_block}
-use Rattle.implements.specs.Layouts.{LaidBle, LaidBlock, fed, on_pin}
+use Rattle.implements.specs.Layouts.{LaidBle, LaidBlock, input_net, on_pin}
 
 -- ---- lists
 
@@ -98,7 +98,7 @@ module _ (packed : PackedCircuit) (cluster : ℕ) (place : Place) where
   laid = laid_block packed (Cluster cluster) place
 
   abbrev goes : PinClass → ℕ → ArchPin × Option ℕ → Bool
-  goes class net pin = is_same_class class pin.0.class && option_map_or (λ carried. carried == net) pin.1 false
+  goes class net pin = is_same_class class pin.0.class && option_map_or (λ net_on_pin. net_on_pin == net) pin.1 false
 
   -- what is found carries the net
   pub pin_is : (class : PinClass) (net j : ℕ) → pin_with packed cluster class net ≡ Some j → on_pin packed.arch laid class j ≡ Some net
@@ -109,28 +109,28 @@ module _ (packed : PackedCircuit) (cluster : ℕ) (place : Place) where
       let parts = apart_at packed.arch.pins (pins_of packed cluster) j (get_or all j d).0 (get_or all j d).1 (slice_get-get_or all j d at.0) in
       let passes : goes class net (get_or all j d) ≡ true = at.1 in
       let test : is_same_class class (get_or all j d).0.class ≡ true = grind (arith, passes) in
-      let on : option_map_or (λ carried. carried == net) (get_or all j d).1 false ≡ true = grind (arith, passes) in
+      let on : option_map_or (λ net_on_pin. net_on_pin == net) (get_or all j d).1 false ≡ true = grind (arith, passes) in
       ap (λ (o : Option ArchPin). cond (option_map_or (λ (found : ArchPin). is_same_class class found.class) o false) (option_and_then (λ (net : Option ℕ). net) (slice_get (pins_of packed cluster) j)) None) parts.0
       ∙ ap (λ (b : Bool). cond b (option_and_then (λ (net : Option ℕ). net) (slice_get (pins_of packed cluster) j)) None) test
       ∙ ap (option_and_then (λ (net : Option ℕ). net)) parts.1
       ∙ is_some_net (get_or all j d).1 net on
 
   -- if a net is carried by rank, a pin is found
-  pub pin_there : (class : PinClass) (r net : ℕ) → carried packed cluster class r ≡ Some net → r < count_by (λ (pin : ArchPin). is_same_class class pin.class) packed.arch.pins → (j : ℕ) × (pin_with packed cluster class net ≡ Some j)
+  pub pin_there : (class : PinClass) (r net : ℕ) → net_on_pin packed cluster class r ≡ Some net → r < count_by (λ (pin : ArchPin). is_same_class class pin.class) packed.arch.pins → (j : ℕ) × (pin_with packed cluster class net ≡ Some j)
   pin_there class r net is small =
       let pins = packed.arch.pins in
       let at = ranked (λ (pin : ArchPin). is_same_class class pin.class) pins r small in
       let k = at.0 in
       let pin = at.1 in
-      let f : ℕ × ArchPin → Option ℕ = λ pin. carried packed cluster pin.1.class (count_by (λ (other : ArchPin). is_same_class pin.1.class other.class) (take pin.0 pins)) in
+      let f : ℕ × ArchPin → Option ℕ = λ pin. net_on_pin packed cluster pin.1.class (count_by (λ (other : ArchPin). is_same_class pin.1.class other.class) (take pin.0 pins)) in
       let class_is : pin.class ≡ class = same_class class pin.class at.3 in
       let here : 0 + k ≡ k = omega arith in
       let carries : slice_get (pins_of packed cluster) k ≡ Some (Some net) =
       slice_get-map f (enumerate_from 0 pins) k
       ∙ ap (option_map f) (enumerated 0 pins k pin at.2)
       ∙ ap (λ (n : ℕ). Some (f (n, pin))) here
-      ∙ ap (λ (class : PinClass). Some (carried packed cluster class (count_by (λ (other : ArchPin). is_same_class class other.class) (take k pins)))) class_is
-      ∙ ap (λ (r : ℕ). Some (carried packed cluster class r)) at.4
+      ∙ ap (λ (class : PinClass). Some (net_on_pin packed cluster class (count_by (λ (other : ArchPin). is_same_class class other.class) (take k pins)))) class_is
+      ∙ ap (λ (r : ℕ). Some (net_on_pin packed cluster class r)) at.4
       ∙ ap (λ (o : Option ℕ). Some o) is in
       let same : (net == net) ≡ true = grind (arith, nat_tests) in
       let passes : goes class net (pin, Some net) ≡ true = ap (λ (b : Bool). b && (net == net)) at.3 ∙ same in
@@ -150,13 +150,13 @@ module _ (packed : PackedCircuit) (cluster : ℕ) (place : Place) where
 
   -- what a BLE of the cluster reads comes from a BLE of it that drives it, or from a pin
   pub feed_is : (net : ℕ) → length (outside_inputs (elements_in packed cluster)) ≤ count_by (λ (pin : ArchPin). is_same_class Input pin.class) packed.arch.pins →
-      (Contains (outputs_of (elements_in packed cluster)) net ⊎ Contains (outside_inputs (elements_in packed cluster)) net) → (feed : Feed) × (feed_of packed cluster net ≡ Some feed) × (fed packed.arch laid feed ≡ Some net)
+      (Contains (outputs_of (elements_in packed cluster)) net ⊎ Contains (outside_inputs (elements_in packed cluster)) net) → (feed : Feed) × (feed_of packed cluster net ≡ Some feed) × (input_net packed.arch laid feed ≡ Some net)
   feed_is net few among = by (driver_place packed cluster net) refl among
     where
       drives : ℕ → Bool
       drives = λ output. output == net
 
-      by : (o : Option ℕ) → driver_place packed cluster net ≡ o → (Contains (outputs_of (elements_in packed cluster)) net ⊎ Contains (outside_inputs (elements_in packed cluster)) net) → (feed : Feed) × (feed_of packed cluster net ≡ Some feed) × (fed packed.arch laid feed ≡ Some net)
+      by : (o : Option ℕ) → driver_place packed cluster net ≡ o → (Contains (outputs_of (elements_in packed cluster)) net ⊎ Contains (outside_inputs (elements_in packed cluster)) net) → (feed : Feed) × (feed_of packed cluster net ≡ Some feed) × (input_net packed.arch laid feed ≡ Some net)
       by (Some place) is among =
           let outputs = outputs_of (elements_in packed cluster) in
           let at = position-Some (λ output. output == net) outputs place 0 is in

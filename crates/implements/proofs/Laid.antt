@@ -9,7 +9,7 @@ use Rattle.arch_file.specs.declared.arch.PinClass.TheVariants.{Output}
 use Rattle.block_places.specs.Placed.{block_at, place_of}
 use Rattle.ble_cluster.specs.Bles.{LogicElement}
 use Rattle.cluster.specs.Clusters.{PackedCircuit, outputs_of}
-use Rattle.cluster.specs.Blocks.{BlockNet, block_net, block_nets, blocks_of, carried, elements_in, is_global, leaves_block, nets_from, reads_net}
+use Rattle.cluster.specs.Blocks.{BlockNet, block_net, block_nets, blocks_of, net_on_pin, elements_in, is_global, leaves_block, nets_from, reads_net}
 use Rattle.cluster.specs.LawfulPackings.{IsPacked}
 use Rattle.cluster.specs.PackingLaws.{IsLawfulPacking}
 use Rattle.cluster.specs.declared.block.Block.{Block}
@@ -92,7 +92,7 @@ module _ (packed : PackedCircuit) (places : List Place) (lawful : IsPacked packe
       let long = length-map elements (λ (element : LogicElement). element.output) in
       let leaves : leaves_block packed (length packed.circuit.inputs + length packed.circuit.outputs + cluster) net ≡ true = ap (λ (n : ℕ). leaves_block packed n net) (sym (cluster_number packed number cluster at)) ∙ mine.1 in
       let f : ℕ → Option ℕ = λ net. cond (leaves_block packed (length packed.circuit.inputs + length packed.circuit.outputs + cluster) net) (Some net) None in
-      let carries : carried packed cluster Output rank.0 ≡ Some net = ap (option_and_then f) rank.2 ∙ ap (λ (b : Bool). cond b (Some net) None) leaves in
+      let carries : net_on_pin packed cluster Output rank.0 ≡ Some net = ap (option_and_then f) rank.2 ∙ ap (λ (b : Bool). cond b (Some net) None) leaves in
       let pin = pin_there packed cluster place Output rank.0 net carries (omega (arith, rank.1, few, pins, long)) in
       let element = from_map (λ (element : LogicElement). element.output) elements net mine.0 in
       let ble = laid_ble packed cluster element.0 in

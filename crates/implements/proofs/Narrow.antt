@@ -10,7 +10,7 @@ use Rattle.blif.specs.declared.latches.Latch.{Latch}
 use Rattle.blif.specs.LawfulCircuits.{IsNarrow}
 use Rattle.blif.specs.LookupTables.{LookupTable}
 use Rattle.ble_cluster.specs.Nets.{has, with_nets}
-use Rattle.ble_cluster.specs.Bles.{LogicElement, bles_of, element_at, element_of_table, latch_behind}
+use Rattle.ble_cluster.specs.Bles.{LogicElement, bles_of, element_at, element_of_table, latch_after}
 use Rattle.cluster.specs.Clusters.{PackedCircuit}
 use Rattle.cluster.specs.Blocks.{elements_in}
 use Rattle.cluster.specs.LawfulPackings.{IsPacked}
@@ -51,7 +51,7 @@ module _ (circuit : Circuit) (lut_size : ℕ) (one : 1 ≤ lut_size) (narrow : I
 
   ble_few : (element : LogicElement) → Contains (bles_of circuit) element → length element.inputs ≤ lut_size
   ble_few element c = elim (from_bles circuit element c) [
-    | inl t ↦ subst (λ (e : LogicElement). length e.inputs ≤ lut_size) t.2 (of_table t.0 (latch_behind circuit t.0.output) t.1)
+    | inl t ↦ subst (λ (e : LogicElement). length e.inputs ≤ lut_size) t.2 (of_table t.0 (latch_after circuit t.0.output) t.1)
     | inr l ↦ subst (λ (e : LogicElement). length e.inputs ≤ lut_size) l.2 (omega (arith, one))
   ]
 

@@ -12,7 +12,7 @@ use Rattle.grid.specs.declared.Strip.{Strip}
 use Rattle.grid.specs.declared.place.Place.{Place}
 use Rattle.grid.specs.Places.{places_of}
 use Rattle.implements.specs.Implements.{input_at, output_at}
-use Rattle.implements.specs.Layouts.{IsFed, LaidBlock, Layout, traced}
+use Rattle.implements.specs.Layouts.{IsFed, LaidBlock, Layout, traced_ble}
 use Rattle.implements.specs.LayoutOf.{laid_block}
 
 -- the block of that cluster on its place
@@ -22,7 +22,7 @@ laid_cluster packed cluster place = laid_block packed (Cluster cluster) place
 -- Traced back, the BLEs of a cluster's lines are those that were packed: to each input comes the
 -- net that it reads, and its clock, and each pin by which one leaves carries what it drives.
 pub record IsTracedBack (packed : PackedCircuit) (cluster : ℕ) (place : Place) : Type 0 where
-  pub same : map (traced packed.arch (laid_cluster packed cluster place)) (laid_cluster packed cluster place).bles ≡ elements_in packed cluster
+  pub same : map (traced_ble packed.arch (laid_cluster packed cluster place)) (laid_cluster packed cluster place).bles ≡ elements_in packed cluster
   pub fed : All (IsFed packed.arch (laid_cluster packed cluster place)) (laid_cluster packed cluster place).bles
   pub few : length (laid_cluster packed cluster place).bles ≤ packed.arch.cluster_size
 

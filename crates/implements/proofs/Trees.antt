@@ -7,10 +7,10 @@ use Rattle.std.proofs.lemmas.List.{get_or_default}
 use Rattle.blif.specs.declared.circuit.Circuit.{Circuit}
 use Rattle.blif.specs.declared.latches.Latch.{Latch}
 use Rattle.blif.specs.LookupTables.{LookupTable}
-use Rattle.ble_cluster.specs.Nets.{distinct, has}
+use Rattle.ble_cluster.specs.Nets.{distinct_nets, has}
 use Rattle.ble_cluster.specs.Clusters.{clocks_of, outside_inputs}
 use Rattle.ble_cluster.proofs.Outside.{has-distinct}
-use Rattle.ble_cluster.specs.Bles.{LogicElement, bles_of, element_at, element_of_table, latch_behind, stands_alone}
+use Rattle.ble_cluster.specs.Bles.{LogicElement, bles_of, element_at, element_of_table, latch_after, stands_alone}
 use Rattle.cluster.specs.Clusters.{PackedCircuit, outputs_of}
 use Rattle.cluster.specs.Blocks.{elements_in, is_global, leaves_block, nets_from, reads_net}
 use Rattle.cluster.specs.LawfulPackings.{IsPacked}
@@ -28,11 +28,11 @@ module _ (circuit : Circuit) where
 
   pub clock_global : (element : LogicElement) (net : ℕ) → Contains (bles_of circuit) element → element.clock ≡ Some net → is_global circuit net ≡ true
   clock_global element net c is = elim (from_bles circuit element c) [
-    | inl t ↦ of_table t.0 (latch_behind circuit t.0.output) refl (ap (λ (e : LogicElement). e.clock) t.2 ∙ is)
+    | inl t ↦ of_table t.0 (latch_after circuit t.0.output) refl (ap (λ (e : LogicElement). e.clock) t.2 ∙ is)
     | inr l ↦ of_latch l.0 net (from_filter (stands_alone circuit) circuit.latches l.0 l.1).0 (ap (λ (e : LogicElement). e.clock) l.2 ∙ is)
   ]
     where
-      of_table : (table : LookupTable) (o : Option Latch) → latch_behind circuit table.output ≡ o → (element_of_table table o).clock ≡ Some net → is_global circuit net ≡ true
+      of_table : (table : LookupTable) (o : Option Latch) → latch_after circuit table.output ≡ o → (element_of_table table o).clock ≡ Some net → is_global circuit net ≡ true
       of_table table None e h = absurd cc
       of_table table (Some latch) e h = of_latch latch net (behind_is circuit table.output latch e).1.0 h
 
@@ -58,7 +58,7 @@ own_reads_not packed lawful cluster net there driven fabric_net = by (has (outsi
     by true is b eq =
         let elements = elements_in packed cluster in
         let test : ℕ → Bool = λ net. not (has (outputs_of elements) net) in
-        let q = from_filter test (distinct (flat_map (λ (element : LogicElement). element.inputs) elements)) net (from_has (outside_inputs elements) net is) in
+        let q = from_filter test (distinct_nets (flat_map (λ (element : LogicElement). element.inputs) elements)) net (from_has (outside_inputs elements) net is) in
         let wrong : false ≡ true = sym (ap not driven) ∙ q.1 in absurd cc
     by false is true eq = let wrong : false ≡ true = sym fabric_net ∙ clocks_global packed lawful cluster net there eq in absurd cc
     by false is false eq = ap (λ (a : Bool). a || has (clocks_of (elements_in packed cluster)) net) is ∙ eq

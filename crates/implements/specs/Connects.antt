@@ -17,7 +17,7 @@ use Rattle.implements.specs.declared.feed.Feed.{Feed}
 use Rattle.implements.specs.declared.feed.Feed.TheVariants.{Pin, Ble}
 use Rattle.implements.specs.Holding.{holds_latch, holds_table}
 use Rattle.implements.specs.Implements.{drives}
-use Rattle.implements.specs.Layouts.{LaidBle, LaidBlock, LaidNet, Layout, traced}
+use Rattle.implements.specs.Layouts.{LaidBle, LaidBlock, LaidNet, Layout, traced_ble}
 
 -- edges of the fabric that are closed for the net lead from the driver's source over these nodes to
 -- the reader's sink
@@ -59,9 +59,9 @@ Receives circuit arch strip layout spot net = (feed : Feed) × Contains spot.ble
 -- output comes to it.
 pub record Connects (circuit : Circuit) (arch : Arch) (strip : Strip) (layout : Layout) : Type 0 where
   pub tables : (table : LookupTable) → Contains circuit.tables table →
-      (spot : Spot layout) × (holds_table circuit (traced arch spot.laid spot.ble) table ≡ true) × ((net : ℕ) → has table.inputs net ≡ true → Receives circuit arch strip layout spot net)
+      (spot : Spot layout) × (holds_table circuit (traced_ble arch spot.laid spot.ble) table ≡ true) × ((net : ℕ) → has table.inputs net ≡ true → Receives circuit arch strip layout spot net)
   pub latches : (latch : Latch) → Contains circuit.latches latch →
-      (spot : Spot layout) × (holds_latch circuit (traced arch spot.laid spot.ble) latch ≡ true)
-      × (Receives circuit arch strip layout spot latch.input ⊎ ((table : LookupTable) × (table.output ≡ latch.input) × (holds_table circuit (traced arch spot.laid spot.ble) table ≡ true)))
+      (spot : Spot layout) × (holds_latch circuit (traced_ble arch spot.laid spot.ble) latch ≡ true)
+      × (Receives circuit arch strip layout spot latch.input ⊎ ((table : LookupTable) × (table.output ≡ latch.input) × (holds_table circuit (traced_ble arch spot.laid spot.ble) table ≡ true)))
       × ((net : ℕ) → latch.control ≡ Some net → ComesTo circuit arch strip layout spot.laid net)
   pub outputs : (net : ℕ) → Contains circuit.outputs net → (laid : LaidBlock) × Contains layout.blocks laid × (laid.block ≡ OutputPad net) × ComesTo circuit arch strip layout laid net

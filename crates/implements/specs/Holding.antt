@@ -4,12 +4,12 @@ use Rattle.std.specs.List.{list_all, list_any}
 use Rattle.blif.specs.declared.circuit.Circuit.{Circuit}
 use Rattle.blif.specs.declared.latches.Latch.{Latch}
 use Rattle.blif.specs.LookupTables.{LookupTable}
-use Rattle.ble_cluster.specs.Nets.{distinct, has}
+use Rattle.ble_cluster.specs.Nets.{distinct_nets, has}
 use Rattle.ble_cluster.specs.Bles.{LogicElement, is_read_once}
 
 -- the BLE receives these nets, each once, and no others
 abbrev pub receives : LogicElement → List ℕ → Bool
-receives element nets = (length element.inputs == length (distinct nets)) && (list_all (has nets) element.inputs && list_all (has element.inputs) nets)
+receives element nets = (length element.inputs == length (distinct_nets nets)) && (list_all (has nets) element.inputs && list_all (has element.inputs) nets)
 
 -- both are the same net, or neither is a net
 abbrev pub is_same_net : Option ℕ → Option ℕ → Bool

@@ -47,22 +47,22 @@ on_pin arch block class pin =
     if option_map_or (λ found. is_same_class class found.class) (slice_get arch.pins pin) false then option_and_then (λ net. net) (slice_get block.pins pin) else None
 
 -- the net that comes to an input of a BLE
-abbrev pub fed : Arch → LaidBlock → Feed → Option ℕ
-fed arch block (Pin pin) = on_pin arch block Input pin
-fed arch block (Ble place) = option_map (λ ble. ble.name) (slice_get block.bles place)
+abbrev pub input_net : Arch → LaidBlock → Feed → Option ℕ
+input_net arch block (Pin pin) = on_pin arch block Input pin
+input_net arch block (Ble place) = option_map (λ ble. ble.name) (slice_get block.bles place)
 
 -- a traced BLE: the nets that come to its inputs, the net that it drives, and the net that clocks
 -- it
-abbrev pub traced : Arch → LaidBlock → LaidBle → LogicElement
-traced arch block ble = record { inputs = flat_map (λ feed. option_to_list (fed arch block feed)) ble.inputs; output = ble.name; clock = option_and_then (on_pin arch block Clock) ble.clock }
+abbrev pub traced_ble : Arch → LaidBlock → LaidBle → LogicElement
+traced_ble arch block ble = record { inputs = flat_map (λ feed. option_to_list (input_net arch block feed)) ble.inputs; output = ble.name; clock = option_and_then (on_pin arch block Clock) ble.clock }
 
 -- the traced BLEs of a layout
 abbrev pub traced_bles : Arch → Layout → List LogicElement
-traced_bles arch layout = flat_map (λ block. map (traced arch block) block.bles) layout.blocks
+traced_bles arch layout = flat_map (λ block. map (traced_ble arch block) block.bles) layout.blocks
 
 -- a net comes to each input of the BLE, and to its clock pin if it has one; its output pin, if it
 -- has one, carries the net that it drives
 pub record IsFed (arch : Arch) (block : LaidBlock) (ble : LaidBle) : Type 0 where
-  pub inputs : All (λ feed. is_some (fed arch block feed) ≡ true) ble.inputs
+  pub inputs : All (λ feed. is_some (input_net arch block feed) ≡ true) ble.inputs
   pub clock : ForSome ble.clock (λ pin. is_some (on_pin arch block Clock pin) ≡ true)
   pub output : ForSome ble.output (λ pin. on_pin arch block Output pin ≡ Some ble.name)

@@ -4,6 +4,6 @@ use Rattle.std.specs.Arc.{arc_value}
 use Rattle.std.specs.declared.sync.Arc.{Arc}
 use Rattle.kept_places.specs.Kept.{KeptPlaces}
 
-abbrev pub shown : {A : Type 0} → Option (Arc KeptPlaces A) → KeptPlaces
-shown None = []
-shown (Some table) = arc_value table
+abbrev pub shared_value : {A : Type 0} → Option (Arc KeptPlaces A) → KeptPlaces
+shared_value None = []
+shared_value (Some table) = arc_value table

@@ -23,11 +23,11 @@ pub struct Kept {
 
 impl Model for Kept {
     ghost use Rattle.kept_places.specs.Kept.{KeptPlaces};
-    ghost use Rattle.kept_places.specs.Shared.{shown};
+    ghost use Rattle.kept_places.specs.Shared.{shared_value};
 
     ghost Value = { KeptPlaces };
 
-    ghost view = { λ k. shown k.table };
+    ghost view = { λ k. shared_value k.table };
 }
 
 impl Kept {

@@ -8,7 +8,7 @@ use Rattle.std.proofs.lemmas.List.Concat.{get_or-flat_map}
 use Rattle.std.proofs.lemmas.Option.{get_or_from_slice_get, slice_get-get_or}
 use Rattle.arch_file.specs.declared.arch.Arch.{Arch}
 use Rattle.ble_cluster.specs.Bles.{LogicElement}
-use Rattle.implements.specs.Layouts.{LaidBle, LaidBlock, traced}
+use Rattle.implements.specs.Layouts.{LaidBle, LaidBlock, traced_ble}
 use Rattle.implements.proofs.Members.{from_get, to_flat_map, to_map}
 use Rattle.implements.proofs.Unique.{count-append, count-cons, count-yes, some_counted}
 use Rattle.layout_check.specs.declared.fault.BleNumber.{BleNumber}
@@ -20,7 +20,7 @@ abbrev pub bles_in : List LaidBlock → List LaidBle
 bles_in blocks = flat_map (λ block. block.bles) blocks
 
 abbrev pub traced_in : Arch → LaidBlock → List LogicElement
-traced_in arch block = map (traced arch block) block.bles
+traced_in arch block = map (traced_ble arch block) block.bles
 
 pub get_some : {X : Type 0} (xs : List X) (k : ℕ) → k < length xs → (x : X) × (slice_get xs k ≡ Some x)
 get_some [] k less = absurd (omega (arith, less))
@@ -49,7 +49,7 @@ traced_length arch (block ∷ blocks) =
     let rest = traced_length arch blocks in
     let a = length-append (traced_in arch block) (flat_map (traced_in arch) blocks) in
     let b = length-append block.bles (bles_in blocks) in
-    let c = length-map block.bles (traced arch block) in
+    let c = length-map block.bles (traced_ble arch block) in
     omega (arith, rest, a, b, c)
 
 pub place_within : (arch : Arch) (blocks : List LaidBlock) (place : ℕ) (element : LogicElement) → slice_get (flat_map (traced_in arch) blocks) place ≡ Some element → place < length (bles_in blocks)
@@ -63,7 +63,7 @@ traced_at arch blocks place number element so at = record { laid = so.laid; at_b
     block_is d = get_or_from_slice_get blocks number.block so.laid d so.at_block
 
     small : number.ble < length (traced_in arch so.laid)
-    small = let within = (from_get so.laid.bles number.ble so.ble so.at_ble).0 in omega (arith, within, length-map so.laid.bles (traced arch so.laid))
+    small = let within = (from_get so.laid.bles number.ble so.ble so.at_ble).0 in omega (arith, within, length-map so.laid.bles (traced_ble arch so.laid))
 
     offset : place ≡ length (flat_map (traced_in arch) (take number.block blocks)) + number.ble
     offset = let from = so.offset in omega (arith, from, traced_length arch (take number.block blocks))
@@ -71,23 +71,23 @@ traced_at arch blocks place number element so at = record { laid = so.laid; at_b
     there : get_or (flat_map (traced_in arch) blocks) place element ≡ element
     there = get_or_from_slice_get (flat_map (traced_in arch) blocks) place element element at
 
-    it : get_or (flat_map (traced_in arch) blocks) place element ≡ traced arch so.laid so.ble
+    it : get_or (flat_map (traced_in arch) blocks) place element ≡ traced_ble arch so.laid so.ble
     it =
         ap (λ p. get_or (flat_map (traced_in arch) blocks) p element) offset
         ∙ get_or-flat_map (traced_in arch) blocks number.block number.ble so.laid element (from_get blocks number.block so.laid so.at_block).0 (subst (λ (b : LaidBlock). number.ble < length (traced_in arch b)) (sym (block_is so.laid)) small)
         ∙ ap (λ (b : LaidBlock). get_or (traced_in arch b) number.ble element) (block_is so.laid)
         ∙ from_map_get so.laid.bles number.ble so.ble so.at_ble
       where
-        from_map_get : (bles : List LaidBle) (k : ℕ) (ble : LaidBle) → slice_get bles k ≡ Some ble → get_or (map (traced arch so.laid) bles) k element ≡ traced arch so.laid ble
+        from_map_get : (bles : List LaidBle) (k : ℕ) (ble : LaidBle) → slice_get bles k ≡ Some ble → get_or (map (traced_ble arch so.laid) bles) k element ≡ traced_ble arch so.laid ble
         from_map_get [] k ble e = absurd cc
-        from_map_get (b ∷ bles) zero ble e = let same : b ≡ ble = cc in ap (traced arch so.laid) same
+        from_map_get (b ∷ bles) zero ble e = let same : b ≡ ble = cc in ap (traced_ble arch so.laid) same
         from_map_get (b ∷ bles) (suc k) ble e = from_map_get bles k ble e
 
 -- a BLE with a number is one of all
 pub in_traced : (arch : Arch) (blocks : List LaidBlock) (number : BleNumber) (element : LogicElement) → IsBleAt arch blocks number element → Contains (flat_map (traced_in arch) blocks) element
 in_traced arch blocks number element so =
     to_flat_map (traced_in arch) blocks so.laid element (from_get blocks number.block so.laid so.at_block).1
-    (subst (λ e. Contains (traced_in arch so.laid) e) so.is (to_map (traced arch so.laid) so.laid.bles so.ble (from_get so.laid.bles number.ble so.ble so.at_ble).1))
+    (subst (λ e. Contains (traced_in arch so.laid) e) so.is (to_map (traced_ble arch so.laid) so.laid.bles so.ble (from_get so.laid.bles number.ble so.ble so.at_ble).1))
 
 -- ---- two BLEs with different numbers are counted twice
 
@@ -134,10 +134,10 @@ pub two_bles : (test : LogicElement → Bool) (arch : Arch) (blocks : List LaidB
 two_bles test arch blocks number other a b differ one two is also = by (cases_eq number.block other.block)
   where
     first : slice_get (traced_in arch one.laid) number.ble ≡ Some a
-    first = map_at (traced arch one.laid) one.laid.bles number.ble one.ble one.at_ble ∙ ap (λ e. Some e) one.is
+    first = map_at (traced_ble arch one.laid) one.laid.bles number.ble one.ble one.at_ble ∙ ap (λ e. Some e) one.is
 
     second : slice_get (traced_in arch two.laid) other.ble ≡ Some b
-    second = map_at (traced arch two.laid) two.laid.bles other.ble two.ble two.at_ble ∙ ap (λ e. Some e) two.is
+    second = map_at (traced_ble arch two.laid) two.laid.bles other.ble two.ble two.at_ble ∙ ap (λ e. Some e) two.is
 
     by : (number.block ≡ other.block) ⊎ (number.block ≢ other.block) → 2 ≤ count_by test (flat_map (traced_in arch) blocks)
     by (inl e) =

@@ -20,7 +20,7 @@ use Rattle.grid.specs.declared.Strip.{Strip}
 use Rattle.grid.specs.Places.{places_of}
 use Rattle.implements.specs.Holding.{AreBlesOf}
 use Rattle.implements.specs.Implements.{Implements, IsLaid, IsNarrowBle, ble_places, wants}
-use Rattle.implements.specs.Layouts.{IsFed, LaidBle, LaidBlock, LaidNet, Layout, fed, on_pin, traced_bles}
+use Rattle.implements.specs.Layouts.{IsFed, LaidBle, LaidBlock, LaidNet, Layout, input_net, on_pin, traced_bles}
 use Rattle.rr_graph.specs.Graph.{Basis}
 use Rattle.layout_check.specs.declared.fault.BleFault.{BleFault}
 use Rattle.layout_check.specs.declared.fault.BleFault.TheVariants.{TooManyInputs, NoInput, NoClock, WrongOutput}
@@ -108,7 +108,7 @@ connected_by circuit basis layout is = record {
 
 ble_refuted : (arch : Arch) (block : LaidBlock) (ble : LaidBle) (fault : BleFault) → IsBleFault arch block ble fault → IsFed arch block ble → IsNarrowBle arch ble → ⊥
 ble_refuted arch block ble TooManyInputs more is narrow = omega (arith, more, narrow)
-ble_refuted arch block ble (NoInput k) (feed, there, none) is narrow = false≢true (sym (ap is_some none) ∙ all_at (λ feed. is_some (fed arch block feed) ≡ true) ble.inputs k feed is.inputs there)
+ble_refuted arch block ble (NoInput k) (feed, there, none) is narrow = false≢true (sym (ap is_some none) ∙ all_at (λ feed. is_some (input_net arch block feed) ≡ true) ble.inputs k feed is.inputs there)
 ble_refuted arch block ble NoClock (pin, there, none) is narrow = false≢true (sym (ap is_some none) ∙ at_some ble.clock (λ pin. is_some (on_pin arch block Clock pin) ≡ true) pin there is.clock)
 ble_refuted arch block ble WrongOutput (pin, there, differ) is narrow = differ (at_some ble.output (λ pin. on_pin arch block Output pin ≡ Some ble.name) pin there is.output)
 

@@ -7,7 +7,7 @@ use Rattle.std.proofs.lemmas.Bool.{and_parts, eqb-true, false_from_ne_true}
 use Rattle.blif.specs.declared.circuit.Circuit.{Circuit}
 use Rattle.blif.specs.declared.latches.Latch.{Latch}
 use Rattle.blif.specs.LookupTables.{LookupTable}
-use Rattle.ble_cluster.specs.Nets.{distinct, has}
+use Rattle.ble_cluster.specs.Nets.{distinct_nets, has}
 use Rattle.ble_cluster.specs.Bles.{LogicElement, is_read_once}
 use Rattle.implements.specs.Holding.{holds_latch, holds_table, is_latch, is_pair, is_table, receives}
 use Rattle.implements.proofs.Between.{same_truth}
@@ -84,8 +84,8 @@ module _ (circuit : Circuit) (owners : List Owner) (are : AreOwners circuit owne
     -- a table that reads its own net isn't read by the latch alone
     own_reader : (table : LookupTable) (latch : Latch) → Contains circuit.tables table → Contains circuit.latches latch → receives element (latch.input ∷ []) ≡ true → IsBoth circuit element table latch → ⊥
     own_reader table latch c d alone o =
-        let reads_it : list_all (has element.inputs) (latch.input ∷ []) ≡ true = (and_parts (list_all (has (latch.input ∷ [])) element.inputs) _ (and_parts (eqb (length element.inputs) (length (distinct (latch.input ∷ [])))) _ alone).1).1 in
-        let by_table : list_all (has table.inputs) element.inputs ≡ true = (and_parts (list_all (has table.inputs) element.inputs) _ (and_parts (eqb (length element.inputs) (length (distinct table.inputs))) _ o.reads).1).0 in
+        let reads_it : list_all (has element.inputs) (latch.input ∷ []) ≡ true = (and_parts (list_all (has (latch.input ∷ [])) element.inputs) _ (and_parts (eqb (length element.inputs) (length (distinct_nets (latch.input ∷ [])))) _ alone).1).1 in
+        let by_table : list_all (has table.inputs) element.inputs ≡ true = (and_parts (list_all (has table.inputs) element.inputs) _ (and_parts (eqb (length element.inputs) (length (distinct_nets table.inputs))) _ o.reads).1).0 in
         let comes = from_all (has element.inputs) (latch.input ∷ []) latch.input reads_it (in_first latch.input []) in
         let read = from_all (has table.inputs) element.inputs latch.input by_table (from_has element.inputs latch.input comes) in
         let f : LookupTable → List ℕ = λ t. t.inputs in

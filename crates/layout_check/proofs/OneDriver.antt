@@ -16,7 +16,7 @@ use Rattle.cluster.proofs.Pairs.{pairs_back, pairs_front, pairs_head, pairs_tail
 use Rattle.grid.specs.declared.Strip.{Strip}
 use Rattle.implements.specs.Holding.{holds_latch, holds_table, is_latch, is_pair, is_table}
 use Rattle.implements.specs.Implements.{Implements, drives, drives_as, input_at, leaves_as}
-use Rattle.implements.specs.Layouts.{LaidBlock, Layout, traced, traced_bles}
+use Rattle.implements.specs.Layouts.{LaidBlock, Layout, traced_ble, traced_bles}
 use Rattle.implements.proofs.Members.{from_any, from_get, in_first, to_any, to_append_left, to_append_right, to_flat_map, to_map}
 use Rattle.implements.proofs.Unique.{AreApart, count-append, count-no, count-yes, never_both, same_by, some_counted}
 
@@ -145,7 +145,7 @@ held_by circuit net element out h = elim (or_cases (list_any (holds_table circui
 -- a BLE of the block drives the net
 pub record HasBle (arch : Arch) (net : ℕ) (laid : LaidBlock) : Type 0 where
   pub element : LogicElement
-  pub inside : Contains (map (traced arch laid) laid.bles) element
+  pub inside : Contains (map (traced_ble arch laid) laid.bles) element
   pub out : element.output ≡ net
 
 driver_kind : (arch : Arch) (net : ℕ) (laid : LaidBlock) → drives net laid ≡ true → (laid.block ≡ InputPad net) ⊎ HasBle arch net laid
@@ -157,8 +157,8 @@ driver_kind arch net laid h = by laid.block refl h
     by (Cluster number) e d =
         let q = from_any (leaves_as net) laid.bles d in
         inr (record {
-          element = traced arch laid q.0;
-          inside = to_map (traced arch laid) laid.bles q.0 q.1;
+          element = traced_ble arch laid q.0;
+          inside = to_map (traced_ble arch laid) laid.bles q.0 q.1;
           out = eqb-true q.0.name net (and_parts (eqb q.0.name net) _ q.2).0;
         })
 
@@ -173,13 +173,13 @@ module _ (circuit : Circuit) (lawful : IsCircuit circuit) (arch : Arch) (strip :
   apart = pairs_back (λ net other. net ≢ other) circuit.inputs (by_tables ++ by_latches) lawful.driven_once
 
   abbrev bles_of_block : LaidBlock → List LogicElement
-  bles_of_block laid = map (traced arch laid) laid.bles
+  bles_of_block laid = map (traced_ble arch laid) laid.bles
 
   kind : (i : ℕ) (laid : LaidBlock) → slice_get layout.blocks i ≡ Some laid → (ble : HasBle arch net laid) → IsTableOf circuit net ble.element ⊎ IsLatchOf circuit net ble.element
   kind i laid at ble =
       held_by circuit net ble.element ble.out
       (All-contains (λ element. (list_any (holds_table circuit element) circuit.tables || list_any (holds_latch circuit element) circuit.latches) ≡ true) (traced_bles arch layout) ble.element is.held.each
-      (to_flat_map (λ (block : LaidBlock). map (traced arch block) block.bles) layout.blocks laid ble.element (from_get layout.blocks i laid at).1 ble.inside))
+      (to_flat_map (λ (block : LaidBlock). map (traced_ble arch block) block.bles) layout.blocks laid ble.element (from_get layout.blocks i laid at).1 ble.inside))
 
   in_nets : (laid : LaidBlock) (ble : HasBle arch net laid) → IsTableOf circuit net ble.element ⊎ IsLatchOf circuit net ble.element → Contains (by_tables ++ by_latches) net
   in_nets laid ble (inl t) = to_append_left by_tables by_latches net (subst (λ n. Contains by_tables n) t.drives_it (to_map (λ (table : LookupTable). table.output) circuit.tables t.table t.there))
@@ -191,19 +191,19 @@ module _ (circuit : Circuit) (lawful : IsCircuit circuit) (arch : Arch) (strip :
       let same : u.table ≡ t.table =
       same_by (λ (table : LookupTable). table.output) circuit.tables u.table t.table (pairs_front (λ net other. net ≢ other) by_tables by_latches apart) u.there t.there (u.drives_it ∙ sym t.drives_it) in
       let test : LogicElement → Bool = λ element. holds_table circuit element t.table in
-      let first = some_counted test (map (traced arch a) a.bles) one.element one.inside (or_left (is_table one.element t.table) (list_any (is_pair circuit one.element t.table) circuit.latches) t.is) in
-      let second = some_counted test (map (traced arch b) b.bles) two.element two.inside
+      let first = some_counted test (map (traced_ble arch a) a.bles) one.element one.inside (or_left (is_table one.element t.table) (list_any (is_pair circuit one.element t.table) circuit.latches) t.is) in
+      let second = some_counted test (map (traced_ble arch b) b.bles) two.element two.inside
       (or_left (is_table two.element t.table) (list_any (is_pair circuit two.element t.table) circuit.latches) (subst (λ (table : LookupTable). is_table two.element table ≡ true) same u.is)) in
-      let many = two_counted (λ (block : LaidBlock). map (traced arch block) block.bles) test layout.blocks i j a b differ at bt first second in
+      let many = two_counted (λ (block : LaidBlock). map (traced_ble arch block) block.bles) test layout.blocks i j a b differ at bt first second in
       let few = All-contains (λ (table : LookupTable). count_by (λ element. holds_table circuit element table) (traced_bles arch layout) ≡ 1) circuit.tables t.table is.held.tables t.there in
       omega (arith, many, few)
   two_bles i j a b differ at bt one two (inr t) (inr u) =
       let same : u.latch ≡ t.latch =
       same_by (λ (latch : Latch). latch.output) circuit.latches u.latch t.latch (pairs_back (λ net other. net ≢ other) by_tables by_latches apart) u.there t.there (u.drives_it ∙ sym t.drives_it) in
       let test : LogicElement → Bool = λ element. holds_latch circuit element t.latch in
-      let first = some_counted test (map (traced arch a) a.bles) one.element one.inside t.holds in
-      let second = some_counted test (map (traced arch b) b.bles) two.element two.inside (subst (λ (latch : Latch). holds_latch circuit two.element latch ≡ true) same u.holds) in
-      let many = two_counted (λ (block : LaidBlock). map (traced arch block) block.bles) test layout.blocks i j a b differ at bt first second in
+      let first = some_counted test (map (traced_ble arch a) a.bles) one.element one.inside t.holds in
+      let second = some_counted test (map (traced_ble arch b) b.bles) two.element two.inside (subst (λ (latch : Latch). holds_latch circuit two.element latch ≡ true) same u.holds) in
+      let many = two_counted (λ (block : LaidBlock). map (traced_ble arch block) block.bles) test layout.blocks i j a b differ at bt first second in
       let few = All-contains (λ (latch : Latch). count_by (λ element. holds_latch circuit element latch) (traced_bles arch layout) ≡ 1) circuit.latches t.latch is.held.latches t.there in
       omega (arith, many, few)
   two_bles i j a b differ at bt one two (inl t) (inr u) =

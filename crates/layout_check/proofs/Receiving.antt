@@ -10,7 +10,7 @@ use Rattle.std.proofs.lemmas.List.{take-append-drop, take_more}
 use Rattle.std.proofs.lemmas.List.Sums.{count_by_more_yes}
 use Rattle.std.proofs.lemmas.Map.Made.{AllPairs-from_IsDistinct, IsDistinct-from_count, distinct_count-from_IsDistinct, length-from_keys}
 use Rattle.std.specs.Set.{distinct_count}
-use Rattle.ble_cluster.specs.Nets.{IsOnce, distinct, has}
+use Rattle.ble_cluster.specs.Nets.{IsOnce, distinct_nets, has}
 use Rattle.ble_cluster.specs.Bles.{LogicElement}
 use Rattle.ble_cluster.proofs.Outside.{has-distinct, once-distinct, once-push}
 use Rattle.implements.specs.Holding.{receives}
@@ -36,34 +36,34 @@ member_has [] net = refl
 member_has (other ∷ nets) net = let rest = member_has nets net in grind (arith, nat_tests, rest)
 
 -- how many nets there are, if the inputs have the same
-counted : (inputs nets : List ℕ) → list_all (has nets) inputs ≡ true → list_all (has inputs) nets ≡ true → length (distinct nets) ≡ distinct_count eqb inputs
-counted inputs nets all also = length-from_keys nat_eq_equiv (distinct nets) inputs (once_distinct (distinct nets) (once-distinct nets)) (λ q.
-    member_has (distinct nets) q ∙ has-distinct nets q
+counted : (inputs nets : List ℕ) → list_all (has nets) inputs ≡ true → list_all (has inputs) nets ≡ true → length (distinct_nets nets) ≡ distinct_count eqb inputs
+counted inputs nets all also = length-from_keys nat_eq_equiv (distinct_nets nets) inputs (once_distinct (distinct_nets nets) (once-distinct nets)) (λ q.
+    member_has (distinct_nets nets) q ∙ has-distinct nets q
     ∙ same_truth (has nets q) (has inputs q) (λ is. from_all (has inputs) nets q also (from_has nets q is)) (λ is. from_all (has nets) inputs q all (from_has inputs q is))
     ∙ sym (member_has inputs q))
 
 pub received : (element : LogicElement) (nets : List ℕ) → list_all (has element.inputs) nets ≡ true → list_all (has nets) element.inputs ≡ true → IsOnce element.inputs → receives element nets ≡ true
 received element nets also all once =
-    let long : length element.inputs ≡ length (distinct nets) =
+    let long : length element.inputs ≡ length (distinct_nets nets) =
     sym (distinct_count-from_IsDistinct nat_eq_equiv element.inputs (once_distinct element.inputs once)) ∙ sym (counted element.inputs nets all also) in
-    let is : (length element.inputs == length (distinct nets)) ≡ true = eq-eqb (length element.inputs) (length (distinct nets)) long in
+    let is : (length element.inputs == length (distinct_nets nets)) ≡ true = eq-eqb (length element.inputs) (length (distinct_nets nets)) long in
     ap (λ b. b && (list_all (has nets) element.inputs && list_all (has element.inputs) nets)) is ∙ ap (λ b. b && list_all (has element.inputs) nets) all ∙ also
 
 pub read_refuted : (element : LogicElement) (nets : List ℕ) (fault : ReadFault) → IsReadFault element nets fault → receives element nets ≡ true → ⊥
 read_refuted element nets fault said is = by fault said
   where
-    long : (length element.inputs == length (distinct nets)) ≡ true
-    long = (and_parts (length element.inputs == length (distinct nets)) _ is).0
+    long : (length element.inputs == length (distinct_nets nets)) ≡ true
+    long = (and_parts (length element.inputs == length (distinct_nets nets)) _ is).0
 
     all : list_all (has nets) element.inputs ≡ true
-    all = (and_parts (list_all (has nets) element.inputs) _ (and_parts (length element.inputs == length (distinct nets)) _ is).1).0
+    all = (and_parts (list_all (has nets) element.inputs) _ (and_parts (length element.inputs == length (distinct_nets nets)) _ is).1).0
 
     also : list_all (has element.inputs) nets ≡ true
-    also = (and_parts (list_all (has nets) element.inputs) _ (and_parts (length element.inputs == length (distinct nets)) _ is).1).1
+    also = (and_parts (list_all (has nets) element.inputs) _ (and_parts (length element.inputs == length (distinct_nets nets)) _ is).1).1
 
     few : (net : ℕ) → count_by (λ input. input == net) element.inputs ≤ 1
     few net =
-        let same : distinct_count eqb element.inputs ≡ length element.inputs = sym (counted element.inputs nets all also) ∙ sym (eqb-true (length element.inputs) (length (distinct nets)) long) in
+        let same : distinct_count eqb element.inputs ≡ length element.inputs = sym (counted element.inputs nets all also) ∙ sym (eqb-true (length element.inputs) (length (distinct_nets nets)) long) in
         once_counted element.inputs net (AllPairs-from_IsDistinct Decides-eqb element.inputs (IsDistinct-from_count nat_eq_equiv element.inputs same))
 
     by : (fault : ReadFault) → IsReadFault element nets fault → ⊥

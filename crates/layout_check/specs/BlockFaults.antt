@@ -7,7 +7,7 @@ use Rattle.grid.specs.declared.Strip.{Strip}
 use Rattle.grid.specs.Places.{places_of}
 use Rattle.implements.specs.declared.feed.Feed.{Feed}
 use Rattle.implements.specs.Implements.{IsNarrowBle, ble_places}
-use Rattle.implements.specs.Layouts.{IsFed, LaidBle, LaidBlock, fed, on_pin}
+use Rattle.implements.specs.Layouts.{IsFed, LaidBle, LaidBlock, input_net, on_pin}
 use Rattle.layout_check.specs.declared.fault.BleFault.{BleFault}
 use Rattle.layout_check.specs.declared.fault.BleFault.TheVariants.{TooManyInputs, NoInput, NoClock, WrongOutput}
 use Rattle.layout_check.specs.declared.fault.BlockFault.{BlockFault}
@@ -16,7 +16,7 @@ use Rattle.layout_check.specs.declared.fault.BlockFault.TheVariants.{NoPlace, To
 -- what a fault says of a BLE
 abbrev pub IsBleFault : Arch → LaidBlock → LaidBle → BleFault → Type 0
 IsBleFault arch block ble TooManyInputs = arch.lut_size < length ble.inputs
-IsBleFault arch block ble (NoInput number) = (feed : Feed) × (slice_get ble.inputs number ≡ Some feed) × (fed arch block feed ≡ None)
+IsBleFault arch block ble (NoInput number) = (feed : Feed) × (slice_get ble.inputs number ≡ Some feed) × (input_net arch block feed ≡ None)
 IsBleFault arch block ble NoClock = (pin : ℕ) × (ble.clock ≡ Some pin) × (on_pin arch block Clock pin ≡ None)
 IsBleFault arch block ble WrongOutput = (pin : ℕ) × (ble.output ≡ Some pin) × (on_pin arch block Output pin ≡ Some ble.name → ⊥)
 

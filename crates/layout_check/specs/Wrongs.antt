@@ -15,7 +15,7 @@ use Rattle.grid.specs.declared.Strip.{Strip}
 use Rattle.grid.specs.Places.{places_of}
 use Rattle.implements.specs.Holding.{holds_latch, holds_table}
 use Rattle.implements.specs.Implements.{IsLaid, IsNarrowBle, ble_places, input_at, output_at, wants}
-use Rattle.implements.specs.Layouts.{IsFed, LaidBle, LaidBlock, LaidNet, Layout, traced, traced_bles}
+use Rattle.implements.specs.Layouts.{IsFed, LaidBle, LaidBlock, LaidNet, Layout, traced_ble, traced_bles}
 use Rattle.pathfinder.specs.LegalRoutes.{path_nodes}
 use Rattle.pathfinder.specs.Terminals.{is_same_node}
 use Rattle.rr_graph.specs.declared.node.Node.{Node}
@@ -52,7 +52,7 @@ pub record IsBleAt (arch : Arch) (blocks : List LaidBlock) (number : BleNumber) 
   pub at_block : slice_get blocks number.block ≡ Some laid
   pub ble : LaidBle
   pub at_ble : slice_get laid.bles number.ble ≡ Some ble
-  pub is : traced arch laid ble ≡ element
+  pub is : traced_ble arch laid ble ≡ element
 
 -- the BLE with this number holds the table, or the latch
 abbrev pub HoldsTableAt : Circuit → Arch → Layout → LookupTable → BleNumber → Type 0

@@ -4,11 +4,11 @@ ghost use Rattle.std.specs.Option.{ForSome};
 ghost use Rattle.arch_file.specs.declared.arch.PinClass.TheVariants.{Clock, Output};
 ghost use Rattle.implements.specs.declared.feed.Feed.{Feed as FeedValue};
 ghost use Rattle.implements.specs.Implements.{IsNarrowBle};
-ghost use Rattle.implements.specs.Layouts.{IsFed, LaidBle as BleValue, fed, on_pin};
+ghost use Rattle.implements.specs.Layouts.{IsFed, LaidBle as BleValue, input_net, on_pin};
 ghost use Rattle.layout_check.specs.BlockFaults.{IsBleFault};
 
 use crate::fault::BleFault;
-use crate::inside::{fed, is_net, on_pin};
+use crate::inside::{input_net, is_net, on_pin};
 use arch_file::{Arch, PinClass};
 use implements::Feed;
 use layouts::{LaidBle, LaidBlock};
@@ -16,11 +16,12 @@ use layouts::{LaidBle, LaidBlock};
 /// The first input to which no net comes.
 fn first_unfed(arch: &Arch, block: &LaidBlock, inputs: &[Feed]) -> Option<usize>
     ensures { MatchOption result
-        (All (λ feed. is_some (fed arch.now block.now feed) ≡ true) inputs.now)
-        (λ k. (feed : FeedValue) × (slice_get inputs.now k ≡ Some feed) × (fed arch.now block.now feed ≡ None)) }
+        (All (λ feed. is_some (input_net arch.now block.now feed) ≡ true) inputs.now)
+        (λ k. (feed : FeedValue) × (slice_get inputs.now k ≡ Some feed)
+        × (input_net arch.now block.now feed ≡ None)) }
 {
     for (k, feed) in inputs.iter().enumerate() {
-        if fed(arch, block, *feed).is_none() {
+        if input_net(arch, block, *feed).is_none() {
             return Some(k);
         }
     }

@@ -21,7 +21,7 @@ use std::alloc::{AllocError, Global};
 fn check_lists(circuit: &Circuit, graph: &Fabric, layout: &Layout) -> Option<Wrong>
     ensures { MatchOption result (AreListsRight circuit.now graph.now layout.now) (IsWrong circuit.now graph.now layout.now) }
 {
-    let _count = graph.count();
+    graph.laws();
     let blocks = layout.blocks();
     if let Some(found) = check_blocks(graph.arch(), graph.strip(), blocks) {
         return Some(Wrong::Block(found.0, found.1));

@@ -3,11 +3,11 @@ ghost use Rattle.std.specs.Prelude.{◌≡◌, ◌++◌, ◌<◌, OnOk, IfOk, le
 ghost use Rattle.std.specs.List.{flat_map};
 ghost use Rattle.std.specs.Option.{option_to_list};
 ghost use Rattle.arch_file.specs.declared.arch.PinClass.TheVariants.{Clock};
-ghost use Rattle.implements.specs.Layouts.{fed, on_pin, traced};
+ghost use Rattle.implements.specs.Layouts.{input_net, on_pin, traced_ble};
 ghost use Rattle.layout_check.specs.Helds.{IsNumberOf};
 
 use crate::fault::BleNumber;
-use crate::inside::{fed, on_pin};
+use crate::inside::{input_net, on_pin};
 use arch_file::{Arch, PinClass};
 use implements::Feed;
 use layouts::{LaidBle, LaidBlock};
@@ -62,10 +62,10 @@ fn add_inputs(
     inputs: &mut Vec<u32>,
 ) -> Result<(), AllocError>
     ensures { OnOk result (inputs.new.items ≡ inputs.old.items
-        ++ flat_map (λ feed. option_to_list (fed arch.now block.now feed)) feeds.now) }
+        ++ flat_map (λ feed. option_to_list (input_net arch.now block.now feed)) feeds.now) }
 {
     for feed in feeds {
-        if let Some(net) = fed(arch, block, *feed) {
+        if let Some(net) = input_net(arch, block, *feed) {
             inputs.push(net)?;
         }
     }
@@ -89,7 +89,7 @@ fn trace(
     block: &LaidBlock,
     ble: &LaidBle,
 ) -> Result<Element, AllocError>
-    ensures { IfOk result (λ element. element ≡ traced arch.now block.now ble.now) }
+    ensures { IfOk result (λ element. element ≡ traced_ble arch.now block.now ble.now) }
 {
     let mut inputs = Vec::new(alloc);
     add_inputs(arch, block, ble.inputs(), &mut inputs)?;
@@ -108,7 +108,7 @@ fn add_bles(
     elements: &mut Vec<Element>,
 ) -> Result<(), AllocError>
     ensures { OnOk result (elements.new.items ≡ elements.old.items
-        ++ map (traced arch.now block.now) block.now.bles) }
+        ++ map (traced_ble arch.now block.now) block.now.bles) }
 {
     let bles = block.bles();
     for ble in bles {
@@ -125,7 +125,7 @@ pub(crate) fn trace_bles(
     elements: &mut Vec<Element>,
 ) -> Result<(), AllocError>
     ensures { OnOk result (elements.new.items ≡ elements.old.items
-        ++ flat_map (λ block. map (traced arch.now block) block.bles) blocks.now) }
+        ++ flat_map (λ block. map (traced_ble arch.now block) block.bles) blocks.now) }
 {
     for block in blocks {
         add_bles(alloc, arch, block, elements)?;

@@ -133,7 +133,7 @@ fn check_and_count(
     ensures used { IfOk result (λ fault. IfNone fault
         (AreUsedBy graph.now paths.now uses.old.items uses.new.items)) }
 {
-    let _count = graph.count();
+    graph.laws();
     if let Some(fault) = check_routed(graph, work, source, sinks, paths, numbers)? {
         return Ok(Some(fault));
     }
@@ -205,7 +205,7 @@ pub(crate) fn check_entry(
     let blocks = layout.blocks();
     let readers = index.readers.list(net);
     let global = is_global(circuit, laid.net());
-    let listed = is_listed(alloc, global, readers, driver, laid.listed())?;
+    let listed = is_listed(alloc, global, readers, driver, laid.listed_blocks())?;
     if !listed {
         return Ok(Some(EntryFault::Listed(driver)));
     }

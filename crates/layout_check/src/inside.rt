@@ -2,7 +2,7 @@
 ghost use Rattle.std.specs.Prelude.{◌≡◌, option_and_then, slice_get, false};
 ghost use Rattle.std.specs.Option.{option_map_or};
 ghost use Rattle.cluster.specs.Blocks.{is_same_class};
-ghost use Rattle.implements.specs.Layouts.{fed, on_pin};
+ghost use Rattle.implements.specs.Layouts.{input_net, on_pin};
 ghost use Rattle.implements.specs.Implements.{is_net};
 
 use arch_file::{Arch, PinClass};
@@ -54,8 +54,8 @@ pub(crate) fn on_pin(arch: &Arch, block: &LaidBlock, class: PinClass, pin: usize
 }
 
 /// The net that comes to an input of a BLE.
-pub(crate) fn fed(arch: &Arch, block: &LaidBlock, feed: Feed) -> Option<u32>
-    ensures { result ≡ fed arch.now block.now feed }
+pub(crate) fn input_net(arch: &Arch, block: &LaidBlock, feed: Feed) -> Option<u32>
+    ensures { result ≡ input_net arch.now block.now feed }
 {
     match feed {
         Feed::Pin(pin) => on_pin(arch, block, PinClass::Input, pin),

@@ -65,7 +65,7 @@ fn check_with(
         × AreCarried graph.now layout.now.nets)
         (IsNetFault circuit.now graph.now layout.now)) }
 {
-    let _count = graph.count();
+    graph.laws();
     if let Some(found) = check_entries(alloc, circuit, graph, work, layout, index, uses)? {
         return Ok(Some(NetFault::Entry(found.0, found.1)));
     }

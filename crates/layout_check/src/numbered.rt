@@ -21,7 +21,7 @@ pub(crate) fn add_numbers(
         × All (λ node. is_node graph.now.arch graph.now.strip node ≡ true) path.now)
         (λ node. Contains path.now node × (is_node graph.now.arch graph.now.strip node ≡ false))) }
 {
-    let _count = graph.count();
+    graph.laws();
     for node in path {
         match graph.number(*node) {
             Some(number) => numbers.push(number)?,

@@ -46,7 +46,7 @@ fn check_numbered(
     ensures nodes { IfOk result (λ fault. IfNone fault
         (AreNumbers graph.now (path_nodes paths.now) numbers.new.nodes.items)) }
 {
-    let _count = graph.count();
+    graph.laws();
     if let Some(node) = number_paths(graph, paths, &mut numbers.nodes, &mut numbers.hops)? {
         return Ok(Some(RouteFault::NoNode(node)));
     }

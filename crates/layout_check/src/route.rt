@@ -45,7 +45,7 @@ fn check_hops(
     ensures exact { MatchOption result (AreEdges graph.now hops.now × AreOneWay hops.now root)
         (λ fault. (sinks nodes : List ℕ) → IsFaultOf graph.now root sinks nodes hops.now fault) }
 {
-    let _count = graph.count();
+    graph.laws();
     if let Some(hop) = first_gap(graph, hops) {
         return Some(RouteFault::NoEdge(graph.node(hop.0), graph.node(hop.1)));
     }
@@ -73,7 +73,7 @@ fn check_reach(
     ensures exact { MatchOption result (AreAllReached root nodes.now hops.now)
         (λ fault. (sinks : List ℕ) → IsFaultOf graph.now root sinks nodes.now hops.now fault) }
 {
-    let _count = graph.count();
+    graph.laws();
     work.inside.clear();
     mark_all(nodes, &mut work.inside);
     if !work.inside.contains(root) {
@@ -94,7 +94,7 @@ fn check_pins(graph: &Fabric, nodes: &[usize]) -> Option<RouteFault>
         (λ fault. (root : ℕ) (sinks : List ℕ) (hops : List (ℕ × ℕ)) →
         IsFaultOf graph.now root sinks nodes.now hops fault) }
 {
-    let _count = graph.count();
+    graph.laws();
     let Some(pin) = first_pin(graph, nodes) else {
         return Some(RouteFault::NoPin);
     };
@@ -121,7 +121,7 @@ fn check_ends(
     ensures exact { MatchOption result (AreEnds sinks.now nodes.now hops.now)
         (λ fault. (root : ℕ) → IsFaultOf graph.now root sinks.now nodes.now hops.now fault) }
 {
-    let _count = graph.count();
+    graph.laws();
     work.marks.clear();
     mark_starts(hops, &mut work.marks);
     work.wanted.clear();
@@ -160,7 +160,7 @@ pub(crate) fn check_tree(
         (IsRoute graph.now.arch graph.now.strip ((graph_of graph.now).node root) ends paths)
         (IsRouteFault graph.now ((graph_of graph.now).node root) ends paths) }
 {
-    let _count = graph.count();
+    graph.laws();
     if let Some(fault) = check_hops(graph, work, root, hops) {
         return Some(fault);
     }

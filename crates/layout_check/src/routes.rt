@@ -15,7 +15,7 @@ fn has_edge(graph: &Fabric, from: usize, to: usize) -> bool
     ensures { result ≡ is_edge graph.now.arch graph.now.strip ((graph_of graph.now).node from)
         ((graph_of graph.now).node to) }
 {
-    let _count = graph.count();
+    graph.laws();
     let ends = graph.ends(from);
     if to < ends.base {
         return false;

@@ -15,7 +15,7 @@ use Rattle.implements.specs.declared.feed.Feed.{Feed}
 use Rattle.layout_text.specs.LayoutText.{between_lines, ble_line, block_of, feed_or_open, laid_lines, laid_lines_as, laid_name_as, listed_line, net_text, place_line, place_text, route_text}
 use Rattle.vpr_files.proofs.FileTexts.{global_heading_text, local_heading_text, net_text as net_lines_text, place_headings_text, route_headings_text}
 use Rattle.vpr_files.specs.NetFile.{or_open}
-use Rattle.vpr_files.specs.TextLines.{line_of, spaced, text_of}
+use Rattle.vpr_files.specs.TextLines.{line_of, word_after_space, text_of}
 use Rattle.layout_files.specs.Printing.{connected_text, global_lines, heading_text, node_lines, place_headings, route_headings}
 
 -- ---- the `.net` text
@@ -23,22 +23,22 @@ use Rattle.layout_files.specs.Printing.{connected_text, global_lines, heading_te
 joined : (name inputs output clock : List ℕ) → (name ++ []) ++ inputs ++ output ++ clock ++ 10 ∷ [] ≡ (name ++ (inputs ++ (output ++ (clock ++ [])))) ++ 10 ∷ []
 joined name inputs output clock = simp (append_assoc, append-nil)
 
-words_text : (name inputs output clock : List ℕ) (words : List (List ℕ)) → inputs ≡ flat_map spaced words
-    → (name ++ []) ++ inputs ++ spaced output ++ spaced clock ++ 10 ∷ [] ≡ (name ++ flat_map spaced (words ++ output ∷ clock ∷ [])) ++ 10 ∷ []
+words_text : (name inputs output clock : List ℕ) (words : List (List ℕ)) → inputs ≡ flat_map word_after_space words
+    → (name ++ []) ++ inputs ++ word_after_space output ++ word_after_space clock ++ 10 ∷ [] ≡ (name ++ flat_map word_after_space (words ++ output ∷ clock ∷ [])) ++ 10 ∷ []
 words_text name inputs output clock words e =
-    ap (λ t. (name ++ []) ++ t ++ spaced output ++ spaced clock ++ 10 ∷ []) e
-    ∙ joined name (flat_map spaced words) (spaced output) (spaced clock)
-    ∙ ap (λ t. (name ++ t) ++ 10 ∷ []) (sym (flat_map-append spaced words (output ∷ clock ∷ [])))
+    ap (λ t. (name ++ []) ++ t ++ word_after_space output ++ word_after_space clock ++ 10 ∷ []) e
+    ∙ joined name (flat_map word_after_space words) (word_after_space output) (word_after_space clock)
+    ∙ ap (λ t. (name ++ t) ++ 10 ∷ []) (sym (flat_map-append word_after_space words (output ∷ clock ∷ [])))
 
 -- the line of a BLE, from the parts that are printed
 pub ble_text : (circuit : Circuit) (arch : Arch) (ble : LaidBle) (name : List ℕ) (inputs : List Feed) (output clock : Option ℕ)
     → name ≡ net_name circuit ble.name → inputs ≡ ble.inputs → output ≡ ble.output → clock ≡ ble.clock
-    → codes "subblock: " ++ (name ++ []) ++ flat_map (λ place. spaced (feed_or_open (slice_get inputs place))) (range_with_len 0 arch.lut_size) ++ spaced (or_open decimal output) ++ spaced (or_open decimal clock) ++ 10 ∷ []
+    → codes "subblock: " ++ (name ++ []) ++ flat_map (λ place. word_after_space (feed_or_open (slice_get inputs place))) (range_with_len 0 arch.lut_size) ++ word_after_space (or_open decimal output) ++ word_after_space (or_open decimal clock) ++ 10 ∷ []
     ≡ line_of (ble_line circuit arch ble)
 ble_text circuit arch ble name inputs output clock e f g h =
     rw (e, f, g, h) (
     let word = λ (place : ℕ). feed_or_open (slice_get ble.inputs place) in
-    ap (λ t. codes "subblock: " ++ t) (words_text (net_name circuit ble.name) _ (or_open decimal ble.output) (or_open decimal ble.clock) (map word (range_with_len 0 arch.lut_size)) (sym (flat_map-map spaced word (range_with_len 0 arch.lut_size)))))
+    ap (λ t. codes "subblock: " ++ t) (words_text (net_name circuit ble.name) _ (or_open decimal ble.output) (or_open decimal ble.clock) (map word (range_with_len 0 arch.lut_size)) (sym (flat_map-map word_after_space word (range_with_len 0 arch.lut_size)))))
 
 pad_tail : (name word : List ℕ) → name ++ (10 ∷ (word ++ (name ++ 10 ∷ 10 ∷ []))) ≡ ((name ++ []) ++ 10 ∷ []) ++ ((word ++ ((name ++ []) ++ 10 ∷ [])) ++ 10 ∷ [])
 pad_tail name word = simp (append_assoc, append-nil)

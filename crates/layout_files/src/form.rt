@@ -50,7 +50,7 @@ fn have_whole_paths(nets: &[LaidNet]) -> bool
 fn has_whole_paths(net: &LaidNet) -> bool
     ensures { IsTrue result → HasWholePaths net.now }
 {
-    (net.listed().is_empty() || net.paths().is_empty()) && end_at_sinks(net.paths())
+    (net.listed_blocks().is_empty() || net.paths().is_empty()) && end_at_sinks(net.paths())
 }
 
 fn end_at_sinks(paths: &[LaidPath]) -> bool

@@ -107,7 +107,7 @@ impl NetLines {
             (Some(Block::Cluster(_)), _) if is_word(first, "subblock:") => {
                 self.lines.read_ble(alloc, context.names, others)
             }
-            (None, [name]) if is_word(first, ".global") => self.global(context.names, name),
+            (None, [name]) if is_word(first, ".global") => self.add_global(context.names, name),
             (None, [name]) => self.begin_block(context, first, name),
             _ => Err(TextError::Fault(Fault::UnknownLine)),
         }
@@ -122,7 +122,7 @@ impl NetLines {
     }
 
     /// Adds a global net.
-    fn global(&mut self, names: &NameSet<'_>, name: &[u8]) -> Result<(), TextError<Fault>> {
+    fn add_global(&mut self, names: &NameSet<'_>, name: &[u8]) -> Result<(), TextError<Fault>> {
         match net_named(names, name) {
             Ok(net) => {
                 self.globals.push(net)?;

@@ -5,7 +5,7 @@ ghost use Rattle.cluster.specs.Blocks.{net_name};
 ghost use Rattle.layout_files.specs.Printing.{cluster_lines, global_lines};
 ghost use Rattle.layout_text.specs.LayoutText.{ble_line, feed_or_open, laid_lines, net_text};
 ghost use Rattle.vpr_files.specs.NetFile.{or_open};
-ghost use Rattle.vpr_files.specs.TextLines.{line_of, spaced, text_of};
+ghost use Rattle.vpr_files.specs.TextLines.{line_of, word_after_space, text_of};
 
 use crate::comparer::Comparer;
 use crate::laid_names::{cluster_name, net_name};
@@ -126,7 +126,7 @@ fn print_pins(
     pins: &[Option<u32>],
 ) -> Result<(), Failed>
     ensures { OnOk result (print.new.bytes ≡ print.old.bytes
-        ++ flat_map spaced (map (or_open (net_name circuit.now)) pins.now)) }
+        ++ flat_map word_after_space (map (or_open (net_name circuit.now)) pins.now)) }
 {
     for pin in pins {
         let name = match pin {
@@ -183,7 +183,7 @@ fn feed_at(inputs: &[Feed], place: usize) -> Option<Feed>
 /// Prints where the inputs come from, one word for each input of a table.
 fn print_inputs(print: &mut Comparer<'_>, lut_size: u32, inputs: &[Feed]) -> Result<(), Failed>
     ensures { OnOk result (print.new.bytes ≡ print.old.bytes
-        ++ flat_map (λ place. spaced (feed_or_open (slice_get inputs.now place)))
+        ++ flat_map (λ place. word_after_space (feed_or_open (slice_get inputs.now place)))
         (range_with_len 0 lut_size)) }
 {
     for place in 0..lut_size as usize {
@@ -194,7 +194,8 @@ fn print_inputs(print: &mut Comparer<'_>, lut_size: u32, inputs: &[Feed]) -> Res
 
 /// Prints where an input comes from, or `open`.
 fn print_feed(print: &mut Comparer<'_>, feed: Option<Feed>) -> Result<(), Failed>
-    ensures { OnOk result (print.new.bytes ≡ print.old.bytes ++ spaced (feed_or_open feed)) }
+    ensures { OnOk result (print.new.bytes ≡ print.old.bytes
+        ++ word_after_space (feed_or_open feed)) }
 {
     match feed {
         Some(Feed::Pin(pin)) => print.print(&[Part::Text(" "), Part::Long(pin as u64)]),
@@ -205,7 +206,8 @@ fn print_feed(print: &mut Comparer<'_>, feed: Option<Feed>) -> Result<(), Failed
 
 /// Prints the number of a pin, or `open`.
 fn print_pin(print: &mut Comparer<'_>, pin: Option<usize>) -> Result<(), Failed>
-    ensures { OnOk result (print.new.bytes ≡ print.old.bytes ++ spaced (or_open decimal pin)) }
+    ensures { OnOk result (print.new.bytes ≡ print.old.bytes
+        ++ word_after_space (or_open decimal pin)) }
 {
     match pin {
         Some(number) => print.print(&[Part::Text(" "), Part::Long(number as u64)]),

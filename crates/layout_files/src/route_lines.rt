@@ -101,7 +101,7 @@ impl RouteLines {
         line: &[u8],
     ) -> Result<(), TextError<Fault>> {
         match self.section {
-            Section::Size => self.heading(context.size, line),
+            Section::Size => self.read_heading(context.size, line),
             _ if line.is_empty() => Ok(()),
             Section::Before if is_word(line, "Routing:") => {
                 self.section = Section::Nets;
@@ -120,7 +120,7 @@ impl RouteLines {
     }
 
     /// Reads the first line, which has the size.
-    fn heading(&mut self, size: StripSize, line: &[u8]) -> Result<(), TextError<Fault>> {
+    fn read_heading(&mut self, size: StripSize, line: &[u8]) -> Result<(), TextError<Fault>> {
         match read_size(size, line, " logic blocks.") {
             Ok(()) => {
                 self.section = Section::Before;

@@ -87,12 +87,12 @@ fn print_connected(
     ensures { OnOk result (print.new.bytes ≡ print.old.bytes
         ++ connected_text circuit.now strip layout.now net.now net.now.listed) }
 {
-    if net.listed().is_empty() {
+    if net.listed_blocks().is_empty() {
         print.print(&[Part::Text(")\n\n")])?;
         return print_paths(print, strip.rows, net.paths());
     }
     print.print(&[Part::Text("): global net connecting:\n\n")])?;
-    print_listed(print, circuit, layout, net.listed())
+    print_listed(print, circuit, layout, net.listed_blocks())
 }
 
 /// Prints the first line of a net, up to its name.

@@ -13,7 +13,7 @@ use Rattle.grid.specs.declared.Strip.{Strip}
 use Rattle.kept_places.specs.Kept.{KeptPlaces}
 use Rattle.pathfinder.specs.Negotiation.{Routed as RoutedTrees, Standing, More, Done, GaveUp as GivenUp, NoPath as WithoutPath, routed_after}
 use Rattle.pathfinder.specs.PlacedNets.{wiring_of}
-use Rattle.pathfinder.specs.Routings.{told_by_node}
+use Rattle.pathfinder.specs.Routings.{routes_by_node}
 use Rattle.rr_graph.specs.Graph.{graph_of}
 use Rattle.strip_place.specs.Anneal.{PlacingUnderWay, is_past_last}
 use Rattle.job_state.specs.Held.{HasFewSteps, IsNotOverBefore}
@@ -118,7 +118,7 @@ module _ (arch : Arch) (strip : Strip) (text : List ℕ) (kept : KeptPlaces) (se
     pub routed : RoutedCircuit
     pub ended : end_value routing_job ≡ Ok (Routed routed)
     pub done : after.standing ≡ Done
-    pub told : routed.routes ≡ told_by_node (graph_of (basis_in routing_job)) after.trees
+    pub told : routed.routes ≡ routes_by_node (graph_of (basis_in routing_job)) after.trees
 
   pub routed_end : failure_of (end_value routing_job) ≡ None → HasRoutes
   routed_end unfailed = by after.standing refl
@@ -137,7 +137,7 @@ module _ (arch : Arch) (strip : Strip) (text : List ℕ) (kept : KeptPlaces) (se
           let at : end_value routing_job ≡ Ok (stands More) = value ∙ ap (λ (s : Standing). let r : Result Work BlifFault = Ok (stands s) in r) is in
           let wrong : false ≡ true = sym (ap is_whole_value at) ∙ whole in absurd cc
       by Done is = record {
-        routed = record { basis = basis_in routing_job; routes = told_by_node (graph_of (basis_in routing_job)) after.trees; pads = pads_in routing_job circuit };
+        routed = record { basis = basis_in routing_job; routes = routes_by_node (graph_of (basis_in routing_job)) after.trees; pads = pads_in routing_job circuit };
         ended = value ∙ ap (λ (s : Standing). let r : Result Work BlifFault = Ok (stands s) in r) is;
         done = is;
         told = refl;

@@ -18,7 +18,7 @@ use Rattle.implements.specs.LayoutOf.{layout_of}
 use Rattle.pathfinder.specs.LegalRoutes.{IsLegal}
 use Rattle.pathfinder.specs.Negotiation.{Done, routed_after}
 use Rattle.pathfinder.specs.PlacedNets.{nets_to_route, wiring_of}
-use Rattle.pathfinder.specs.Routings.{told_by_node}
+use Rattle.pathfinder.specs.Routings.{routes_by_node}
 use Rattle.pathfinder.specs.Wiring.{AreNets}
 use Rattle.rr_graph.specs.Graph.{Basis, IsBasis, IsRoutingGraph, graph_of}
 use Rattle.rr_graph.specs.declared.node.Node.{Node}
@@ -37,7 +37,7 @@ pub record Laws : Type 0 where
   pub graph : (basis : Basis) → IsBasis basis → IsRoutingGraph basis (graph_of basis)
   pub legal : (basis : Basis) (packed : PackedCircuit) (places : List Place) (iterations : ℕ) → IsBasis basis → AreNets (wiring_of basis) (nets_to_route basis packed places) →
       (routed_after (wiring_of basis) (nets_to_route basis packed places) iterations).standing ≡ Done →
-      IsLegal basis.arch basis.strip packed places (told_by_node (graph_of basis) (routed_after (wiring_of basis) (nets_to_route basis packed places) iterations).trees)
+      IsLegal basis.arch basis.strip packed places (routes_by_node (graph_of basis) (routed_after (wiring_of basis) (nets_to_route basis packed places) iterations).trees)
   pub implements : (packed : PackedCircuit) (strip : Strip) (places : List Place) (routes : List (List (List Node))) → IsPacked packed → IsNarrow packed.arch.lut_size packed.circuit → IsLawfulPacking packed →
       ArePlaced strip packed places → IsLegal packed.arch strip packed places routes → Implements packed.circuit packed.arch strip (layout_of packed places routes)
   pub connects : (packed : PackedCircuit) (strip : Strip) (places : List Place) (routes : List (List (List Node))) → IsPacked packed → IsNarrow packed.arch.lut_size packed.circuit → IsLawfulPacking packed →

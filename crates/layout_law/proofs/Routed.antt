@@ -17,7 +17,7 @@ use Rattle.kept_places.specs.Kept.{KeptPlaces}
 use Rattle.pathfinder.specs.LegalRoutes.{IsLegal}
 use Rattle.pathfinder.specs.Negotiation.{routed_after}
 use Rattle.pathfinder.specs.PlacedNets.{nets_to_route, wiring_of}
-use Rattle.pathfinder.specs.Routings.{told_by_node}
+use Rattle.pathfinder.specs.Routings.{routes_by_node}
 use Rattle.pathfinder.specs.Wiring.{Net}
 use Rattle.pathfinder.proofs.PlacedTerminals.{are_nets}
 use Rattle.rr_graph.specs.Graph.{Basis, IsBasis, graph_of}
@@ -82,8 +82,8 @@ module _ (laws : Laws) (arch : Arch) (strip : Strip) (known : IsArch arch) (size
         let nets = nets_are arch strip text kept seed effort is.circuit in
         let are = are_nets basis is_basis (laws.graph basis is_basis) packed places placed laws.within (laws.packing packed lawful) in
         let done = sym (ap (λ (n : List Net). (routed_after (wiring_of basis) n (step_count sources)).standing) nets) ∙ routes.done in
-        let told : routes.routed.routes ≡ told_by_node (graph_of basis) (routed_after (wiring_of basis) (nets_to_route basis packed places) (step_count sources)).trees =
-        routes.told ∙ ap (λ (n : List Net). told_by_node (graph_of basis) (routed_after (wiring_of basis) n (step_count sources)).trees) nets in
+        let told : routes.routed.routes ≡ routes_by_node (graph_of basis) (routed_after (wiring_of basis) (nets_to_route basis packed places) (step_count sources)).trees =
+        routes.told ∙ ap (λ (n : List Net). routes_by_node (graph_of basis) (routed_after (wiring_of basis) n (step_count sources)).trees) nets in
         subst (λ (a : Arch). IsLegal a strip packed places routes.routed.routes) (sym (packed_arch is.circuit arch))
         (subst (IsLegal arch strip packed places) (sym told) (laws.legal basis packed places (step_count sources) is_basis are done))
 

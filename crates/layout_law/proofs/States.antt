@@ -42,7 +42,7 @@ use Rattle.tenant_slot.specs.declared.reply.StepReply.TheVariants.{Advanced, Fin
 use Rattle.tenant_slot.specs.declared.reply.StateName.{StateName}
 use Rattle.tenant_slot.specs.declared.reply.StateName.TheVariants.{Empty, Loaded, Packing, Packed, Placing, Placed, Routing, Routed, Unrouted}
 use Rattle.tenant_slot.specs.Results.{failure_of, kept_at_end}
-use Rattle.tenant_slot.specs.SingleUser.{State, advance, after, answer_to, at_rest, circuit_in, finished, is_lawful, is_next, keeping, loaded, misfit_of, pack_unless, place, place_unless, risen, routed_unless, run, running, serve, sources_of, start, state_after, step, with_circuit}
+use Rattle.tenant_slot.specs.SingleUser.{State, advance, after_reply, answer_to, at_rest, circuit_in, state_at_end, is_lawful, is_next, with_kept_places, with_netlist, misfit_of, pack_unless, place, place_unless, next_generation, routed_unless, run, kind_that_runs, serve, sources_of, start, state_after, step, with_circuit}
 use Rattle.vpr_files.specs.NetFile.{net_text_of}
 use Rattle.layout_law.specs.Tenancies.{AreLawfulTexts}
 use Rattle.layout_law.proofs.Laws.{Laws}
@@ -182,7 +182,7 @@ module _ (laws : Laws) (arch : Arch) (strip : Strip) (known : IsArch arch) (size
     placed_to_route Routed h has = absurd cc
     placed_to_route Unrouted h has = absurd cc
 
-    has_at_rest : (name : StateName) → Has name state → Has (at_rest name) (record (risen state) { name = at_rest name })
+    has_at_rest : (name : StateName) → Has name state → Has (at_rest name) (record (next_generation state) { name = at_rest name })
     has_at_rest Empty has = has
     has_at_rest Loaded has = has
     has_at_rest Packing has = tt
@@ -194,7 +194,7 @@ module _ (laws : Laws) (arch : Arch) (strip : Strip) (known : IsArch arch) (size
     has_at_rest Unrouted has = has
 
     -- what is kept after a change
-    keeps_places : AreKeptOn strip (keeping (risen state)).kept
+    keeps_places : AreKeptOn strip (with_kept_places (next_generation state)).kept
     keeps_places = by (is_lawful state.name PlaceFile) refl
       where
         by : (b : Bool) → is_lawful state.name PlaceFile ≡ b → AreKeptOn strip (if b then kept_at_end (end_value (sources_of state PlacingJob)) else state.kept)
@@ -206,16 +206,16 @@ module _ (laws : Laws) (arch : Arch) (strip : Strip) (known : IsArch arch) (size
             (subst (λ (s : Strip). AreKeptOn strip (kept_at_end (end_value (placing_sources arch s state.text state.kept state.seed state.effort)))) (sym sound.strip_is) kept)
 
     -- a state stays sound when the entry of its answer is counted
-    counted : (o : Option State) → Keeps o → IsSound arch strip (after state o)
+    counted : (o : Option State) → Keeps o → IsSound arch strip (after_reply state o)
     counted None keeps = record { arch_is = sound.arch_is; strip_is = sound.strip_is; kept = sound.kept; has = entered state.name state (state.entries + 1) sound.has }
     counted (Some new) keeps = record { arch_is = keeps.arch_is; strip_is = keeps.strip_is; kept = keeps.kept; has = entered new.name new (state.entries + 1) keeps.has }
 
     -- a netlist is loaded, alone or in place of another
-    after_upload : (text : List ℕ) (r : Result Circuit BlifFault) → Keeps (with_circuit r (λ circuit. (Some (loaded state text), Accepted Loaded))).0
+    after_upload : (text : List ℕ) (r : Result Circuit BlifFault) → Keeps (with_circuit r (λ circuit. (Some (with_netlist state text), Accepted Loaded))).0
     after_upload text (Err fault) = tt
     after_upload text (Ok circuit) = record { arch_is = sound.arch_is; strip_is = sound.strip_is; kept = sound.kept; has = tt }
 
-    after_change : (text : List ℕ) (r : Result Circuit BlifFault) → Keeps (with_circuit r (λ circuit. (Some (loaded (keeping (risen state)) text), Accepted Loaded))).0
+    after_change : (text : List ℕ) (r : Result Circuit BlifFault) → Keeps (with_circuit r (λ circuit. (Some (with_netlist (with_kept_places (next_generation state)) text), Accepted Loaded))).0
     after_change text (Err fault) = tt
     after_change text (Ok circuit) = record { arch_is = sound.arch_is; strip_is = sound.strip_is; kept = keeps_places; has = tt }
 
@@ -271,13 +271,13 @@ module _ (laws : Laws) (arch : Arch) (strip : Strip) (known : IsArch arch) (size
     after_command RouteFile is = tt
 
     -- a job that has made its last step
-    after_packing : IsPackable state.arch state.text → IsSound arch strip (finished state PackingJob)
+    after_packing : IsPackable state.arch state.text → IsSound arch strip (state_at_end state PackingJob)
     after_packing has = record { arch_is = sound.arch_is; strip_is = sound.strip_is; kept = sound.kept; has = has }
 
-    after_placing : IsPlaceable state.arch state.strip state.text → IsSound arch strip (finished state PlacingJob)
+    after_placing : IsPlaceable state.arch state.strip state.text → IsSound arch strip (state_at_end state PlacingJob)
     after_placing has = record { arch_is = sound.arch_is; strip_is = sound.strip_is; kept = sound.kept; has = has }
 
-    after_routing : IsPlaceable state.arch state.strip state.text → IsSound arch strip (finished state RoutingJob)
+    after_routing : IsPlaceable state.arch state.strip state.text → IsSound arch strip (state_at_end state RoutingJob)
     after_routing has = by (failure_of (end_value (sources_of state RoutingJob))) refl
       where
         by : (o : Option RoutingFailure) → failure_of (end_value (sources_of state RoutingJob)) ≡ o → IsSound arch strip (routed_unless state o)
@@ -285,13 +285,13 @@ module _ (laws : Laws) (arch : Arch) (strip : Strip) (known : IsArch arch) (size
         by (Some failure) is = record { arch_is = sound.arch_is; strip_is = sound.strip_is; kept = sound.kept; has = has }
 
     -- a step of a job
-    either_step : (kind : JobKind) (next last : Bool) → IsSound arch strip (finished state kind) →
-        Answers (if next then (if last then (Some (finished state kind), Step Finished) else (Some (record state { steps = state.steps + 1 }), Step Advanced)) else (None, Step Stale))
+    either_step : (kind : JobKind) (next last : Bool) → IsSound arch strip (state_at_end state kind) →
+        Answers (if next then (if last then (Some (state_at_end state kind), Step Finished) else (Some (record state { steps = state.steps + 1 }), Step Advanced)) else (None, Step Stale))
     either_step kind false last ended = tt
     either_step kind true true ended = ended
     either_step kind true false ended = record { arch_is = sound.arch_is; strip_is = sound.strip_is; kept = sound.kept; has = stepped state.name state (state.steps + 1) sound.has }
 
-    after_step : (made : Advance) (name : StateName) → Has name state → Keeps (advance state made (running name)).0
+    after_step : (made : Advance) (name : StateName) → Has name state → Keeps (advance state made (kind_that_runs name)).0
     after_step made Empty has = tt
     after_step made Loaded has = tt
     after_step made Packing has = either_step PackingJob (is_next state made) (is_last (sources_of state PackingJob) (state.steps + 1)) (after_packing has)
@@ -313,7 +313,7 @@ module _ (laws : Laws) (arch : Arch) (strip : Strip) (known : IsArch arch) (size
     after_event : (event : Event) → IsSound arch strip (step state event).0
     after_event event = by (state.entries == 65536)
       where
-        by : (b : Bool) → LeadsOn (if b then (state, None) else (after state (answer_to state event).0, Some (answer_to state event).1))
+        by : (b : Bool) → LeadsOn (if b then (state, None) else (after_reply state (answer_to state event).0, Some (answer_to state event).1))
         by true = sound
         by false = counted (answer_to state event).0 (after_answer event)
 

@@ -1,5 +1,10 @@
 //! The size of a strip and of its channels.
 ghost use Rattle.std.specs.Prelude.{◌≤◌, IfNone, IfSome};
+ghost use Rattle.arch_file.specs.declared.arch.TheConstants.{MAX_TRACKS};
+ghost use Rattle.grid.specs.declared.TheConstants.{MAX_COLUMNS, MAX_ROWS};
+
+use arch_file::MAX_TRACKS;
+use grid::{MAX_COLUMNS, MAX_ROWS};
 
 /// The size of a strip and of its channels, within the service's limits.
 #[derive(Clone, Copy)]
@@ -10,9 +15,9 @@ pub struct StripShape {
     pub rows: u32,
     /// Tracks of each channel, 1 to 64.
     pub tracks: u32,
-    ghost columns_lawful: { (1 ≤ columns) × (columns ≤ 256) },
-    ghost rows_lawful: { (1 ≤ rows) × (rows ≤ 64) },
-    ghost tracks_lawful: { (1 ≤ tracks) × (tracks ≤ 64) },
+    ghost columns_lawful: { (1 ≤ columns) × (columns ≤ MAX_COLUMNS) },
+    ghost rows_lawful: { (1 ≤ rows) × (rows ≤ MAX_ROWS) },
+    ghost tracks_lawful: { (1 ≤ tracks) × (tracks ≤ MAX_TRACKS) },
 }
 
 impl StripShape {
@@ -23,8 +28,8 @@ impl StripShape {
         ensures some { IfSome result (λ shape. Holds shape columns rows tracks) }
         ensures none { IfNone result (AreLawful columns rows tracks → ⊥) }
     {
-        let size = (1..=256).contains(&columns) && (1..=64).contains(&rows);
-        if !size || !(1..=64).contains(&tracks) {
+        let size = (1..=MAX_COLUMNS).contains(&columns) && (1..=MAX_ROWS).contains(&rows);
+        if !size || !(1..=MAX_TRACKS).contains(&tracks) {
             return None;
         }
         Some(StripShape {

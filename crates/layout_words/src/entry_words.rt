@@ -76,7 +76,7 @@ fn write_listed<E: Sink>(
     between: &LaidNet,
     driver: usize,
 ) {
-    let listed = between.listed();
+    let listed = between.listed_blocks();
     if !is_global(subject, between.net()) {
         write_entry(pen, subject, line, between);
         pen.text("it lists blocks, but it controls no latch");

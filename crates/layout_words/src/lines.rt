@@ -66,7 +66,7 @@ pub(crate) fn net_line(layout: &Layout, net: usize) -> usize {
 
 /// The number of a net's lines in the `.route` file.
 fn entry_lines(between: &LaidNet) -> usize {
-    let mut lines = between.listed().len().saturating_add(3);
+    let mut lines = between.listed_blocks().len().saturating_add(3);
     for path in between.paths() {
         lines = lines.saturating_add(path.nodes().len());
     }

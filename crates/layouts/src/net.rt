@@ -68,7 +68,7 @@ impl LaidNet {
     }
 
     /// The numbers of the blocks that are listed with it, in order.
-    pub fn listed(&self) -> &[u32]
+    pub fn listed_blocks(&self) -> &[u32]
         ensures { result.now ≡ self.now.listed }
     {
         self.listed.as_slice()

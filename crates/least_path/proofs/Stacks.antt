@@ -17,7 +17,7 @@ use Rattle.least_path.specs.Graph.{Graph, IsLawful}
 use Rattle.least_path.specs.Path.{Leads, IsPath, cost_of, path_cmp}
 use Rattle.least_path.specs.LeastPath.{IsLeastPath}
 use Rattle.least_path.specs.Frontier.{no_label, cost_in, epoch_in, cost_at, AreBounds, IsLabelled, Reached, IsSettled, HasNoneAt}
-use Rattle.least_path.specs.Walk.{IsGuided, IsTried, ends_of, after, ahead_of, IsShortWay, MayLead, Needs, Selects, Lists, TakesTurn, Enters, Begins, GoesOn, nodes_in}
+use Rattle.least_path.specs.Walk.{IsGuided, IsTried, ends_of, cost_after, ahead_of, IsShortWay, MayLead, Needs, Selects, Lists, TakesTurn, Enters, Begins, GoesOn, nodes_in}
 use Rattle.least_path.specs.declared.search.Label.{Label}
 use Rattle.least_path.specs.declared.search.Search.{Search}
 use Rattle.least_path.specs.declared.search.Stop.{Stop}
@@ -75,12 +75,12 @@ path_onto (Entered stop ∷ below) rest = path_onto below (stop.node ∷ rest)
 
 -- Each short way on from the parent begins with one of the nodes.
 abbrev pub Covers : Graph → List ℕ → ℕ → ℕ → Option Stop → List ℕ → Type 0
-Covers g starts goal best parent nodes = (y : ℕ) (rest : List ℕ) → Contains (ends_of g starts parent) y → IsShortWay g goal best y (after g parent y) rest → Contains nodes y
+Covers g starts goal best parent nodes = (y : ℕ) (rest : List ℕ) → Contains (ends_of g starts parent) y → IsShortWay g goal best y (cost_after g parent y) rest → Contains nodes y
 
 -- The node may come after the stack below it.
 pub record IsNext (g : Graph) (starts : List ℕ) (best : ℕ) (stop : Stop) (below : List Turn) : Type 0 where
   pub end : Contains (ends_of g starts (parent_of below)) stop.node
-  pub cost : stop.cost ≡ after g (parent_of below) stop.node
+  pub cost : stop.cost ≡ cost_after g (parent_of below) stop.node
   pub cheap : stop.cost ≤ best
   pub order : All (λ y. stop.node ≤ y) (frame_of below)
 
@@ -117,7 +117,7 @@ module _ {g : Graph} {starts : List ℕ} {goal best : ℕ} (f : IsFound g starts
   pub next_in : (ts : List Turn) (y : ℕ) → Stands g starts goal best ts → Contains (ends_of g starts (parent_of ts)) y → y < g.count
   next_in ts y s c = end_in (parent_of ts) y (parent_in ts s) c
 
-  reach_by : (parent : Option Stop) → ((stop : Stop) → parent ≡ Some stop → Reached g starts stop.node stop.cost) → (y : ℕ) → Contains (ends_of g starts parent) y → Reached g starts y (after g parent y)
+  reach_by : (parent : Option Stop) → ((stop : Stop) → parent ≡ Some stop → Reached g starts stop.node stop.cost) → (y : ℕ) → Contains (ends_of g starts parent) y → Reached g starts y (cost_after g parent y)
   reach_by None h y c = Reached-start g starts y c
   reach_by (Some stop) h y c = Reached-step y (stop.cost + g.cost y) (h stop refl) c refl
 
@@ -129,7 +129,7 @@ module _ {g : Graph} {starts : List ℕ} {goal best : ℕ} (f : IsFound g starts
       let at : Reached g starts t.node t.cost = rw s.0.cost (reach_by (parent_of below) (parent_reached below s.1.1.1) t.node s.0.end) in
       let P : Stop → Type 0 = λ x. Reached g starts x.node x.cost in subst P same at
 
-  pub next_reached : (ts : List Turn) (y : ℕ) → Stands g starts goal best ts → Contains (ends_of g starts (parent_of ts)) y → Reached g starts y (after g (parent_of ts) y)
+  pub next_reached : (ts : List Turn) (y : ℕ) → Stands g starts goal best ts → Contains (ends_of g starts (parent_of ts)) y → Reached g starts y (cost_after g (parent_of ts) y)
   next_reached ts y s c = reach_by (parent_of ts) (parent_reached ts s) y c
 
   -- From a node to which a path leads, the rest of a way costs at least what is left of the best
@@ -143,7 +143,7 @@ module _ {g : Graph} {starts : List ℕ} {goal best : ℕ} (f : IsFound g starts
   not_dearer v c d rest r l w = omega (arith, no_cheaper_on rest v c r w.leads, w.tight)
 
   -- Along the path the costs increase.
-  pub trail_below : (ts : List Turn) (y v c : ℕ) → Stands g starts goal best ts → Contains (ends_of g starts (parent_of ts)) y → OnTrail ts v c → c < after g (parent_of ts) y
+  pub trail_below : (ts : List Turn) (y v c : ℕ) → Stands g starts goal best ts → Contains (ends_of g starts (parent_of ts)) y → OnTrail ts v c → c < cost_after g (parent_of ts) y
   trail_below [] y v c s i t = absurd t
   trail_below (Ahead stop ∷ below) y v c s i t = trail_below below y v c s.1 i t
   trail_below (Entered stop ∷ below) y v c s i t =
@@ -157,9 +157,9 @@ module _ {g : Graph} {starts : List ℕ} {goal best : ℕ} (f : IsFound g starts
 
   -- If each step is the least one, the first short way completes the least path.
   pub first_path : (below : List Turn) (x : ℕ) (rest nodes : List ℕ) → Stands g starts goal best below
-      → Contains (ends_of g starts (parent_of below)) x → IsShortWay g goal best x (after g (parent_of below) x) rest
+      → Contains (ends_of g starts (parent_of below)) x → IsShortWay g goal best x (cost_after g (parent_of below) x) rest
       → All (λ y. x ≤ y) nodes → Covers g starts goal best (parent_of below) nodes
-      → ((other : List ℕ) → IsShortWay g goal best x (after g (parent_of below) x) other → slice_cmp nat_cmp other rest ≢ Less)
+      → ((other : List ℕ) → IsShortWay g goal best x (cost_after g (parent_of below) x) other → slice_cmp nat_cmp other rest ≢ Less)
       → IsLeastPath g starts goal (path_onto below (x ∷ rest)) × (best ≡ cost_of g (path_onto below (x ∷ rest)))
   first_path [] x rest nodes s i w order covers first = (
     record {
@@ -185,7 +185,7 @@ module _ {g : Graph} {starts : List ℕ} {goal best : ℕ} (f : IsFound g starts
       first_path below stop.node (x ∷ rest) (stop.node ∷ frame_of below) s.1.1.1 s.0.end (rw (sym s.0.cost) way)
       (All-cons (λ y. stop.node ≤ y) stop.node (frame_of below) (omega arith) s.0.order)
       s.1.1.0
-      (λ other o. elim other as (λ o. IsShortWay g goal best stop.node (after g (parent_of below) stop.node) o → slice_cmp nat_cmp o (x ∷ rest) ≢ Less) [
+      (λ other o. elim other as (λ o. IsShortWay g goal best stop.node (cost_after g (parent_of below) stop.node) o → slice_cmp nat_cmp o (x ∷ rest) ≢ Less) [
         | [] ↦ λ o. absurd (s.1.0 o.leads)
         | (y ∷ q) ↦ λ o.
             (let on : IsShortWay g goal best y (stop.cost + g.cost y) q = record { leads = o.leads.1; tight = omega (arith, o.tight, s.0.cost, sum_by-cons g.cost y q) } in
@@ -231,9 +231,9 @@ pub record Walking (g : Graph) (starts : List ℕ) (goal best epoch : ℕ) (labe
 
 -- A node that need not come next is left out.
 less_covers : (g : Graph) (starts : List ℕ) (goal best : ℕ) (parent : Option Stop) (x : ℕ) (nodes : List ℕ) → Covers g starts goal best parent (x ∷ nodes)
-    → ((rest : List ℕ) → IsShortWay g goal best x (after g parent x) rest → ⊥) → Covers g starts goal best parent nodes
+    → ((rest : List ℕ) → IsShortWay g goal best x (cost_after g parent x) rest → ⊥) → Covers g starts goal best parent nodes
 less_covers g starts goal best parent x nodes covers none y rest i w = elim (Contains_cases x y nodes (covers y rest i w)) [
-  | inl e ↦ absurd (none rest (let P : ℕ → Type 0 = λ z. IsShortWay g goal best z (after g parent z) rest in subst P (sym e) w))
+  | inl e ↦ absurd (none rest (let P : ℕ → Type 0 = λ z. IsShortWay g goal best z (cost_after g parent z) rest in subst P (sym e) w))
   | inr c ↦ c
 ]
 
@@ -309,14 +309,14 @@ module _ {g : Graph} {starts : List ℕ} {goal best epoch : ℕ} {labels : List 
   arrives w e =
       let next = w.stands.0 in
       let end : Contains (ends_of g starts (parent_of below)) goal = rw e at next.end in
-      let cost : stop.cost ≡ after g (parent_of below) goal = rw e at next.cost in
+      let cost : stop.cost ≡ cost_after g (parent_of below) goal = rw e at next.cost in
       let r = next_reached w.found below goal w.stands.1 end in
-      let low = no_cheaper_on w.found [] goal (after g (parent_of below) goal) r refl in
-      let way : IsShortWay g goal best goal (after g (parent_of below) goal) [] = record { leads = refl; tight = omega (arith, low, next.cheap, cost) } in
+      let low = no_cheaper_on w.found [] goal (cost_after g (parent_of below) goal) r refl in
+      let way : IsShortWay g goal best goal (cost_after g (parent_of below) goal) [] = record { leads = refl; tight = omega (arith, low, next.cheap, cost) } in
       first_path w.found below goal [] (goal ∷ frame_of below) w.stands.1 end way
       (All-cons (λ y. goal ≤ y) goal (frame_of below) (omega arith) (rw e at next.order))
       (let P : ℕ → Type 0 = λ z. Covers g starts goal best (parent_of below) (z ∷ frame_of below) in subst P e w.covers)
-      (λ other o. elim other as (λ o. IsShortWay g goal best goal (after g (parent_of below) goal) o → slice_cmp nat_cmp o [] ≢ Less) [
+      (λ other o. elim other as (λ o. IsShortWay g goal best goal (cost_after g (parent_of below) goal) o → slice_cmp nat_cmp o [] ≢ Less) [
         | [] ↦ λ o. (λ h. cc)
         | (y ∷ q) ↦ λ o. absurd (omega (arith, o.tight, way.tight, sum_by-cons g.cost y q, w.found.law.cost_from y (known_end w.found.law goal y w.found.goal_in o.leads.0)))
       ] o)
@@ -343,11 +343,11 @@ module _ (g : Graph) (starts : List ℕ) (goal best : ℕ) (base : List Turn) (n
   raised_weight [] = omega arith
   raised_weight (x ∷ nodes) = omega (arith, raised_weight nodes)
 
-  raised_stands : (nodes : List ℕ) → IsNonDecreasing nodes → All (λ y. Contains (ends_of g starts (parent_of base)) y × (after g (parent_of base) y ≤ best)) nodes
+  raised_stands : (nodes : List ℕ) → IsNonDecreasing nodes → All (λ y. Contains (ends_of g starts (parent_of base)) y × (cost_after g (parent_of base) y ≤ best)) nodes
       → Stands g starts goal best base → Stands g starts goal best (raised nodes)
   raised_stands [] rises all s = s
   raised_stands (x ∷ nodes) rises all s =
-      let first = All-head (λ y. Contains (ends_of g starts (parent_of base)) y × (after g (parent_of base) y ≤ best)) x nodes all in
+      let first = All-head (λ y. Contains (ends_of g starts (parent_of base)) y × (cost_after g (parent_of base) y ≤ best)) x nodes all in
       let e = raised_parent nodes in (
         record {
           end = rw e first.0;
@@ -355,18 +355,18 @@ module _ (g : Graph) (starts : List ℕ) (goal best : ℕ) (base : List Turn) (n
           cheap = first.1;
           order = rw (raised_frame nodes) (λ k d l. rises 0 (suc k) d (omega arith) (omega (arith, l)));
         },
-        raised_stands nodes (λ i j d le l. rises (suc i) (suc j) d (omega (arith, le)) (omega (arith, l))) (All-tail (λ y. Contains (ends_of g starts (parent_of base)) y × (after g (parent_of base) y ≤ best)) x nodes all) s,
+        raised_stands nodes (λ i j d le l. rises (suc i) (suc j) d (omega (arith, le)) (omega (arith, l))) (All-tail (λ y. Contains (ends_of g starts (parent_of base)) y × (cost_after g (parent_of base) y ≤ best)) x nodes all) s,
       )
 
   -- with all nodes that may come next, the pass continues
   raised_walks : {epoch : ℕ} {labels : List Label} (frame nodes : List ℕ) → IsFound g starts goal best → g.count ≤ length labels → 1 ≤ epoch → AreBounds g goal epoch labels → Stands g starts goal best base
       → ((v c : ℕ) (rest : List ℕ) → v < g.count → epoch_in labels v + 1 ≡ epoch → cost_in labels v < c → IsShortWay g goal best v c rest → ⊥)
       → ((v c : ℕ) (rest : List ℕ) → v < g.count → epoch_in labels v ≡ epoch → cost_in labels v ≤ c → IsShortWay g goal best v c rest → OnTrail base v c)
-      → Selects (λ y. after g (parent_of base) y ≤ best) (λ y. Needs g goal best epoch labels y (after g (parent_of base) y)) (ends_of g starts (parent_of base)) frame
+      → Selects (λ y. cost_after g (parent_of base) y ≤ best) (λ y. Needs g goal best epoch labels y (cost_after g (parent_of base) y)) (ends_of g starts (parent_of base)) frame
       → IsPermutation frame nodes → IsNonDecreasing nodes
       → Walking g starts goal best epoch labels (raised nodes)
   raised_walks {epoch} {labels} frame nodes f room begun bounds s labelled entered listed same rises =
-      let Q : ℕ → Type 0 = λ y. Contains (ends_of g starts (parent_of base)) y × (after g (parent_of base) y ≤ best) in
+      let Q : ℕ → Type 0 = λ y. Contains (ends_of g starts (parent_of base)) y × (cost_after g (parent_of base) y ≤ best) in
       record {
         found = f;
         room = room;
@@ -375,7 +375,7 @@ module _ (g : Graph) (starts : List ℕ) (goal best : ℕ) (base : List Turn) (n
         stands = raised_stands nodes rises (All-permutation Q frame nodes same listed.sound) s;
         covers = rw (raised_parent nodes, raised_frame nodes) (λ y rest i way.
             let at : y < g.count = next_in f base y s i in
-            let c : ℕ = after g (parent_of base) y in
+            let c : ℕ = cost_after g (parent_of base) y in
             let may : MayLead epoch labels y c = record {
               labelled = λ e. elim (cases_lt (cost_in labels y) c) [
                 | inl l ↦ absurd (labelled y c rest at e l way)
@@ -387,7 +387,7 @@ module _ (g : Graph) (starts : List ℕ) (goal best : ℕ) (base : List Turn) (n
               ];
             } in
             Contains-permutation frame nodes y same
-            (All-contains (λ y. Needs g goal best epoch labels y (after g (parent_of base) y) → Contains frame y) (ends_of g starts (parent_of base)) y listed.complete i (record { may = may; rest = rest; way = way })));
+            (All-contains (λ y. Needs g goal best epoch labels y (cost_after g (parent_of base) y) → Contains frame y) (ends_of g starts (parent_of base)) y listed.complete i (record { may = may; rest = rest; way = way })));
         labelled = labelled;
         entered = λ v c rest b e l way. raised_trail nodes v c (entered v c rest b e l way);
       }

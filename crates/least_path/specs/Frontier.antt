@@ -42,12 +42,12 @@ abbrev pub potential : ℕ → List Label → ℕ
 potential epoch labels = sum_by (λ label. if label.epoch == epoch then label.cost else 2 ^ 60) labels
 
 -- the number of nodes without a label of this search
-abbrev pub fresh : ℕ → List Label → ℕ
-fresh epoch labels = sum_by (λ label. if label.epoch == epoch then 0 else 1) labels
+abbrev pub unlabeled_count : ℕ → List Label → ℕ
+unlabeled_count epoch labels = sum_by (λ label. if label.epoch == epoch then 0 else 1) labels
 
 -- decreases with each label that is written and each entry that is taken
-abbrev pub left : Search → ℕ
-left s = 2 * potential s.epoch s.labels + length s.queue
+abbrev pub work_left : Search → ℕ
+work_left s = 2 * potential s.epoch s.labels + length s.queue
 
 -- A path leads to the node at this cost.
 pub record Reached (g : Graph) (starts : List ℕ) (node cost : ℕ) : Type 0 where
@@ -108,7 +108,7 @@ pub record Frontier (g : Graph) (starts : List ℕ) (goal : ℕ) (most : Option 
   pub few : length labels ≤ 2 ^ 23
   pub begun : 1 ≤ epoch
   pub more : epoch + 1 < 2 ^ 16
-  pub cheap : (v : ℕ) → v < g.count → IsLabelledIn epoch labels v → cost_in labels v + fresh epoch labels * 2 ^ 36 ≤ length labels * 2 ^ 36
+  pub cheap : (v : ℕ) → v < g.count → IsLabelledIn epoch labels v → cost_in labels v + unlabeled_count epoch labels * 2 ^ 36 ≤ length labels * 2 ^ 36
   pub reached : (v : ℕ) → v < g.count → IsLabelledIn epoch labels v → Reached g starts v (cost_in labels v)
   pub bounds : AreBounds g goal (epoch + 1) labels
   pub cared_for : (v : ℕ) → v < g.count → IsLabelledIn epoch labels v → (v ≡ except) ⊎ (IsClosed g goal most epoch labels v ⊎ Waits labels queue v)
@@ -179,7 +179,7 @@ pub record Pops (s t : Search) (waiting : Waiting) : Type 0 where
 -- Labels are added and their costs decrease.
 pub record Falls (s t : Search) : Type 0 where
   pub epoch : t.epoch ≡ s.epoch
-  pub left : left t ≤ left s
+  pub left : work_left t ≤ work_left s
   pub served : (g : Graph) (goal : ℕ) (most : Option ℕ) (node cost : ℕ) → IsServed g goal most s.epoch s.labels node cost → IsServed g goal most t.epoch t.labels node cost
 
 -- The node was taken from the queue with its present label and is not the goal: its edges are

@@ -19,9 +19,9 @@ ends_of g starts None = starts
 ends_of g starts (Some stop) = g.ends stop.node
 
 -- the cost of the path to the next node
-abbrev pub after : Graph → Option Stop → ℕ → ℕ
-after g None node = 0
-after g (Some stop) node = stop.cost + g.cost node
+abbrev pub cost_after : Graph → Option Stop → ℕ → ℕ
+cost_after g None node = 0
+cost_after g (Some stop) node = stop.cost + g.cost node
 
 -- The graph is lawful, and the cost of a path after the parent fits into 64 bits.
 pub record MayFollow (g : Graph) (parent : Option Stop) : Type 0 where
@@ -72,10 +72,10 @@ pub record Lists (g : Graph) (goal best : ℕ) (parent : Option Stop) (xs : List
   pub epoch : t.epoch ≡ s.epoch
   pub labels : t.labels ≡ s.labels
   pub turns : t.turns.items ≡ s.turns.items
-  pub listed : Selects (λ y. after g parent y ≤ best) (λ y. Needs g goal best s.epoch s.labels y (after g parent y)) xs t.frame.items
+  pub listed : Selects (λ y. cost_after g parent y ≤ best) (λ y. Needs g goal best s.epoch s.labels y (cost_after g parent y)) xs t.frame.items
 
 abbrev pub ahead_of : Graph → Option Stop → ℕ → Turn
-ahead_of g parent node = Ahead (record { node = node; cost = after g parent node })
+ahead_of g parent node = Ahead (record { node = node; cost = cost_after g parent node })
 
 -- The frame is moved onto the stack, with the least node on top.
 pub record Raises (g : Graph) (parent : Option Stop) (s t : Search) : Type 0 where

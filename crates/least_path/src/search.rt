@@ -55,7 +55,7 @@ enum Turn {
 }
 
 /// The guess, if it is small enough for a search.
-fn usable(guess: Option<u64>) -> Option<u64>
+fn usable_guess(guess: Option<u64>) -> Option<u64>
     ensures { IfSome result (λ most. most < 2 ^ 60) }
 {
     match guess {
@@ -94,7 +94,7 @@ impl Search {
     /// The least path from one of `starts` to `goal`, by cost and then in the lexicographic order
     /// of nodes; `None` if there is no path. Earlier searches, also those that ran out of memory,
     /// don't change the result.
-    pub fn least<R: Roads>(
+    pub fn least_path<R: Roads>(
         &mut self,
         alloc: Global,
         roads: &R,
@@ -120,8 +120,8 @@ impl Search {
     }
 
     /// Replaces the contents of `path` by the least path from one of `starts` to `goal`, and
-    /// returns whether there is one, as `least` does. If there is no path, `path` is unchanged.
-    /// Takes no memory if all buffers are large enough.
+    /// returns whether there is one, as `least_path` does. If there is no path, `path` is
+    /// unchanged. Takes no memory if all buffers are large enough.
     pub fn least_into<R: Roads>(
         &mut self,
         roads: &R,
@@ -139,7 +139,7 @@ impl Search {
             least_path (R.graph roads.now) starts.now goal
             ≡ (if found then Some path.new.nodes.items else None)) }
     {
-        let guess = usable(roads.guess());
+        let guess = usable_guess(roads.guess());
         if guess.is_some() && self.least_within(roads, starts, goal, guess, path)? {
             return Ok(true);
         }

@@ -1,7 +1,7 @@
 -- An input that is taken line by line.
 use Rattle.std.specs.Prelude.{ℕ, ◌≡◌, ◌≤◌, List, [], ◌∷◌, length, take, true, Result, Ok, Err}
 use Rattle.std.specs.Io.KnownBytes.{Consumes, IsAtEnd}
-use Rattle.dialogue.specs.declared.dialogue.Fault.{Fault}
+use Rattle.dialogue.specs.declared.dialogue.FailedDevice.{FailedDevice}
 use Rattle.dialogue.specs.History.{Happens, View}
 use Rattle.dialogue.specs.History.Event.{Kept}
 use Rattle.line_feed.specs.declared.feed.LineFeed.{LineFeed as Feed}
@@ -20,11 +20,11 @@ pub record ReadsAhead (old new : View) (ahead : List ℕ) : Type 0 where
   pub end : ahead ≡ [] → IsAtEnd new.remaining
 
 -- a device failed, and the log has kept some bytes
-pub record FailsToRead (old new : View) (fault : Fault) : Type 0 where
+pub record FailsToRead (old new : View) (fault : FailedDevice) : Type 0 where
   pub bytes : List ℕ
   pub happens : Happens old new (Kept bytes ∷ [])
   pub failed : new.has_failed fault ≡ true
 
-abbrev pub Refills : View → View → List ℕ → Result (Unit {0}) Fault → Type 0
+abbrev pub Refills : View → View → List ℕ → Result (Unit {0}) FailedDevice → Type 0
 Refills old new ahead (Ok u) = ReadsAhead old new ahead
 Refills old new ahead (Err fault) = FailsToRead old new fault

@@ -1,9 +1,10 @@
 -- A line that is read in pieces.
 use Rattle.std.specs.Prelude.{ℕ, ◌≡◌, List, [], ◌∷◌, ◌++◌, take, Bool, true, false, not, ◌&&◌, ◌==◌}
+use Rattle.line_feed.specs.declared.fed_line.TheConstants.{MAX_FED_LINE}
 
 -- the bytes of a line that are kept: its first 1,048,640 bytes
 unfoldable pub kept_of : List ℕ → List ℕ
-kept_of line = take 1048640 line
+kept_of line = take MAX_FED_LINE line
 
 -- these bytes are what is kept of that line
 abbrev pub IsKept : List ℕ → List ℕ → Type 0

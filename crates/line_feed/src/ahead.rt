@@ -4,7 +4,7 @@ ghost use Rattle.line_feed.specs.Feed.{Refills};
 ghost use Rattle.line_feed.specs.Pieces.{TakesPiece};
 
 use crate::fed_line::FedLine;
-use dialogue::{Dialogue, Fault};
+use dialogue::{Dialogue, FailedDevice};
 use std::alloc::{AllocError, Global};
 use std::marker::Model;
 
@@ -56,7 +56,7 @@ impl Ahead {
     }
 
     /// Reads once, when no byte is left that was read ahead.
-    pub(crate) fn refill<D: Dialogue>(&mut self, dialogue: &mut D) -> Result<(), Fault>
+    pub(crate) fn refill<D: Dialogue>(&mut self, dialogue: &mut D) -> Result<(), FailedDevice>
         requires { self.old ≡ [] }
         ensures { Refills (D.view dialogue.old) (D.view dialogue.new) self.new result }
     {

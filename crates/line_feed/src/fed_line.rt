@@ -7,10 +7,10 @@ use std::marker::Model;
 
 /// How many bytes of a line are kept: the first 1,048,577 bytes of a line of a text, and room for
 /// a tag before them.
-pub const MAX_LINE: usize = 1_048_640;
+pub const MAX_FED_LINE: usize = 1_048_640;
 
-/// What is kept of a line that is being read: its first [`MAX_LINE`] bytes. The memory for them is
-/// taken at the start, so reading a line takes none.
+/// What is kept of a line that is being read: its first [`MAX_FED_LINE`] bytes. The memory for them
+/// is taken at the start, so reading a line takes none.
 #[derive(Drop)]
 pub(crate) struct FedLine {
     bytes: Vec<u8>,
@@ -18,12 +18,13 @@ pub(crate) struct FedLine {
 
 impl Model for FedLine {
     ghost use Rattle.std.specs.Prelude.{◌≤◌, List, ℕ, vec_capacity};
+    ghost use Rattle.line_feed.specs.declared.fed_line.TheConstants.{MAX_FED_LINE};
 
     ghost Value = { List ℕ };
 
     ghost view = { λ l. l.bytes.items };
 
-    ghost invariant = { λ l. 1048640 ≤ vec_capacity l.bytes };
+    ghost invariant = { λ l. MAX_FED_LINE ≤ vec_capacity l.bytes };
 }
 
 /// The first bytes, at most that many.
@@ -43,7 +44,7 @@ impl FedLine {
         ensures { IfOk result (λ line. IsKept line []) }
     {
         Ok(FedLine {
-            bytes: Vec::with_capacity(alloc, MAX_LINE)?,
+            bytes: Vec::with_capacity(alloc, MAX_FED_LINE)?,
         })
     }
 
@@ -54,11 +55,11 @@ impl FedLine {
         self.bytes.clear();
     }
 
-    /// Appends bytes to the line. Those beyond [`MAX_LINE`] are dropped.
+    /// Appends bytes to the line. Those beyond [`MAX_FED_LINE`] are dropped.
     pub(crate) fn append(&mut self, bytes: &[u8])
         ensures { (line : List ℕ) → IsKept self.old line → IsKept self.new (line ++ bytes.now) }
     {
-        let room = MAX_LINE.saturating_sub(self.bytes.len());
+        let room = MAX_FED_LINE.saturating_sub(self.bytes.len());
         let taken = first_bytes(bytes, room);
         self.bytes.extend_from_slice(taken).unwrap();
     }

@@ -5,7 +5,7 @@ ghost use Rattle.line_feed.specs.Pieces.{IsKept, TakesPiece};
 
 use crate::ahead::Ahead;
 use crate::fed_line::FedLine;
-use dialogue::{Dialogue, Fault};
+use dialogue::{Dialogue, FailedDevice};
 use std::alloc::{AllocError, Global};
 
 /// Takes the input of a dialogue line by line.
@@ -49,7 +49,7 @@ impl LineFeed {
     ///
     /// # Errors
     /// The device of the dialogue that failed.
-    pub fn refill<D: Dialogue>(&mut self, dialogue: &mut D) -> Result<(), Fault>
+    pub fn refill<D: Dialogue>(&mut self, dialogue: &mut D) -> Result<(), FailedDevice>
         requires { ahead_of self.old ≡ [] }
         ensures reads { Refills (D.view dialogue.old) (D.view dialogue.new) (ahead_of self.new) result }
         ensures line { line_of self.new ≡ line_of self.old }
@@ -64,7 +64,7 @@ impl LineFeed {
         self.ahead.is_empty()
     }
 
-    /// The first [`MAX_LINE`](crate::MAX_LINE) bytes of the line so far.
+    /// The first [`MAX_FED_LINE`](crate::MAX_FED_LINE) bytes of the line so far.
     pub fn line(&self) -> &[u8]
         ensures { result.now ≡ line_of self.now }
     {

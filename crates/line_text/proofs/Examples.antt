@@ -4,7 +4,7 @@ use Rattle.line_text.specs.declared.fault.LineFault.TheVariants.{NotAscii}
 use Rattle.line_text.specs.Decimal.{decimal_of, millionths_of, whole_of}
 use Rattle.line_text.specs.Words.{words_of}
 use Rattle.line_text.specs.LeastFault.{Found, least_fault}
-use Rattle.line_text.specs.Lines.{JoinedLine, joined_bytes, kept, lines_of, physical_lines}
+use Rattle.line_text.specs.Lines.{JoinedLine, joined_bytes, joined_part, lines_of, physical_lines}
 
 abbrev numbered : ℕ → List (List ℕ) → JoinedLine
 numbered n words = record { number = n; words = words }
@@ -21,7 +21,7 @@ lf_at_end : physical_lines (codes "a\n") ≡ codes "a" ∷ []
 lf_at_end = refl
 
 -- a comment and the blanks before it are cut, and the final `\` becomes a blank
-cuts : kept (codes "a b \\ # c") ≡ codes "a b  "
+cuts : joined_part (codes "a b \\ # c") ≡ codes "a b  "
 cuts = refl
 
 -- blanks before the `\` are kept, and count towards the length

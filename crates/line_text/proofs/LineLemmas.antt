@@ -5,7 +5,7 @@ use Rattle.std.proofs.lemmas.List.{append-nil}
 use Rattle.std.proofs.lemmas.Bool.Decides.{nat_tests}
 use Rattle.line_text.specs.Lines.{is_lawful, is_not_ascii, physical_lines, without_comment}
 use Rattle.line_text.specs.Physical.{IsContent, first_line, is_plain, later_lines}
-use Rattle.line_text.specs.Reading.{after}
+use Rattle.line_text.specs.Reading.{reading_after}
 
 abbrev is_end : ℕ → Bool
 is_end byte = eqb byte 10
@@ -106,8 +106,8 @@ ends_not_plain (x ∷ xs) rest y e =
     ] refl e
 
 -- if nothing more is before the comment
-is_content : (text content after rest : List ℕ) → content ≡ take (plain_end text) text → after ≡ drop (plain_end text) text → without_comment (first_line after) ≡ [] → rest ≡ later_lines after → IsContent text content rest
-is_content text content after rest c a none r =
+is_content : (text content reading_after rest : List ℕ) → content ≡ take (plain_end text) text → reading_after ≡ drop (plain_end text) text → without_comment (first_line reading_after) ≡ [] → rest ≡ later_lines reading_after → IsContent text content rest
+is_content text content reading_after rest c a none r =
     let whole : without_comment (first_line text) ≡ content =
     content-front text ∙ (ap (λ l. take (plain_end text) text ++ without_comment (first_line l)) (sym a) ∙ (ap (λ l. take (plain_end text) text ++ l) none ∙ (append-nil (take (plain_end text) text) ∙ sym c))) in
     record {
@@ -116,17 +116,17 @@ is_content text content after rest c a none r =
       later = r ∙ (ap later_lines a ∙ sym (later-front text));
     }
 
-pub is_content-end : (text content after : List ℕ) → content ≡ take (plain_end text) text → after ≡ drop (plain_end text) text → after ≡ [] → IsContent text content after
-is_content-end text content after c a e =
-    is_content text content after after c a (ap (λ l. without_comment (first_line l)) e) (e ∙ sym (ap later_lines e))
+pub is_content-end : (text content reading_after : List ℕ) → content ≡ take (plain_end text) text → reading_after ≡ drop (plain_end text) text → reading_after ≡ [] → IsContent text content reading_after
+is_content-end text content reading_after c a e =
+    is_content text content reading_after reading_after c a (ap (λ l. without_comment (first_line l)) e) (e ∙ sym (ap later_lines e))
 
-pub is_content-line : (text content after rest : List ℕ) → content ≡ take (plain_end text) text → after ≡ drop (plain_end text) text → after ≡ 10 ∷ rest → IsContent text content rest
-is_content-line text content after rest c a e =
-    is_content text content after rest c a (ap (λ l. without_comment (first_line l)) e) (sym (ap later_lines e))
+pub is_content-line : (text content reading_after rest : List ℕ) → content ≡ take (plain_end text) text → reading_after ≡ drop (plain_end text) text → reading_after ≡ 10 ∷ rest → IsContent text content rest
+is_content-line text content reading_after rest c a e =
+    is_content text content reading_after rest c a (ap (λ l. without_comment (first_line l)) e) (sym (ap later_lines e))
 
-pub is_content-comment : (text content after comment rest : List ℕ) → content ≡ take (plain_end text) text → after ≡ drop (plain_end text) text → after ≡ 35 ∷ comment → rest ≡ later_lines comment → IsContent text content rest
-is_content-comment text content after comment rest c a e r =
-    is_content text content after rest c a
+pub is_content-comment : (text content reading_after comment rest : List ℕ) → content ≡ take (plain_end text) text → reading_after ≡ drop (plain_end text) text → reading_after ≡ 35 ∷ comment → rest ≡ later_lines comment → IsContent text content rest
+is_content-comment text content reading_after comment rest c a e r =
+    is_content text content reading_after rest c a
     (ap (λ l. without_comment (first_line l)) e ∙ ap without_comment (before_first-cons is_end 35 comment refl))
     (r ∙ (sym (after_first-cons is_end 35 comment refl) ∙ sym (ap later_lines e)))
 
@@ -139,8 +139,8 @@ eqb-other : (x y : ℕ) → (x ≡ y → ⊥) → eqb x y ≡ false
 eqb-other x y ne = grind (arith, nat_tests)
 
 -- a byte that is not allowed is before the comment
-pub not_ascii-other : (text after rest : List ℕ) (y : ℕ) → after ≡ drop (plain_end text) text → after ≡ y ∷ rest → (y ≡ 10 → ⊥) → (y ≡ 35 → ⊥) → is_not_ascii (first_line text) ≡ true
-not_ascii-other text after rest y a e not_end not_hash =
+pub not_ascii-other : (text reading_after rest : List ℕ) (y : ℕ) → reading_after ≡ drop (plain_end text) text → reading_after ≡ y ∷ rest → (y ≡ 10 → ⊥) → (y ≡ 35 → ⊥) → is_not_ascii (first_line text) ≡ true
+not_ascii-other text reading_after rest y a e not_end not_hash =
     let hash = eqb-other y 35 not_hash in
     let front = take (plain_end text) text in
     let tail : without_comment (first_line (drop (plain_end text) text)) ≡ y ∷ without_comment (first_line rest) =

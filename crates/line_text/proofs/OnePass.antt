@@ -8,8 +8,8 @@ use Rattle.line_text.specs.declared.fault.LineFault.{LineFault}
 use Rattle.line_text.specs.declared.fault.LineFault.TheVariants.{NotAscii, LineTooLong}
 use Rattle.line_text.specs.Words.{is_blank, is_filled, words_of}
 use Rattle.line_text.specs.declared.lines.TheConstants.{MAX_LINE}
-use Rattle.line_text.specs.Lines.{JoinedLine, physical_lines, trimmed, without_comment, ends_in_backslash, without_last, kept, is_continued, is_not_ascii, runs, is_too_long, joined_bytes, joined, fault_of, lines_of_runs, lines_of}
-use Rattle.line_text.specs.Reading.{OpenLine, Reading, begun, extended, ended, settled, continued_or_ended, after, finished}
+use Rattle.line_text.specs.Lines.{JoinedLine, physical_lines, trim_end, without_comment, ends_in_backslash, without_last, joined_part, is_continued, is_not_ascii, runs, is_too_long, joined_bytes, joined_line, fault_of, lines_of_runs, lines_of}
+use Rattle.line_text.specs.Reading.{OpenLine, Reading, line_to_extend, longer_line, lines_with, closed_reading, continued_or_ended, reading_after, lines_at_end}
 
 -- a final `\` becomes a blank
 abbrev pub blanked : List ℕ → List ℕ
@@ -17,7 +17,7 @@ blanked bytes = cond (ends_in_backslash bytes) (without_last bytes ++ 32 ∷ [])
 
 -- what is wrong with a run that has this line that is not ASCII
 abbrev fault_at : Option (ℕ × List ℕ) → List (ℕ × List ℕ) → Option LineFault
-fault_at found run = option_or (option_map (λ line. NotAscii line.0) found) (cond (is_too_long run) (Some (LineTooLong (joined run).number)) None)
+fault_at found run = option_or (option_map (λ line. NotAscii line.0) found) (cond (is_too_long run) (Some (LineTooLong (joined_line run).number)) None)
 
 -- the first of the faults, or the lines if there are no faults
 abbrev pub unless_fault : List LineFault → List JoinedLine → Result (List JoinedLine) LineFault
@@ -55,19 +55,19 @@ pub words_of-blank : (xs ys : List ℕ) → words_of (xs ++ 32 ∷ ys) ≡ words
 words_of-blank xs ys = ap (filter is_filled) (slice_split-append is_blank xs 32 ys refl) ∙ filter-append is_filled (slice_split is_blank xs) (slice_split is_blank ys)
 
 -- a continued line adds its bytes without the last one, and a blank
-kept_continued : (line : List ℕ) → is_continued line ≡ true → kept line ≡ without_last (trimmed (without_comment line)) ++ 32 ∷ []
+kept_continued : (line : List ℕ) → is_continued line ≡ true → joined_part line ≡ without_last (trim_end (without_comment line)) ++ 32 ∷ []
 kept_continued line e = rw e
 
 -- the words of what a continued line adds, and of what follows it
-pub words_of-continued : (line rest : List ℕ) → is_continued line ≡ true → words_of (kept line ++ rest) ≡ words_of (kept line) ++ words_of rest
+pub words_of-continued : (line rest : List ℕ) → is_continued line ≡ true → words_of (joined_part line ++ rest) ≡ words_of (joined_part line) ++ words_of rest
 words_of-continued line rest e =
-    let body = without_last (trimmed (without_comment line)) in
-    let whole : kept line ≡ body ++ 32 ∷ [] = kept_continued line e in
+    let body = without_last (trim_end (without_comment line)) in
+    let whole : joined_part line ≡ body ++ 32 ∷ [] = kept_continued line e in
     ap (λ bytes. words_of (bytes ++ rest)) whole ∙ (ap words_of (append_assoc body (32 ∷ []) rest) ∙ (words_of-blank body rest ∙ ap (λ words. words ++ words_of rest) (sym (ap words_of whole ∙ (words_of-blank body [] ∙ append-nil (words_of body))))))
 
 -- the words of the lines of a run, line by line
 abbrev words_within : List (ℕ × List ℕ) → List (List ℕ)
-words_within run = flat_map (λ line. words_of (kept line.1)) run
+words_within run = flat_map (λ line. words_of (joined_part line.1)) run
 
 -- each of these lines is continued
 abbrev AreContinued : List (ℕ × List ℕ) → Type 0
@@ -83,10 +83,10 @@ AreAscii (line ∷ rest) = (is_not_ascii line.1 ≡ false) × AreAscii rest
 words_of-joined : (run : List (ℕ × List ℕ)) (rest : List ℕ) → AreContinued run → words_of (joined_bytes run ++ rest) ≡ words_within run ++ words_of rest
 words_of-joined [] rest h = refl
 words_of-joined (line ∷ run) rest h =
-    ap words_of (append_assoc (kept line.1) (joined_bytes run) rest)
+    ap words_of (append_assoc (joined_part line.1) (joined_bytes run) rest)
     ∙ (words_of-continued line.1 (joined_bytes run ++ rest) h.0
-    ∙ (ap (λ words. words_of (kept line.1) ++ words) (words_of-joined run rest h.1)
-    ∙ sym (append_assoc (words_of (kept line.1)) (words_within run) (words_of rest))))
+    ∙ (ap (λ words. words_of (joined_part line.1) ++ words) (words_of-joined run rest h.1)
+    ∙ sym (append_assoc (words_of (joined_part line.1)) (words_within run) (words_of rest))))
 
 -- these lines put before the first of the runs
 abbrev glued : List (ℕ × List ℕ) → List (List (ℕ × List ℕ)) → List (List (ℕ × List ℕ))
@@ -124,20 +124,20 @@ and_then (Err fault) f = Err fault
 
 -- the result of reading the lines one after another
 abbrev pub read_all : Reading → List (ℕ × List ℕ) → Result (List JoinedLine) LineFault
-read_all reading [] = finished reading
-read_all reading (line ∷ rest) = and_then (after reading line.0 line.1) (λ later. read_all later rest)
+read_all reading [] = lines_at_end reading
+read_all reading (line ∷ rest) = and_then (reading_after reading line.0 line.1) (λ later. read_all later rest)
 
 same_open : (n : ℕ) (words more : List (List ℕ)) (count count' : ℕ) → words ≡ more → count ≡ count' → Some (let line : OpenLine = record { number = n; words = words; count = count } in line) ≡ Some (record { number = n; words = more; count = count' })
 same_open n words more count count' e f = cc
 
 -- one more line of the open line
-extended-push : (run : List (ℕ × List ℕ)) (line : ℕ × List ℕ) → Some (extended (begun (open_of run) line.0) line.1) ≡ open_of (run ++ line ∷ [])
+extended-push : (run : List (ℕ × List ℕ)) (line : ℕ × List ℕ) → Some (longer_line (line_to_extend (open_of run) line.0) line.1) ≡ open_of (run ++ line ∷ [])
 extended-push [] line =
-    same_open line.0 _ _ _ _ (sym (append-nil (words_of (kept line.1)))) (omega (arith, ap length (append-nil (kept line.1))))
+    same_open line.0 _ _ _ _ (sym (append-nil (words_of (joined_part line.1)))) (omega (arith, ap length (append-nil (joined_part line.1))))
 extended-push (first ∷ run) line =
     same_open first.0 _ _ _ _
-    (ap (λ words. words_within (first ∷ run) ++ words) (sym (append-nil (words_of (kept line.1)))) ∙ sym (flat_map-append (λ (l : ℕ × List ℕ). words_of (kept l.1)) (first ∷ run) (line ∷ [])))
-    (ap (λ n. length (joined_bytes (first ∷ run)) + n) (ap length (sym (append-nil (kept line.1)))) ∙ (sym (length-append (joined_bytes (first ∷ run)) (joined_bytes (line ∷ []))) ∙ ap length (sym (flat_map-append (λ (l : ℕ × List ℕ). kept l.1) (first ∷ run) (line ∷ [])))))
+    (ap (λ words. words_within (first ∷ run) ++ words) (sym (append-nil (words_of (joined_part line.1)))) ∙ sym (flat_map-append (λ (l : ℕ × List ℕ). words_of (joined_part l.1)) (first ∷ run) (line ∷ [])))
+    (ap (λ n. length (joined_bytes (first ∷ run)) + n) (ap length (sym (append-nil (joined_part line.1)))) ∙ (sym (length-append (joined_bytes (first ∷ run)) (joined_bytes (line ∷ []))) ∙ ap length (sym (flat_map-append (λ (l : ℕ × List ℕ). joined_part l.1) (first ∷ run) (line ∷ [])))))
 
 ended_by_cases : (done lines : List JoinedLine) (faults : List LineFault) (n : ℕ) (line : JoinedLine) (has_words is_long : Bool) → onto done (unless_fault (cons_option (cond (has_words && is_long) (Some (LineTooLong n)) None) faults) (cond has_words (line ∷ lines) lines)) ≡ and_then (cond has_words (cond is_long (Err (LineTooLong n)) (Ok (done ++ line ∷ []))) (Ok done)) (λ before. onto before (unless_fault faults lines))
 ended_by_cases done lines faults n line false is_long = refl
@@ -154,18 +154,18 @@ find-first [] line tail a e = rw e
 find-first (first ∷ run) line tail a e = rw a.0 (find-first run line tail a.1 e)
 
 -- a run that is ASCII, when it ends
-ended-run : (done : List JoinedLine) (run : List (ℕ × List ℕ)) (line : OpenLine) (all : List (List (ℕ × List ℕ))) → open_of run ≡ Some line → words_of (joined_bytes run) ≡ words_within run → AreAscii run → onto done (lines_of_runs (run ∷ all)) ≡ and_then (ended done line) (λ lines. onto lines (lines_of_runs all))
+ended-run : (done : List JoinedLine) (run : List (ℕ × List ℕ)) (line : OpenLine) (all : List (List (ℕ × List ℕ))) → open_of run ≡ Some line → words_of (joined_bytes run) ≡ words_within run → AreAscii run → onto done (lines_of_runs (run ∷ all)) ≡ and_then (lines_with done line) (λ lines. onto lines (lines_of_runs all))
 ended-run done [] line all o w a = cc
 ended-run done (first ∷ run) line all o w a =
     let bytes = joined_bytes (first ∷ run) in
     let faults = filter_map fault_of all in
-    let lines = filter (λ (l : JoinedLine). is_filled l.words) (map joined all) in
+    let lines = filter (λ (l : JoinedLine). is_filled l.words) (map joined_line all) in
     let whole : OpenLine = record { number = first.0; words = words_within (first ∷ run); count = length bytes } in
     let same : whole ≡ line = cc in
-    ap (λ found. onto done (unless_fault (cons_option (fault_at found (first ∷ run)) faults) (cond (is_filled (words_of bytes)) (joined (first ∷ run) ∷ lines) lines))) (find-none (first ∷ run) a)
+    ap (λ found. onto done (unless_fault (cons_option (fault_at found (first ∷ run)) faults) (cond (is_filled (words_of bytes)) (joined_line (first ∷ run) ∷ lines) lines))) (find-none (first ∷ run) a)
     ∙ (ap (λ words. onto done (unless_fault (cons_option (cond (is_filled words && nat_lt MAX_LINE (length bytes)) (Some (LineTooLong first.0)) None) faults) (cond (is_filled words) (record { number = first.0; words = words } ∷ lines) lines))) w
     ∙ (ended_by_cases done lines faults first.0 (record { number = first.0; words = whole.words }) (is_filled whole.words) (nat_lt MAX_LINE (length bytes))
-    ∙ ap (λ (l : OpenLine). and_then (ended done l) (λ more. onto more (lines_of_runs all))) same))
+    ∙ ap (λ (l : OpenLine). and_then (lines_with done l) (λ more. onto more (lines_of_runs all))) same))
 
 AreAscii-push : (run : List (ℕ × List ℕ)) (line : ℕ × List ℕ) → AreAscii run → is_not_ascii line.1 ≡ false → AreAscii (run ++ line ∷ [])
 AreAscii-push [] line a e = (e, tt)
@@ -181,9 +181,9 @@ words_of-run run c =
 
 words_of-run_push : (run : List (ℕ × List ℕ)) (line : ℕ × List ℕ) → AreContinued run → words_of (joined_bytes (run ++ line ∷ [])) ≡ words_within (run ++ line ∷ [])
 words_of-run_push run line c =
-    ap words_of (flat_map-append (λ (l : ℕ × List ℕ). kept l.1) run (line ∷ []) ∙ ap (λ bytes. joined_bytes run ++ bytes) (append-nil (kept line.1)))
-    ∙ (words_of-joined run (kept line.1) c
-    ∙ (ap (λ words. words_within run ++ words) (sym (append-nil (words_of (kept line.1)))) ∙ sym (flat_map-append (λ (l : ℕ × List ℕ). words_of (kept l.1)) run (line ∷ []))))
+    ap words_of (flat_map-append (λ (l : ℕ × List ℕ). joined_part l.1) run (line ∷ []) ∙ ap (λ bytes. joined_bytes run ++ bytes) (append-nil (joined_part line.1)))
+    ∙ (words_of-joined run (joined_part line.1) c
+    ∙ (ap (λ words. words_within run ++ words) (sym (append-nil (words_of (joined_part line.1)))) ∙ sym (flat_map-append (λ (l : ℕ × List ℕ). words_of (joined_part l.1)) run (line ∷ []))))
 
 -- reading on from this state has the result that the remaining runs define
 abbrev GivesRuns : List (ℕ × List ℕ) → List JoinedLine → List (ℕ × List ℕ) → Type 0
@@ -193,7 +193,7 @@ at_end : (done : List JoinedLine) (run : List (ℕ × List ℕ)) → AreContinue
 at_end done [] c a = ap Ok (sym (append-nil done))
 at_end done (first ∷ run) c a =
     let whole : OpenLine = record { number = first.0; words = words_within (first ∷ run); count = length (joined_bytes (first ∷ run)) } in
-    sym (ap (λ all. onto done (lines_of_runs all)) (glued-nil first run) ∙ (ended-run done (first ∷ run) whole [] refl (words_of-run (first ∷ run) c) a ∙ same_ended (ended done whole)))
+    sym (ap (λ all. onto done (lines_of_runs all)) (glued-nil first run) ∙ (ended-run done (first ∷ run) whole [] refl (words_of-run (first ∷ run) c) a ∙ same_ended (lines_with done whole)))
   where
     same_ended : (r : Result (List JoinedLine) LineFault) → and_then r (λ lines. Ok (lines ++ [])) ≡ r
     same_ended (Ok lines) = ap Ok (append-nil lines)
@@ -212,9 +212,9 @@ not_ascii done run line rest a e =
     let parts = first_of_runs line rest in
     ap (λ all. onto done (lines_of_runs (glued run all))) parts.2
     ∙ (ap (λ all. onto done (lines_of_runs all)) (glued-cons run (line ∷ parts.0) parts.1)
-    ∙ ap (λ found. onto done (unless_fault (cons_option (fault_at found (run ++ line ∷ parts.0)) (filter_map fault_of parts.1)) (filter (λ (l : JoinedLine). is_filled l.words) (map joined ((run ++ line ∷ parts.0) ∷ parts.1))))) (find-first run line parts.0 a e))
+    ∙ ap (λ found. onto done (unless_fault (cons_option (fault_at found (run ++ line ∷ parts.0)) (filter_map fault_of parts.1)) (filter (λ (l : JoinedLine). is_filled l.words) (map joined_line ((run ++ line ∷ parts.0) ∷ parts.1))))) (find-first run line parts.0 a e))
 
-read_settled : (rest : List (ℕ × List ℕ)) → ((done : List JoinedLine) → GivesRuns rest done []) → (r : Result (List JoinedLine) LineFault) → and_then (settled r) (λ later. read_all later rest) ≡ and_then r (λ lines. onto lines (lines_of_runs (runs rest)))
+read_settled : (rest : List (ℕ × List ℕ)) → ((done : List JoinedLine) → GivesRuns rest done []) → (r : Result (List JoinedLine) LineFault) → and_then (closed_reading r) (λ later. read_all later rest) ≡ and_then r (λ lines. onto lines (lines_of_runs (runs rest)))
 read_settled rest h (Ok lines) = h lines
 read_settled rest h (Err fault) = refl
 
@@ -227,14 +227,14 @@ one_line line rest h done run c a =
         | true ↦ λ e. ap (λ line'. read_all (record { done = done; unfinished = line' }) rest) (extended-push run line)
             ∙ (h done (run ++ line ∷ []) (AreContinued-push run line c e) (AreAscii-push run line a ascii)
             ∙ ap (λ all. onto done (lines_of_runs all)) (glued-push run line (runs rest)))
-        | false ↦ λ e. read_settled rest (λ lines. h lines [] tt tt) (ended done new)
+        | false ↦ λ e. read_settled rest (λ lines. h lines [] tt tt) (lines_with done new)
             ∙ sym (ap (λ all. onto done (lines_of_runs all)) (glued-cons run (line ∷ []) (runs rest))
             ∙ ended-run done (run ++ line ∷ []) new (runs rest) (sym (extended-push run line)) (words_of-run_push run line c) (AreAscii-push run line a ascii))
       ] refl
     ] refl
   where
     new : OpenLine
-    new = extended (begun (open_of run) line.0) line.1
+    new = longer_line (line_to_extend (open_of run) line.0) line.1
 
 read_as_runs : (rest : List (ℕ × List ℕ)) (done : List JoinedLine) (run : List (ℕ × List ℕ)) → AreContinued run → AreAscii run → GivesRuns rest done run
 read_as_runs [] done run c a = at_end done run c a

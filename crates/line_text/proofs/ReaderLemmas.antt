@@ -9,8 +9,8 @@ use Rattle.line_text.specs.declared.text_error.TextError.{TextError}
 use Rattle.line_text.specs.declared.text_error.TextError.TheVariants.{NoMemory, Fault}
 use Rattle.line_text.specs.Words.{is_filled, words_of}
 use Rattle.line_text.specs.declared.lines.TheConstants.{MAX_LINE}
-use Rattle.line_text.specs.Lines.{JoinedLine, ends_in_backslash, without_last, without_comment, trimmed, is_continued, is_not_ascii}
-use Rattle.line_text.specs.Reading.{OpenLine, Reading, begun, ended, extended, after, continued_or_ended}
+use Rattle.line_text.specs.Lines.{JoinedLine, ends_in_backslash, without_last, without_comment, trim_end, is_continued, is_not_ascii}
+use Rattle.line_text.specs.Reading.{OpenLine, Reading, line_to_extend, lines_with, longer_line, reading_after, continued_or_ended}
 use Rattle.line_text.specs.Spans.{AreWithin, seen_line, seen_lines}
 use Rattle.line_text.specs.Reader.{IsReadOn}
 use Rattle.line_text.proofs.OnePass.{blanked, words_of-blank}
@@ -35,7 +35,7 @@ is_filled-drop (suc n) [] h = absurd (omega arith)
 is_filled-drop (suc n) (x ∷ xs) h = is_filled-drop n xs (omega arith)
 
 -- an open line with words and too many bytes
-pub ended-too_long : (done : List JoinedLine) (words : List (List ℕ)) (n start count : ℕ) → start < length words → MAX_LINE < count → ended done (record { number = n; words = drop start words; count = count }) ≡ Err (LineTooLong n)
+pub ended-too_long : (done : List JoinedLine) (words : List (List ℕ)) (n start count : ℕ) → start < length words → MAX_LINE < count → lines_with done (record { number = n; words = drop start words; count = count }) ≡ Err (LineTooLong n)
 ended-too_long done words n start count h l =
     let long : nat_lt MAX_LINE count ≡ true = grind (arith, nat_tests) in
     ap (λ b. cond b (cond (nat_lt MAX_LINE count) (Err (LineTooLong n)) (Ok (done ++ record { number = n; words = drop start words } ∷ []))) (Ok done)) (is_filled-drop start words h)
@@ -52,7 +52,7 @@ from_three (Ok x) P Q R S p q r f = f p q r
 from_three (Err x) P Q R S p q r f = tt
 
 -- a step that can fail only if memory runs out
-pub read_on : (r : Result (Unit {0}) (TextError LineFault)) (old new : Reading) (n : ℕ) (physical : List ℕ) → OnOk r (after old n physical ≡ Ok new) → IfErr r (λ e. e ≡ NoMemory) → IsReadOn old n physical r new
+pub read_on : (r : Result (Unit {0}) (TextError LineFault)) (old new : Reading) (n : ℕ) (physical : List ℕ) → OnOk r (reading_after old n physical ≡ Ok new) → IfErr r (λ e. e ≡ NoMemory) → IsReadOn old n physical r new
 read_on (Ok x) old new n physical h e = h
 read_on (Err NoMemory) old new n physical h e = tt
 read_on (Err (Fault fault)) old new n physical h e = absurd (cc)
@@ -66,19 +66,19 @@ same_words (x ∷ xs) e =
     )
 
 -- a physical line that is continued
-pub after-continued : (old new : Reading) (n : ℕ) (physical bytes before : List ℕ) (mid last : OpenLine) → is_not_ascii physical ≡ false → mid ≡ begun old.unfinished n → bytes ≡ trimmed (without_comment physical) → ends_in_backslash bytes ≡ true → before ≡ without_last bytes → last ≡ record { number = mid.number; words = mid.words ++ words_of before; count = mid.count + length bytes } → new.done ≡ old.done → new.unfinished ≡ Some last → after old n physical ≡ Ok new
+pub after-continued : (old new : Reading) (n : ℕ) (physical bytes before : List ℕ) (mid last : OpenLine) → is_not_ascii physical ≡ false → mid ≡ line_to_extend old.unfinished n → bytes ≡ trim_end (without_comment physical) → ends_in_backslash bytes ≡ true → before ≡ without_last bytes → last ≡ record { number = mid.number; words = mid.words ++ words_of before; count = mid.count + length bytes } → new.done ≡ old.done → new.unfinished ≡ Some last → reading_after old n physical ≡ Ok new
 after-continued old new n physical bytes before mid last ascii m b e w l d u =
-    let shown = trimmed (without_comment physical) in
+    let shown = trim_end (without_comment physical) in
     let ends : ends_in_backslash shown ≡ true = sym (ap ends_in_backslash b) ∙ e in
     let same = same_words shown ends in
-    let line = begun old.unfinished n in
+    let line = line_to_extend old.unfinished n in
     let words : words_of (blanked shown) ≡ words_of before = same.0 ∙ ap words_of (ap without_last (sym b) ∙ sym w) in
     let count : length (blanked shown) ≡ length bytes = same.1 ∙ ap length (sym b) in
-    let open_line : extended line physical ≡ last =
+    let open_line : longer_line line physical ≡ last =
     ap (λ ws. let l : OpenLine = record { number = line.number; words = line.words ++ ws; count = line.count + length (blanked shown) } in l) words
     ∙ (ap (λ n. let l : OpenLine = record { number = line.number; words = line.words ++ words_of before; count = line.count + n } in l) count
     ∙ (ap (λ (m : OpenLine). let l : OpenLine = record { number = m.number; words = m.words ++ words_of before; count = m.count + length bytes } in l) (sym m) ∙ sym l)) in
-    ap (λ t. cond t (Err (NotAscii n)) (continued_or_ended (is_continued physical) old.done (extended line physical))) ascii
-    ∙ (ap (λ t. continued_or_ended t old.done (extended line physical)) ends
+    ap (λ t. cond t (Err (NotAscii n)) (continued_or_ended (is_continued physical) old.done (longer_line line physical))) ascii
+    ∙ (ap (λ t. continued_or_ended t old.done (longer_line line physical)) ends
     ∙ (ap (λ unfinished. Ok (let r : Reading = record { done = old.done; unfinished = unfinished } in r)) (ap Some open_line ∙ sym u)
     ∙ ap (λ done. Ok (let r : Reading = record { done = done; unfinished = new.unfinished } in r)) (sym d)))

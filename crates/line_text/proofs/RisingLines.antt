@@ -1,7 +1,7 @@
 -- The lines of a text have increasing numbers.
 use Rattle.std.proofs.Common.{◌≡◌, ℕ, ◌+◌, ◌≤◌, Bool, true, false, cond, List, [], ◌∷◌, Result, Ok, Err, IfOk, map, filter, if◌then◌else◌, arith}
 use Rattle.std.specs.List.{enumerate_from, filter_map, onto_first}
-use Rattle.line_text.specs.Lines.{JoinedLine, fault_of, is_continued, joined, lines_of, physical_lines, runs}
+use Rattle.line_text.specs.Lines.{JoinedLine, fault_of, is_continued, joined_line, lines_of, physical_lines, runs}
 use Rattle.line_text.specs.Words.{is_filled}
 use Rattle.line_text.specs.declared.fault.LineFault.{LineFault}
 use Rattle.line_text.specs.LineOrder.{RisesFrom}
@@ -22,21 +22,21 @@ rises_filtered p low (line ∷ lines) h = by (p line) (rises_filtered p (line.nu
     by false rest = rises_lower low (line.number + 1) (filter p lines) (omega (arith, h.0)) rest
 
 -- the joined lines of physical lines that are numbered from this number on have increasing numbers
-rises_joined : (number : ℕ) (physical : List (List ℕ)) → RisesFrom number (map joined (runs (enumerate_from number physical)))
+rises_joined : (number : ℕ) (physical : List (List ℕ)) → RisesFrom number (map joined_line (runs (enumerate_from number physical)))
 rises_joined number [] = tt
 rises_joined number (line ∷ physical) = by (is_continued line) (runs (enumerate_from (number + 1) physical)) (rises_joined (number + 1) physical)
   where
-    by : (b : Bool) (rest : List (List (ℕ × List ℕ))) → RisesFrom (number + 1) (map joined rest) → RisesFrom number (map joined (if b then onto_first (number, line) rest else ((number, line) ∷ []) ∷ rest))
+    by : (b : Bool) (rest : List (List (ℕ × List ℕ))) → RisesFrom (number + 1) (map joined_line rest) → RisesFrom number (map joined_line (if b then onto_first (number, line) rest else ((number, line) ∷ []) ∷ rest))
     by false rest h = (omega arith, h)
     by true [] h = (omega arith, tt)
-    by true (run ∷ rest) h = (omega arith, rises_lower (number + 1) ((joined run).number + 1) (map joined rest) (omega (arith, h.0)) h.1)
+    by true (run ∷ rest) h = (omega arith, rises_lower (number + 1) ((joined_line run).number + 1) (map joined_line rest) (omega (arith, h.0)) h.1)
 
 rises_in_text : (text : List ℕ) (lines : List JoinedLine) → lines_of text ≡ Ok lines → RisesFrom 1 lines
 unfolding lines_of
 rises_in_text text lines h = by (filter_map fault_of (runs (enumerate_from 1 (physical_lines text)))) h
   where
     all : List JoinedLine
-    all = map joined (runs (enumerate_from 1 (physical_lines text)))
+    all = map joined_line (runs (enumerate_from 1 (physical_lines text)))
 
     by : (faults : List LineFault) → unless_fault faults (filter (λ line. is_filled line.words) all) ≡ Ok lines → RisesFrom 1 lines
     by [] e =

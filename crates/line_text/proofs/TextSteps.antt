@@ -5,10 +5,10 @@ use Rattle.line_text.specs.declared.fault.LineFault.{LineFault}
 use Rattle.line_text.specs.declared.fault.LineFault.TheVariants.{NotAscii}
 use Rattle.line_text.specs.declared.text_error.TextError.{TextError}
 use Rattle.line_text.specs.declared.text_error.TextError.TheVariants.{NoMemory, Fault}
-use Rattle.line_text.specs.Lines.{JoinedLine, is_lawful, is_not_ascii, physical_lines, trimmed, ends_in_backslash, without_comment}
+use Rattle.line_text.specs.Lines.{JoinedLine, is_lawful, is_not_ascii, physical_lines, trim_end, ends_in_backslash, without_comment}
 use Rattle.line_text.specs.TextErrors.{Gives}
 use Rattle.line_text.specs.Physical.{IsContent, first_line, later_lines}
-use Rattle.line_text.specs.Reading.{OpenLine, Reading, after, begun, continued_or_ended, finished}
+use Rattle.line_text.specs.Reading.{OpenLine, Reading, reading_after, line_to_extend, continued_or_ended, lines_at_end}
 use Rattle.line_text.specs.Reader.{IsReadOn}
 use Rattle.line_text.specs.Words.{words_of}
 use Rattle.line_text.proofs.LineLemmas.{content-again, is_empty, physical_lines-first}
@@ -18,24 +18,24 @@ use Rattle.line_text.proofs.OnePass.{and_then, blanked, read_all}
 abbrev pub read_from : Reading → ℕ → List ℕ → Result (List JoinedLine) LineFault
 read_from reading n rest = read_all reading (enumerate_from (n + 1) (physical_lines rest))
 
-read_from-first : (reading : Reading) (n : ℕ) (rest : List ℕ) → 0 < length rest → read_from reading n rest ≡ and_then (after reading (n + 1) (first_line rest)) (λ later. read_from later (n + 1) (later_lines rest))
+read_from-first : (reading : Reading) (n : ℕ) (rest : List ℕ) → 0 < length rest → read_from reading n rest ≡ and_then (reading_after reading (n + 1) (first_line rest)) (λ later. read_from later (n + 1) (later_lines rest))
 read_from-first reading n rest h =
     ap (λ lines. read_all reading (enumerate_from (n + 1) lines)) (physical_lines-first rest h)
 
 -- reading on when nothing is left
-pub read_from-end : (reading : Reading) (n : ℕ) (rest : List ℕ) → length rest ≡ 0 → read_from reading n rest ≡ finished reading
+pub read_from-end : (reading : Reading) (n : ℕ) (rest : List ℕ) → length rest ≡ 0 → read_from reading n rest ≡ lines_at_end reading
 read_from-end reading n rest none = ap (read_from reading n) (is_empty rest none)
 
 -- the state after an ASCII line with this content
 abbrev after_ascii : Reading → ℕ → List ℕ → Result Reading LineFault
 after_ascii reading n content =
-    continued_or_ended (ends_in_backslash (trimmed content)) reading.done (let line = begun reading.unfinished n in let open_line : OpenLine = record { number = line.number; words = line.words ++ words_of (blanked (trimmed content)); count = line.count + length (blanked (trimmed content)) } in open_line)
+    continued_or_ended (ends_in_backslash (trim_end content)) reading.done (let line = line_to_extend reading.unfinished n in let open_line : OpenLine = record { number = line.number; words = line.words ++ words_of (blanked (trim_end content)); count = line.count + length (blanked (trim_end content)) } in open_line)
 
 -- the state after a line with this content
 abbrev after_content : Reading → ℕ → List ℕ → Result Reading LineFault
 after_content reading n content = cond (not (list_all is_lawful content)) (Err (NotAscii n)) (after_ascii reading n content)
 
-same_after : (reading : Reading) (n : ℕ) (line content : List ℕ) → content ≡ without_comment line → after reading n line ≡ after reading n content
+same_after : (reading : Reading) (n : ℕ) (line content : List ℕ) → content ≡ without_comment line → reading_after reading n line ≡ reading_after reading n content
 same_after reading n line content e = ap (after_content reading n) (sym e ∙ sym (content-again line content e))
 
 pub read_from-not_ascii : (reading : Reading) (n : ℕ) (rest : List ℕ) → 0 < length rest → is_not_ascii (first_line rest) ≡ true → read_from reading n rest ≡ Err (NotAscii (n + 1))
@@ -48,7 +48,7 @@ is_content-ascii text content rest h =
     ap (λ l. not (list_all is_lawful l)) (content-again (first_line text) content h.kept ∙ h.kept) ∙ h.ascii
 
 -- a line that is read
-pub read_from-ok : (reading later : Reading) (n : ℕ) (rest content others : List ℕ) → 0 < length rest → IsContent rest content others → after reading (n + 1) content ≡ Ok later → read_from reading n rest ≡ read_from later (n + 1) others
+pub read_from-ok : (reading later : Reading) (n : ℕ) (rest content others : List ℕ) → 0 < length rest → IsContent rest content others → reading_after reading (n + 1) content ≡ Ok later → read_from reading n rest ≡ read_from later (n + 1) others
 read_from-ok reading later n rest content others h is e =
     read_from-first reading n rest h
     ∙ (ap (λ r. and_then r (λ later. read_from later (n + 1) (later_lines rest))) (same_after reading (n + 1) (first_line rest) content is.kept ∙ e)

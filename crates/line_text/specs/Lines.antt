@@ -17,8 +17,8 @@ abbrev pub with_first : List ℕ → JoinedLine → JoinedLine
 with_first word line = record { number = line.number; words = word ∷ line.words }
 
 -- the line without its first word
-abbrev pub behind_first : JoinedLine → JoinedLine
-behind_first line = record { number = line.number; words = drop 1 line.words }
+abbrev pub without_first : JoinedLine → JoinedLine
+without_first line = record { number = line.number; words = drop 1 line.words }
 
 -- the physical lines: each ends at LF or at the end of the text
 abbrev pub physical_lines : List ℕ → List (List ℕ)
@@ -31,8 +31,8 @@ abbrev pub without_comment : List ℕ → List ℕ
 without_comment line = before_first (λ byte. byte == 35) line
 
 -- the bytes without the blanks at their end
-abbrev pub trimmed : List ℕ → List ℕ
-trimmed bytes = take (length bytes - suffix_len is_blank bytes) bytes
+abbrev pub trim_end : List ℕ → List ℕ
+trim_end bytes = take (length bytes - suffix_len is_blank bytes) bytes
 
 -- whether the last of these bytes is `\`
 abbrev pub ends_in_backslash : List ℕ → Bool
@@ -44,11 +44,11 @@ without_last bytes = take (length bytes - 1) bytes
 
 -- whether a physical line is continued on the next one
 abbrev pub is_continued : List ℕ → Bool
-is_continued line = ends_in_backslash (trimmed (without_comment line))
+is_continued line = ends_in_backslash (trim_end (without_comment line))
 
 -- what a physical line adds to its joined line: a final `\` becomes a blank
-abbrev pub kept : List ℕ → List ℕ
-kept line = if is_continued line then without_last (trimmed (without_comment line)) ++ 32 ∷ [] else trimmed (without_comment line)
+abbrev pub joined_part : List ℕ → List ℕ
+joined_part line = if is_continued line then without_last (trim_end (without_comment line)) ++ 32 ∷ [] else trim_end (without_comment line)
 
 -- whether a byte is allowed outside comments: a blank, or a printing ASCII character
 abbrev pub is_lawful : ℕ → Bool
@@ -65,11 +65,11 @@ runs (line ∷ rest) = if is_continued line.1 then onto_first line (runs rest) e
 
 -- the bytes of the joined line of a run
 abbrev pub joined_bytes : List (ℕ × List ℕ) → List ℕ
-joined_bytes run = flat_map (λ line. kept line.1) run
+joined_bytes run = flat_map (λ line. joined_part line.1) run
 
 -- the joined line of a run, with the number of its first line
-abbrev pub joined : List (ℕ × List ℕ) → JoinedLine
-joined run = record { number = slice_index (map (λ line. line.0) run) 0; words = words_of (joined_bytes run) }
+abbrev pub joined_line : List (ℕ × List ℕ) → JoinedLine
+joined_line run = record { number = slice_index (map (λ line. line.0) run) 0; words = words_of (joined_bytes run) }
 
 -- whether the joined line of a run has words and too many bytes
 abbrev pub is_too_long : List (ℕ × List ℕ) → Bool
@@ -78,11 +78,11 @@ is_too_long run = is_filled (words_of (joined_bytes run)) && nat_lt MAX_LINE (le
 -- what is wrong with a run: a line that is not ASCII is reported before the length of the whole run
 abbrev pub fault_of : List (ℕ × List ℕ) → Option LineFault
 fault_of run =
-    option_or (option_map (λ line. NotAscii line.0) (find (λ line. is_not_ascii line.1) run)) (if is_too_long run then Some (LineTooLong (joined run).number) else None)
+    option_or (option_map (λ line. NotAscii line.0) (find (λ line. is_not_ascii line.1) run)) (if is_too_long run then Some (LineTooLong (joined_line run).number) else None)
 
 -- the joined lines that have words, or the fault of the first run that has one
 abbrev pub lines_of_runs : List (List (ℕ × List ℕ)) → Result (List JoinedLine) LineFault
-lines_of_runs all = option_map_or Err (slice_get (filter_map fault_of all) 0) (Ok (filter (λ line. is_filled line.words) (map joined all)))
+lines_of_runs all = option_map_or Err (slice_get (filter_map fault_of all) 0) (Ok (filter (λ line. is_filled line.words) (map joined_line all)))
 
 -- the joined lines of a text that have words, or the least fault
 unfoldable pub lines_of : List ℕ → Result (List JoinedLine) LineFault

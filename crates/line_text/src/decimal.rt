@@ -4,13 +4,13 @@ ghost use Rattle.std.specs.List.{list_all};
 ghost use Rattle.line_text.specs.Decimal.{decimal_of, fraction_digits, is_digit, is_point, millionths_of, value_of, whole_digits, whole_of, with_digit};
 
 /// The largest number of digits of a whole number.
-const MOST_DIGITS: usize = 9;
+const MAX_DIGITS: usize = 9;
 
 /// The factor that turns a fraction into millionths, by its number of digits.
 const SCALES: [u64; 7] = [1_000_000, 100_000, 10_000, 1_000, 100, 10, 1];
 
 /// The largest whole part of a decimal.
-const MOST_WHOLE: u64 = 1_000_000;
+const MAX_WHOLE: u64 = 1_000_000;
 
 /// The number with one more digit, or `None` if the byte is not a digit or the number doesn't fit.
 fn with_byte(number: u64, byte: u8) -> Option<u64>
@@ -41,7 +41,7 @@ fn digits(bytes: &[u8]) -> Option<u64>
 pub fn whole_number(bytes: &[u8]) -> Option<u32>
     ensures { result ≡ whole_of bytes.now }
 {
-    if bytes.len() > MOST_DIGITS {
+    if bytes.len() > MAX_DIGITS {
         return None;
     }
     decimal_u32(bytes)
@@ -89,7 +89,7 @@ fn whole_part(bytes: &[u8]) -> Option<u64>
     ensures bound { IfSome result (λ n. n ≤ 1000000) }
 {
     match digits(bytes) {
-        Some(whole) if whole <= MOST_WHOLE => Some(whole),
+        Some(whole) if whole <= MAX_WHOLE => Some(whole),
         _ => None,
     }
 }

@@ -16,7 +16,7 @@
 //! A [`NameSet`] numbers different names in the order in which they first appear.
 //!
 //! Bytes are read from a [`Source`] and written to a [`Sink`]. Both return [`Failed`] from their
-//! first failure on. [`write_parts`] writes a text that is given in parts: the sink takes all of
+//! first failure on. [`write_slices`] writes a text that is given in parts: the sink takes all of
 //! it, or a beginning of it if it fails (`specs/Writing.antt`).
 #![tactic(auto)]
 
@@ -53,4 +53,4 @@ pub use std_source::StdSource;
 pub use text::Text;
 pub use text_error::TextError;
 pub use words::{append_words, is_blank, is_word, skip_blanks, split_word, word_end, word_start};
-pub use writing::write_parts;
+pub use writing::write_slices;

@@ -1,6 +1,6 @@
 //! A joined line of a text, or what is left of it after some of its words have been read.
 ghost use Rattle.std.specs.Prelude.{◌≡◌, [], MatchOption};
-ghost use Rattle.line_text.specs.Lines.{behind_first, with_first};
+ghost use Rattle.line_text.specs.Lines.{without_first, with_first};
 ghost use Rattle.line_text.specs.Words.{texts};
 
 use std::marker::Model;
@@ -56,8 +56,8 @@ impl<'a, 't> Line<'a, 't> {
     }
 
     /// The line without its first word.
-    pub fn behind_first(&self) -> Line<'a, 't>
-        ensures { result ≡ behind_first self.now }
+    pub fn without_first(&self) -> Line<'a, 't>
+        ensures { result ≡ without_first self.now }
     {
         match self.words {
             [] => Line::new(self.number, self.words),

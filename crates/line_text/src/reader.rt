@@ -1,6 +1,6 @@
 //! Joined lines, read one physical line after another.
 ghost use Rattle.std.specs.Prelude.{◌≡◌, ◌+◌, ◌≤◌, ◌<◌, ◌^◌, length, OnOk, ◌==◌, MatchOption, IfErr, ◌++◌, [], true, false};
-ghost use Rattle.line_text.specs.Lines.{ends_in_backslash, is_not_ascii, trimmed as trimmed_bytes, without_comment, without_last};
+ghost use Rattle.line_text.specs.Lines.{ends_in_backslash, is_not_ascii, trim_end as trimmed_bytes, without_comment, without_last};
 ghost use Rattle.line_text.specs.Spans.{AreWithin};
 ghost use Rattle.line_text.specs.Words.{words_of};
 
@@ -11,7 +11,7 @@ use crate::words::{append_words, is_blank};
 use std::alloc::Global;
 
 /// The bytes without the blanks at their end.
-fn trimmed(bytes: &[u8]) -> &[u8]
+fn trim_end(bytes: &[u8]) -> &[u8]
     ensures { result.now ≡ trimmed_bytes bytes.now }
 {
     let mut end = bytes.len();
@@ -48,7 +48,7 @@ pub(crate) struct Reader<'t> {
 
 impl<'t> Reader<'t> {
     ghost use Rattle.line_text.specs.Reader.{IsEnded, IsReadOn, done_of, line_if, open_line, reading_of};
-    ghost use Rattle.line_text.specs.Reading.{begun, finished};
+    ghost use Rattle.line_text.specs.Reading.{line_to_extend, lines_at_end};
     ghost use Rattle.line_text.specs.TextErrors.{Gives};
 
     /// A reader that has read nothing.
@@ -93,7 +93,8 @@ impl<'t> Reader<'t> {
     /// Begins a line with this number if no line is open.
     fn begin_line(&mut self, number: u32)
         ensures done { done_of self.new ≡ done_of self.old }
-        ensures line { open_line self.new ≡ begun (line_if self.old.is_open (open_line self.old))
+        ensures line { open_line self.new ≡ line_to_extend (line_if self.old.is_open (open_line
+            self.old))
             number }
         ensures opened { self.new.is_open ≡ true }
         ensures count { self.new.count ≤ self.old.count }
@@ -133,7 +134,7 @@ impl<'t> Reader<'t> {
         ensures count { OnOk result (self.new.count ≤ self.old.count + length line.now) }
     {
         self.begin_line(number);
-        let bytes = trimmed(line);
+        let bytes = trim_end(line);
         match before_backslash(bytes) {
             Some(before) => self.extend(before, bytes.len()),
             None => {
@@ -145,7 +146,7 @@ impl<'t> Reader<'t> {
 
     /// The lines of the text that was read. Ends the open line first.
     pub(crate) fn finish(mut self) -> Result<Lines<'t>, LineError>
-        ensures { Gives (finished (reading_of self.entry)) result }
+        ensures { Gives (lines_at_end (reading_of self.entry)) result }
     {
         if self.is_open {
             self.end_line()?;

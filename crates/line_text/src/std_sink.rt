@@ -8,7 +8,7 @@ use crate::source::Failed;
 use std::io::{ErrorKind, Write};
 
 /// The largest number of tries of a call that is interrupted.
-const MOST_TRIES: u32 = 1_000_000;
+const MAX_TRIES: u32 = 1_000_000;
 
 /// A sink over a writer of the standard library. An interrupted call is made again. From the
 /// writer's first failure on it returns [`Failed`], as [`Sink`] requires, whatever the writer would
@@ -47,7 +47,7 @@ fn write_once<W: Write>(writer: &mut W, bytes: &[u8]) -> Result<usize, Failed>
         (take n bytes.now)) }
     ensures err { OnErr result (Keeps (W.contents writer.old) (W.contents writer.new)) }
 {
-    for _ in 0..MOST_TRIES {
+    for _ in 0..MAX_TRIES {
         match writer.write(bytes) {
             Ok(count) => return Ok(count),
             Err(e) => {

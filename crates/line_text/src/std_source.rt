@@ -7,7 +7,7 @@ use crate::source::{Failed, Source};
 use std::io::{ErrorKind, Read};
 
 /// The largest number of tries of a call that is interrupted.
-const MOST_TRIES: u32 = 1_000_000;
+const MAX_TRIES: u32 = 1_000_000;
 
 /// A source over a reader of the standard library. An interrupted call is made again. From the
 /// reader's first failure on it returns [`Failed`], as [`Source`] requires, whatever the reader
@@ -43,7 +43,7 @@ fn read_once<R: Read>(reader: &mut R, buffer: &mut [u8]) -> Result<usize, Failed
         IsAtEnd (R.remaining reader.new)) }
     ensures err { OnErr result (Keeps (R.remaining reader.old) (R.remaining reader.new)) }
 {
-    for _ in 0..MOST_TRIES {
+    for _ in 0..MAX_TRIES {
         match reader.read(buffer) {
             Ok(count) => return Ok(count),
             Err(e) => {

@@ -6,18 +6,18 @@ use Rattle.line_text.specs.Lines.{physical_lines}
 use Rattle.line_feed.specs.Pieces.{is_one_line, kept_of}
 use Rattle.sessions.specs.Items.{items_from, items_of}
 use Rattle.sessions.specs.Reading.{items_to_come}
-use Rattle.tagged_lines.specs.Tags.{ended, rest_of, tag_of, told_to}
+use Rattle.tagged_lines.specs.Tags.{with_feed, rest_of, tag_of, told_to}
 use Rattle.tagged_lines.proofs.TagLemmas.{are_lines, both, is_line, line_then}
 use Rattle.live_lines.specs.Laws.{said_by}
 use Rattle.live_input.specs.Serving.{kept_input, kept_lines}
 
 -- lines with their ends are those lines
-lines_back : (lines : List (List ℕ)) → list_all is_line lines ≡ true → physical_lines (flat_map ended lines) ≡ lines
+lines_back : (lines : List (List ℕ)) → list_all is_line lines ≡ true → physical_lines (flat_map with_feed lines) ≡ lines
 lines_back [] are = refl
 lines_back (line ∷ lines) are =
     let parts = both (is_line line) (list_all is_line lines) are in
-    ap physical_lines (append_assoc line (10 ∷ []) (flat_map ended lines))
-    ∙ (line_then line (flat_map ended lines) parts.0 ∙ ap (λ ls. line ∷ ls) (lines_back lines parts.1))
+    ap physical_lines (append_assoc line (10 ∷ []) (flat_map with_feed lines))
+    ∙ (line_then line (flat_map with_feed lines) parts.0 ∙ ap (λ ls. line ∷ ls) (lines_back lines parts.1))
 
 -- a part of a line is a line
 take_line : (n : ℕ) (line : List ℕ) → is_line line ≡ true → is_line (take n line) ≡ true
@@ -41,12 +41,12 @@ are_kept (line ∷ lines) are =
     ap (λ b. b && list_all is_line (map kept_of lines)) (kept_line line parts.0) ∙ are_kept lines parts.1
 
 -- what a name's lines say is those lines again
-told_lines : (tag : List ℕ) (lines : List (List ℕ)) → flat_map (λ line. cond (bytes_eq (tag_of line) tag) (ended (rest_of line)) []) lines ≡ flat_map ended (flat_map (λ line. cond (bytes_eq (tag_of line) tag) (rest_of line ∷ []) []) lines)
+told_lines : (tag : List ℕ) (lines : List (List ℕ)) → flat_map (λ line. cond (bytes_eq (tag_of line) tag) (with_feed (rest_of line)) []) lines ≡ flat_map with_feed (flat_map (λ line. cond (bytes_eq (tag_of line) tag) (rest_of line ∷ []) []) lines)
 told_lines tag [] = refl
 told_lines tag (line ∷ lines) =
-    elim (bytes_eq (tag_of line) tag) as (λ b. cond b (ended (rest_of line)) [] ++ flat_map (λ line. cond (bytes_eq (tag_of line) tag) (ended (rest_of line)) []) lines
-    ≡ flat_map ended (cond b (rest_of line ∷ []) [] ++ flat_map (λ line. cond (bytes_eq (tag_of line) tag) (rest_of line ∷ []) []) lines)) [
-      | true ↦ ap (λ bytes. ended (rest_of line) ++ bytes) (told_lines tag lines)
+    elim (bytes_eq (tag_of line) tag) as (λ b. cond b (with_feed (rest_of line)) [] ++ flat_map (λ line. cond (bytes_eq (tag_of line) tag) (with_feed (rest_of line)) []) lines
+    ≡ flat_map with_feed (cond b (rest_of line ∷ []) [] ++ flat_map (λ line. cond (bytes_eq (tag_of line) tag) (rest_of line ∷ []) []) lines)) [
+      | true ↦ ap (λ bytes. with_feed (rest_of line) ++ bytes) (told_lines tag lines)
       | false ↦ told_lines tag lines
     ]
 
@@ -64,6 +64,6 @@ pub items_said : (name input : List ℕ) → items_of (told_to (64 ∷ name) (ke
 items_said name input =
     let lines = kept_lines input in
     let are = are_kept (physical_lines input) (are_lines input) in
-    ap (λ ls. items_of (flat_map (λ line. cond (bytes_eq (tag_of line) (64 ∷ name)) (ended (rest_of line)) []) ls)) (lines_back lines are)
+    ap (λ ls. items_of (flat_map (λ line. cond (bytes_eq (tag_of line) (64 ∷ name)) (with_feed (rest_of line)) []) ls)) (lines_back lines are)
     ∙ (ap items_of (told_lines (64 ∷ name) lines)
     ∙ ap (items_from false) (lines_back (said_by name lines) (said_lines name lines are)))

@@ -5,7 +5,7 @@ use Rattle.std.proofs.lemmas.Grind.{flat_map-append}
 use Rattle.line_feed.specs.Pieces.{kept_of}
 use Rattle.line_service.specs.Conversation.{AreAnswered}
 use Rattle.live_lines.specs.Live.{LiveState}
-use Rattle.tagged_lines.specs.Tags.{Tagged, output_of, tagged}
+use Rattle.tagged_lines.specs.Tags.{Tagged, output_of, tagged_text}
 use Rattle.live_input.specs.Serving.{AnswersLine, AreTaken}
 
 pub are_taken : (old new : LiveState) (number : ℕ) (lines : List (List ℕ)) (text : List ℕ) → AreAnswered AnswersLine old number lines text new → AreTaken old number lines text new
@@ -16,7 +16,7 @@ are_taken old new number (line ∷ lines) text (reply, mid, others, one, rest, a
       tellings = one.tellings ++ t.tellings;
       told = one.told ++ t.told;
       takes = (one.tellings, one.told, mid, t.tellings, t.told, one.takes, t.takes, refl, refl);
-      text_is = all ∙ (ap (λ r. r ++ others) one.reply_is ∙ (ap (λ o. output_of one.told ++ o) t.text_is ∙ sym (flat_map-append (λ (t : Tagged). tagged t.tag t.text) one.told t.told)));
+      text_is = all ∙ (ap (λ r. r ++ others) one.reply_is ∙ (ap (λ o. output_of one.told ++ o) t.text_is ∙ sym (flat_map-append (λ (t : Tagged). tagged_text t.tag t.text) one.told t.told)));
     }
 
 -- what was appended to nothing

@@ -5,13 +5,13 @@ use Rattle.line_text.specs.Lines.{physical_lines}
 use Rattle.line_feed.specs.Pieces.{kept_of}
 use Rattle.rr_graph.specs.Graph.{Basis}
 use Rattle.service_core.specs.declared.device.Device.{Device}
-use Rattle.service_core.specs.Service.{ServiceState, empty}
+use Rattle.service_core.specs.Service.{ServiceState, empty_service}
 use Rattle.sessions.specs.Fitting.{own_graph}
 use Rattle.live_lines.specs.Acts.{Telling}
 use Rattle.live_lines.specs.Ends.{EndsTexts}
 use Rattle.live_lines.specs.Live.{IsSteady, LiveState, Takes, TakesAsked, asked_of, state_of}
 use Rattle.live_lines.specs.Said.{no_texts}
-use Rattle.tagged_lines.specs.Tags.{Tagged, ended, output_of}
+use Rattle.tagged_lines.specs.Tags.{Tagged, with_feed, output_of}
 use Rattle.live_input.specs.declared.lines.LiveLines.{LiveLines}
 
 -- the lines of an input, each cut to the bytes that are kept of it
@@ -20,7 +20,7 @@ kept_lines input = map kept_of (physical_lines input)
 
 -- the input with its lines cut so, each ended by LF
 abbrev pub kept_input : List ℕ → List ℕ
-kept_input input = flat_map ended (kept_lines input)
+kept_input input = flat_map with_feed (kept_lines input)
 
 -- a line of that number is answered so: what it asks leads to these answered acts and tagged texts
 pub record AnswersLine (old : LiveState) (number : ℕ) (line reply : List ℕ) (new : LiveState) : Type 0 where
@@ -49,7 +49,7 @@ begins_on core graph = record { stage = record { names = []; jobs = []; service 
 
 -- on that device, which is empty
 abbrev pub begins : Device → LiveState
-begins device = begins_on (empty device) (own_graph device)
+begins device = begins_on (empty_service device) (own_graph device)
 
 abbrev pub state_in : LiveLines → LiveState
 state_in lines = state_of lines.live

@@ -3,7 +3,8 @@ ghost use Rattle.std.specs.Prelude.{◌≡◌, [], IfOk, OnOk};
 
 use line_service::Answers;
 use line_text::MemorySink;
-use live_lines::Live;
+use live_lines::{Live, Said};
+use operator::Operator;
 use service_core::Service;
 use std::alloc::{AllocError, Global};
 use strips::DeviceGraph;
@@ -15,6 +16,9 @@ pub struct LiveLines<'g> {
 }
 
 impl<'g> LiveLines<'g> {
+    ghost use Rattle.service_core.specs.Run.{Run};
+    ghost use Rattle.operator.specs.HeldJobs.{give_backs};
+    ghost use Rattle.live_lines.specs.Said.{IsEven, texts_of};
     ghost use Rattle.live_input.specs.Serving.{ClosesTexts, begins_on, is_ready, state_in};
 
     /// A service that has taken no line. The core must have admitted no tenancy.
@@ -42,6 +46,19 @@ impl<'g> LiveLines<'g> {
             Ok(()) => Ok(reply.into_bytes()),
             Err(_) => Err(AllocError),
         }
+    }
+
+    /// Takes the service apart. Jobs that the operator holds are given back first, the last one
+    /// first.
+    pub fn into_parts(self) -> (Service, Operator<'static>, Said)
+        ensures core { Run (state_in self.entry).stage.service
+            (give_backs (state_in self.entry).stage.jobs) result.0 }
+        ensures names { result.1 ≡ (state_in self.entry).stage.names }
+        ensures texts { texts_of result.2 ≡ (state_in self.entry).texts }
+        ensures even { is_ready self.entry → IsEven result.2 }
+    {
+        let LiveLines { alloc: _, live } = self;
+        live.into_parts()
     }
 
     /// Ends the service. Jobs that the operator holds are given back first.

@@ -8,7 +8,7 @@ ghost use Rattle.live_input.specs.Serving.{AnswersLine, is_ready, state_in};
 use crate::lines::LiveLines;
 use dialogue::Dialogue;
 use line_feed::LineFeed;
-use line_service::{End, converse};
+use line_service::{ConversationEnd, converse};
 use std::sync::Wait;
 
 /// Serves the lines of a dialogue's input, the first of them having that number: a line is kept,
@@ -20,11 +20,11 @@ pub fn serve_lines<H: Wait, D: Dialogue>(
     feed: &mut LineFeed,
     dialogue: &mut D,
     number: &mut u64,
-) -> End
+) -> ConversationEnd
     requires ready { is_ready lines.old }
     requires ahead { ahead_of feed.old ≡ [] }
     requires line { IsKept (line_of feed.old) [] }
-    ensures ready { result ≡ End.Done → is_ready lines.new }
+    ensures ready { result ≡ ConversationEnd.Done → is_ready lines.new }
     ensures conversation { IsConversation AnswersLine (state_in lines.old) number.old
         (D.view dialogue.old) (D.view dialogue.new) result (state_in lines.new) number.new }
 {

@@ -17,7 +17,7 @@ use Rattle.job_state.specs.JobValue.{end_value}
 use Rattle.vpr_files.specs.NetFile.{net_text_of}
 use Rattle.vpr_files.specs.PlaceFile.{place_text_of}
 use Rattle.vpr_files.specs.RouteFile.{route_text_of}
-use Rattle.vpr_files.specs.TextLines.{line_of, spaced, text_of}
+use Rattle.vpr_files.specs.TextLines.{line_of, word_after_space, text_of}
 use Rattle.tenant_slot.specs.declared.command.Command.{Command as TenantCommand}
 use Rattle.tenant_slot.specs.declared.command.Command.TheVariants.{Upload, Change, Pack, Place as PlaceIt, Route, Cancel, Withdraw, Status, Net, PlaceFile, RouteFile}
 use Rattle.tenant_slot.specs.declared.event.Event.TheVariants.{Command as Asked}
@@ -26,7 +26,7 @@ use Rattle.tenant_slot.specs.declared.reply.Refusal.TheVariants.{WrongState, Bad
 use Rattle.tenant_slot.specs.declared.reply.Reply.{Reply}
 use Rattle.tenant_slot.specs.declared.reply.Reply.TheVariants.{Accepted, Status as InState, File, Refused, Step}
 use Rattle.tenant_slot.specs.Results.{place_file_of, route_file_of}
-use Rattle.tenant_slot.specs.SingleUser.{State, after, answer_to, circuit_in, is_lawful, misfit_of, pack_unless, place, place_unless, serve, sources_of, step, with_circuit}
+use Rattle.tenant_slot.specs.SingleUser.{State, after_reply, answer_to, circuit_in, is_lawful, misfit_of, pack_unless, place, place_unless, serve, sources_of, step, with_circuit}
 use Rattle.service_core.specs.declared.not_served.NotServed.{NotServed}
 use Rattle.service_core.specs.declared.not_served.NotServed.TheVariants.{NoMemory, JournalFull, NoSuchTenancy}
 use Rattle.service_core.specs.History.{History, state_of}
@@ -58,7 +58,7 @@ whole_then (x ∷ y ∷ line) more ok = whole_then (y ∷ line) more ok
 line_whole : (line : List (List ℕ)) (more : List ℕ) → is_whole more ≡ true → is_whole (line_of line ++ more) ≡ true
 line_whole [] more ok = whole_then [] more ok
 line_whole (word ∷ words) more ok =
-    let rest = flat_map spaced words in
+    let rest = flat_map word_after_space words in
     let e : (word ++ (rest ++ 10 ∷ [])) ++ more ≡ (word ++ rest) ++ 10 ∷ more =
     append_assoc word (rest ++ 10 ∷ []) more ∙ (ap (λ r. word ++ r) (append_assoc rest (10 ∷ []) more) ∙ sym (append_assoc word rest (10 ∷ more))) in
     ap is_whole e ∙ whole_then (word ++ rest) more ok
@@ -152,7 +152,7 @@ step_by false old new given reply whole is =
 
 step_whole : (state : State) (command : TenantCommand) (reply : Reply) → (step state (Asked command)).1 ≡ Some reply → HasWholeFile reply
 step_whole state command reply is =
-    step_by (state.entries == 65536) state (after state (answer_to state (Asked command)).0) (answer_to state (Asked command)).1 reply (answered_whole state command) is
+    step_by (state.entries == 65536) state (after_reply state (answer_to state (Asked command)).0) (answer_to state (Asked command)).1 reply (answered_whole state command) is
 
 receipt_whole : (live : Option History) (id : ℕ) (command : TenantCommand) (r : Receipted) → IsReceipt live id command r → HasWholeFile r.reply
 receipt_whole None id command r is = absurd is

@@ -18,12 +18,12 @@ use Rattle.sessions.specs.declared.told.Answer.TheVariants.{Refused as RefusedAn
 use Rattle.sessions.specs.Reading.{TextSoFar, items_to_come}
 use Rattle.sessions.specs.SessionText.{session_refusal_text}
 use Rattle.operator.specs.Serving.{Stage}
-use Rattle.tagged_lines.specs.Tags.{Tagged, have_tags, is_tag, output_of, tagged, told_in}
+use Rattle.tagged_lines.specs.Tags.{Tagged, have_tags, is_tag, output_of, tagged_text, told_in}
 use Rattle.live_lines.specs.declared.said.LastName.{LastName}
 use Rattle.live_lines.specs.declared.said.LastName.TheVariants.{Missing, Finished}
 use Rattle.live_lines.specs.declared.said.Said.{Said}
 use Rattle.live_lines.specs.Acts.{IsAnswered, Telling, Tells}
-use Rattle.live_lines.specs.Ends.{Ends, EndsLast, ending_for, unfinished}
+use Rattle.live_lines.specs.Ends.{Ends, EndsLast, ending_for, open_text_refusal}
 use Rattle.live_lines.specs.Laws.{item_for, items_for, replies_for, reply_for}
 use Rattle.live_lines.specs.Live.{LiveState, for_name}
 use Rattle.live_lines.specs.Said.{text_in, texts_of}
@@ -146,7 +146,7 @@ refusal_answered stage name = (RefusedAnswer UnfinishedUpload, (refl, refl), ref
 pub ending_refuses : (start : LiveState) (before : Option (List ℕ)) (stage : Stage) (said next : Said) (after then : Option (List ℕ)) (last : LastName) (n : List ℕ) → ((name : List ℕ) → ending_for name last ≡ cond (bytes_eq n name) (Refused UnfinishedUpload ∷ []) []) → is_name n ≡ true →
     Ending start before stage said after → EndsLast said last next → Appends after then (output_of (for_name n (session_refusal_text UnfinishedUpload) ∷ [])) → Ending start before stage next then
 ending_refuses start before stage said next after then last n gives named e ends writes =
-    let one : List Telling = unfinished n ∷ [] in
+    let one : List Telling = open_text_refusal n ∷ [] in
     let text : List Tagged = for_name n (session_refusal_text UnfinishedUpload) ∷ [] in
     let W : List ℕ → Type 0 = λ bytes. Appends before then bytes in
     record {
@@ -167,7 +167,7 @@ ending_refuses start before stage said next after then last n gives named e ends
           ∙ (ap (λ r. replies_for name e.tellings ++ (cond (bytes_eq n name) r [] ++ [])) (same (session_refusal_text UnfinishedUpload) (refusal_whole UnfinishedUpload))
           ∙ sym (flat_map-append (λ (t : Telling). reply_for name t.act t.text) e.tellings one)));
       tags = list_all-append (λ (t : Tagged). is_tag t.tag) e.told text ∙ (ap (λ b. b && have_tags text) e.tags ∙ ap (λ b. b && true) (name_tag n named));
-      writes = subst W (sym (flat_map-append (λ (t : Tagged). tagged t.tag t.text) e.told text)) (Appends-trans before after then (output_of e.told) (output_of text) e.writes writes);
+      writes = subst W (sym (flat_map-append (λ (t : Tagged). tagged_text t.tag t.text) e.told text)) (Appends-trans before after then (output_of e.told) (output_of text) e.writes writes);
     }
 
 pub all_end : (start : LiveState) (before : Option (List ℕ)) (stage : Stage) (said next : Said) (after : Option (List ℕ)) (last : LastName) → last ≡ Missing → Ending start before stage said after → EndsLast said last next → Ends start before after

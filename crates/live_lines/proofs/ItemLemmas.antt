@@ -14,7 +14,7 @@ use Rattle.sessions.specs.declared.told.Answer.{Answer}
 use Rattle.sessions.specs.Fitting.{own_graph}
 use Rattle.sessions.specs.SessionAnswer.{Asks, IsAnswer, LeavesNone}
 use Rattle.sessions.specs.SessionText.{answer_text}
-use Rattle.operator.specs.Held.{held}
+use Rattle.operator.specs.Held.{sink_text}
 use Rattle.operator.specs.HeldJobs.{HeldList}
 use Rattle.operator.specs.Operators.{Answers}
 use Rattle.operator.specs.OperatorText.{last_id}
@@ -23,17 +23,17 @@ use Rattle.script_text.specs.declared.operator_line.OperatorLine.{OperatorLine}
 use Rattle.script_text.specs.Script.{named_operator}
 use Rattle.std.specs.Borrow.{Bor}
 use Rattle.operator.proofs.Stepping.{lengths-run, steady_asks}
-use Rattle.tagged_lines.specs.Tags.{output_of, tagged}
+use Rattle.tagged_lines.specs.Tags.{output_of, tagged_text}
 use Rattle.live_lines.specs.Acts.{IsAnswered}
 use Rattle.live_lines.specs.Live.{for_name}
 
 -- what a sink holds that was empty
-pub is_told : (w : Result (Unit {0}) Failed) (old new : MemorySink) (text : List ℕ) → is_ok w ≡ true → held old ≡ [] →
-    Writes (λ (s : MemorySink). Some (held s)) (λ (s : MemorySink). s.failed) old new text w → held new ≡ text
+pub is_told : (w : Result (Unit {0}) Failed) (old new : MemorySink) (text : List ℕ) → is_ok w ≡ true → sink_text old ≡ [] →
+    Writes (λ (s : MemorySink). Some (sink_text s)) (λ (s : MemorySink). s.failed) old new text w → sink_text new ≡ text
 is_told (Ok v) old new text same none writes = writes.bytes ∙ ap (λ t. t ++ text) none
 is_told (Err e) old new text same none writes = absurd (false≢true same)
 
-pub held_as : (sink : MemorySink) (bytes : List ℕ) → Some (held sink) ≡ Some bytes → bytes ≡ held sink
+pub held_as : (sink : MemorySink) (bytes : List ℕ) → Some (sink_text sink) ≡ Some bytes → bytes ≡ sink_text sink
 held_as sink bytes same = cc
 
 -- a session's item is answered by the core
@@ -49,10 +49,10 @@ pub lengths_answered : (graph : Basis) (old new : ServiceState) (id : ℕ) (line
 lengths_answered graph old new id line answer is = lengths-run old new is.0 (steady_asks id line is.0 answer is.1) is.2
 
 -- what is written with the tag is the reply
-pub item_writes : (before after : Option (List ℕ)) (tag name bytes text : List ℕ) → tag ≡ 64 ∷ name → bytes ≡ text → Appends before after (tagged tag bytes) → Appends before after (output_of (for_name name text ∷ []))
+pub item_writes : (before after : Option (List ℕ)) (tag name bytes text : List ℕ) → tag ≡ 64 ∷ name → bytes ≡ text → Appends before after (tagged_text tag bytes) → Appends before after (output_of (for_name name text ∷ []))
 item_writes before after tag name bytes text t b h =
     let P : List ℕ → Type 0 = λ out. Appends before after out in
-    let e : tagged tag bytes ≡ tagged (64 ∷ name) text ++ [] = ap (λ u. tagged u bytes) t ∙ (ap (tagged (64 ∷ name)) b ∙ sym (append-nil (tagged (64 ∷ name) text))) in
+    let e : tagged_text tag bytes ≡ tagged_text (64 ∷ name) text ++ [] = ap (λ u. tagged_text u bytes) t ∙ (ap (tagged_text (64 ∷ name)) b ∙ sym (append-nil (tagged_text (64 ∷ name) text))) in
     subst P e h
 
 -- a line of the operator is answered

@@ -15,11 +15,11 @@ use Rattle.sessions.specs.Reading.{item_and, items_to_come}
 use Rattle.operator.specs.OperatorText.{last_id}
 use Rattle.operator.specs.Serving.{Stage}
 use Rattle.service_core.specs.Run.{Call}
-use Rattle.tagged_lines.specs.Tags.{Tagged, closed, have_tags, is_tag, is_whole, output_of, rest_of, tag_of, told_in, told_to}
+use Rattle.tagged_lines.specs.Tags.{Tagged, with_last_feed, have_tags, is_tag, is_whole, output_of, rest_of, tag_of, told_in, told_to}
 use Rattle.tagged_lines.proofs.TagLemmas.{apart, both, same, same_tag}
 use Rattle.live_lines.specs.Acts.{IsAnswered, Telling, Tells}
 use Rattle.live_lines.specs.Laws.{item_for, items_for, replies_for, reply_for, said_by}
-use Rattle.live_lines.specs.Live.{Asked, LiveState, Takes, TakesAsked, TellsItem, asked_by, asked_of, is_open, is_passed, operated, told_by}
+use Rattle.live_lines.specs.Live.{Asked, LiveState, Takes, TakesAsked, TellsItem, asked_by, asked_of, is_open, is_passed, operator_asks, told_by}
 use Rattle.live_lines.specs.Live.Asked.{NoForm, Nothing, Operates, Says}
 use Rattle.live_lines.proofs.AnswerLemmas.{answer_whole}
 
@@ -36,7 +36,7 @@ says_named : (name rest : List ℕ) (b : Bool) → is_name name ≡ b → IsName
 says_named name rest true is = is
 says_named name rest false is = tt
 
-operated_named : (acts : Acts) → IsNamed (operated acts)
+operated_named : (acts : Acts) → IsNamed (operator_asks acts)
 operated_named (Ok []) = tt
 operated_named (Ok (Operator line ∷ [])) = tt
 operated_named (Ok (Operator line ∷ act ∷ acts)) = tt
@@ -46,9 +46,9 @@ operated_named (Err fault) = tt
 named_by : (tag line rest : List ℕ) → IsNamed (asked_by tag line rest)
 named_by [] line rest = tt
 named_by (b ∷ name) line rest =
-    either_named (eqb b 64) (cond (is_name name) (Says name rest) NoForm) (cond (bytes_eq (b ∷ name) (codes "op")) (operated (script_of 1 line)) NoForm)
+    either_named (eqb b 64) (cond (is_name name) (Says name rest) NoForm) (cond (bytes_eq (b ∷ name) (codes "op")) (operator_asks (script_of 1 line)) NoForm)
     (says_named name rest (is_name name) refl)
-    (either_named (bytes_eq (b ∷ name) (codes "op")) (operated (script_of 1 line)) NoForm (operated_named (script_of 1 line)) tt)
+    (either_named (bytes_eq (b ∷ name) (codes "op")) (operator_asks (script_of 1 line)) NoForm (operated_named (script_of 1 line)) tt)
 
 named : (line : List ℕ) → IsNamed (asked_of line)
 named line = either_named (is_passed line) Nothing (asked_by (tag_of line) line (rest_of line)) tt (named_by (tag_of line) line (rest_of line))
@@ -62,7 +62,7 @@ either_not_of : (name : List ℕ) (b : Bool) (x y : Asked) → (b ≡ true → I
 either_not_of name true x y first second = first refl
 either_not_of name false x y first second = second
 
-operated_not_of : (name : List ℕ) (acts : Acts) → IsNotOf name (operated acts)
+operated_not_of : (name : List ℕ) (acts : Acts) → IsNotOf name (operator_asks acts)
 operated_not_of name (Ok []) = tt
 operated_not_of name (Ok (Operator line ∷ [])) = tt
 operated_not_of name (Ok (Operator line ∷ act ∷ acts)) = tt
@@ -83,9 +83,9 @@ other_name b other name is apart =
 not_of_by : (name tag line rest : List ℕ) → bytes_eq tag (64 ∷ name) ≡ false → IsNotOf name (asked_by tag line rest)
 not_of_by name [] line rest apart = tt
 not_of_by name (b ∷ other) line rest apart =
-    either_not_of name (eqb b 64) (cond (is_name other) (Says other rest) NoForm) (cond (bytes_eq (b ∷ other) (codes "op")) (operated (script_of 1 line)) NoForm)
+    either_not_of name (eqb b 64) (cond (is_name other) (Says other rest) NoForm) (cond (bytes_eq (b ∷ other) (codes "op")) (operator_asks (script_of 1 line)) NoForm)
     (λ at. either_not_of name (is_name other) (Says other rest) NoForm (λ n. other_name b other name at apart) tt)
-    (either_not_of name (bytes_eq (b ∷ other) (codes "op")) (operated (script_of 1 line)) NoForm (λ e. operated_not_of name (script_of 1 line)) tt)
+    (either_not_of name (bytes_eq (b ∷ other) (codes "op")) (operator_asks (script_of 1 line)) NoForm (λ e. operated_not_of name (script_of 1 line)) tt)
 
 not_of : (name line : List ℕ) → bytes_eq (tag_of line) (64 ∷ name) ≡ false → IsNotOf name (asked_of line)
 not_of name line apart = either_not_of name (is_passed line) Nothing (asked_by (tag_of line) line (rest_of line)) (λ e. tt) (not_of_by name (tag_of line) line (rest_of line) apart)
@@ -193,7 +193,7 @@ no_reply_by name text false = refl
 item_replies : (name other : List ℕ) (old : Stage) (item : Option SessionLine) (tellings : List Telling) (told : List Tagged) (new : Stage) → TellsItem old other item tellings told new → told_in (64 ∷ name) told ≡ replies_for name tellings
 item_replies name other old None tellings told new (none, nothing, stays) = ap (told_in (64 ∷ name)) nothing ∙ sym (ap (replies_for name) none)
 item_replies name other old (Some item) tellings told new (t, act, answered, one, is) =
-    let text : closed t.text ≡ t.text = same t.text (session_whole old other item t.act t.calls t.text new act answered) in
+    let text : with_last_feed t.text ≡ t.text = same t.text (session_whole old other item t.act t.calls t.text new act answered) in
     ap (told_in (64 ∷ name)) is
     ∙ (ap (λ x. cond (bytes_eq other name) x [] ++ []) text
     ∙ sym (ap (replies_for name) one ∙ ap (λ a. reply_for name a t.text ++ []) act))
@@ -208,7 +208,7 @@ asked_replies name old number (Operates line) tellings told new (t, act, answere
 asked_replies name old number (Says other rest) tellings told new (item, hears, tells) = item_replies name other old.stage item tellings told new.stage tells
 
 pub told_in-append : (tag : List ℕ) (first more : List Tagged) → told_in tag (first ++ more) ≡ told_in tag first ++ told_in tag more
-told_in-append tag first more = flat_map-append (λ (t : Tagged). cond (bytes_eq t.tag tag) (closed t.text) []) first more
+told_in-append tag first more = flat_map-append (λ (t : Tagged). cond (bytes_eq t.tag tag) (with_last_feed t.text) []) first more
 
 pub lines_replies : (name : List ℕ) (old new : LiveState) (number : ℕ) (lines : List (List ℕ)) (tellings : List Telling) (told : List Tagged) → Takes old number lines tellings told new → told_in (64 ∷ name) told ≡ replies_for name tellings
 lines_replies name old new number [] tellings told (none, nothing, stays) = ap (told_in (64 ∷ name)) nothing ∙ sym (ap (replies_for name) none)

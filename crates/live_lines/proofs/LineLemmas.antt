@@ -5,7 +5,7 @@ use Rattle.std.proofs.KnownBytes.{Appends-nil}
 use Rattle.script_text.specs.declared.operator_line.OperatorLine.{OperatorLine}
 use Rattle.sessions.specs.declared.line.SessionLine.{SessionLine}
 use Rattle.operator.specs.Serving.{Stage}
-use Rattle.tagged_lines.specs.Tags.{tagged}
+use Rattle.tagged_lines.specs.Tags.{tagged_text}
 use Rattle.live_lines.specs.Live.{Asked, LiveState, TakesItem, TakesLine, TakesOperator, for_name, operator_told}
 use Rattle.live_lines.specs.Live.Asked.{NoForm, Nothing, Operates, Says}
 use Rattle.rr_graph.specs.Graph.{Basis}
@@ -22,14 +22,14 @@ takes_as old number what asked before after new same takes =
 pub takes_nothing : (old : LiveState) (number : ℕ) (known : Option (List ℕ)) → TakesLine old number Nothing known known old
 takes_nothing old number known = record { tellings = []; told = []; takes = (refl, refl, refl); writes = Appends-nil known }
 
-pub takes_no_form : (old : LiveState) (number : ℕ) (before after : Option (List ℕ)) → Appends before after (tagged (codes "?") (decimal number)) → TakesLine old number NoForm before after old
+pub takes_no_form : (old : LiveState) (number : ℕ) (before after : Option (List ℕ)) → Appends before after (tagged_text (codes "?") (decimal number)) → TakesLine old number NoForm before after old
 takes_no_form old number before after writes =
     let P : List ℕ → Type 0 = λ out. Appends before after out in
     record {
       tellings = [];
       told = record { tag = codes "?"; text = decimal number } ∷ [];
       takes = (refl, refl, refl);
-      writes = subst P (sym (append-nil (tagged (codes "?") (decimal number)))) writes;
+      writes = subst P (sym (append-nil (tagged_text (codes "?") (decimal number)))) writes;
     }
 
 pub takes_operator : (old new : Stage) (texts new_texts : Texts) (number : ℕ) (line : OperatorLine (List ℕ)) (before after : Option (List ℕ)) → new_texts ≡ texts → TakesOperator old line before after new →

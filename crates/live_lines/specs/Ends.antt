@@ -34,8 +34,8 @@ pub record Ends (old : LiveState) (before after : Option (List ℕ)) : Type 0 wh
   pub writes : Appends before after (output_of told)
 
 -- private: the refusal of an open text, as an act with its reply
-abbrev pub unfinished : List ℕ → Telling
-unfinished name = record { act = Session name (Refused UnfinishedUpload); calls = []; text = session_refusal_text UnfinishedUpload }
+abbrev pub open_text_refusal : List ℕ → Telling
+open_text_refusal name = record { act = Session name (Refused UnfinishedUpload); calls = []; text = session_refusal_text UnfinishedUpload }
 
 -- private: the item that the input's end gives to a name
 abbrev pub ending_for : List ℕ → LastName → List SessionLine

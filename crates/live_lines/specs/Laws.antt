@@ -5,7 +5,7 @@ use Rattle.std.specs.Str.{bytes_eq}
 use Rattle.script_text.specs.declared.act.Act.{Act}
 use Rattle.script_text.specs.declared.act.Act.TheVariants.{Operator, Session}
 use Rattle.sessions.specs.declared.line.SessionLine.{SessionLine}
-use Rattle.tagged_lines.specs.Tags.{closed, ended, rest_of, tag_of}
+use Rattle.tagged_lines.specs.Tags.{with_last_feed, with_feed, rest_of, tag_of}
 use Rattle.live_lines.specs.Acts.{Telling}
 use Rattle.live_lines.specs.Live.{count_text, is_open}
 
@@ -34,7 +34,7 @@ replies_for name tellings = flat_map (λ t. reply_for name t.act t.text) telling
 -- the act's reply, if it is for the operator; if the number of its lines is open, a line with that
 -- number comes first
 abbrev pub reply_for_operator : Act (List ℕ) → List ℕ → List ℕ
-reply_for_operator (Operator line) text = if is_open line then ended (count_text text) ++ closed text else closed text
+reply_for_operator (Operator line) text = if is_open line then with_feed (count_text text) ++ with_last_feed text else with_last_feed text
 reply_for_operator (Session name item) text = []
 
 abbrev pub replies_for_operator : List Telling → List ℕ

@@ -14,8 +14,8 @@ use Rattle.live_lines.specs.Acts.{IsAnswered, Telling}
 use Rattle.std.specs.Io.KnownBytes.{Appends}
 use Rattle.tagged_lines.specs.Tags.{Tagged, output_of, rest_of, tag_of}
 use Rattle.live_lines.specs.declared.live.Live.{Live}
-use Rattle.live_lines.specs.declared.asked.Asked.{Asked as AskedIn}
-use Rattle.live_lines.specs.declared.asked.Asked.TheVariants.{Nothing as NothingIn, NoForm as NoFormIn, Operates as OperatesIn, Says as SaysIn}
+use Rattle.live_lines.specs.declared.asked.LineRequest.{LineRequest as AskedIn}
+use Rattle.live_lines.specs.declared.asked.LineRequest.TheVariants.{Nothing as NothingIn, NoForm as NoFormIn, Operates as OperatesIn, Says as SaysIn}
 use Rattle.live_lines.specs.Said.{HearsLine, IsEven, Texts, texts_of}
 
 -- what a line asks: nothing; something without a form, which is refused; a line of the operator; or
@@ -35,16 +35,16 @@ abbrev pub is_passed : List ℕ → Bool
 is_passed line = begins_comment line || list_all is_blank line
 
 -- what a script of this one line asks of the operator
-abbrev pub operated : Acts → Asked
-operated (Ok (Operator line ∷ [])) = Operates line
-operated acts = NoForm
+abbrev pub operator_asks : Acts → Asked
+operator_asks (Ok (Operator line ∷ [])) = Operates line
+operator_asks acts = NoForm
 
 -- what a line asks, from its tag, the line, and what it says
 abbrev pub asked_by : List ℕ → List ℕ → List ℕ → Asked
 asked_by [] line rest = NoForm
 asked_by (b ∷ name) line rest =
     if b == 64 then (if is_name name then Says name rest else NoForm) else
-    if bytes_eq (b ∷ name) (codes "op") then operated (script_of 1 line) else NoForm
+    if bytes_eq (b ∷ name) (codes "op") then operator_asks (script_of 1 line) else NoForm
 
 abbrev pub asked_of : List ℕ → Asked
 asked_of line = if is_passed line then Nothing else asked_by (tag_of line) line (rest_of line)

@@ -3,7 +3,7 @@ ghost use Rattle.std.specs.Prelude.{◌≡◌, ◌<◌, ◌^◌, Ok, length, map
 ghost use Rattle.std.specs.List.{list_all};
 ghost use Rattle.line_text.specs.Words.{is_blank as is_blank_byte};
 ghost use Rattle.script_text.specs.Script.{named_act, script_of};
-ghost use Rattle.live_lines.specs.Live.{HasTag, asked_of, asks, begins_comment, is_passed, operated};
+ghost use Rattle.live_lines.specs.Live.{HasTag, asked_of, asks, begins_comment, is_passed, operator_asks};
 
 use line_text::{is_blank, is_word};
 use script_text::{Act, OperatorLine, ScriptError, is_name, read_script};
@@ -11,7 +11,8 @@ use std::alloc::{AllocError, Global};
 use tagged_lines::split_tag;
 
 /// What a line asks.
-pub(crate) enum Asked<'l> {
+pub enum LineRequest<'l> {
+    /// It is a comment, or has no word.
     Nothing,
     NoForm,
     Operates(OperatorLine<&'l [u8]>),
@@ -20,28 +21,28 @@ pub(crate) enum Asked<'l> {
 }
 
 /// What a line asks.
-pub(crate) fn asked_of(alloc: Global, line: &[u8]) -> Result<Asked<'_>, AllocError>
+pub fn asked_of(alloc: Global, line: &[u8]) -> Result<LineRequest<'_>, AllocError>
     requires { length line.now < 2 ^ 63 }
     ensures asks { IfOk result (λ asked. asks asked ≡ asked_of line.now) }
     ensures tag { IfOk result HasTag }
 {
     if is_passed(line) {
-        return Ok(Asked::Nothing);
+        return Ok(LineRequest::Nothing);
     }
     let (tag, rest) = split_tag(line);
     match tag {
         [b'@', name @ ..] => {
             if is_name(name) {
-                Ok(Asked::Says(tag, name, rest))
+                Ok(LineRequest::Says(tag, name, rest))
             } else {
-                Ok(Asked::NoForm)
+                Ok(LineRequest::NoForm)
             }
         }
         _ => {
             if is_word(tag, "op") {
-                operated(alloc, line)
+                operator_asks(alloc, line)
             } else {
-                Ok(Asked::NoForm)
+                Ok(LineRequest::NoForm)
             }
         }
     }
@@ -70,26 +71,26 @@ fn has_no_word(line: &[u8]) -> bool
 }
 
 /// What a line of the operator asks.
-fn operated(alloc: Global, line: &[u8]) -> Result<Asked<'_>, AllocError>
+fn operator_asks(alloc: Global, line: &[u8]) -> Result<LineRequest<'_>, AllocError>
     requires { length line.now < 2 ^ 63 }
-    ensures { IfOk result (λ asked. asks asked ≡ operated (script_of 1 line.now)) }
+    ensures { IfOk result (λ asked. asks asked ≡ operator_asks (script_of 1 line.now)) }
 {
     match read_script(alloc, line, 1) {
         Ok(script) => Ok(sole_operation(script.into_acts())),
         Err(ScriptError::NoMemory) => Err(AllocError),
-        Err(ScriptError::Fault(_)) => Ok(Asked::NoForm),
+        Err(ScriptError::Fault(_)) => Ok(LineRequest::NoForm),
     }
 }
 
 /// What these acts ask, if they are one act of the operator.
-fn sole_operation<'l>(acts: Vec<Act<&'l [u8]>>) -> Asked<'l>
-    ensures { asks result ≡ operated (Ok (map named_act acts.entry.items)) }
+fn sole_operation<'l>(acts: Vec<Act<&'l [u8]>>) -> LineRequest<'l>
+    ensures { asks result ≡ operator_asks (Ok (map named_act acts.entry.items)) }
 {
     match acts.as_slice() {
         [act] => match act {
-            Act::Operator(line) => Asked::Operates(*line),
-            Act::Session(_, _) => Asked::NoForm,
+            Act::Operator(line) => LineRequest::Operates(*line),
+            Act::Session(_, _) => LineRequest::NoForm,
         },
-        _ => Asked::NoForm,
+        _ => LineRequest::NoForm,
     }
 }

@@ -16,6 +16,8 @@ mod live;
 mod said;
 mod trouble;
 
+pub use asked::{LineRequest, asked_of};
 pub use law::live_law;
 pub use live::Live;
+pub use said::Said;
 pub use trouble::Trouble;

@@ -2,18 +2,20 @@
 ghost use Rattle.std.specs.Prelude.{◌≡◌, ◌<◌, ◌^◌, ◌∷◌, ◌++◌, [], length, codes, decimal, OnOk, is_ok};
 ghost use Rattle.std.specs.Io.KnownBytes.{Appends};
 ghost use Rattle.script_text.specs.Script.{named_operator};
-ghost use Rattle.tagged_lines.specs.Tags.{output_of, tagged};
+ghost use Rattle.tagged_lines.specs.Tags.{output_of, tagged_text};
 ghost use Rattle.sessions.specs.SessionText.{session_refusal_text};
 ghost use Rattle.sessions.specs.declared.refusal.SessionRefusal.TheVariants.{UnfinishedUpload};
+ghost use Rattle.service_core.specs.Run.{Run};
+ghost use Rattle.operator.specs.HeldJobs.{give_backs};
 ghost use Rattle.live_lines.specs.Live.{asked_of as what_asks, count_text, for_name, is_open as is_open_line, told_by};
 
-use crate::asked::{Asked, asked_of};
+use crate::asked::{LineRequest, asked_of};
 use crate::counted::count_lines;
 use crate::lasting::Lasting;
 use crate::said::{LastName, Said};
 use crate::trouble::Trouble;
 use itoa::Buffer;
-use line_text::{Failed, MemorySink, Sink, write_parts};
+use line_text::{Failed, MemorySink, Sink, write_slices};
 use operator::{HeldJobs, Operator};
 use script_text::OperatorLine;
 use service_core::Service;
@@ -37,7 +39,7 @@ pub struct Live<'g> {
 impl<'g> Live<'g> {
     ghost use Rattle.live_lines.specs.Ends.{Ends};
     ghost use Rattle.live_lines.specs.Live.{IsSteady, TakesItem, TakesLine, TakesOperator, stage_of, state_of};
-    ghost use Rattle.live_lines.specs.Said.{no_texts};
+    ghost use Rattle.live_lines.specs.Said.{IsEven, no_texts, texts_of};
 
     /// A service that has taken no line. The core must have admitted no tenancy.
     pub fn new(alloc: Global, graph: &'g DeviceGraph, core: Service) -> Self
@@ -79,10 +81,10 @@ impl<'g> Live<'g> {
             (W.contents writer.old) (W.contents writer.new) (state_of self.new)) }
     {
         match asked_of(self.alloc, line)? {
-            Asked::Nothing => Ok(()),
-            Asked::NoForm => self.take_no_form(writer, number),
-            Asked::Operates(line) => self.take_operator(writer, line),
-            Asked::Says(tag, name, rest) => match self.said.hear(name, rest)? {
+            LineRequest::Nothing => Ok(()),
+            LineRequest::NoForm => self.take_no_form(writer, number),
+            LineRequest::Operates(line) => self.take_operator(writer, line),
+            LineRequest::Says(tag, name, rest) => match self.said.hear(name, rest)? {
                 Some(item) => self.take_item(writer, tag, name, item),
                 None => Ok(()),
             },
@@ -92,7 +94,7 @@ impl<'g> Live<'g> {
     /// Writes the number of a line that has no form.
     fn take_no_form<W: Sink>(&self, writer: &mut W, number: u64) -> Result<(), Trouble>
         ensures { OnOk result (Appends (W.contents writer.old) (W.contents writer.new)
-            (tagged (codes "?") (decimal number))) }
+            (tagged_text (codes "?") (decimal number))) }
     {
         let mut digits = Buffer::new();
         let digits = digits.format(number).as_bytes();
@@ -138,12 +140,12 @@ impl<'g> Live<'g> {
     /// Writes the number of lines of a reply.
     fn write_count<W: Sink>(&self, writer: &mut W, reply: &[u8]) -> Result<(), Trouble>
         ensures { OnOk result (Appends (W.contents writer.old) (W.contents writer.new)
-            (tagged (codes "op") (count_text reply.now))) }
+            (tagged_text (codes "op") (count_text reply.now))) }
     {
         let mut digits = Buffer::new();
         let digits = digits.format(count_lines(reply)).as_bytes();
         let mut text = MemorySink::new(self.alloc);
-        match write_parts(&mut text, &[b"lines ", digits]) {
+        match write_slices(&mut text, &[b"lines ", digits]) {
             Ok(()) => Ok(write_at_once(self.alloc, writer, b"op", text.as_bytes())?),
             Err(_) => Err(Trouble::NoMemory),
         }
@@ -166,7 +168,7 @@ impl<'g> Live<'g> {
     {
         let id = self.operator.last_id(name);
         let mut reply = MemorySink::new(self.alloc);
-        match served(answer(&mut self.core, self.graph, id, item, &mut reply)) {
+        match check_written(answer(&mut self.core, self.graph, id, item, &mut reply)) {
             Ok(()) => Ok(write_at_once(self.alloc, writer, tag, reply.as_bytes())?),
             Err(error) => Err(Trouble::from(error)),
         }
@@ -189,6 +191,29 @@ impl<'g> Live<'g> {
                 LastName::Unfinished(name) => refuse_text(self.alloc, writer, name)?,
             }
         }
+    }
+
+    /// Takes the service apart. Jobs that the operator holds are given back first, the last one
+    /// first.
+    pub fn into_parts(self) -> (Service, Operator<'static>, Said)
+        ensures core { Run (stage_of self.entry).service (give_backs (stage_of self.entry).jobs)
+            result.0 }
+        ensures names { result.1 ≡ (stage_of self.entry).names }
+        ensures texts { texts_of result.2 ≡ (state_of self.entry).texts }
+        ensures even { IsSteady self.entry → IsEven result.2 }
+    {
+        let Live {
+            alloc: _,
+            graph: _,
+            mut core,
+            operator,
+            jobs,
+            lasting,
+            said,
+        } = self;
+        jobs.give_back(&mut core);
+        drop(lasting);
+        (core, operator, said)
     }
 
     /// Ends the service. Jobs that the operator holds are given back first.
@@ -215,7 +240,7 @@ fn is_open(line: &OperatorLine<&[u8]>) -> bool
 }
 
 /// Whether the reply was written. It is not if memory ran out.
-fn served(answered: (Answer, Result<(), Failed>)) -> Result<(), AllocError>
+fn check_written(answered: (Answer, Result<(), Failed>)) -> Result<(), AllocError>
     ensures { is_ok result ≡ is_ok answered.1 }
 {
     let (answer, written) = answered;
@@ -232,7 +257,7 @@ fn refuse_text<W: Sink>(alloc: Global, writer: &mut W, name: &[u8]) -> Result<()
         (output_of (for_name name.now (session_refusal_text UnfinishedUpload) ∷ []))) }
 {
     let mut tag = MemorySink::new(alloc);
-    if write_parts(&mut tag, &[b"@", name]).is_err() {
+    if write_slices(&mut tag, &[b"@", name]).is_err() {
         return Err(Trouble::NoMemory);
     }
     let mut reply = MemorySink::new(alloc);

@@ -12,7 +12,7 @@ use std::alloc::{AllocError, Global};
 /// The names that have said something, each with the reader of its session. A name is kept to the
 /// program's end.
 #[derive(Drop)]
-pub(crate) struct Said {
+pub struct Said {
     alloc: Global,
     names: NameSet<'static>,
     readers: Vec<SessionReader>,
@@ -30,6 +30,19 @@ pub(crate) enum LastName {
 }
 
 impl Said {
+    /// The names, and the reader of each one's session, by number.
+    pub fn into_readers(self) -> (NameSet<'static>, Vec<SessionReader>)
+        ensures texts { text_in result.0 result.1.items ≡ texts_of self }
+        ensures even { IsEven self → length result.1.items ≡ length result.0 }
+    {
+        let Said {
+            alloc: _,
+            names,
+            readers,
+        } = self;
+        (names, readers)
+    }
+
     /// No name has said anything.
     pub(crate) fn new(alloc: Global) -> Self
         ensures even { IsEven result }

@@ -58,7 +58,7 @@ impl<'l> Keeper<'l> {
     fn who(&mut self, name: &'l [u8]) -> Result<Who, AllocError>
         ensures { self.new.marks.lines ≡ self.old.marks.lines }
     {
-        if let Some(who) = self.names.known(name) {
+        if let Some(who) = self.names.entry_of(name) {
             return Ok(who);
         }
         let who = Who {
@@ -218,9 +218,9 @@ impl<'l> Keeper<'l> {
     }
 
     /// For each line, whether it is kept.
-    pub(crate) fn kept(&self, alloc: Global) -> Result<Vec<bool>, AllocError>
+    pub(crate) fn kept_flags(&self, alloc: Global) -> Result<Vec<bool>, AllocError>
         ensures { IfOk result (λ kept. length kept.items ≡ length self.now.marks.lines.items) }
     {
-        self.marks.kept(alloc)
+        self.marks.kept_flags(alloc)
     }
 }

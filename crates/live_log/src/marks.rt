@@ -105,7 +105,7 @@ impl Marks {
     }
 
     /// For each line, whether it is kept.
-    pub(crate) fn kept(&self, alloc: Global) -> Result<Vec<bool>, AllocError>
+    pub(crate) fn kept_flags(&self, alloc: Global) -> Result<Vec<bool>, AllocError>
         ensures { IfOk result (λ kept. length kept.items ≡ length self.now.lines.items) }
     {
         let mut kept = Vec::with_capacity(alloc, self.lines.len())?;

@@ -32,7 +32,7 @@ impl<'l> Names<'l> {
     }
 
     /// What is known of a name, if it was noted before.
-    pub(crate) fn known(&self, name: &[u8]) -> Option<Who> {
+    pub(crate) fn entry_of(&self, name: &[u8]) -> Option<Who> {
         self.known.get(self.names.number(name)).copied()
     }
 

@@ -4,7 +4,7 @@ ghost use Rattle.line_text.specs.Lines.{physical_lines};
 ghost use Rattle.line_text.specs.Writing.{Writes};
 ghost use Rattle.live_log.specs.Kept.{kept_lines, line_if};
 
-use line_text::{Failed, Sink, split_line, write_parts};
+use line_text::{Failed, Sink, split_line, write_slices};
 
 /// A shorter log: some of the lines of a log.
 #[derive(Drop)]
@@ -43,7 +43,7 @@ fn write_line<W: Sink>(sink: &mut W, kept: bool, line: &[u8]) -> Result<(), Fail
         (line_if kept line.now) result }
 {
     if kept {
-        write_parts(sink, &[line, b"\n"])
+        write_slices(sink, &[line, b"\n"])
     } else {
         Ok(())
     }

@@ -4,7 +4,7 @@ ghost use Rattle.line_text.specs.Lines.{physical_lines};
 
 use crate::keeper::Keeper;
 use crate::short_log::ShortLog;
-use line_feed::MAX_LINE;
+use line_feed::MAX_FED_LINE;
 use line_service::Answers;
 use line_text::split_line;
 use std::alloc::{AllocError, Global};
@@ -30,7 +30,7 @@ pub fn shorten<'l, A: Answers>(
     let mut rest = log;
     while !rest.is_empty() {
         let (line, after) = split_line(rest);
-        let line = first_bytes(line, MAX_LINE);
+        let line = first_bytes(line, MAX_FED_LINE);
         number += 1;
         let reply = service.answer(number, line)?;
         keeper.note(line, reply.as_slice())?;
@@ -38,7 +38,7 @@ pub fn shorten<'l, A: Answers>(
     }
     Ok(ShortLog {
         log,
-        kept: keeper.kept(alloc)?,
+        kept: keeper.kept_flags(alloc)?,
     })
 }
 

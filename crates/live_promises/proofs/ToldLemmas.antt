@@ -3,7 +3,7 @@ use Rattle.std.proofs.Common.{◌≡◌, ℕ, List, [], ◌∷◌, ◌++◌, map
 use Rattle.line_feed.specs.Pieces.{kept_of}
 use Rattle.service_core.specs.declared.device.Device.{Device}
 use Rattle.service_core.specs.Run.{Call, Run}
-use Rattle.service_core.specs.Service.{empty}
+use Rattle.service_core.specs.Service.{empty_service}
 use Rattle.script_text.specs.declared.act.Act.{Act}
 use Rattle.script_text.specs.declared.act.Act.TheVariants.{Operator, Session}
 use Rattle.script_text.specs.Script.{is_name}
@@ -29,12 +29,12 @@ tells_so : (old : Stage) (tellings : List Telling) (new : Stage) → TellsLive o
 tells_so old [] new is = is
 tells_so old (t ∷ tellings) new (mid, answered, rest) = (mid, answered_so old t.act t.calls t.text mid answered, tells_so mid tellings new rest)
 
-act_alone : IsHeadline → (device : Device) (before : List Call) (old new : Stage) (act : Act (List ℕ)) (calls : List Call) (text : List ℕ) → Run (empty device) before old.service → IsAnswered old act calls text new → IsToldAlone device old before calls act text
+act_alone : IsHeadline → (device : Device) (before : List Call) (old new : Stage) (act : Act (List ℕ)) (calls : List Call) (text : List ℕ) → Run (empty_service device) before old.service → IsAnswered old act calls text new → IsToldAlone device old before calls act text
 act_alone headline device before old new (Operator line) calls text runs is = tt
 act_alone headline device before old new (Session name line) calls text runs is =
     (is.0, headline.line device before calls old.service new.service (last_id old.names name) line is.0 runs is.1 is.2, is.5)
 
-acts_alone : IsHeadline → (device : Device) (before : List Call) (old : Stage) (ts : List ScriptTelling) (last : Stage) → Run (empty device) before old.service → Tells old ts last → AreToldAlone device old before ts
+acts_alone : IsHeadline → (device : Device) (before : List Call) (old : Stage) (ts : List ScriptTelling) (last : Stage) → Run (empty_service device) before old.service → Tells old ts last → AreToldAlone device old before ts
 acts_alone headline device before old [] last runs told = tt
 acts_alone headline device before old (t ∷ ts) last runs told = (
   act_alone headline device before old told.0 t.act t.calls t.text runs told.1,
@@ -42,7 +42,7 @@ acts_alone headline device before old (t ∷ ts) last runs told = (
     told.0,
     told.1,
     acts_alone headline device (before ++ t.calls) told.0 ts last
-        (Run-append (empty device) before old.service t.calls (told.0).service runs (answered_runs old t.act t.calls t.text told.0 told.1)) told.2,
+        (Run-append (empty_service device) before old.service t.calls (told.0).service runs (answered_runs old t.act t.calls t.text told.0 told.1)) told.2,
   ),
 )
 
@@ -55,7 +55,7 @@ pub record AreLiveLaws : Type 0 where
 pub told_live : IsHeadline → AreLiveLaws → (device : Device) (lines : List (List ℕ)) (text : List ℕ) (last : LiveState) → AreTaken (begins device) 1 lines text last → IsToldLive device lines text last
 told_live headline laws device lines text last taken =
     let tells = tells_so (begins device).stage taken.tellings last.stage (laws.tells (begins device) last 1 (map kept_of lines) taken.tellings taken.told taken.takes) in
-    let runs : Run (empty device) (calls_of (map of_script taken.tellings)) last.stage.service = told_runs (begins device).stage (map of_script taken.tellings) last.stage tells in
+    let runs : Run (empty_service device) (calls_of (map of_script taken.tellings)) last.stage.service = told_runs (begins device).stage (map of_script taken.tellings) last.stage tells in
     record {
       tellings = taken.tellings;
       told = taken.told;

@@ -5,7 +5,7 @@ use Rattle.service_core.specs.declared.device.Device.{Device}
 use Rattle.service_core.specs.Headline.{AreOwnJournals, AreParted, EachIsAlone, IsBook}
 use Rattle.service_core.specs.Owners.{HasOneOwner}
 use Rattle.service_core.specs.Run.{Run}
-use Rattle.service_core.specs.Service.{empty}
+use Rattle.service_core.specs.Service.{empty_service}
 use Rattle.script_text.specs.Script.{is_name}
 use Rattle.sessions.specs.Reading.{items_to_come}
 use Rattle.tagged_lines.specs.Tags.{Tagged, output_of, told_to}
@@ -30,7 +30,7 @@ pub record IsToldLive (device : Device) (lines : List (List ℕ)) (text : List �
   pub text_is : text ≡ output_of told
   pub tells : Tells (begins device).stage (map of_script tellings) last.stage
   pub each_alone : AreToldAlone device (begins device).stage [] (map of_script tellings)
-  pub runs : Run (empty device) (calls_of (map of_script tellings)) last.stage.service
+  pub runs : Run (empty_service device) (calls_of (map of_script tellings)) last.stage.service
   pub alone : EachIsAlone device (calls_of (map of_script tellings)) last.stage.service
   pub journals : AreOwnJournals (calls_of (map of_script tellings)) last.stage.service
   pub parted : AreParted device last.stage.service

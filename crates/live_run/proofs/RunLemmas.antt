@@ -4,8 +4,8 @@ use Rattle.std.specs.Prelude.{IfSome}
 use Rattle.line_text.specs.Lines.{physical_lines}
 use Rattle.dialogue.specs.History.{Event, View, told_in}
 use Rattle.line_feed.proofs.CutLemmas.{kept_none}
-use Rattle.line_service.specs.declared.conversation.End.{End}
-use Rattle.line_service.specs.declared.conversation.End.TheVariants.{Done as DoneEnd, Stopped as StoppedEnd, TooManyLines as TooManyEnd, NoMemory as NoMemoryEnd}
+use Rattle.line_service.specs.declared.conversation.ConversationEnd.{ConversationEnd}
+use Rattle.line_service.specs.declared.conversation.ConversationEnd.TheVariants.{Done as DoneEnd, Stopped as StoppedEnd, TooManyLines as TooManyEnd, NoMemory as NoMemoryEnd}
 use Rattle.line_service.specs.Conversation.{AreAnswered, IsConversation}
 use Rattle.line_service.proofs.TalkLemmas.{progress_none}
 use Rattle.live_lines.specs.Live.{LiveState}
@@ -26,7 +26,7 @@ replayed past start mid first next before after same c =
     let P : Option (List ℕ) → Type 0 = λ input. IfSome input (λ bytes. c.ends.lines ≡ physical_lines bytes) in
     (c.ends.lines, told_in c.events, subst P same c.ends.all, c.ends.answered, c.ends.counted)
 
-talks_after : (past : Option (List ℕ)) (start mid last : LiveState) (number next : ℕ) (before after : View) (end : End) (r : Replays past start 1 (Ok tt) mid number) → IsConversation AnswersLine mid number before after end last next → Talks start true past before after (outcome_of end)
+talks_after : (past : Option (List ℕ)) (start mid last : LiveState) (number next : ℕ) (before after : View) (end : ConversationEnd) (r : Replays past start 1 (Ok tt) mid number) → IsConversation AnswersLine mid number before after end last next → Talks start true past before after (outcome_of end)
 talks_after past start mid last number next before after end r c =
     let P : ℕ → Type 0 = λ n. IsConversation AnswersLine mid n before after end last next in
     record {
@@ -40,7 +40,7 @@ talks_after past start mid last number next before after end r c =
       ends = (refl, refl);
     }
 
-pub goes_on : (past : Option (List ℕ)) (start mid last : LiveState) (number next : ℕ) (before after : View) (end : End) → Replays past start 1 (Ok tt) mid number → IsConversation AnswersLine mid number before after end last next → RunsFrom start true past before after (outcome_of end)
+pub goes_on : (past : Option (List ℕ)) (start mid last : LiveState) (number next : ℕ) (before after : View) (end : ConversationEnd) → Replays past start 1 (Ok tt) mid number → IsConversation AnswersLine mid number before after end last next → RunsFrom start true past before after (outcome_of end)
 goes_on past start mid last number next before after DoneEnd r c = talks_after past start mid last number next before after DoneEnd r c
 goes_on past start mid last number next before after (StoppedEnd fault) r c = talks_after past start mid last number next before after (StoppedEnd fault) r c
 goes_on past start mid last number next before after TooManyEnd r c = talks_after past start mid last number next before after TooManyEnd r c
@@ -61,7 +61,7 @@ no_log : (start : LiveState) → Resumes start (Some []) start
 no_log start = record { lines = []; text = []; all = refl; answered = (refl, refl) }
 
 -- without a log: an end that is not that of the input
-pub stops : (start last : LiveState) (next : ℕ) (before after : View) (end : End) → (end ≡ DoneEnd → ⊥) → IsConversation AnswersLine start 1 before after end last next → RunsFrom start false (Some []) before after (outcome_of end)
+pub stops : (start last : LiveState) (next : ℕ) (before after : View) (end : ConversationEnd) → (end ≡ DoneEnd → ⊥) → IsConversation AnswersLine start 1 before after end last next → RunsFrom start false (Some []) before after (outcome_of end)
 unfolding no_log
 stops start last next before after DoneEnd not_done c = absurd (not_done refl)
 stops start last next before after (StoppedEnd fault) not_done c = record { mid = start; resumes = no_log start; end = StoppedEnd fault; last = last; next = next; talked = after; talks = c; ends = (refl, refl) }

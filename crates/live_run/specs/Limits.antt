@@ -1,11 +1,13 @@
 -- The limits of a device.
 use Rattle.std.specs.Prelude.{ℕ, ◌≡◌, ◌≤◌}
+use Rattle.arch_file.specs.declared.arch.TheConstants.{MAX_TRACKS}
+use Rattle.grid.specs.declared.TheConstants.{MAX_COLUMNS, MAX_ROWS}
 use Rattle.arch_file.specs.declared.arch.Arch.{Arch}
 use Rattle.service_core.specs.declared.device.Device.{Device}
 use Rattle.live_run.specs.declared.options.Options.{Options}
 
 abbrev pub AreLawful : ℕ → ℕ → ℕ → Type 0
-AreLawful tracks columns rows = (1 ≤ tracks) × (tracks ≤ 64) × (1 ≤ columns) × (columns ≤ 256) × (1 ≤ rows) × (rows ≤ 64)
+AreLawful tracks columns rows = (1 ≤ tracks) × (tracks ≤ MAX_TRACKS) × (1 ≤ columns) × (columns ≤ MAX_COLUMNS) × (1 ≤ rows) × (rows ≤ MAX_ROWS)
 
 abbrev pub Holds : Options → ℕ → ℕ → ℕ → Type 0
 Holds options tracks columns rows = (options.tracks ≡ tracks) × (options.columns ≡ columns) × (options.rows ≡ rows)

@@ -1,7 +1,7 @@
 -- How a live service ends.
 use Rattle.std.specs.Prelude.{ℕ}
-use Rattle.line_service.specs.declared.conversation.End.{End}
-use Rattle.line_service.specs.declared.conversation.End.TheVariants.{Done as DoneEnd, Stopped as StoppedEnd, TooManyLines as TooManyEnd, NoMemory as NoMemoryEnd}
+use Rattle.line_service.specs.declared.conversation.ConversationEnd.{ConversationEnd}
+use Rattle.line_service.specs.declared.conversation.ConversationEnd.TheVariants.{Done as DoneEnd, Stopped as StoppedEnd, TooManyLines as TooManyEnd, NoMemory as NoMemoryEnd}
 use Rattle.line_text.specs.declared.source.ReadError.{ReadError}
 use Rattle.line_text.specs.declared.source.ReadError.TheVariants.{Failed, NoMemory as NoReadMemory}
 use Rattle.live_run.specs.declared.outcome.Outcome.{Outcome}
@@ -18,7 +18,7 @@ status_of (Stopped fault) = 1
 status_of TooManyLines = 1
 status_of NoMemory = 4
 
-abbrev pub outcome_of : End → Outcome
+abbrev pub outcome_of : ConversationEnd → Outcome
 outcome_of DoneEnd = Done
 outcome_of (StoppedEnd fault) = Stopped fault
 outcome_of TooManyEnd = TooManyLines

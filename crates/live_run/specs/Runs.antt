@@ -5,8 +5,8 @@ use Rattle.arch_file.specs.declared.arch.Arch.{Arch}
 use Rattle.arch_file.specs.Arch.{arch_of}
 use Rattle.dialogue.specs.History.{Fails, Happens, View}
 use Rattle.dialogue.specs.History.Event.{Told}
-use Rattle.line_service.specs.declared.conversation.End.{End}
-use Rattle.line_service.specs.declared.conversation.End.TheVariants.{Done as DoneEnd}
+use Rattle.line_service.specs.declared.conversation.ConversationEnd.{ConversationEnd}
+use Rattle.line_service.specs.declared.conversation.ConversationEnd.TheVariants.{Done as DoneEnd}
 use Rattle.line_service.specs.Conversation.{AreAnswered, IsConversation}
 use Rattle.live_lines.specs.Live.{LiveState}
 use Rattle.live_input.specs.Serving.{AnswersLine, ClosesTexts, begins}
@@ -35,7 +35,7 @@ ClosesAs last talked after (Stopped fault) = (reply : List ℕ) × ClosesTexts l
 ClosesAs last talked after outcome = (outcome ≡ NoMemory) × (after ≡ talked)
 
 -- with a log, texts that are open stay open
-abbrev pub EndsSo : Bool → LiveState → End → View → View → Outcome → Type 0
+abbrev pub EndsSo : Bool → LiveState → ConversationEnd → View → View → Outcome → Type 0
 EndsSo false last DoneEnd talked after outcome = ClosesAs last talked after outcome
 EndsSo has_log last end talked after outcome = (outcome ≡ outcome_of end) × (after ≡ talked)
 
@@ -44,7 +44,7 @@ EndsSo has_log last end talked after outcome = (outcome ≡ outcome_of end) × (
 pub record Talks (start : LiveState) (has_log : Bool) (past : Option (List ℕ)) (before after : View) (outcome : Outcome) : Type 0 where
   pub mid : LiveState
   pub resumes : Resumes start past mid
-  pub end : End
+  pub end : ConversationEnd
   pub last : LiveState
   pub next : ℕ
   pub talked : View

@@ -1,7 +1,7 @@
 //! The first line of a log.
 use crate::options::{Options, TENANT_MEMORY};
 use itoa::Buffer;
-use line_text::{MemorySink, write_parts};
+use line_text::{MemorySink, write_slices};
 use std::alloc::{AllocError, Global};
 
 /// The first number of the sum of a text, and what it is multiplied by for each byte (FNV-1a).
@@ -30,7 +30,7 @@ pub fn first_line(
             memory.format(options.tenant_memory).as_bytes(),
         )
     };
-    let parts = write_parts(
+    let parts = write_slices(
         &mut line,
         &[
             b"# fpgad_live --tracks ",

@@ -3,7 +3,7 @@ ghost use Rattle.std.specs.Prelude.{◌≢◌, IfErr};
 
 use crate::log_lock::LockLog;
 use crate::outcome::Outcome;
-use dialogue::{Fault, FileLog, Log};
+use dialogue::{FailedDevice, FileLog, Log};
 use line_text::{ReadError, Source, StdSource, read_all};
 use std::alloc::Global;
 use std::fs::{File, OpenFile, OpenOptions};
@@ -37,7 +37,7 @@ where
     }
     let mut log = FileLog::new(file);
     if whole == 0 && log.keep(first_line).is_err() {
-        return Err(Outcome::Stopped(Fault::Log));
+        return Err(Outcome::Stopped(FailedDevice::Log));
     }
     let kept = whole.max(first_line.len() as u64);
     match part_of(rt, path, kept) {

@@ -1,8 +1,12 @@
 //! The command line.
 ghost use Rattle.std.specs.Prelude.{◌≡◌, ◌≤◌, ◌*◌, IfSome, IfNone};
+ghost use Rattle.arch_file.specs.declared.arch.TheConstants.{MAX_TRACKS};
+ghost use Rattle.grid.specs.declared.TheConstants.{MAX_COLUMNS, MAX_ROWS};
+ghost use Rattle.live_run.specs.declared.options.TheConstants.{MAX_TENANT_MEMORY};
 
-use arch_file::Arch;
+use arch_file::{Arch, MAX_TRACKS};
 use clap::Error;
+use grid::{MAX_COLUMNS, MAX_ROWS};
 use option_words::{Given, OptionWord, Program, Takes, read_words, refusal};
 use service_core::Device;
 use std::alloc::Global;
@@ -110,10 +114,10 @@ pub struct Options {
     pub rows: u32,
     /// MiB of texts that one tenancy's journal may hold, 1 to 1,048,576.
     pub tenant_memory: u32,
-    ghost tracks_lawful: { (1 ≤ tracks) × (tracks ≤ 64) },
-    ghost columns_lawful: { (1 ≤ columns) × (columns ≤ 256) },
-    ghost rows_lawful: { (1 ≤ rows) × (rows ≤ 64) },
-    ghost tenant_memory_lawful: { (1 ≤ tenant_memory) × (tenant_memory ≤ 1048576) },
+    ghost tracks_lawful: { (1 ≤ tracks) × (tracks ≤ MAX_TRACKS) },
+    ghost columns_lawful: { (1 ≤ columns) × (columns ≤ MAX_COLUMNS) },
+    ghost rows_lawful: { (1 ≤ rows) × (rows ≤ MAX_ROWS) },
+    ghost tenant_memory_lawful: { (1 ≤ tenant_memory) × (tenant_memory ≤ MAX_TENANT_MEMORY) },
 }
 
 impl Options {
@@ -124,7 +128,13 @@ impl Options {
         ensures some { IfSome result (λ options. Holds options tracks columns rows) }
         ensures none { IfNone result (AreLawful tracks columns rows → ⊥) }
     {
-        if tracks < 1 || tracks > 64 || columns < 1 || columns > 256 || rows < 1 || rows > 64 {
+        if tracks < 1
+            || tracks > MAX_TRACKS
+            || columns < 1
+            || columns > MAX_COLUMNS
+            || rows < 1
+            || rows > MAX_ROWS
+        {
             return None;
         }
         Some(Options {
@@ -140,7 +150,7 @@ impl Options {
     pub fn with_tenant_memory(self, mib: u32) -> Option<Self>
         ensures some { IfSome result (λ options. (options.tenant_memory ≡ mib)
             × Holds options self.tracks self.columns self.rows) }
-        ensures none { IfNone result ((1 ≤ mib) × (mib ≤ 1048576) → ⊥) }
+        ensures none { IfNone result ((1 ≤ mib) × (mib ≤ MAX_TENANT_MEMORY) → ⊥) }
     {
         if mib < 1 || mib > MAX_TENANT_MEMORY {
             return None;
@@ -155,7 +165,7 @@ impl Options {
 
     /// The most bytes of texts that one tenancy's journal may hold.
     pub fn text_limit(&self) -> u64
-        ensures { result ≡ self.now.tenant_memory * 1048576 }
+        ensures { result ≡ self.now.tenant_memory * MIB }
     {
         u64::from(self.tenant_memory) * MIB
     }

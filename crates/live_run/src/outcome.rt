@@ -4,8 +4,8 @@ ghost use Rattle.std.specs.Process.{exit_status};
 ghost use Rattle.live_run.specs.Outcomes.{outcome_of, status_of};
 
 use arch_file::ArchFault;
-use dialogue::Fault;
-use line_service::End;
+use dialogue::FailedDevice;
+use line_service::ConversationEnd;
 use line_text::ReadError;
 use std::fmt;
 use std::process::ExitCode;
@@ -23,7 +23,7 @@ pub enum Outcome {
     /// The log does not begin with the line that names the options of this run.
     LogDiffers,
     /// That device failed.
-    Stopped(Fault),
+    Stopped(FailedDevice),
     /// The log and the input have 2^64 lines or more.
     TooManyLines,
     /// Another service uses the log.
@@ -58,14 +58,14 @@ impl Outcome {
     }
 
     /// How a service ends whose conversation ended so.
-    pub(crate) fn of(end: End) -> Self
+    pub(crate) fn of(end: ConversationEnd) -> Self
         ensures { result ≡ outcome_of end }
     {
         match end {
-            End::Done => Outcome::Done,
-            End::Stopped(fault) => Outcome::Stopped(fault),
-            End::TooManyLines => Outcome::TooManyLines,
-            End::NoMemory => Outcome::NoMemory,
+            ConversationEnd::Done => Outcome::Done,
+            ConversationEnd::Stopped(fault) => Outcome::Stopped(fault),
+            ConversationEnd::TooManyLines => Outcome::TooManyLines,
+            ConversationEnd::NoMemory => Outcome::NoMemory,
         }
     }
 }
@@ -80,9 +80,9 @@ impl fmt::Display for Outcome {
             Outcome::LogUnreadable => write!(f, "log: unreadable"),
             Outcome::LogInUse => write!(f, "log: another service uses it"),
             Outcome::LogDiffers => write!(f, "log: its first line names other options"),
-            Outcome::Stopped(Fault::Input) => write!(f, "input: failed"),
-            Outcome::Stopped(Fault::Log) => write!(f, "log: failed"),
-            Outcome::Stopped(Fault::Output) => write!(f, "output: failed"),
+            Outcome::Stopped(FailedDevice::Input) => write!(f, "input: failed"),
+            Outcome::Stopped(FailedDevice::Log) => write!(f, "log: failed"),
+            Outcome::Stopped(FailedDevice::Output) => write!(f, "output: failed"),
             Outcome::TooManyLines => write!(f, "input: too many lines"),
             Outcome::NoMemory => write!(f, "memory"),
         }

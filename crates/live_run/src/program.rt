@@ -40,8 +40,11 @@ where
 {
     match words {
         Ok(words) => run_called(rt, words.as_slice(), connection),
-        Err(error) if error.kind() == io::ErrorKind::OutOfMemory => ended(rt, Outcome::NoMemory),
-        Err(_) => refused(rt, "error: an argument is no text\n"),
+        Err(error) if error.kind() == io::ErrorKind::OutOfMemory => report_outcome(
+            rt,
+            Outcome::NoMemory,
+        ),
+        Err(_) => report_refusal(rt, "error: an argument is no text\n"),
     }
 }
 
@@ -60,8 +63,8 @@ where
         (exit_status result) }
 {
     match run_words(rt, words, connection) {
-        Ok(outcome) => ended(rt, outcome),
-        Err(error) => refused(rt, error),
+        Ok(outcome) => report_outcome(rt, outcome),
+        Err(error) => report_refusal(rt, error),
     }
 }
 
@@ -166,7 +169,7 @@ fn read_architecture<H: Files + AllocGlobal>(rt: &H, path: &str) -> Result<Vec<u
 }
 
 /// Writes the message of how the run ended to standard error, and returns its status.
-fn ended<H: Eprint>(rt: &H, outcome: Outcome) -> ExitCode
+fn report_outcome<H: Eprint>(rt: &H, outcome: Outcome) -> ExitCode
     ensures { exit_status result ≡ status_of outcome }
 {
     if outcome.status() != 0 {
@@ -176,7 +179,7 @@ fn ended<H: Eprint>(rt: &H, outcome: Outcome) -> ExitCode
 }
 
 /// Writes why the words are refused to standard error, and returns status 2.
-fn refused<H: Eprint, M: Display + Drop>(rt: &H, message: M) -> ExitCode
+fn report_refusal<H: Eprint, M: Display + Drop>(rt: &H, message: M) -> ExitCode
     ensures { exit_status result ≡ 2 }
 {
     let _ = rt.eprint(message);

@@ -11,7 +11,7 @@ use crate::outcome::Outcome;
 use arch_file::{ArchError, read_arch};
 use dialogue::{Dialogue, Replay};
 use line_feed::LineFeed;
-use line_service::End;
+use line_service::ConversationEnd;
 use line_text::Source;
 use live_input::{LiveLines, serve_lines};
 use service_core::{Device, Service};
@@ -85,7 +85,7 @@ fn serve_past<H: Wait + AllocGlobal, P: Source + Drop, D: Dialogue>(
             Err(outcome) => outcome,
         },
         None => match talk(rt, lines, dialogue, &mut number) {
-            End::Done => close_texts(lines, dialogue),
+            ConversationEnd::Done => close_texts(lines, dialogue),
             end => Outcome::of(end),
         },
     }
@@ -105,9 +105,9 @@ fn replay<H: Wait + AllocGlobal, P: Source + Drop>(
 {
     let mut replay = Replay::new(past);
     match talk(rt, lines, &mut replay, number) {
-        End::Done => Ok(()),
-        End::NoMemory => Err(Outcome::NoMemory),
-        End::Stopped(_) | End::TooManyLines => Err(Outcome::LogUnreadable),
+        ConversationEnd::Done => Ok(()),
+        ConversationEnd::NoMemory => Err(Outcome::NoMemory),
+        ConversationEnd::Stopped(_) | ConversationEnd::TooManyLines => Err(Outcome::LogUnreadable),
     }
 }
 
@@ -117,15 +117,15 @@ fn talk<H: Wait + AllocGlobal, D: Dialogue>(
     lines: &mut LiveLines<'_>,
     dialogue: &mut D,
     number: &mut u64,
-) -> End
+) -> ConversationEnd
     requires { is_ready lines.old }
-    ensures ready { result ≡ End.Done → is_ready lines.new }
+    ensures ready { result ≡ ConversationEnd.Done → is_ready lines.new }
     ensures conversation { IsConversation AnswersLine (state_in lines.old) number.old
         (D.view dialogue.old) (D.view dialogue.new) result (state_in lines.new) number.new }
 {
     match LineFeed::new(rt.alloc()) {
         Ok(mut feed) => serve_lines(rt, lines, &mut feed, dialogue, number),
-        Err(_) => End::NoMemory,
+        Err(_) => ConversationEnd::NoMemory,
     }
 }
 

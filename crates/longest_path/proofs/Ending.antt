@@ -12,7 +12,7 @@ use Rattle.longest_path.specs.declared.longest.Longest.TheVariants.{Path, NoPath
 use Rattle.longest_path.specs.declared.reach.Reach.{Reach}
 use Rattle.longest_path.specs.Ends.{IsEnd}
 use Rattle.longest_path.specs.Paths.{HasLoop, IsIn, IsLongest, IsPath, IsWay, ends_of, starts_of}
-use Rattle.longest_path.specs.Reaches.{IsFound, far, steps_to}
+use Rattle.longest_path.specs.Reaches.{IsFound, reach_of, steps_to}
 use Rattle.longest_path.specs.Settled.{IsSettled}
 use Rattle.longest_path.proofs.Raising.{table_within}
 
@@ -53,10 +53,10 @@ path_steps circuit nets reach settled from tables to path =
 -- a net at one step is a start
 first_start : (tables : List LookupTable) (starts : List ℕ) (nets : ℕ) (reach : List Reach) (net : ℕ) → IsSettled nets tables starts reach → steps_to reach net ≡ 1 → IsIn starts net
 first_start tables starts nets reach net settled one =
-    let found : IsFound tables starts net (far reach net) = settled.found net (omega arith) in
+    let found : IsFound tables starts net (reach_of reach net) = settled.found net (omega arith) in
     by found.1.0 found.1.1 (let e : length found.1.0 + 1 ≡ steps_to reach net = found.1.2 in omega arith) found.0
   where
-    by : (through : List LookupTable) → IsWay tables (far reach net).start through net → length through ≡ 0 → IsIn starts (far reach net).start → IsIn starts net
+    by : (through : List LookupTable) → IsWay tables (reach_of reach net).start through net → length through ≡ 0 → IsIn starts (reach_of reach net).start → IsIn starts net
     by [] way none start = subst (IsIn starts) way start
     by (table ∷ others) way none start = absurd (omega (arith, none))
 

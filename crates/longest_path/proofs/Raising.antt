@@ -6,7 +6,7 @@ use Rattle.blif.specs.LookupTables.{LookupTable}
 use Rattle.longest_path.specs.declared.reach.Reach.{Reach}
 use Rattle.longest_path.specs.Paths.{HasLoop, IsIn, IsWay}
 use Rattle.longest_path.specs.Passes.{AreRaised, IsPassed, IsFarther}
-use Rattle.longest_path.specs.Reaches.{AreFound, AreSmall, IsBegun, IsFarthest, IsFound, far, none, steps_to}
+use Rattle.longest_path.specs.Reaches.{AreFound, AreSmall, IsBegun, IsFarthest, IsFound, reach_of, none, steps_to}
 use Rattle.longest_path.specs.Settled.{IsOnTheWay, IsSettled}
 use Rattle.std.proofs.lemmas.Bool.{cases_eq, cases_lt}
 use Rattle.std.proofs.lemmas.List.{get_or-set_other, get_or-set_same, get_or_past}
@@ -46,7 +46,7 @@ pub on_the_way : (passes nets : ℕ) (tables : List LookupTable) (starts : List 
 on_the_way passes nets tables starts old new was passed farther =
     let net : ℕ = farther.0 in
     let reached : 0 < steps_to new net = (let h : steps_to old net < steps_to new net = farther.1 in omega arith) in
-    let found : IsFound tables starts net (far new net) = passed.found net reached in
+    let found : IsFound tables starts net (reach_of new net) = passed.found net reached in
     let through : List LookupTable = found.1.0 in
     record {
       long = passed.long ∙ was.long;
@@ -59,7 +59,7 @@ on_the_way passes nets tables starts old new was passed farther =
         (
             elim (cases_lt passes (length through)) [
               | inr short ↦
-                  let cover : length through + 1 ≤ steps_to old net = was.covered (far new net).start through net found.0 found.1.1 short in
+                  let cover : length through + 1 ≤ steps_to old net = was.covered (reach_of new net).start through net found.0 found.1.1 short in
                   let same : length through + 1 ≡ steps_to new net = found.1.2 in
                   let more : steps_to old net < steps_to new net = farther.1 in
                   absurd (omega arith)
@@ -121,8 +121,8 @@ kept tables starts place most table old now here most_is up passed = record {
 
 -- what was found for a net after the output of a table is raised
 steps_at : (now : List Reach) (output : ℕ) (best : Reach) (net : ℕ) → output < length now
-    → ((net ≡ output) × (far (set now output (record { steps = best.steps + 1; start = best.start })) net ≡ record { steps = best.steps + 1; start = best.start }))
-    ⊎ (far (set now output (record { steps = best.steps + 1; start = best.start })) net ≡ far now net)
+    → ((net ≡ output) × (reach_of (set now output (record { steps = best.steps + 1; start = best.start })) net ≡ record { steps = best.steps + 1; start = best.start }))
+    ⊎ (reach_of (set now output (record { steps = best.steps + 1; start = best.start })) net ≡ reach_of now net)
 steps_at now output best net within =
     elim (cases_eq net output) [
       | inl here ↦ inl (here, ap (λ n. get_or (set now output (record { steps = best.steps + 1; start = best.start })) n none) here ∙ get_or-set_same now output (record { steps = best.steps + 1; start = best.start }) none within)
@@ -140,7 +140,7 @@ raises now output best n within above =
 
 -- a table raises its output
 pub more : (tables : List LookupTable) (starts : List ℕ) (place net : ℕ) (table : LookupTable) (best : Reach) (old now : List Reach) → slice_get tables place ≡ Some table
-    → far now net ≡ best → IsFarthest now table.inputs net → best.steps ≤ length now → steps_to now table.output ≤ best.steps → table.output < length now
+    → reach_of now net ≡ best → IsFarthest now table.inputs net → best.steps ≤ length now → steps_to now table.output ≤ best.steps → table.output < length now
     → IsPassed tables starts place old now
     → IsPassed tables starts (place + 1) old (set now table.output (record { steps = best.steps + 1; start = best.start }))
 more tables starts place net table best old now here is farthest few above within passed =
@@ -156,7 +156,7 @@ more tables starts place net table best old now here is farthest few above withi
       ];
       found = λ n reached. elim (steps_at now table.output best n within) [
         | inl at ↦
-            let was : IsFound tables starts net (far now net) = passed.found net farthest.reached in
+            let was : IsFound tables starts net (reach_of now net) = passed.found net farthest.reached in
             let lead : IsFound tables starts net best = subst (IsFound tables starts net) is was in
             let through : List LookupTable = table ∷ lead.1.0 in
             let count : length lead.1.0 + 1 ≡ best.steps = lead.1.2 in
@@ -170,7 +170,7 @@ more tables starts place net table best old now here is farthest few above withi
           (λ n among. (let a : steps_to now n ≤ steps_to now net = at_most now table.inputs (steps_to now net) n farthest.most among in omega arith))
           (λ _. (elim (steps_at now table.output best table.output within) [
             | inl at ↦ (let a : steps_to new table.output ≡ best.steps + 1 = ap (λ (r : Reach). r.steps) at.1 in omega arith)
-            | inr off ↦ (let a : far new table.output ≡ record { steps = best.steps + 1; start = best.start } = get_or-set_same now table.output (record { steps = best.steps + 1; start = best.start }) none within in
+            | inr off ↦ (let a : reach_of new table.output ≡ record { steps = best.steps + 1; start = best.start } = get_or-set_same now table.output (record { steps = best.steps + 1; start = best.start }) none within in
                 let b : steps_to new table.output ≡ best.steps + 1 = ap (λ (r : Reach). r.steps) a in omega arith)
           ]))
           passed.raised;
@@ -180,16 +180,16 @@ more tables starts place net table best old now here is farthest few above withi
 pub farther : (output : ℕ) (best : Reach) (old now : List Reach) → output < length now → steps_to now output ≤ best.steps → ((net : ℕ) → steps_to old net ≤ steps_to now net)
     → IsFarther old (set now output (record { steps = best.steps + 1; start = best.start }))
 farther output best old now within above rises =
-    let a : far (set now output (record { steps = best.steps + 1; start = best.start })) output ≡ record { steps = best.steps + 1; start = best.start } = get_or-set_same now output (record { steps = best.steps + 1; start = best.start }) none within in
+    let a : reach_of (set now output (record { steps = best.steps + 1; start = best.start })) output ≡ record { steps = best.steps + 1; start = best.start } = get_or-set_same now output (record { steps = best.steps + 1; start = best.start }) none within in
     let b : steps_to (set now output (record { steps = best.steps + 1; start = best.start })) output ≡ best.steps + 1 = ap (λ (r : Reach). r.steps) a in
     let d : steps_to old output ≤ steps_to now output = rises output in
     (output, omega arith)
 
 -- an input that is farther than there are nets is behind a loop
 pub looped : (tables : List LookupTable) (starts : List ℕ) (place net : ℕ) (table : LookupTable) (best : Reach) (old now : List Reach) → All (IsTableWithin (length old)) tables → slice_get tables place ≡ Some table
-    → far now net ≡ best → IsFarthest now table.inputs net → length old < best.steps → IsPassed tables starts place old now → HasLoop tables
+    → reach_of now net ≡ best → IsFarthest now table.inputs net → length old < best.steps → IsPassed tables starts place old now → HasLoop tables
 looped tables starts place net table best old now all here is farthest many passed =
-    let was : IsFound tables starts net (far now net) = passed.found net farthest.reached in
+    let was : IsFound tables starts net (reach_of now net) = passed.found net farthest.reached in
     let lead : IsFound tables starts net best = subst (IsFound tables starts net) is was in
     let count : length lead.1.0 + 1 ≡ best.steps = lead.1.2 in
     long_loop tables (length old) (λ one among. (table_within tables (length old) among.0 one all among.1).output) best.start (table ∷ lead.1.0) table.output
@@ -225,7 +225,7 @@ first tables starts reach small found = record {
 }
 
 -- what is read for a net that is reached, or that is there
-pub far_of : (reach : List Reach) (net : ℕ) (best : Reach) → net < length reach → best ≡ get_or reach net best → far reach net ≡ best
+pub far_of : (reach : List Reach) (net : ℕ) (best : Reach) → net < length reach → best ≡ get_or reach net best → reach_of reach net ≡ best
 far_of reach net best within read = get_or_from_slice_get reach net (get_or reach net best) none (slice_get-get_or reach net best within) ∙ sym read
 
 pub reached_within : (reach : List Reach) (net : ℕ) → 0 < steps_to reach net → net < length reach

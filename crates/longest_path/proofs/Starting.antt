@@ -5,7 +5,7 @@ use Rattle.std.proofs.lemmas.Bool.{cases_eq, cases_lt}
 use Rattle.std.proofs.lemmas.List.{get_or-set_other, get_or-set_same, get_or-take}
 use Rattle.longest_path.specs.declared.reach.Reach.{Reach}
 use Rattle.longest_path.specs.Paths.{IsIn}
-use Rattle.longest_path.specs.Reaches.{IsBegun, far, none, steps_to}
+use Rattle.longest_path.specs.Reaches.{IsBegun, reach_of, none, steps_to}
 
 -- a start, at one step from itself
 abbrev start : ℕ → Reach
@@ -46,7 +46,7 @@ one_more nets starts i reach within all begun =
     let here : this < nets = all i 0 within in
     let long : length reach ≡ nets = begun.long in
     let new : List Reach = set reach this (start this) in
-    let at : far new this ≡ start this = get_or-set_same reach this (start this) none (omega arith) in
+    let at : reach_of new this ≡ start this = get_or-set_same reach this (start this) none (omega arith) in
     record {
       long = length-set reach this (start this) ∙ long;
       started = λ net among. elim (cases_eq net this) [
@@ -57,10 +57,10 @@ one_more nets starts i reach within all begun =
         | inl same ↦ (
           subst (IsIn (take (i + 1) starts)) (sym same) (last starts i within),
           ap (λ n. steps_to new n) same ∙ ap (λ (r : Reach). r.steps) at,
-          ap (λ n. (far new n).start) same ∙ (ap (λ (r : Reach). r.start) at ∙ sym same),
+          ap (λ n. (reach_of new n).start) same ∙ (ap (λ (r : Reach). r.start) at ∙ sym same),
         )
         | inr off ↦
-            let e : far new net ≡ far reach net = get_or-set_other reach this net (start this) none off in
+            let e : reach_of new net ≡ reach_of reach net = get_or-set_other reach this net (start this) none off in
             let was = begun.only net (subst (λ (r : Reach). 0 < r.steps) e reached) in
             (earlier starts i net within was.0, ap (λ (r : Reach). r.steps) e ∙ was.1, ap (λ (r : Reach). r.start) e ∙ was.2)
       ];

@@ -6,7 +6,7 @@ use Rattle.std.proofs.lemmas.List.{map-append}
 use Rattle.blif.specs.LookupTables.{LookupTable}
 use Rattle.longest_path.specs.declared.reach.Reach.{Reach}
 use Rattle.longest_path.specs.Paths.{AreAt, IsIn, IsTable, IsWay}
-use Rattle.longest_path.specs.Reaches.{AreUnreached, IsFarthest, IsFound, far, steps_to}
+use Rattle.longest_path.specs.Reaches.{AreUnreached, IsFarthest, IsFound, reach_of, steps_to}
 use Rattle.longest_path.specs.Settled.{IsSettled}
 use Rattle.longest_path.specs.Tracing.{CanTrace, IsThrough, Leads, NoneLeads}
 use Rattle.std.proofs.lemmas.Option.{same_Some, slice_get_within}
@@ -71,8 +71,8 @@ leads tables reach starts nets net steps start settled far_is some none reached 
 pub some_leads : (tables : List LookupTable) (reach : List Reach) (net steps : ℕ) → CanTrace tables reach → steps_to reach net ≡ steps + 1 → 0 < steps → NoneLeads tables reach (length tables) net steps → ⊥
 some_leads tables reach net steps can far_is some none =
     let settled = can.1 in
-    let found : IsFound tables can.0 net (far reach net) = settled.found net (omega arith) in
-    leads tables reach can.0 (length reach) net steps (far reach net).start settled far_is some none (settled.started (far reach net).start found.0) found.1.0 found.1.1
+    let found : IsFound tables can.0 net (reach_of reach net) = settled.found net (omega arith) in
+    leads tables reach can.0 (length reach) net steps (reach_of reach net).start settled far_is some none (settled.started (reach_of reach net).start found.0) found.1.0 found.1.1
     (let e : length found.1.0 + 1 ≡ steps_to reach net = found.1.2 in omega arith)
 
 -- none of no tables leads to it

@@ -9,17 +9,17 @@ abbrev pub none : Reach
 none = record { steps = 0; start = 0 }
 
 -- what was found for a net, and the number of its steps
-abbrev pub far : List Reach → ℕ → Reach
-far reach net = slice_index_or reach net none
+abbrev pub reach_of : List Reach → ℕ → Reach
+reach_of reach net = slice_index_or reach net none
 
 abbrev pub steps_to : List Reach → ℕ → ℕ
-steps_to reach net = (far reach net).steps
+steps_to reach net = (reach_of reach net).steps
 
 -- only the starts are reached, by ways without tables
 pub record IsBegun (nets : ℕ) (starts : List ℕ) (reach : List Reach) : Type 0 where
   pub long : length reach ≡ nets
   pub started : (net : ℕ) → IsIn starts net → steps_to reach net ≡ 1
-  pub only : (net : ℕ) → 0 < steps_to reach net → IsIn starts net × (steps_to reach net ≡ 1) × ((far reach net).start ≡ net)
+  pub only : (net : ℕ) → 0 < steps_to reach net → IsIn starts net × (steps_to reach net ≡ 1) × ((reach_of reach net).start ≡ net)
 
 -- none of the nets is reached
 abbrev pub AreUnreached : List Reach → List ℕ → Type 0
@@ -38,7 +38,7 @@ IsFound tables starts net one =
 
 -- each net that is reached is reached by such a way
 abbrev pub AreFound : List LookupTable → List ℕ → List Reach → Type 0
-AreFound tables starts reach = (net : ℕ) → 0 < steps_to reach net → IsFound tables starts net (far reach net)
+AreFound tables starts reach = (net : ℕ) → 0 < steps_to reach net → IsFound tables starts net (reach_of reach net)
 
 -- no way that was found has more steps than there are nets, and one
 abbrev pub AreSmall : List Reach → Type 0

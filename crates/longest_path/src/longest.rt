@@ -5,9 +5,9 @@ ghost use Rattle.longest_path.specs.Paths.{IsLongest, HasLoop, ends_of, starts_o
 ghost use Rattle.longest_path.specs.Ends.{IsEnd};
 ghost use Rattle.longest_path.specs.Tracing.{CanTrace};
 
-use crate::reach::{Reach, farthest};
-use crate::settle::settled;
-use crate::trace::{Way, traced};
+use crate::reach::{Reach, farthest_net};
+use crate::settle::longest_ways;
+use crate::trace::{Way, longest_way};
 use blif::{Circuit, Tables};
 use std::alloc::{AllocError, Global};
 
@@ -44,7 +44,7 @@ pub fn longest_path(alloc: Global, circuit: &Circuit) -> Result<Longest, AllocEr
     let starts = starts_of(alloc, circuit)?;
     let ends = ends_of(alloc, circuit)?;
     let nets = circuit.nets.len();
-    let found = settled(alloc, nets, &starts, &circuit.tables)?;
+    let found = longest_ways(alloc, nets, &starts, &circuit.tables)?;
     match found {
         Some(reach) => {
             let longest = longest_in(alloc, &reach, &circuit.tables, &ends);
@@ -67,9 +67,9 @@ fn longest_in(
     requires settled { CanTrace tables.now reach.now }
     ensures { IfOk result (IsEnd tables.now reach.now ends.now) }
 {
-    match farthest(reach, ends) {
+    match farthest_net(reach, ends) {
         Some(to) => {
-            let Way { from, tables } = traced(alloc, reach, tables, to)?;
+            let Way { from, tables } = longest_way(alloc, reach, tables, to)?;
             Ok(Longest::Path(LongestPath { tables, from, to }))
         }
         None => Ok(Longest::NoPath),
@@ -86,7 +86,7 @@ fn has_loop(alloc: Global, circuit: &Circuit) -> Result<bool, AllocError>
     for net in 0..nets {
         starts.push(net as u32)?;
     }
-    let found = settled(alloc, nets, &starts, &circuit.tables)?;
+    let found = longest_ways(alloc, nets, &starts, &circuit.tables)?;
     match found {
         Some(reach) => {
             drop(reach);

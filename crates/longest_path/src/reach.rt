@@ -1,6 +1,6 @@
 //! How far nets are from the starts of ways.
 ghost use Rattle.std.specs.Prelude.{◌≡◌, ℕ, ◌<◌, ◌≤◌, All, length, slice_index, slice_index_or, IfOk, MatchOption};
-ghost use Rattle.longest_path.specs.Reaches.{IsBegun, IsFarthest, AreUnreached, far};
+ghost use Rattle.longest_path.specs.Reaches.{IsBegun, IsFarthest, AreUnreached, reach_of};
 
 use std::alloc::{AllocError, Global};
 
@@ -14,7 +14,11 @@ pub(crate) struct Reach {
 }
 
 /// `nets` nets, of which only the starts are reached, each by a way without tables.
-pub(crate) fn begun(alloc: Global, nets: usize, starts: &[u32]) -> Result<Vec<Reach>, AllocError>
+pub(crate) fn starting_reach(
+    alloc: Global,
+    nets: usize,
+    starts: &[u32],
+) -> Result<Vec<Reach>, AllocError>
     requires { All (λ net. net < nets) starts.now }
     ensures { IfOk result (λ reach. IsBegun nets starts.now reach.items) }
 {
@@ -30,7 +34,7 @@ pub(crate) fn begun(alloc: Global, nets: usize, starts: &[u32]) -> Result<Vec<Re
 }
 
 /// The net with the longest way among these; `None` if none is reached.
-pub(crate) fn farthest(reach: &[Reach], nets: &[u32]) -> Option<u32>
+pub(crate) fn farthest_net(reach: &[Reach], nets: &[u32]) -> Option<u32>
     requires { All (λ net. net < length reach.now) nets.now }
     ensures { MatchOption result (AreUnreached reach.now nets.now) (IsFarthest reach.now nets.now) }
 {

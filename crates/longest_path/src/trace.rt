@@ -4,7 +4,7 @@ ghost use Rattle.blif.specs.LawfulCircuits.{IsTableWithin};
 ghost use Rattle.longest_path.specs.Reaches.{steps_to};
 ghost use Rattle.longest_path.specs.Tracing.{CanTrace, IsStepBack, IsTraced, NoneLeads};
 
-use crate::reach::{Reach, farthest};
+use crate::reach::{Reach, farthest_net};
 use blif::Tables;
 use std::alloc::{AllocError, Global};
 
@@ -27,7 +27,7 @@ pub(crate) struct StepBack {
 }
 
 /// A longest way to a net. Fails with [`AllocError`] if memory runs out.
-pub(crate) fn traced(
+pub(crate) fn longest_way(
     alloc: Global,
     reach: &[Reach],
     tables: &Tables,
@@ -63,7 +63,7 @@ fn step_back(reach: &[Reach], tables: &Tables, net: u32, steps: usize) -> Option
     for place in 0..tables.len() {
         let table = tables.table(place);
         if table.output == net {
-            if let Some(before) = farthest(reach, table.inputs) {
+            if let Some(before) = farthest_net(reach, table.inputs) {
                 if reach[before as usize].steps == steps {
                     return Some(StepBack {
                         table: place,

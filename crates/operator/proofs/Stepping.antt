@@ -12,7 +12,7 @@ use Rattle.service_core.specs.declared.put_reply.PutReply.TheVariants.{Recorded 
 use Rattle.service_core.specs.History.{History}
 use Rattle.service_core.specs.Run.{Call, Happens, Run, IsGivenBackTo}
 use Rattle.service_core.specs.Run.Call.{Admit, Evict, Move, Tenant, Take, Put, GiveBack, Owners}
-use Rattle.service_core.specs.Service.{ServiceState, live_of, modified}
+use Rattle.service_core.specs.Service.{ServiceState, live_of, with_changed}
 use Rattle.sessions.specs.declared.line.SessionLine.{SessionLine}
 use Rattle.sessions.specs.declared.line.SessionLine.TheVariants.{Blank, Command, Wait, Refused}
 use Rattle.sessions.specs.declared.steps.StepOutcome.{StepOutcome}
@@ -47,7 +47,7 @@ steady-append (x ∷ xs) ys a b = (a.0, steady-append xs ys a.1 b)
 same : (old new : ServiceState) → new ≡ old → length old.histories ≡ length new.histories
 same old new is = ap (λ (s : ServiceState). length s.histories) (sym is)
 
-changed : (old new : ServiceState) (id : ℕ) (change : History → History) → new ≡ record old { histories = modified old.histories id change } → length old.histories ≡ length new.histories
+changed : (old new : ServiceState) (id : ℕ) (change : History → History) → new ≡ record old { histories = with_changed old.histories id change } → length old.histories ≡ length new.histories
 changed old new id change is = rw is (sym (length-modified old.histories id change))
 
 given : (o : Option History) (old new : ServiceState) (job : JobState) → IsGivenBackTo o old job new → length old.histories ≡ length new.histories

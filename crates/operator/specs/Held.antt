@@ -2,5 +2,5 @@
 use Rattle.std.specs.Prelude.{ℕ, List}
 use Rattle.line_text.specs.declared.memory_sink.MemorySink.{MemorySink}
 
-abbrev pub held : MemorySink → List ℕ
-held sink = sink.bytes.items
+abbrev pub sink_text : MemorySink → List ℕ
+sink_text sink = sink.bytes.items

@@ -1,5 +1,5 @@
 -- The texts of the replies to the operator, and the names under which tenancies were admitted.
-use Rattle.std.specs.Prelude.{ℕ, ◌+◌, List, [], ◌∷◌, ◌++◌, length, codes, decimal, Result, Ok, Err, Option, Some, None, unwrap_or, if◌then◌else◌}
+use Rattle.std.specs.Prelude.{ℕ, ◌+◌, ◌-◌, ◌==◌, List, [], ◌∷◌, ◌++◌, length, reverse, slice_get, codes, decimal, Result, Ok, Err, Option, Some, None, unwrap_or, if◌then◌else◌}
 use Rattle.std.specs.Option.{option_map_or}
 use Rattle.std.specs.Str.{bytes_eq}
 use Rattle.sessions.specs.declared.steps.StepOutcome.{StepOutcome}
@@ -50,6 +50,10 @@ abbrev pub last_id : List (List ℕ) → List ℕ → ℕ
 last_id [] name = 0
 last_id (newest ∷ older) name = if bytes_eq newest name then length older + 1 else last_id older name
 
+-- the name of an id, if the id was given
+abbrev pub name_of : List (List ℕ) → ℕ → Option (List ℕ)
+name_of names id = if id == 0 then None else slice_get (reverse names) (id - 1)
+
 -- the names after an admission with that answer
 abbrev pub names_after : List (List ℕ) → List ℕ → Result (ℕ × ℕ) OpRefusal → List (List ℕ)
 names_after names name (Ok given) = name ∷ names
@@ -62,10 +66,10 @@ listed_text None offset id name = []
 listed_text (Some h) offset id name =
     decimal id ++ blank_word name ++ blank_word (decimal (unwrap_or offset 0)) ++ blank_word (decimal h.strip.width) ++ blank_word (state_text (state_of h).name) ++ 10 ∷ []
 
-abbrev pub listed : ServiceState → ℕ → List ℕ → List ℕ
-listed service id name = listed_text (live_of service.histories id) (offset_of service.plan.strips id) id name
+abbrev pub list_lines : ServiceState → ℕ → List ℕ → List ℕ
+list_lines service id name = listed_text (live_of service.histories id) (offset_of service.plan.strips id) id name
 
 -- the live tenancies by rising id, one line each
 abbrev pub list_text : ServiceState → List (List ℕ) → List ℕ
 list_text service [] = []
-list_text service (newest ∷ older) = list_text service older ++ listed service (length older + 1) newest
+list_text service (newest ∷ older) = list_text service older ++ list_lines service (length older + 1) newest

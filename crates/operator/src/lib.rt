@@ -15,3 +15,5 @@ mod reply;
 
 pub use held_jobs::HeldJobs;
 pub use operator::Operator;
+pub use owners::push_owners;
+pub use reply::{push_admitted, push_evicted, push_listed, push_moved, push_refused};

@@ -1,7 +1,7 @@
-ghost use Rattle.std.specs.Prelude.{◌≡◌, ◌+◌, ◌<◌, ◌∷◌, ◌++◌, ◌↔◌, [], length, vec_capacity, vec_len, IsTrue, OnErr, OnOk};
-ghost use Rattle.operator.specs.OperatorText.{last_id, list_text};
+ghost use Rattle.std.specs.Prelude.{◌≡◌, ◌+◌, ◌<◌, ◌∷◌, ◌++◌, ◌↔◌, [], length, vec_capacity, vec_len, option_copied, IsTrue, OnErr, OnOk};
+ghost use Rattle.operator.specs.OperatorText.{last_id, list_text, name_of};
 ghost use Rattle.indexmap.specs.IndexMap.{spare};
-ghost use Rattle.operator.specs.Held.{held};
+ghost use Rattle.operator.specs.Held.{sink_text};
 ghost use Rattle.operator.specs.Ids.{AreLastIds, newest_first};
 ghost use Rattle.operator.specs.Operators.{Steps, TriesSome};
 
@@ -51,6 +51,16 @@ impl<'t> Operator<'t> {
         }
     }
 
+    /// The name of an id. None if it was not given.
+    pub fn name_of(&self, id: u32) -> Option<&'t [u8]>
+        ensures { option_copied result ≡ name_of self.now id }
+    {
+        if id == 0 {
+            return None;
+        }
+        self.admitted.get(id as usize - 1).copied()
+    }
+
     /// The last id that the name was given, or 0.
     pub fn last_id(&self, name: &[u8]) -> u32
         ensures { result ≡ last_id self.now name.now }
@@ -82,7 +92,7 @@ impl<'t> Operator<'t> {
     ) -> Result<(), AllocError>
         requires { length self.old ≡ length core.old.histories }
         ensures told { OnOk result (Answers graph.now self.old jobs.old core.old line.entry
-            (held reply.old) (held reply.new) self.new jobs.new core.new) }
+            (sink_text reply.old) (sink_text reply.new) self.new jobs.new core.new) }
         ensures stands { OnErr result (Stands graph.now self.old jobs.old core.old line.entry
             self.new jobs.new core.new) }
     {
@@ -123,8 +133,8 @@ impl<'t> Operator<'t> {
         reply: &mut MemorySink,
     ) -> Result<(), AllocError>
         requires { length self.old ≡ length core.old.histories }
-        ensures told { OnOk result (Admits self.old core.old name.now width (held reply.old)
-            (held reply.new) self.new core.new) }
+        ensures told { OnOk result (Admits self.old core.old name.now width (sink_text reply.old)
+            (sink_text reply.new) self.new core.new) }
         ensures stands { OnErr result (AdmissionStands self.old core.old name.now width self.new
             core.new) }
     {
@@ -146,7 +156,8 @@ impl<'t> Operator<'t> {
     /// Appends one line for each live tenancy, by id.
     fn list(&self, core: &Service, reply: &mut MemorySink) -> Result<(), AllocError>
         requires { length self.now ≡ length core.now.histories }
-        ensures { OnOk result (held reply.new ≡ held reply.old ++ list_text core.now self.now) }
+        ensures { OnOk result (sink_text reply.new ≡ sink_text reply.old
+            ++ list_text core.now self.now) }
     {
         let names = self.admitted.as_slice();
         for place in 0..core.admissions() {
@@ -182,7 +193,8 @@ fn step(
     count: u32,
     reply: &mut MemorySink,
 ) -> Result<(), AllocError>
-    ensures told { OnOk result (Steps graph.now core.old id count (held reply.old) (held reply.new)
+    ensures told { OnOk result (Steps graph.now core.old id count (sink_text reply.old) (sink_text
+        reply.new)
         core.new) }
     ensures stands { OnErr result (TriesSome graph.now core.old id count core.new) }
 {

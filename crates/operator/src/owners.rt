@@ -1,7 +1,7 @@
 //! The owners of a device's pins, wires and pads, as in the reply to the operator.
 ghost use Rattle.std.specs.Prelude.{◌≡◌, ◌++◌, OnOk, codes, decimal};
 ghost use Rattle.std.specs.List.{flat_map};
-ghost use Rattle.operator.specs.Held.{held};
+ghost use Rattle.operator.specs.Held.{sink_text};
 ghost use Rattle.operator.specs.OwnersText.{owned_text, owners_text, resource_text};
 ghost use Rattle.vpr_files.specs.NodeText.{node_text_of, position_text};
 
@@ -14,12 +14,9 @@ use std::alloc::AllocError;
 use vpr_files::write_node;
 
 /// Appends the number of owned resources on a device with `rows` rows, and one line for each.
-pub(crate) fn push_owners(
-    reply: &mut MemorySink,
-    rows: u32,
-    owners: &[Owned],
-) -> Result<(), AllocError>
-    ensures { OnOk result (held reply.new ≡ held reply.old ++ owners_text rows owners.now) }
+pub fn push_owners(reply: &mut MemorySink, rows: u32, owners: &[Owned]) -> Result<(), AllocError>
+    ensures { OnOk result (sink_text reply.new ≡ sink_text reply.old
+        ++ owners_text rows owners.now) }
 {
     let mut digits = Buffer::new();
     let count = digits.format(owners.len()).as_bytes();
@@ -29,8 +26,8 @@ pub(crate) fn push_owners(
 
 /// Appends one line for each resource and its owner.
 fn push_each(reply: &mut MemorySink, rows: u32, owners: &[Owned]) -> Result<(), AllocError>
-    ensures { OnOk result (held reply.new
-        ≡ held reply.old ++ flat_map (owned_text rows) owners.now) }
+    ensures { OnOk result (sink_text reply.new
+        ≡ sink_text reply.old ++ flat_map (owned_text rows) owners.now) }
 {
     for owned in owners {
         push_owned(reply, rows, *owned)?;
@@ -40,7 +37,7 @@ fn push_each(reply: &mut MemorySink, rows: u32, owners: &[Owned]) -> Result<(), 
 
 /// Appends the line of a resource and its owner.
 fn push_owned(reply: &mut MemorySink, rows: u32, owned: Owned) -> Result<(), AllocError>
-    ensures { OnOk result (held reply.new ≡ held reply.old ++ owned_text rows owned) }
+    ensures { OnOk result (sink_text reply.new ≡ sink_text reply.old ++ owned_text rows owned) }
 {
     let Owned { resource, id } = owned;
     push_resource(reply, rows, resource)?;
@@ -51,8 +48,8 @@ fn push_owned(reply: &mut MemorySink, rows: u32, owned: Owned) -> Result<(), All
 /// Appends a resource: a pin or a wire as its node appears in a `.route` file, a pad in the form of
 /// its own.
 fn push_resource(reply: &mut MemorySink, rows: u32, resource: Resource) -> Result<(), AllocError>
-    ensures { OnOk result (held reply.new
-        ≡ held reply.old ++ resource_text rows resource resource.kind) }
+    ensures { OnOk result (sink_text reply.new
+        ≡ sink_text reply.old ++ resource_text rows resource resource.kind) }
 {
     match resource.kind {
         ResourceKind::Opin => push_node(reply, rows, NodeKind::Opin, resource),
@@ -64,8 +61,8 @@ fn push_resource(reply: &mut MemorySink, rows: u32, resource: Resource) -> Resul
 }
 
 fn push_pad(reply: &mut MemorySink, pad: Resource) -> Result<(), AllocError>
-    ensures { OnOk result (held reply.new
-        ≡ held reply.old ++ codes "PAD " ++ position_text pad.x pad.y ++ codes " Pad: "
+    ensures { OnOk result (sink_text reply.new
+        ≡ sink_text reply.old ++ codes "PAD " ++ position_text pad.x pad.y ++ codes " Pad: "
         ++ decimal pad.n) }
 {
     let (mut columns, mut rows, mut numbers) = (Buffer::new(), Buffer::new(), Buffer::new());
@@ -82,8 +79,8 @@ fn push_node(
     kind: NodeKind,
     resource: Resource,
 ) -> Result<(), AllocError>
-    ensures { OnOk result (held reply.new
-        ≡ held reply.old ++ node_text_of rows
+    ensures { OnOk result (sink_text reply.new
+        ≡ sink_text reply.old ++ node_text_of rows
         (record { x = resource.x; kind = kind; y = resource.y; n = resource.n })) }
 {
     let Resource { x, y, n, .. } = resource;

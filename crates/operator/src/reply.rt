@@ -1,24 +1,25 @@
 //! The lines of the replies to the operator.
 ghost use Rattle.std.specs.Prelude.{◌≡◌, ◌++◌, ◌∷◌, [], OnOk, decimal};
 ghost use Rattle.std.specs.List.{flat_map};
-ghost use Rattle.operator.specs.Held.{held};
-ghost use Rattle.operator.specs.OperatorText.{admitted_text, evicted_text, listed, moved_text, outcome_text, outcome_word, refused_text, taken_text};
+ghost use Rattle.operator.specs.Held.{sink_text};
+ghost use Rattle.operator.specs.OperatorText.{admitted_text, evicted_text, list_lines, moved_text, outcome_text, outcome_word, refused_text, taken_text};
 ghost use Rattle.sessions.specs.SessionText.{blank_word};
 
 use itoa::Buffer;
-use line_text::{MemorySink, write_parts};
+use line_text::{MemorySink, write_slices};
 use service_core::{OpRefusal, Service};
 use sessions::{StepOutcome, step_word, write_refused};
 use std::alloc::AllocError;
 
 /// Appends the line of a tenancy, if it is live.
-pub(crate) fn push_listed(
+pub fn push_listed(
     reply: &mut MemorySink,
     core: &Service,
     id: u32,
     name: &[u8],
 ) -> Result<(), AllocError>
-    ensures { OnOk result (held reply.new ≡ held reply.old ++ listed core.now id name.now) }
+    ensures { OnOk result (sink_text reply.new ≡ sink_text reply.old
+        ++ list_lines core.now id name.now) }
 {
     let Some(state) = core.state(id) else {
         return Ok(());
@@ -37,8 +38,8 @@ fn push_row<'t>(
     width: u32,
     state: &'t str,
 ) -> Result<(), AllocError>
-    ensures { OnOk result (held reply.new
-        ≡ held reply.old ++ decimal id ++ blank_word name.now ++ blank_word (decimal offset)
+    ensures { OnOk result (sink_text reply.new
+        ≡ sink_text reply.old ++ decimal id ++ blank_word name.now ++ blank_word (decimal offset)
         ++ blank_word (decimal width) ++ blank_word state.now ++ 10 ∷ []) }
 {
     let (mut ids, mut offsets, mut widths) = (Buffer::new(), Buffer::new(), Buffer::new());
@@ -55,11 +56,11 @@ fn push_row<'t>(
 }
 
 /// Appends the reply to an admission with that answer.
-pub(crate) fn push_admitted(
+pub fn push_admitted(
     reply: &mut MemorySink,
     answer: &Result<(u32, u32), OpRefusal>,
 ) -> Result<(), AllocError>
-    ensures { OnOk result (held reply.new ≡ held reply.old ++ admitted_text answer.now) }
+    ensures { OnOk result (sink_text reply.new ≡ sink_text reply.old ++ admitted_text answer.now) }
 {
     match answer {
         Ok((id, offset)) => {
@@ -73,12 +74,13 @@ pub(crate) fn push_admitted(
 }
 
 /// Appends the reply to a move of a strip to that offset, with that answer.
-pub(crate) fn push_moved(
+pub fn push_moved(
     reply: &mut MemorySink,
     offset: u32,
     answer: &Result<(), OpRefusal>,
 ) -> Result<(), AllocError>
-    ensures { OnOk result (held reply.new ≡ held reply.old ++ moved_text offset answer.now) }
+    ensures { OnOk result (sink_text reply.new ≡ sink_text reply.old
+        ++ moved_text offset answer.now) }
 {
     match answer {
         Ok(()) => {
@@ -91,11 +93,11 @@ pub(crate) fn push_moved(
 }
 
 /// Appends the reply to an eviction with that answer.
-pub(crate) fn push_evicted(
+pub fn push_evicted(
     reply: &mut MemorySink,
     answer: &Result<(), OpRefusal>,
 ) -> Result<(), AllocError>
-    ensures { OnOk result (held reply.new ≡ held reply.old ++ evicted_text answer.now) }
+    ensures { OnOk result (sink_text reply.new ≡ sink_text reply.old ++ evicted_text answer.now) }
 {
     match answer {
         Ok(()) => push_parts(reply, &[b"ok\n"]),
@@ -105,7 +107,7 @@ pub(crate) fn push_evicted(
 
 /// Appends the outcome of making a step.
 pub(crate) fn push_outcome(reply: &mut MemorySink, outcome: StepOutcome) -> Result<(), AllocError>
-    ensures { OnOk result (held reply.new ≡ held reply.old ++ outcome_text outcome) }
+    ensures { OnOk result (sink_text reply.new ≡ sink_text reply.old ++ outcome_text outcome) }
 {
     push_parts(reply, &[outcome_word(outcome), b"\n"])
 }
@@ -125,7 +127,7 @@ fn outcome_word(outcome: StepOutcome) -> &'static [u8]
 
 /// Appends the number of a job that was taken.
 pub(crate) fn push_taken(reply: &mut MemorySink, number: Option<usize>) -> Result<(), AllocError>
-    ensures { OnOk result (held reply.new ≡ held reply.old ++ taken_text number) }
+    ensures { OnOk result (sink_text reply.new ≡ sink_text reply.old ++ taken_text number) }
 {
     match number {
         Some(number) => {
@@ -139,22 +141,19 @@ pub(crate) fn push_taken(reply: &mut MemorySink, number: Option<usize>) -> Resul
 
 /// Appends the parts one after the other.
 pub(crate) fn push_parts(reply: &mut MemorySink, parts: &[&[u8]]) -> Result<(), AllocError>
-    ensures { OnOk result (held reply.new
-        ≡ held reply.old ++ flat_map (λ part. part.now) parts.now) }
+    ensures { OnOk result (sink_text reply.new
+        ≡ sink_text reply.old ++ flat_map (λ part. part.now) parts.now) }
 {
-    match write_parts(reply, parts) {
+    match write_slices(reply, parts) {
         Ok(()) => Ok(()),
         Err(_) => Err(AllocError),
     }
 }
 
 /// Appends the line of a refusal.
-pub(crate) fn push_refused(
-    reply: &mut MemorySink,
-    number: u32,
-    name: &str,
-) -> Result<(), AllocError>
-    ensures { OnOk result (held reply.new ≡ held reply.old ++ refused_text number name.now) }
+pub fn push_refused(reply: &mut MemorySink, number: u32, name: &str) -> Result<(), AllocError>
+    ensures { OnOk result (sink_text reply.new ≡ sink_text reply.old
+        ++ refused_text number name.now) }
 {
     match write_refused(reply, number, name) {
         Ok(()) => Ok(()),

@@ -89,7 +89,7 @@ fn with_tool<'a>(
 
 /// The program as a clap command.
 pub(crate) fn command<'a>(alloc: Global, program: &Program) -> Result<Command<'a>, AllocError> {
-    let mut command = named(alloc, program);
+    let mut command = command_of(alloc, program);
     for option in program.options {
         command = command.arg(argument(alloc, option))?;
     }
@@ -97,7 +97,7 @@ pub(crate) fn command<'a>(alloc: Global, program: &Program) -> Result<Command<'a
 }
 
 /// The clap command without the program's options.
-fn named<'a>(alloc: Global, program: &Program) -> Command<'a> {
+fn command_of<'a>(alloc: Global, program: &Program) -> Command<'a> {
     Command::new(alloc, program.name)
         .about(program.about)
         .after_help(program.after_help)
@@ -117,14 +117,14 @@ fn taking<'a>(argument: Arg<'a>, option: &OptionWord) -> Arg<'a> {
     match option.takes {
         Takes::Nothing => argument.long(option.name).action(ArgAction::SetTrue),
         Takes::Alone => argument.value_name(option.value_name).required(true),
-        takes => valued(argument, option)
+        takes => with_value_name(argument, option)
             .value_parser(parser(takes))
             .required(matches!(takes, Takes::GivenText)),
     }
 }
 
 /// The argument with its name and the name of its value in the help.
-fn valued<'a>(argument: Arg<'a>, option: &OptionWord) -> Arg<'a> {
+fn with_value_name<'a>(argument: Arg<'a>, option: &OptionWord) -> Arg<'a> {
     argument.long(option.name).value_name(option.value_name)
 }
 

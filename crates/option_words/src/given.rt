@@ -75,7 +75,7 @@ impl<'a> Given<'a> {
     }
 
     /// The value of an option that takes a number of 64 bits, or why the words are refused.
-    pub fn long(&self, name: &str) -> Result<u64, &'static str>
+    pub fn long_number(&self, name: &str) -> Result<u64, &'static str>
         ensures told { IfOk result (λ number. number_of 64 self.now name.now ≡ Some number) }
         ensures none { IfErr result (λ _. number_of 64 self.now name.now ≡ None) }
     {

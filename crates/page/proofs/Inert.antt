@@ -2,14 +2,14 @@
 use Rattle.std.proofs.Common.{ℕ, ◌≡◌, ◌∙◌, ◌&&◌, ◌==◌, Bool, true, false, List, [], ◌∷◌, ◌++◌, ◌⊎◌, inl, inr, refl, sym, ap, subst, eqb, cond, leb, not}
 use Rattle.std.specs.List.{flat_map, list_all}
 use Rattle.std.proofs.lemmas.List.Folds.{list_all-append}
-use Rattle.page.specs.Shown.{is_inert, shown}
+use Rattle.page.specs.Shown.{is_inert, escape_of}
 
 bool_cases : (b : Bool) → (b ≡ true) ⊎ (b ≡ false)
 bool_cases true = inl refl
 bool_cases false = inr refl
 
 -- what is written for one byte
-byte_inert : (byte : ℕ) → list_all is_inert (shown byte) ≡ true
+byte_inert : (byte : ℕ) → list_all is_inert (escape_of byte) ≡ true
 byte_inert byte =
     elim (bool_cases (byte == 38)) [
       | inl e ↦ rw e refl
@@ -37,7 +37,7 @@ byte_inert byte =
           ]
     ]
 
-pub all_inert : (bytes : List ℕ) → list_all is_inert (flat_map shown bytes) ≡ true
+pub all_inert : (bytes : List ℕ) → list_all is_inert (flat_map escape_of bytes) ≡ true
 all_inert [] = refl
 all_inert (byte ∷ bytes) =
-    list_all-append is_inert (shown byte) (flat_map shown bytes) ∙ (ap (λ b. b && list_all is_inert (flat_map shown bytes)) (byte_inert byte) ∙ all_inert bytes)
+    list_all-append is_inert (escape_of byte) (flat_map escape_of bytes) ∙ (ap (λ b. b && list_all is_inert (flat_map escape_of bytes)) (byte_inert byte) ∙ all_inert bytes)

@@ -3,8 +3,8 @@ use Rattle.std.specs.Prelude.{ℕ, ◌==◌, ◌&&◌, Bool, not, if◌then◌el
 
 -- a byte with a meaning in HTML is written by its name, a line end as it is, and another one that
 -- is no printable ASCII character as the replacement character
-abbrev pub shown : ℕ → List ℕ
-shown byte =
+abbrev pub escape_of : ℕ → List ℕ
+escape_of byte =
     if byte == 38 then codes "&amp;"
     else if byte == 60 then codes "&lt;"
     else if byte == 62 then codes "&gt;"

@@ -1,7 +1,8 @@
 //! A page: one HTML file that shows texts, with nothing from outside.
 //!
-//! The page is a fixed text, the [`viewer`], around the texts that it shows, each an [`Item`]. Its
-//! script reads the texts out of hidden elements, and builds what it shows from them as text alone.
+//! The page is a fixed text, the [`viewer`], around the texts that it shows, each an [`PageItem`].
+//! Its script reads the texts out of hidden elements, and builds what it shows from them as text
+//! alone.
 //!
 //! [`write_page`] writes exactly the viewer's head, the items and the viewer's tail, and each byte
 //! of an item as [`write_shown`] does. [`texts_are_inert`] is the law that nothing in such a text
@@ -16,5 +17,5 @@ mod shown;
 
 pub use fixed_text::viewer;
 pub use law::texts_are_inert;
-pub use page::{Item, Viewer, write_page};
+pub use page::{PageItem, Viewer, write_page};
 pub use shown::write_shown;

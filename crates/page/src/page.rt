@@ -18,7 +18,7 @@ pub struct Viewer<'a> {
 
 /// A text that the page shows.
 #[derive(Clone, Copy)]
-pub struct Item<'a> {
+pub struct PageItem<'a> {
     /// What kind of text it is, as `net` or `route`.
     pub kind: &'a str,
     /// Whose text it is.
@@ -30,7 +30,7 @@ pub struct Item<'a> {
 pub fn write_page<K: Sink>(
     sink: &mut K,
     viewer: Viewer<'_>,
-    items: &[Item<'_>],
+    items: &[PageItem<'_>],
 ) -> Result<(), Failed>
     ensures { Writes K.contents K.has_failed sink.old sink.new (page_text viewer.entry items.now)
         result }
@@ -48,7 +48,7 @@ fn write_fixed<K: Sink>(sink: &mut K, text: &str) -> Result<(), Failed>
 }
 
 /// Writes the items, one after another.
-fn write_items<K: Sink>(sink: &mut K, items: &[Item<'_>]) -> Result<(), Failed>
+fn write_items<K: Sink>(sink: &mut K, items: &[PageItem<'_>]) -> Result<(), Failed>
     ensures { Writes K.contents K.has_failed sink.old sink.new (flat_map item_text items.now)
         result }
 {
@@ -59,7 +59,7 @@ fn write_items<K: Sink>(sink: &mut K, items: &[Item<'_>]) -> Result<(), Failed>
 }
 
 /// Writes the element of an item.
-fn write_item<K: Sink>(sink: &mut K, item: Item<'_>) -> Result<(), Failed>
+fn write_item<K: Sink>(sink: &mut K, item: PageItem<'_>) -> Result<(), Failed>
     ensures { Writes K.contents K.has_failed sink.old sink.new (item_text item.entry) result }
 {
     write_start(sink, item)?;
@@ -68,7 +68,7 @@ fn write_item<K: Sink>(sink: &mut K, item: Item<'_>) -> Result<(), Failed>
 }
 
 /// Writes the beginning of an item's element.
-fn write_start<K: Sink>(sink: &mut K, item: Item<'_>) -> Result<(), Failed>
+fn write_start<K: Sink>(sink: &mut K, item: PageItem<'_>) -> Result<(), Failed>
     ensures { Writes K.contents K.has_failed sink.old sink.new (start_text item.entry) result }
 {
     write_kind(sink, item)?;
@@ -77,7 +77,7 @@ fn write_start<K: Sink>(sink: &mut K, item: Item<'_>) -> Result<(), Failed>
 }
 
 /// Writes the beginning of an item's element, up to its kind.
-fn write_kind<K: Sink>(sink: &mut K, item: Item<'_>) -> Result<(), Failed>
+fn write_kind<K: Sink>(sink: &mut K, item: PageItem<'_>) -> Result<(), Failed>
     ensures { Writes K.contents K.has_failed sink.old sink.new (kind_text item.entry) result }
 {
     write_parts(
@@ -88,7 +88,7 @@ fn write_kind<K: Sink>(sink: &mut K, item: Item<'_>) -> Result<(), Failed>
 }
 
 /// Writes the end of the kind, and the name.
-fn write_name<K: Sink>(sink: &mut K, item: Item<'_>) -> Result<(), Failed>
+fn write_name<K: Sink>(sink: &mut K, item: PageItem<'_>) -> Result<(), Failed>
     ensures { Writes K.contents K.has_failed sink.old sink.new (name_text item.entry) result }
 {
     write_parts(sink, &[Part::Text("\" data-name=\"")])?;

@@ -1,7 +1,7 @@
 //! Texts as HTML shows them.
 ghost use Rattle.std.specs.List.{flat_map};
 ghost use Rattle.line_text.specs.Writing.{Writes};
-ghost use Rattle.page.specs.Shown.{shown};
+ghost use Rattle.page.specs.Shown.{escape_of};
 
 use line_text::{Failed, Sink, write_all};
 
@@ -9,7 +9,8 @@ use line_text::{Failed, Sink, write_all};
 /// HTML by its name, a line end as it is, and any other byte that is no printable ASCII character
 /// as the replacement character. If the sink fails, it has taken a first part of them.
 pub fn write_shown<K: Sink>(sink: &mut K, bytes: &[u8]) -> Result<(), Failed>
-    ensures { Writes K.contents K.has_failed sink.old sink.new (flat_map shown bytes.now) result }
+    ensures { Writes K.contents K.has_failed sink.old sink.new (flat_map escape_of bytes.now)
+        result }
 {
     for byte in bytes {
         write_byte(sink, *byte)?;
@@ -18,7 +19,7 @@ pub fn write_shown<K: Sink>(sink: &mut K, bytes: &[u8]) -> Result<(), Failed>
 }
 
 fn write_byte<K: Sink>(sink: &mut K, byte: u8) -> Result<(), Failed>
-    ensures { Writes K.contents K.has_failed sink.old sink.new (shown byte) result }
+    ensures { Writes K.contents K.has_failed sink.old sink.new (escape_of byte) result }
 {
     match byte {
         b'&' => write_all(sink, b"&amp;"),

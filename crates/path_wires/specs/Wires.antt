@@ -35,11 +35,11 @@ wires_of Opin = 0
 wires_of Ipin = 0
 
 -- the node at an index, and the wires on the way to it
-abbrev pub none : Node
-none = record { x = 0; kind = Source; y = 0; n = 0 }
+abbrev pub no_node : Node
+no_node = record { x = 0; kind = Source; y = 0; n = 0 }
 
 abbrev pub node_at : List RouteNode → ℕ → Node
-node_at nodes place = option_map_or (λ read. read.node) (slice_get nodes place) none
+node_at nodes place = option_map_or (λ read. read.node) (slice_get nodes place) no_node
 
 abbrev pub wires_at : List ℕ → ℕ → ℕ
 wires_at depths place = slice_index_or depths place 0

@@ -17,9 +17,9 @@ use Rattle.least_path.specs.Graph.{Graph, IsLawful}
 use Rattle.least_path.specs.Path.{Leads, LeavesOut}
 use Rattle.least_path.specs.LowerBound.{IsLowerBound, FallsByAtMost, IsConsistent}
 use Rattle.least_path.proofs.Bounds.{consistent_below}
-use Rattle.pathfinder.specs.Tables.{IsAim, aimed}
+use Rattle.pathfinder.specs.Tables.{IsAim, aimed_graph}
 use Rattle.pathfinder.specs.declared.entry.PinPrices.{PinPrices}
-use Rattle.pathfinder.specs.Entries.{AreEntries, IsNoMore, raised, bound_by}
+use Rattle.pathfinder.specs.Entries.{AreEntries, IsNoMore, raised_bound, bound_by}
 use Rattle.pathfinder.proofs.LastWires.{step_at}
 use Rattle.pathfinder.proofs.Growing.{all_by_member}
 
@@ -39,7 +39,7 @@ by_bounds cost p q further None f each = tt
 by_bounds cost p q None (Some next) f each = absurd f
 by_bounds cost p q (Some further) (Some next) f each = each further next refl refl f
 
-raised_is : (pins : PinPrices) (lasts : List ℕ) (sink node : Node) (further : Option ℕ) → raised pins lasts sink node further ≡ option_map (bound_by pins lasts sink node.kind node) further
+raised_is : (pins : PinPrices) (lasts : List ℕ) (sink node : Node) (further : Option ℕ) → raised_bound pins lasts sink node further ≡ option_map (bound_by pins lasts sink node.kind node) further
 raised_is pins lasts sink node None = refl
 raised_is pins lasts sink node (Some further) = refl
 
@@ -75,7 +75,7 @@ module _ (basis : Basis) (known : IsRoutingGraph basis (graph_of basis)) (goal :
   }
 
   module _ (g : Graph) (lawful : IsLawful g) (count : g.count ≡ (graph_of basis).count) (same : (node : ℕ) → g.ends node ≡ (graph_of basis).ends node) where
-    pub aimed_lawful : IsLawful (aimed basis sink g)
+    pub aimed_lawful : IsLawful (aimed_graph basis sink g)
     aimed_lawful = record {
       few = lawful.few;
       ends_below = λ node b.
@@ -88,7 +88,7 @@ module _ (basis : Basis) (known : IsRoutingGraph basis (graph_of basis)) (goal :
       cost_to = lawful.cost_to;
     }
 
-    pub leaves_out : LeavesOut g (aimed basis sink g) goal
+    pub leaves_out : LeavesOut g (aimed_graph basis sink g) goal
     leaves_out = record {
       count = refl;
       cost = λ node b. refl;
@@ -106,9 +106,9 @@ module _ (basis : Basis) (known : IsRoutingGraph basis (graph_of basis)) (goal :
 
     -- consistent bounds that use the costs of the last wires and pins
     entered : (pins : PinPrices) (lasts : List ℕ) → AreEntries basis sink g pins lasts →
-        IsConsistent (aimed basis sink g) goal (λ node. raised pins lasts sink ((graph_of basis).node node) (further node))
+        IsConsistent (aimed_graph basis sink g) goal (λ node. raised_bound pins lasts sink ((graph_of basis).node node) (further node))
     entered pins lasts enters =
-        let plain = consistent (aimed basis sink g) aimed_lawful count (λ node end c. towards_back (graph_of basis) sink node end c) in
+        let plain = consistent (aimed_graph basis sink g) aimed_lawful count (λ node end c. towards_back (graph_of basis) sink node end c) in
         let kind : ((graph_of basis).node goal).kind ≡ Sink = ap (λ (node : Node). node.kind) aim.is ∙ aim.kind in
         record {
           at_goal = rw plain.at_goal (ap Some (none_follow pins lasts sink ((graph_of basis).node goal) ((graph_of basis).node goal).kind kind));
@@ -129,7 +129,7 @@ module _ (basis : Basis) (known : IsRoutingGraph basis (graph_of basis)) (goal :
 
     -- a lower bound for the search
     pub aimed_bound : (pins : PinPrices) (lasts : List ℕ) → AreEntries basis sink g pins lasts → (node : ℕ) → node < g.count → (bound : Option ℕ) →
-        IsNoMore bound (raised pins lasts sink ((graph_of basis).node node) (further node)) → IsLowerBound (aimed basis sink g) goal node bound
+        IsNoMore bound (raised_bound pins lasts sink ((graph_of basis).node node) (further node)) → IsLowerBound (aimed_graph basis sink g) goal node bound
     aimed_bound pins lasts enters node b bound less =
-        let all : ℕ → Option ℕ = λ node. raised pins lasts sink ((graph_of basis).node node) (further node) in
-        lower_still (aimed basis sink g) goal node bound (all node) less (consistent_below (aimed basis sink g) goal all node aimed_lawful (entered pins lasts enters) b)
+        let all : ℕ → Option ℕ = λ node. raised_bound pins lasts sink ((graph_of basis).node node) (further node) in
+        lower_still (aimed_graph basis sink g) goal node bound (all node) less (consistent_below (aimed_graph basis sink g) goal all node aimed_lawful (entered pins lasts enters) b)

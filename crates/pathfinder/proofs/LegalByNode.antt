@@ -18,7 +18,7 @@ use Rattle.pathfinder.specs.Terminals.{sink_at, net_source, net_sinks, is_same_n
 use Rattle.pathfinder.specs.PlacedNets.{wiring_of, number_of, net_to_route, nets_to_route}
 use Rattle.pathfinder.specs.LegalRoutes.{path_nodes, pairs_of, IsLeaf, LeadsOver, IsTree, IsRoute, IsRouted, IsLegal}
 use Rattle.pathfinder.specs.LegalTrees.{IsNumberTree, IsNetTree, IsTreeFor, AreLegal}
-use Rattle.pathfinder.specs.Routings.{told_by_node}
+use Rattle.pathfinder.specs.Routings.{routes_by_node}
 use Rattle.pathfinder.proofs.Steps.{in_first, in_later}
 use Rattle.pathfinder.proofs.Strips.{is_pair}
 use Rattle.pathfinder.proofs.Found.{any_from, occupancy-cons}
@@ -164,7 +164,7 @@ module _ (basis : Basis) (lawful : IsRoutingGraph basis (graph_of basis)) where
   -- ---- all nets
 
   pub legal_told : (packed : PackedCircuit) (places : List Place) (trees : List Tree) → AreNets (wiring_of basis) (nets_to_route basis packed places) → All (HoldsWithin (wiring_of basis)) trees →
-      AreLegal (wiring_of basis) (nets_to_route basis packed places) trees → IsLegal basis.arch basis.strip packed places (told_by_node (graph_of basis) trees)
+      AreLegal (wiring_of basis) (nets_to_route basis packed places) trees → IsLegal basis.arch basis.strip packed places (routes_by_node (graph_of basis) trees)
   unfolding nets_to_route
   legal_told packed places trees are within legal = record {
     routed = all_told packed places (block_nets packed) trees are.each within legal.routes;
@@ -186,14 +186,14 @@ module _ (basis : Basis) (lawful : IsRoutingGraph basis (graph_of basis)) where
   abbrev IsThere : Node → Type 0
   IsThere node = is_node basis.arch basis.strip node ≡ true
 
-  pub all_there : (trees : List Tree) → All (All (All IsNumber)) trees → All (All (All IsThere)) (told_by_node (graph_of basis) trees)
+  pub all_there : (trees : List Tree) → All (All (All IsNumber)) trees → All (All (All IsThere)) (routes_by_node (graph_of basis) trees)
   all_there trees within =
       all_mapped (All (All IsNumber)) (All (All IsThere)) (map (map (graph_of basis).node))
       (all_mapped (All IsNumber) (All IsThere) (map (graph_of basis).node) (all_mapped IsNumber IsThere (graph_of basis).node lawful.nodes)) trees within
 
   -- finished routes are legal
   pub done_told : IsWiring (wiring_of basis) → LeastPathLaws → (packed : PackedCircuit) (places : List Place) (nets : List Net) → nets ≡ nets_to_route basis packed places → AreNets (wiring_of basis) nets → (iterations : ℕ) →
-      (routed_after (wiring_of basis) nets iterations).standing ≡ Done → IsLegal basis.arch basis.strip packed places (told_by_node (graph_of basis) (routed_after (wiring_of basis) nets iterations).trees)
+      (routed_after (wiring_of basis) nets iterations).standing ≡ Done → IsLegal basis.arch basis.strip packed places (routes_by_node (graph_of basis) (routed_after (wiring_of basis) nets iterations).trees)
   done_told law paths packed places nets same are iterations done =
       let sound = done_sound (wiring_of basis) law paths nets are iterations done in
       legal_told packed places (routed_after (wiring_of basis) nets iterations).trees (subst (AreNets (wiring_of basis)) same are) sound.1

@@ -3,7 +3,7 @@ use Rattle.std.proofs.Common.{◌≡◌, ℕ, ◌+◌, ◌-◌, ◌*◌, ◌<◌
 use Rattle.std.specs.Prelude.{slice_index, if◌then◌else◌}
 use Rattle.std.proofs.lemmas.Bool.{cases_lt, and_parts, leb-true}
 use Rattle.std.proofs.lemmas.List.{get_or_append_left, get_or_push}
-use Rattle.pathfinder.specs.declared.rate.Rate.{Rate}
+use Rattle.pathfinder.specs.declared.rate.NodeCost.{NodeCost}
 use Rattle.rr_graph.specs.declared.node.Node.{Node}
 use Rattle.rr_graph.specs.declared.node.NodeKind.{NodeKind}
 use Rattle.rr_graph.specs.declared.node.NodeKind.TheVariants.{Source, Sink, Opin, Ipin, ChanX, ChanY}
@@ -16,21 +16,21 @@ use Rattle.rr_graph.proofs.Columns.{member_small, member_of}
 use Rattle.pathfinder.specs.PlacedNets.{wiring_of}
 use Rattle.pathfinder.specs.Rates.{AreRates, AreRatesBelow, IsNarrow, node_of}
 
-pub rates_more : (basis : Basis) (history : List ℕ) (count : ℕ) (rates : List Rate) (rate : Rate) → AreRatesBelow basis history count rates → rate.factor ≡ 1 + slice_index history count → rate.capacity ≡ (wiring_of basis).capacity count
+pub rates_more : (basis : Basis) (history : List ℕ) (count : ℕ) (rates : List NodeCost) (rate : NodeCost) → AreRatesBelow basis history count rates → rate.factor ≡ 1 + slice_index history count → rate.capacity ≡ (wiring_of basis).capacity count
     → node_of rate ≡ (graph_of basis).node count → AreRatesBelow basis history (count + 1) (rates ++ rate ∷ [])
 rates_more basis history count rates rate known f c p = record {
   long = omega (arith, length-append rates (rate ∷ []), known.long);
   factor = λ node d b. elim (cases_lt node count) [
-    | inl l ↦ ap (λ (r : Rate). r.factor) (get_or_append_left rates (rate ∷ []) d node (omega (arith, l, known.long))) ∙ known.factor node d l
+    | inl l ↦ ap (λ (r : NodeCost). r.factor) (get_or_append_left rates (rate ∷ []) d node (omega (arith, l, known.long))) ∙ known.factor node d l
     | inr l ↦
         (let e : count ≡ node = omega arith in
-        ap (λ (r : Rate). r.factor) (get_or_push rates rate d node (known.long ∙ e)) ∙ f ∙ ap (λ k. 1 + slice_index history k) e)
+        ap (λ (r : NodeCost). r.factor) (get_or_push rates rate d node (known.long ∙ e)) ∙ f ∙ ap (λ k. 1 + slice_index history k) e)
   ];
   capacity = λ node d b. elim (cases_lt node count) [
-    | inl l ↦ ap (λ (r : Rate). r.capacity) (get_or_append_left rates (rate ∷ []) d node (omega (arith, l, known.long))) ∙ known.capacity node d l
+    | inl l ↦ ap (λ (r : NodeCost). r.capacity) (get_or_append_left rates (rate ∷ []) d node (omega (arith, l, known.long))) ∙ known.capacity node d l
     | inr l ↦
         (let e : count ≡ node = omega arith in
-        ap (λ (r : Rate). r.capacity) (get_or_push rates rate d node (known.long ∙ e)) ∙ c ∙ ap (λ k. (wiring_of basis).capacity k) e)
+        ap (λ (r : NodeCost). r.capacity) (get_or_push rates rate d node (known.long ∙ e)) ∙ c ∙ ap (λ k. (wiring_of basis).capacity k) e)
   ];
   node = λ node d b. elim (cases_lt node count) [
     | inl l ↦ ap node_of (get_or_append_left rates (rate ∷ []) d node (omega (arith, l, known.long))) ∙ known.node node d l
@@ -54,7 +54,7 @@ narrow basis node nets limits there few =
     }
 
 -- the cost of a node, from its rate
-pub rate_cost : (basis : Basis) (history : List ℕ) (rates : List Rate) (iterations held node : ℕ) (d : Rate) → AreRates basis history rates → node < (graph_of basis).count
+pub rate_cost : (basis : Basis) (history : List ℕ) (rates : List NodeCost) (iterations held node : ℕ) (d : NodeCost) → AreRates basis history rates → node < (graph_of basis).count
     → (get_or rates node d).factor * (1 + iterations * (held + 1 - (get_or rates node d).capacity)) ≡ (1 + slice_index history node) * (1 + iterations * (held + 1 - (wiring_of basis).capacity node))
 rate_cost basis history rates iterations held node d known few =
     ap (λ f. f * (1 + iterations * (held + 1 - (get_or rates node d).capacity))) (known.factor node d few)

@@ -12,7 +12,7 @@ use Rattle.rr_graph.specs.declared.node.Node.{Node}
 use Rattle.rr_graph.specs.Geometry.{is_node, is_slot, is_chan_y, is_block_row, is_wire}
 use Rattle.rr_graph.specs.Ways.{from_sink, further_by}
 use Rattle.pathfinder.specs.declared.entry.PinPrices.{PinPrices}
-use Rattle.pathfinder.specs.Entries.{IsNoMore, raised, side_price, last_at, wire_bound}
+use Rattle.pathfinder.specs.Entries.{IsNoMore, raised_bound, side_price, last_at, wire_bound}
 
 -- a wire's number is that of a track
 slot_track : (arch : Arch) (strip : Strip) (kind : NodeKind) (y n : ℕ) → is_wire kind ≡ true → is_slot arch strip kind y n ≡ true → n < arch.tracks
@@ -41,7 +41,7 @@ last_within pins lasts track within = get_or_default lasts track 0 (pins.least +
 
 module _ (pins : PinPrices) (lasts : List ℕ) (sink wire : Node) (is_block : Bool) where
   -- no way leads on from a wire whose track is not met
-  pub none_by : (kind : NodeKind) → is_wire kind ≡ true → (met : Bool) → met ≡ false → IsNoMore None (raised pins lasts sink wire (further_by met is_block sink kind wire))
+  pub none_by : (kind : NodeKind) → is_wire kind ≡ true → (met : Bool) → met ≡ false → IsNoMore None (raised_bound pins lasts sink wire (further_by met is_block sink kind wire))
   none_by Source k met e = absurd (false≢true k)
   none_by Sink k met e = absurd (false≢true k)
   none_by Opin k met e = absurd (false≢true k)
@@ -52,7 +52,7 @@ module _ (pins : PinPrices) (lasts : List ℕ) (sink wire : Node) (is_block : Bo
   -- a lower bound for a wire, from its distance to the sink
   pub some_by : (kind : NodeKind) → wire.kind ≡ kind → is_wire kind ≡ true → (met : Bool) → met ≡ true → (bound : ℕ)
       → bound ≤ wire_bound (side_price pins sink kind wire) (last_at pins lasts wire.n) ((from_sink sink kind wire.x wire.y + 3) / 2)
-      → IsNoMore (Some bound) (raised pins lasts sink wire (further_by met is_block sink kind wire))
+      → IsNoMore (Some bound) (raised_bound pins lasts sink wire (further_by met is_block sink kind wire))
   some_by Source w k met e bound le = absurd (false≢true k)
   some_by Sink w k met e bound le = absurd (false≢true k)
   some_by Opin w k met e bound le = absurd (false≢true k)

@@ -83,13 +83,13 @@ pub record AreEntries (basis : Basis) (sink : Node) (g : Graph) (pins : PinPrice
   pub pins_low : ArePinPrices basis sink g pins
   pub lasts_low : AreLasts basis sink g pins lasts
 
-abbrev pub lesser : ℕ → ℕ → ℕ
-lesser a b = if nat_le a b then a else b
+abbrev pub lesser_of : ℕ → ℕ → ℕ
+lesser_of a b = if nat_le a b then a else b
 
 -- from a wire: if only a pin and the sink must follow, a pin on its side, or another last wire and
 -- a pin; otherwise a last wire and a pin, and at least 1 for each wire before them
 abbrev pub wire_bound : ℕ → ℕ → ℕ → ℕ
-wire_bound side last further = if nat_le further 2 then lesser side last + 1 else further - 3 + last + 1
+wire_bound side last further = if nat_le further 2 then lesser_of side last + 1 else further - 3 + last + 1
 
 -- from another node: if at least two nodes must follow, a pin and the sink, and at least 1 for each
 -- node before them; otherwise at least 1 for each node
@@ -102,9 +102,9 @@ bound_by pins lasts sink ChanX node further = wire_bound (side_price pins sink C
 bound_by pins lasts sink ChanY node further = wire_bound (side_price pins sink ChanY node) (last_at pins lasts node.n) further
 bound_by pins lasts sink _ node further = other_bound pins.least further
 
-abbrev pub raised : PinPrices → List ℕ → Node → Node → Option ℕ → Option ℕ
-raised pins lasts sink node None = None
-raised pins lasts sink node (Some further) = Some (bound_by pins lasts sink node.kind node further)
+abbrev pub raised_bound : PinPrices → List ℕ → Node → Node → Option ℕ → Option ℕ
+raised_bound pins lasts sink node None = None
+raised_bound pins lasts sink node (Some further) = Some (bound_by pins lasts sink node.kind node further)
 
 -- both are `None`, or the first is at most the second
 abbrev pub IsNoMore : Option ℕ → Option ℕ → Type 0

@@ -1,5 +1,6 @@
 //! Lower bounds of the cost of entering a sink over one of its pins.
 ghost use Rattle.std.specs.Prelude.{◌≡◌, ◌+◌, ◌<◌, ◌≤◌, ◌^◌, true, All, ℕ, length, IfOk};
+ghost use Rattle.blif.specs.declared.circuit.TheConstants.{MAX_NETS};
 
 use crate::rate::price;
 use crate::round::Round;
@@ -55,13 +56,13 @@ impl<G: StripGraph> Round<'_, G> {
     ghost use Rattle.pathfinder.specs.Entries.{AreOrdered, ArePinPrices, AreLasts, IsLowered};
     ghost use Rattle.pathfinder.specs.Limits.{MayLower};
     ghost use Rattle.pathfinder.specs.PlacedNets.{wiring_of};
-    ghost use Rattle.pathfinder.specs.Tables.{IsTable, tabled};
+    ghost use Rattle.pathfinder.specs.Tables.{IsTable, tabled_graph};
 
     /// The cost of a node, given each node's occupancy.
     pub(crate) fn price(&self, held: &[u32], node: usize) -> u64
         requires within { node < (wiring_of (G.basis self.now.graph.now)).count }
-        requires held { IsTable (wiring_of (G.basis self.now.graph.now)).count 8192 held.now }
-        ensures value { result ≡ (tabled (wiring_of (G.basis self.now.graph.now))
+        requires held { IsTable (wiring_of (G.basis self.now.graph.now)).count MAX_NETS held.now }
+        ensures value { result ≡ (tabled_graph (wiring_of (G.basis self.now.graph.now))
             self.now.iterations self.now.history.now held.now).cost node }
         ensures some { 1 ≤ result }
         ensures few { result ≤ 2 ^ 36 }
@@ -79,13 +80,13 @@ impl<G: StripGraph> Round<'_, G> {
 
     /// Lower bounds of the costs of the sink's pins.
     pub(crate) fn pin_prices(&self, held: &[u32], sink: Node) -> PinPrices
-        requires { IsTable (wiring_of (G.basis self.now.graph.now)).count 8192 held.now }
+        requires { IsTable (wiring_of (G.basis self.now.graph.now)).count MAX_NETS held.now }
         ensures ordered { AreOrdered result }
         ensures low { ArePinPrices (G.basis self.now.graph.now) sink
-            (tabled (wiring_of (G.basis self.now.graph.now)) self.now.iterations
+            (tabled_graph (wiring_of (G.basis self.now.graph.now)) self.now.iterations
             self.now.history.now held.now) result }
     {
-        let _count = self.graph.count();
+        self.graph.laws();
         let mut pins = PinPrices {
             least: MOST,
             top: MOST,
@@ -104,12 +105,12 @@ impl<G: StripGraph> Round<'_, G> {
 
     /// Lowers the bounds for last wires and pins by some more wires; `side` is the bound of the
     /// pins on their side.
-    fn lowered(&self, held: &[u32], lasts: Vec<u64>, wires: Numbers, side: u64) -> Vec<u64>
-        requires held { IsTable (wiring_of (G.basis self.now.graph.now)).count 8192 held.now }
+    fn lower_bounds(&self, held: &[u32], lasts: Vec<u64>, wires: Numbers, side: u64) -> Vec<u64>
+        requires held { IsTable (wiring_of (G.basis self.now.graph.now)).count MAX_NETS held.now }
         requires wires { MayLower (G.basis self.now.graph.now) (length lasts.items) wires.first
             wires.end side }
         ensures { IsLowered (G.basis self.now.graph.now)
-            (tabled (wiring_of (G.basis self.now.graph.now)) self.now.iterations
+            (tabled_graph (wiring_of (G.basis self.now.graph.now)) self.now.iterations
             self.now.history.now held.now)
             wires.first wires.end side lasts.items result.items }
     {
@@ -129,17 +130,17 @@ impl<G: StripGraph> Round<'_, G> {
         pins: PinPrices,
         sink: Node,
     ) -> Result<Vec<u64>, AllocError>
-        requires held { IsTable (wiring_of (G.basis self.now.graph.now)).count 8192 held.now }
+        requires held { IsTable (wiring_of (G.basis self.now.graph.now)).count MAX_NETS held.now }
         requires ordered { AreOrdered pins }
         ensures long { IfOk result (λ lasts.
             length lasts.items ≡ (G.basis self.now.graph.now).arch.tracks) }
         ensures few { IfOk result (λ lasts. All (λ last. last ≤ 2 ^ 37) lasts.items) }
         ensures low { IfOk result (λ lasts.
             AreLasts (G.basis self.now.graph.now) sink
-            (tabled (wiring_of (G.basis self.now.graph.now)) self.now.iterations
+            (tabled_graph (wiring_of (G.basis self.now.graph.now)) self.now.iterations
             self.now.history.now held.now) pins lasts.items) }
     {
-        let _count = self.graph.count();
+        self.graph.laws();
         let (x, y) = (sink.x, sink.y);
         let above = self.graph.numbers_at(NodeKind::ChanX, x, y);
         let under = self
@@ -150,9 +151,9 @@ impl<G: StripGraph> Round<'_, G> {
             .graph
             .numbers_at(NodeKind::ChanY, x.saturating_sub(1), y);
         let lasts = Vec::from_elem(alloc, 2 * MOST, self.graph.arch().tracks as usize)?;
-        let lasts = self.lowered(held, lasts, above, pins.top);
-        let lasts = self.lowered(held, lasts, under, pins.bottom);
-        let lasts = self.lowered(held, lasts, after, pins.right);
-        Ok(self.lowered(held, lasts, before, pins.left))
+        let lasts = self.lower_bounds(held, lasts, above, pins.top);
+        let lasts = self.lower_bounds(held, lasts, under, pins.bottom);
+        let lasts = self.lower_bounds(held, lasts, after, pins.right);
+        Ok(self.lower_bounds(held, lasts, before, pins.left))
     }
 }

@@ -77,7 +77,7 @@ fn number_of<G: StripGraph>(graph: &G, node: Node) -> usize
     requires { is_node (G.basis graph.now).arch (G.basis graph.now).strip node ≡ true }
     ensures { result ≡ number_of (graph_of (G.basis graph.now)) node }
 {
-    let _count = graph.count();
+    graph.laws();
     graph.number(node).unwrap()
 }
 
@@ -87,7 +87,7 @@ fn source_of<G: StripGraph>(graph: &G, packed: &Packed, places: &[Place], block:
     ensures { result ≡ number_of (graph_of (G.basis graph.now))
         (source_at (block_at packed.now block) (place_of places.now block)) }
 {
-    let _count = graph.count();
+    graph.laws();
     laws_of_places();
     number_of(graph, source_at(packed.block(block), places[block]))
 }
@@ -98,7 +98,7 @@ fn sink_of<G: StripGraph>(graph: &G, packed: &Packed, places: &[Place], block: u
     ensures { result ≡ number_of (graph_of (G.basis graph.now))
         (sink_at (block_at packed.now block) (place_of places.now block)) }
 {
-    let _count = graph.count();
+    graph.laws();
     laws_of_places();
     number_of(graph, sink_at(packed.block(block), places[block]))
 }
@@ -170,7 +170,7 @@ pub(crate) fn nets_of<G: StripGraph>(
         ≡ nets_to_route (G.basis graph.now) packed.now places.now) }
 {
     laws_of_packing();
-    let _arch = packed.arch();
+    packed.laws();
     let mut nets = Vec::new(alloc);
     for number in 0..packed.net_count() {
         nets.push(terminals_of(alloc, graph, packed, places, packed.net(number))?)?;

@@ -24,11 +24,11 @@ impl Routing {
         requires { IsAfter (wiring_of (G.basis graph.now)) self.now More }
         ensures { IsOveruse (G.basis graph.now) self.now.trees result }
     {
-        let _count = graph.count();
+        graph.laws();
         let held = self.held.as_slice();
         let counts = Counts { graph, held };
         Overuse {
-            nodes: counts.overused(),
+            nodes: counts.overused_count(),
             most: node_of(graph, counts.most_overused()),
         }
     }
@@ -68,7 +68,7 @@ struct Counts<'a, G: StripGraph> {
 
 impl<G: StripGraph> Counts<'_, G> {
     /// The number of overused nodes.
-    fn overused(&self) -> usize
+    fn overused_count(&self) -> usize
         ensures { result ≡ count_over (over_in (G.basis self.now.graph.now) self.now.held.now)
             (length self.now.held.now) }
     {

@@ -8,7 +8,7 @@ use rr_graph::{Node, NodeKind, across_of, point_from_sink, up_of};
 
 /// What a node is, and the part of its cost that doesn't depend on its occupancy.
 #[derive(Clone, Copy)]
-pub(crate) struct Rate {
+pub(crate) struct NodeCost {
     /// Its accumulated overuse plus one.
     pub(crate) factor: u32,
     /// Its horizontal position, in half steps; for a wire that of its middle.
@@ -23,17 +23,17 @@ pub(crate) struct Rate {
     ghost in_column: { up ≡ up_of kind (up / 2) },
 }
 
-impl Rate {
+impl NodeCost {
     ghost use Rattle.pathfinder.specs.Rates.{IsNarrow, node_of};
 
     /// The rate of a node.
-    pub(crate) fn new(place: Node, factor: u32, capacity: u32) -> Rate
+    pub(crate) fn new(place: Node, factor: u32, capacity: u32) -> NodeCost
         requires { IsNarrow place capacity }
         ensures factor { result.factor ≡ factor }
         ensures capacity { result.capacity ≡ capacity }
         ensures node { node_of result ≡ place }
     {
-        Rate {
+        NodeCost {
             factor,
             across: across_of(place.kind, place.x) as u16,
             up: up_of(place.kind, place.y) as u16,
@@ -65,7 +65,7 @@ impl Rate {
 }
 
 /// The cost of a node after this number of iterations, with this occupancy.
-pub(crate) fn price(rate: Rate, iterations: u32, held: u32) -> u64
+pub(crate) fn price(rate: NodeCost, iterations: u32, held: u32) -> u64
     requires { MayCost iterations held }
     ensures { result ≡ rate.factor * (1 + iterations * (held + 1 - rate.capacity)) }
 {

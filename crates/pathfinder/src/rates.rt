@@ -6,7 +6,7 @@ ghost use Rattle.pathfinder.specs.PlacedNets.{wiring_of};
 ghost use Rattle.pathfinder.specs.Rates.{AreRates};
 ghost use Rattle.pathfinder.specs.Tables.{IsTable};
 
-use crate::rate::Rate;
+use crate::rate::NodeCost;
 use rr_graph::{Node, NodeKind, StripGraph};
 use std::alloc::{AllocError, Global};
 
@@ -27,17 +27,17 @@ pub(crate) fn rates_of<G: StripGraph>(
     alloc: Global,
     graph: &G,
     history: &[u32],
-) -> Result<Vec<Rate>, AllocError>
+) -> Result<Vec<NodeCost>, AllocError>
     requires { IsTable (wiring_of (G.basis graph.now)).count (2 ^ 20) history.now }
     ensures { IfOk result (λ rates. AreRates (G.basis graph.now) history.now rates.items) }
 {
-    let _count = graph.count();
+    graph.laws();
     let mut rates = Vec::new(alloc);
     rates.reserve(history.len())?;
     for node in 0..history.len() {
         let place = graph.node(node);
         let capacity = capacity_at(graph, node, place);
-        rates.push(Rate::new(place, 1 + history[node], capacity))?;
+        rates.push(NodeCost::new(place, 1 + history[node], capacity))?;
     }
     Ok(rates)
 }

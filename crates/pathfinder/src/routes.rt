@@ -1,7 +1,7 @@
 //! Finished routes, in terms of nodes.
 ghost use Rattle.std.specs.Prelude.{◌≡◌, ◌<◌, All, IfOk, Some, length, map, slice_get, slice_index_or, []};
 ghost use Rattle.rr_graph.specs.Graph.{graph_of};
-ghost use Rattle.pathfinder.specs.Routings.{told_by_node};
+ghost use Rattle.pathfinder.specs.Routings.{routes_by_node};
 
 use crate::route::Route;
 use rr_graph::{Node, StripGraph};
@@ -72,7 +72,7 @@ impl Routes {
         requires { All (λ tree. All (λ path.
             All (λ node. node < (graph_of (G.basis graph.now)).count) path) tree) trees.now }
         ensures { IfOk result (λ routes.
-            routes ≡ told_by_node (graph_of (G.basis graph.now)) trees.now) }
+            routes ≡ routes_by_node (graph_of (G.basis graph.now)) trees.now) }
     {
         let mut nets = Vec::new(alloc);
         for tree in trees {

@@ -1,7 +1,7 @@
 //! A job that is stepped and put again if memory runs out.
 use crate::again::TIMES;
 use job_state::AnyJob;
-use service_core::{PutReply, Service};
+use service_core::{PutReply, Service, window_for};
 use sessions::step_word;
 use strips::DeviceGraph;
 
@@ -22,7 +22,7 @@ pub(crate) fn take(core: &mut Service, id: u32) -> Option<Held> {
 pub(crate) fn put(core: &mut Service, graph: &DeviceGraph, held: Held) -> Option<&'static [u8]> {
     let Held { mut job, offset } = held;
     for _ in 0..TIMES {
-        let Some(window) = job.window(graph, offset) else {
+        let Some(window) = window_for(&job, graph, offset) else {
             break;
         };
         match job.step(&window) {

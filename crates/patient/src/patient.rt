@@ -6,7 +6,7 @@ use crate::held::{Held, give_back, put, take};
 use crate::section::{Section, Sections};
 use crate::start::{Start, make_start, script_of};
 use itoa::Buffer;
-use line_text::{MemorySink, write_parts};
+use line_text::{MemorySink, write_slices};
 use operator::{HeldJobs, Operator};
 use script_text::{Act, OperatorLine, Script, cut_text};
 use service_core::{NotServed, Service};
@@ -35,7 +35,7 @@ fn told_on(alloc: Global, start: Start, text: &[u8], number: usize) -> Option<Ve
         core,
         operator: Operator::new(alloc),
     };
-    let told = patient.told(text, number);
+    let told = patient.section_text(text, number);
     drop(patient);
     drop(graph);
     told
@@ -52,12 +52,12 @@ struct Patient<'t, 'g> {
 
 impl<'t> Patient<'t, '_> {
     /// The contents of a script's sections at the end.
-    fn told(&mut self, text: &'t [u8], number: usize) -> Option<Vec<u8>>
+    fn section_text(&mut self, text: &'t [u8], number: usize) -> Option<Vec<u8>>
         requires { number + length text.now < 2 ^ 64 }
     {
         let mut sections = Sections::new(self.alloc)?;
         let whole = match self.serve(text, number, &mut sections) {
-            Some(()) => sections.whole(),
+            Some(()) => sections.whole_text(),
             None => None,
         };
         drop(sections);
@@ -139,14 +139,14 @@ impl<'t> Patient<'t, '_> {
     fn step(&mut self, name: &[u8], count: u32, section: &mut Section<'t>) -> Option<()> {
         let id = self.operator.last_id(name);
         for _ in 0..count {
-            let word = self.stepped(id)?;
-            write_parts(section, &[word, b"\n"]).ok()?;
+            let word = self.step_outcome(id)?;
+            write_slices(section, &[word, b"\n"]).ok()?;
         }
         Some(())
     }
 
     /// The outcome of the next step of that tenancy's job.
-    fn stepped(&mut self, id: u32) -> Option<&'static [u8]> {
+    fn step_outcome(&mut self, id: u32) -> Option<&'static [u8]> {
         match take(&mut self.core, id) {
             Some(taken) => put(&mut self.core, self.graph, taken),
             None => Some(b"none"),
@@ -162,19 +162,19 @@ impl<'t> Patient<'t, '_> {
     ) -> Option<()> {
         let taken = take(&mut self.core, self.operator.last_id(name));
         give_back(&mut self.core, replace(held, taken));
-        write_parts(section, &[b"ok job 1\n"]).ok()
+        write_slices(section, &[b"ok job 1\n"]).ok()
     }
 
     /// Steps the held job, puts it, and writes the outcome.
     fn put_job(&mut self, held: &mut Option<Held>, section: &mut Section<'t>) -> Option<()> {
         let word = put(&mut self.core, self.graph, held.take()?)?;
-        write_parts(section, &[word, b"\n"]).ok()
+        write_slices(section, &[word, b"\n"]).ok()
     }
 
     /// Evicts a tenancy.
     fn evict(&mut self, name: &[u8], section: &mut Section<'t>) -> Option<()> {
         self.core.evict(self.operator.last_id(name)).ok()?;
-        write_parts(section, &[b"ok\n"]).ok()
+        write_slices(section, &[b"ok\n"]).ok()
     }
 
     /// Admits a tenancy, and writes its id and its offset.
@@ -186,7 +186,7 @@ impl<'t> Patient<'t, '_> {
                 let (mut ids, mut offsets) = (Buffer::new(), Buffer::new());
                 let id = ids.format(id).as_bytes();
                 let offset = offsets.format(offset).as_bytes();
-                return write_parts(section, &[b"ok ", id, b" ", offset, b"\n"]).ok();
+                return write_slices(section, &[b"ok ", id, b" ", offset, b"\n"]).ok();
             }
         }
         None
@@ -196,7 +196,7 @@ impl<'t> Patient<'t, '_> {
     fn tell_owners(&mut self, section: &mut Section<'t>) -> Option<()> {
         for _ in 0..TIMES {
             if let Some(reply) = self.ask(OperatorLine::Owners) {
-                let written = write_parts(section, &[reply.as_bytes()]);
+                let written = write_slices(section, &[reply.as_bytes()]);
                 drop(reply);
                 return written.ok();
             }

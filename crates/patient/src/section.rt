@@ -80,7 +80,7 @@ impl<'t> Sections<'t> {
     }
 
     /// All sections, each after its name.
-    pub(crate) fn whole(&self) -> Option<Vec<u8>> {
+    pub(crate) fn whole_text(&self) -> Option<Vec<u8>> {
         for _ in 0..TIMES {
             if let Ok(whole) = self.whole_once() {
                 return Some(whole);

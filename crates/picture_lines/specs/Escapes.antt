@@ -3,8 +3,8 @@ use Rattle.std.specs.Prelude.{ℕ, ◌==◌, ◌&&◌, if◌then◌else◌, nat_
 
 -- a byte with a meaning in XML is written by its name, and one that isn't a printable ASCII
 -- character as the replacement character
-abbrev pub escaped : ℕ → List ℕ
-escaped byte =
+abbrev pub escape_of : ℕ → List ℕ
+escape_of byte =
     if byte == 38 then codes "&amp;"
     else if byte == 60 then codes "&lt;"
     else if byte == 62 then codes "&gt;"

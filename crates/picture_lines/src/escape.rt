@@ -2,7 +2,7 @@
 ghost use Rattle.std.specs.Prelude.{◌≡◌};
 ghost use Rattle.std.specs.List.{flat_map};
 ghost use Rattle.line_text.specs.Writing.{Writes};
-ghost use Rattle.picture_lines.specs.Escapes.{escaped};
+ghost use Rattle.picture_lines.specs.Escapes.{escape_of};
 
 use line_text::{Failed, Sink, write_all};
 
@@ -10,7 +10,8 @@ use line_text::{Failed, Sink, write_all};
 /// name, and one that isn't a printable ASCII character as the replacement character. If the sink
 /// fails, it has taken a first part of them.
 pub fn write_escaped<K: Sink>(sink: &mut K, bytes: &[u8]) -> Result<(), Failed>
-    ensures { Writes K.contents K.has_failed sink.old sink.new (flat_map escaped bytes.now) result }
+    ensures { Writes K.contents K.has_failed sink.old sink.new (flat_map escape_of bytes.now)
+        result }
 {
     for byte in bytes {
         write_byte(sink, *byte)?;
@@ -19,7 +20,7 @@ pub fn write_escaped<K: Sink>(sink: &mut K, bytes: &[u8]) -> Result<(), Failed>
 }
 
 fn write_byte<K: Sink>(sink: &mut K, byte: u8) -> Result<(), Failed>
-    ensures { Writes K.contents K.has_failed sink.old sink.new (escaped byte) result }
+    ensures { Writes K.contents K.has_failed sink.old sink.new (escape_of byte) result }
 {
     match byte {
         b'&' => write_all(sink, b"&amp;"),

@@ -1,5 +1,7 @@
 //! Columns, rows and tracks.
-ghost use Rattle.std.specs.Prelude.{◌+◌, ◌*◌, ◌≤◌};
+ghost use Rattle.std.specs.Prelude.{◌-◌, ◌+◌, ◌*◌, ◌≤◌};
+ghost use Rattle.arch_file.specs.declared.arch.TheConstants.{MAX_PINS};
+ghost use Rattle.grid.specs.declared.TheConstants.{MAX_COLUMNS};
 
 /// The direction of a channel.
 #[derive(Clone, Copy, PartialEq, Eq)]
@@ -33,7 +35,7 @@ impl Lattice {
 
     /// The position at which column or row `number` begins.
     pub fn start(&self, number: u32) -> u32
-        requires { number ≤ 257 }
+        requires { number ≤ MAX_COLUMNS + 1 }
         ensures { result ≤ 33_410 }
     {
         number * self.pitch()
@@ -41,8 +43,8 @@ impl Lattice {
 
     /// The position of a track in the channel after column or row `number`.
     pub fn track(&self, number: u32, track: u32) -> u32
-        requires number { number ≤ 257 }
-        requires track { track ≤ 144 }
+        requires number { number ≤ MAX_COLUMNS + 1 }
+        requires track { track ≤ MAX_PINS - 1 }
         ensures { result ≤ 33_700 }
     {
         self.start(number) + self.block + track + 1
@@ -50,7 +52,7 @@ impl Lattice {
 
     /// The length of `count` columns or rows.
     pub fn span(&self, count: u32) -> u32
-        requires { count ≤ 257 }
+        requires { count ≤ MAX_COLUMNS + 1 }
         ensures { result ≤ 33_410 }
     {
         count * self.pitch()

@@ -2,7 +2,7 @@
 use Rattle.std.specs.Prelude.{ℕ, ◌≡◌, ◌≢◌, ◌≤◌, List, Option, IfSome}
 use Rattle.service_core.specs.declared.device.Device.{Device}
 use Rattle.service_core.specs.Run.{Call, Run}
-use Rattle.service_core.specs.Service.{ServiceState, empty}
+use Rattle.service_core.specs.Service.{ServiceState, empty_service}
 use Rattle.fpgad_run.specs.declared.inputs.Architecture.{Architecture}
 use Rattle.fpgad_run.specs.declared.options.Options.{Options}
 use Rattle.fpgad_run.specs.declared.outcome.Outcome.{Outcome}
@@ -19,4 +19,4 @@ EndsAsDecided options architecture input outcome = (options.workers ≡ 0 → (o
 -- it holds of every list of calls that the core of a device can be asked, from the empty device on,
 -- and of the state after them
 abbrev pub OfEachRun : (Device → List Call → ServiceState → Type 0) → Type 0
-OfEachRun Holds = (device : Device) (calls : List Call) (state : ServiceState) → Run (empty device) calls state → Holds device calls state
+OfEachRun Holds = (device : Device) (calls : List Call) (state : ServiceState) → Run (empty_service device) calls state → Holds device calls state

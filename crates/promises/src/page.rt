@@ -6,7 +6,7 @@ ghost use Rattle.fpgad_run.specs.Commands.{RunsOnThreads};
 ghost use Rattle.fpgad_run.specs.Program.{Writes};
 ghost use Rattle.wires_law.specs.Untouched.{AreUntouched};
 ghost use Rattle.script_text.specs.Threaded.{Parts as Script};
-ghost use Rattle.script_threads.specs.declared.answered.Answered.{Answered};
+ghost use Rattle.script_text.specs.declared.replies.RunReplies.{RunReplies};
 ghost use Rattle.script_threads.specs.OneRun.{IsOneRun, calls_of};
 ghost use Rattle.script_threads.specs.Served.{IsServedOnThreads};
 ghost use Rattle.service_core.specs.declared.device.Device.{Device};
@@ -25,7 +25,7 @@ use wires_law::no_switch_joins;
 use workers_law::same_with_workers;
 
 /// Serves a script, and writes the replies. Each clause is a promise. Beside it is the number of
-/// lines of definitions that one reads to believe it: 2155 lines in all.
+/// lines of definitions that one reads to believe it: 2151 lines in all.
 ///
 /// A run is a list of calls of the core, each with its answer, from the empty device to a state.
 /// Jobs may be out in it for any time, and be put in any order.
@@ -65,17 +65,17 @@ pub fn serve<H: Threads + Wait + Clock + AllocGlobal + Sync, R: Source, W: Sink>
     // 9. No switch of the device joins what two tenancies own. (1171 lines)
     ensures untouched { OfEachRun (λ device calls. AreUntouched device) }
     // 10. With workers, what is written is what the sessions and the operator are answered by the
-    // calls of all threads together. (1956 lines)
+    // calls of all threads together. (1952 lines)
     ensures with_workers { 1 ≤ options.now.workers →
         RunsOnThreads options.now architecture.entry (R.remaining reader.old) result
         (W.contents writer.old) (W.contents writer.new) }
     // 11. With workers too, the calls of all threads and lines together are one run, of which 4 to
-    // 8 hold; and so does 9. (1610 lines)
-    ensures as_one_run { (device : Device) (script : Script) (answered : Answered)
+    // 8 hold; and so does 9. (1606 lines)
+    ensures as_one_run { (device : Device) (script : Script) (answered : RunReplies)
         (is : IsServedOnThreads device script answered) → IsOneRun device (calls_of is) is.last }
     // 12. More workers never change what you are answered: if a session waits for each of its jobs,
     // and no reply to it says that memory ran out or that its journal is full, its text is one
-    // function of its input. (1597 lines)
+    // function of its input. (1593 lines)
     ensures same_with_workers { HasWaitedText }
 {
     headline();

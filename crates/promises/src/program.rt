@@ -28,8 +28,11 @@ pub fn run_program<
 {
     match words {
         Ok(words) => run_called(rt, words.as_slice(), reader, writer),
-        Err(error) if error.kind() == ErrorKind::OutOfMemory => ended(rt, Outcome::NoMemory),
-        Err(_) => refused(rt, "error: an argument is no text\n"),
+        Err(error) if error.kind() == ErrorKind::OutOfMemory => report_outcome(
+            rt,
+            Outcome::NoMemory,
+        ),
+        Err(_) => report_refusal(rt, "error: an argument is no text\n"),
     }
 }
 
@@ -44,13 +47,13 @@ fn run_called<H: Files + Threads + Wait + Clock + AllocGlobal + Eprint + Sync, R
         (W.contents writer.new) }
 {
     match run_words(rt, words, reader, writer) {
-        Ok(outcome) => ended(rt, outcome),
-        Err(error) => refused(rt, error),
+        Ok(outcome) => report_outcome(rt, outcome),
+        Err(error) => report_refusal(rt, error),
     }
 }
 
 /// Writes the message of how the run ended to standard error, and returns its status.
-fn ended<H: Eprint>(rt: &H, outcome: Outcome) -> ExitCode
+fn report_outcome<H: Eprint>(rt: &H, outcome: Outcome) -> ExitCode
     ensures { exit_status result ≡ status_of outcome }
 {
     if outcome.status() != 0 {
@@ -60,7 +63,7 @@ fn ended<H: Eprint>(rt: &H, outcome: Outcome) -> ExitCode
 }
 
 /// Writes why the words are refused to standard error, and returns status 2.
-fn refused<H: Eprint, M: Display + Drop>(rt: &H, message: M) -> ExitCode
+fn report_refusal<H: Eprint, M: Display + Drop>(rt: &H, message: M) -> ExitCode
     ensures { exit_status result ≡ 2 }
 {
     let _ = rt.eprint(message);

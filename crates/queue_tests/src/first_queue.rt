@@ -24,7 +24,7 @@ fn gives_oldest<R: Wait>(rt: &R, queue: ArrayQueue<u32>) -> bool {
 const ROUNDS: u32 = 50;
 
 /// How often each number is popped from the ready queue.
-fn popped<R: Wait>(rt: &R, crew: Crew) -> Counts {
+fn pop_counts<R: Wait>(rt: &R, crew: Crew) -> Counts {
     let Crew {
         ready,
         mut first,
@@ -84,7 +84,7 @@ fn first_queue(alloc: Global) -> Option<ArrayQueue<u32>> {
 /// How often each number is popped from a new ready queue; 0 if memory runs out.
 fn told_of_ready<R: Wait>(rt: &R, alloc: Global) -> Counts {
     match Crew::new(alloc) {
-        Some(crew) => popped(rt, crew),
+        Some(crew) => pop_counts(rt, crew),
         None => [0; NUMBERS],
     }
 }

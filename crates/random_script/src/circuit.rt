@@ -52,7 +52,7 @@ fn write_table<K: Sink>(
     requires most { (1 ≤ most) × (most ≤ 8) }
 {
     let draws = most - words.next_word() % (most / 2 + 1);
-    let (sources, count) = drawn(square, words, table, draws);
+    let (sources, count) = draw_sources(square, words, table, draws);
     pen.text(".names");
     for source in &sources[..count] {
         write_source(pen, *source);
@@ -66,7 +66,7 @@ fn write_table<K: Sink>(
 }
 
 /// The distinct sources of `draws` draws, and their number.
-fn drawn(square: Square, words: &mut Pcg32, table: u32, draws: u32) -> ([Source; 8], usize)
+fn draw_sources(square: Square, words: &mut Pcg32, table: u32, draws: u32) -> ([Source; 8], usize)
     requires table { table < square.tables }
     requires draws { (1 ≤ draws) × (draws ≤ 8) }
     ensures { result.1 ≤ 8 }

@@ -36,8 +36,8 @@ impl Square {
         requires { table < self.now.tables }
     {
         let column = table % self.side;
-        let across = shifted(column, words.next_word());
-        let row = shifted(table / self.side, words.next_word());
+        let across = random_shift(column, words.next_word());
+        let row = random_shift(table / self.side, words.next_word());
         match self.table_at(across, row) {
             Some(near) if near != table => Source::Table(near),
             _ => Source::Input(column * self.inputs / self.side),
@@ -62,7 +62,7 @@ impl Square {
 
 /// A position at a random distance from another: a distance of at least d has probability 1 / (d +
 /// 1), and both directions are equally likely.
-fn shifted(place: u32, word: u32) -> Option<u32>
+fn random_shift(place: u32, word: u32) -> Option<u32>
     requires { place ≤ 7_500 }
 {
     let distance = 65_536 / (word % 65_536 + 1) - 1;

@@ -1,5 +1,10 @@
 //! The contents of a script, and the device that it needs.
 ghost use Rattle.std.specs.Prelude.{◌≡◌, ◌+◌, ◌*◌, ◌/◌, ◌≤◌, ◌<◌, IfSome};
+ghost use Rattle.arch_file.specs.declared.arch.TheConstants.{MAX_CLUSTER_SIZE, MAX_TRACKS};
+ghost use Rattle.strips.specs.declared.layout.TheConstants.{MAX_STRIPS};
+ghost use Rattle.grid.specs.declared.TheConstants.{MAX_COLUMNS, MAX_ROWS};
+
+use grid::MAX_COLUMNS;
 
 /// The last command of a script's tenants.
 #[derive(Clone, Copy, PartialEq, PartialOrd)]
@@ -12,7 +17,7 @@ pub enum Phase {
 
 /// What a user wants to measure.
 #[derive(Clone, Copy)]
-pub struct Wishes {
+pub struct LoadParameters {
     /// Tables of each circuit, 1 to 7,500.
     pub tables: u32,
     /// Tenancies with a circuit each, 1 to 64.
@@ -30,17 +35,17 @@ pub struct Wishes {
 /// Wishes within their limits.
 #[derive(Clone, Copy)]
 struct Checked {
-    wishes: Wishes,
+    wishes: LoadParameters,
     ghost tables_lawful: { (1 ≤ wishes.tables) × (wishes.tables ≤ 7_500) },
-    ghost tenancies_lawful: { (1 ≤ wishes.tenancies) × (wishes.tenancies ≤ 64) },
+    ghost tenancies_lawful: { (1 ≤ wishes.tenancies) × (wishes.tenancies ≤ MAX_STRIPS) },
     ghost inputs_lawful: { (1 ≤ wishes.inputs) × (wishes.inputs ≤ 8) },
-    ghost cluster_lawful: { (1 ≤ wishes.cluster) × (wishes.cluster ≤ 16) },
+    ghost cluster_lawful: { (1 ≤ wishes.cluster) × (wishes.cluster ≤ MAX_CLUSTER_SIZE) },
 }
 
 /// A script's circuits and its device.
 #[derive(Clone, Copy)]
 pub struct Plan {
-    pub(crate) wishes: Wishes,
+    pub(crate) wishes: LoadParameters,
     /// Columns of each strip.
     pub(crate) width: u32,
     /// Rows of the device.
@@ -48,13 +53,13 @@ pub struct Plan {
     /// Tracks of each channel.
     pub(crate) tracks: u32,
     ghost tables_lawful: { (1 ≤ wishes.tables) × (wishes.tables ≤ 7_500) },
-    ghost tenancies_lawful: { (1 ≤ wishes.tenancies) × (wishes.tenancies ≤ 64) },
+    ghost tenancies_lawful: { (1 ≤ wishes.tenancies) × (wishes.tenancies ≤ MAX_STRIPS) },
     ghost inputs_lawful: { (1 ≤ wishes.inputs) × (wishes.inputs ≤ 8) },
-    ghost cluster_lawful: { (1 ≤ wishes.cluster) × (wishes.cluster ≤ 16) },
-    ghost rows_lawful: { (1 ≤ rows) × (rows ≤ 64) },
-    ghost tracks_lawful: { (1 ≤ tracks) × (tracks ≤ 64) },
-    ghost width_lawful: { (1 ≤ width) × (width ≤ 256) },
-    ghost strips_fit: { wishes.tenancies * (width + 1) ≤ 257 },
+    ghost cluster_lawful: { (1 ≤ wishes.cluster) × (wishes.cluster ≤ MAX_CLUSTER_SIZE) },
+    ghost rows_lawful: { (1 ≤ rows) × (rows ≤ MAX_ROWS) },
+    ghost tracks_lawful: { (1 ≤ tracks) × (tracks ≤ MAX_TRACKS) },
+    ghost width_lawful: { (1 ≤ width) × (width ≤ MAX_COLUMNS) },
+    ghost strips_fit: { wishes.tenancies * (width + 1) ≤ MAX_COLUMNS + 1 },
 }
 
 impl Plan {
@@ -63,7 +68,7 @@ impl Plan {
     ///
     /// The device has a quarter more places for logic blocks than there are full clusters; it is a
     /// square, as far as 64 rows and 256 columns allow.
-    pub fn new(wishes: Wishes) -> Option<Self>
+    pub fn new(wishes: LoadParameters) -> Option<Self>
         ensures { IfSome result (λ plan. plan.wishes ≡ wishes) }
     {
         let circuit = (1..=7500).contains(&wishes.tables) && (1..=64).contains(&wishes.tenancies);
@@ -85,12 +90,12 @@ impl Plan {
     /// strips fit.
     fn with_rows(checked: Checked, places: u32, rows: u32) -> Option<Self>
         requires places { (1 ≤ places) × (places ≤ 10_000) }
-        requires rows { (1 ≤ rows) × (rows ≤ 64) }
+        requires rows { (1 ≤ rows) × (rows ≤ MAX_ROWS) }
         ensures { IfSome result (λ plan. plan.wishes ≡ checked.wishes) }
     {
         let wishes = checked.wishes;
         let width = places.div_ceil(rows);
-        if width > 256 || wishes.tenancies * (width + 1) > 257 {
+        if width > MAX_COLUMNS || wishes.tenancies * (width + 1) > 257 {
             return None;
         }
         Some(Plan {
@@ -104,7 +109,7 @@ impl Plan {
     /// Columns of the device: a strip for each tenancy, and a column between two strips.
     pub fn columns(&self) -> u32
         ensures value { result + 1 ≡ self.now.wishes.tenancies * (self.now.width + 1) }
-        ensures few { result ≤ 256 }
+        ensures few { result ≤ MAX_COLUMNS }
     {
         self.wishes.tenancies * (self.width + 1) - 1
     }

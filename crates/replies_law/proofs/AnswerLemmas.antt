@@ -27,7 +27,7 @@ use Rattle.tenant_slot.specs.declared.reply.StateName.TheVariants.{Empty, Loaded
 use Rattle.tenant_slot.specs.declared.reply.StepReply.TheVariants.{Advanced, Finished, Stale}
 use Rattle.tenant_slot.specs.Names.{file_text, refusal_number, refusal_text, state_text}
 use Rattle.tenant_slot.specs.Results.{ending_told}
-use Rattle.tenant_slot.specs.SingleUser.{State, after, answer_to, circuit_in, is_lawful, pack_unless, place_unless, serve, step, with_circuit}
+use Rattle.tenant_slot.specs.SingleUser.{State, after_reply, answer_to, circuit_in, is_lawful, pack_unless, place_unless, serve, step, with_circuit}
 use Rattle.sessions.specs.SessionText.{blank_word, cause_text, ending_text, numbered_line, reply_text}
 use Rattle.printed_replies.specs.Lengths.{session_length}
 use Rattle.replies_law.specs.ReadBack.{NetsAreWords, NoFeed}
@@ -166,6 +166,6 @@ step_plain words state command reply is = by_full (eqb state.entries 65536) is
     lawful true = serve_plain words state command
     lawful false = tt
 
-    by_full : (b : Bool) → (cond {A = State × Option Reply} b (state, None) (after state (answer_to state (Asked command)).0, Some (answer_to state (Asked command)).1)).1 ≡ Some reply → IsPlain reply
+    by_full : (b : Bool) → (cond {A = State × Option Reply} b (state, None) (after_reply state (answer_to state (Asked command)).0, Some (answer_to state (Asked command)).1)).1 ≡ Some reply → IsPlain reply
     by_full true never = cc
     by_full false e = let same : (answer_to state (Asked command)).1 ≡ reply = cc in subst IsPlain same (lawful (is_lawful state.name command))

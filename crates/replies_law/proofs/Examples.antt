@@ -3,7 +3,7 @@ use Rattle.std.proofs.Common.{◌≡◌, true, false, [], ◌∷◌, codes, refl
 use Rattle.sessions.specs.declared.line.SessionLine.TheVariants.{Blank}
 use Rattle.script_text.specs.declared.act.Act.TheVariants.{Operator, Session}
 use Rattle.script_text.specs.declared.operator_line.OperatorLine.TheVariants.{Admit, Evict, Move, List as ListAll, Step}
-use Rattle.replies_law.specs.Alone.{fits, granted, own_acts, own_answer}
+use Rattle.replies_law.specs.Alone.{fits, is_admitted, own_acts, own_answer}
 use Rattle.replies_law.specs.Memory.{RanOut}
 
 -- the lines of one of two names
@@ -12,10 +12,10 @@ others_deleted : own_acts (codes "A") (Operator (Admit (codes "B") 3) ∷ Operat
 others_deleted = refl
 
 -- an admission that is granted, and one that isn't
-is_granted : granted (Operator (Admit (codes "A") 2)) (codes "ok 1 0\n") ≡ true
+is_granted : is_admitted (Operator (Admit (codes "A") 2)) (codes "ok 1 0\n") ≡ true
 is_granted = refl
 
-is_refused : granted (Operator (Admit (codes "A") 2)) (codes "refused 2 NoRoom\n") ≡ false
+is_refused : is_admitted (Operator (Admit (codes "A") 2)) (codes "refused 2 NoRoom\n") ≡ false
 is_refused = refl
 
 -- widths on a device with three columns

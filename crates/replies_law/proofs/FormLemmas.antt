@@ -9,7 +9,7 @@ use Rattle.std.proofs.lemmas.List.Sums.{fold-append}
 use Rattle.std.proofs.lemmas.Fmt.{decimal_by_steps, decimal_nonempty}
 use Rattle.std.proofs.Math.Seq.{drop-append_seam, take-append_seam}
 use Rattle.line_text.specs.Decimal.{decimal_of, is_digit, value_of, with_digit}
-use Rattle.printed_replies.specs.Lengths.{behind, kind_and_length, line_of, lines_length, owners_length, session_length, told_bytes, told_file, told_owners, within}
+use Rattle.printed_replies.specs.Lengths.{after_prefix, kind_and_length, line_of, lines_length, owners_length, session_length, told_bytes, told_file, told_owners, number_within}
 use Rattle.replies_law.specs.ReadBack.{NoFeed}
 use Rattle.replies_law.proofs.FeedLemmas.{IsLine, decimal_no_feed, ended_length, line_is_first, line_parts, no_feed-append}
 
@@ -35,12 +35,12 @@ decimal_of-decimal n small =
     ap (λ v. cond v (Some (value_of ds)) None) (and_from _ _ (and_from _ _ told.0 some) less) ∙ ap Some told.1
 
 -- a line with another beginning announces no file
-begins_more : (start line more : List ℕ) → behind start (line ++ more) ≡ None → behind start line ≡ None
+begins_more : (start line more : List ℕ) → after_prefix start (line ++ more) ≡ None → after_prefix start line ≡ None
 begins_more [] line more never = cc
 begins_more (a ∷ start) [] more never = refl
 begins_more (a ∷ start) (b ∷ line) more never = by_test (eqb a b) never (begins_more start line more)
   where
-    by_test : (t : Bool) → cond t (behind start (line ++ more)) None ≡ None → (behind start (line ++ more) ≡ None → behind start line ≡ None) → cond t (behind start line) None ≡ None
+    by_test : (t : Bool) → cond t (after_prefix start (line ++ more)) None ≡ None → (after_prefix start (line ++ more) ≡ None → after_prefix start line ≡ None) → cond t (after_prefix start line) None ≡ None
     by_test true e rest = rest e
     by_test false e rest = refl
 
@@ -50,7 +50,7 @@ line_before line rest =
     let same : length line + 1 - 1 ≡ length line = omega arith in
     ap (λ n. take n (line ++ 10 ∷ rest)) same ∙ take-append_seam line (10 ∷ rest)
 
-is_within : (bytes : List ℕ) (n : ℕ) → n ≤ length bytes → within bytes n ≡ Some n
+is_within : (bytes : List ℕ) (n : ℕ) → n ≤ length bytes → number_within bytes n ≡ Some n
 is_within bytes n few =
     let test : nat_le n (length bytes) ≡ true = grind (arith, nat_tests, few) in
     ap (λ b. cond b (Some n) None) test
@@ -61,16 +61,16 @@ told_length : (line rest : List ℕ) (told : Option (List ℕ × ℕ)) → NoFee
 told_length line rest told all is few =
     let bytes = line ++ 10 ∷ rest in
     let whole = length-append line (10 ∷ rest) in
-    ap (λ o. option_and_then (λ n. within bytes (n + told_bytes (told_file (line_of n bytes)))) o) (ended_length line rest all)
-    ∙ ap (λ l. within bytes (length line + 1 + told_bytes (told_file l))) (line_before line rest)
-    ∙ ap (λ o. within bytes (length line + 1 + told_bytes o)) is
+    ap (λ o. option_and_then (λ n. number_within bytes (n + told_bytes (told_file (line_of n bytes)))) o) (ended_length line rest all)
+    ∙ ap (λ l. number_within bytes (length line + 1 + told_bytes (told_file l))) (line_before line rest)
+    ∙ ap (λ o. number_within bytes (length line + 1 + told_bytes o)) is
     ∙ is_within bytes (length line + 1 + told_bytes told) (omega (arith, few, whole))
 
 -- a session's line that announces no file
-pub plain_line : (text rest : List ℕ) → IsLine text → behind (codes "text ") text ≡ None → session_length (text ++ rest) ≡ Some (length text)
+pub plain_line : (text rest : List ℕ) → IsLine text → after_prefix (codes "text ") text ≡ None → session_length (text ++ rest) ≡ Some (length text)
 plain_line text rest is never =
     let parts = line_parts text is in
-    let none : told_file parts.line ≡ None = ap (option_and_then kind_and_length) (begins_more (codes "text ") parts.line (10 ∷ []) (ap (behind (codes "text ")) (sym parts.is) ∙ never)) in
+    let none : told_file parts.line ≡ None = ap (option_and_then kind_and_length) (begins_more (codes "text ") parts.line (10 ∷ []) (ap (after_prefix (codes "text ")) (sym parts.is) ∙ never)) in
     let long : length parts.line + 1 + 0 ≡ length text = omega (arith, length-append parts.line (10 ∷ []), ap length parts.is) in
     ap (λ t. session_length (t ++ rest)) parts.is ∙ ap session_length (append_assoc parts.line (10 ∷ []) rest)
     ∙ told_length parts.line rest None parts.other none (omega arith) ∙ ap Some long

@@ -13,8 +13,8 @@ use Rattle.service_core.specs.Calls.{IsAdmitted, IsEvicted, IsServed}
 use Rattle.service_core.specs.History.{History}
 use Rattle.service_core.specs.Run.{Call, Run}
 use Rattle.service_core.specs.Run.Call.{Admit as AdmitCall, Tenant}
-use Rattle.service_core.specs.Service.{ServiceState, admitted, history_of, live_of, modified}
-use Rattle.service_core.specs.Tenancy.{closed, if_live}
+use Rattle.service_core.specs.Service.{ServiceState, admitted_history, history_of, live_of, with_changed}
+use Rattle.service_core.specs.Tenancy.{closed_history, if_live}
 use Rattle.service_core.proofs.Effects.{Kept, run_keeps}
 use Rattle.service_core.proofs.Lists.{history_of-modified, history_of-push}
 use Rattle.sessions.specs.declared.line.SessionLine.{SessionLine}
@@ -89,13 +89,13 @@ line_sits old new id (Command command) calls answer asks runs kept had = let did
 line_sits old new id Wait calls answer asks runs kept had = wait_sits old new id calls answer asks runs kept had
 
 -- an eviction
-if_live-closed : (o : Option History) → if_live (option_map closed o) ≡ None
+if_live-closed : (o : Option History) → if_live (option_map closed_history o) ≡ None
 if_live-closed None = refl
 if_live-closed (Some h) = refl
 
 pub eviction_sits : (old new : ServiceState) (id : ℕ) (answer : Result (Unit {0}) OpRefusal) → IsEvicted old id answer new → seat new.histories id ≡ None
 eviction_sits old new id (Ok nothing) evicts =
-    let own : history_of (modified old.histories id closed) id ≡ option_map closed (history_of old.histories id) = grind (arith, nat_tests, history_of-modified old.histories id id closed) in
+    let own : history_of (with_changed old.histories id closed_history) id ≡ option_map closed_history (history_of old.histories id) = grind (arith, nat_tests, history_of-modified old.histories id id closed_history) in
     let gone : live_of new.histories id ≡ None = ap (λ (s : ServiceState). live_of s.histories id) evicts.1 ∙ (ap if_live own ∙ if_live-closed (history_of old.histories id)) in
     ap seat_in gone
 eviction_sits old new id (Err refusal) evicts = ap (λ (s : ServiceState). seat s.histories id) evicts.2 ∙ ap seat_in evicts.1
@@ -115,9 +115,9 @@ eviction_told old new id (Err refusal) evicts = ap (λ r. evicted_text (Err r)) 
 pub newest_id : (names : List (List ℕ)) (name : List ℕ) → last_id (name ∷ names) name ≡ length names + 1
 newest_id names name = ap (λ b. cond b (length names + 1) (last_id names name)) ((bytes_eq-Decides name name).1 refl)
 
-newest_live : (hs : List History) (device : Device) (width n : ℕ) → n ≡ length hs → live_of (hs ++ admitted device (length hs + 1) width ∷ []) (n + 1) ≡ Some (admitted device (length hs + 1) width)
+newest_live : (hs : List History) (device : Device) (width n : ℕ) → n ≡ length hs → live_of (hs ++ admitted_history device (length hs + 1) width ∷ []) (n + 1) ≡ Some (admitted_history device (length hs + 1) width)
 newest_live hs device width n is =
-    let h : History = admitted device (length hs + 1) width in
+    let h : History = admitted_history device (length hs + 1) width in
     let there : history_of (hs ++ h ∷ []) (n + 1) ≡ Some h = grind (arith, nat_tests, history_of-push hs h (n + 1), is) in
     ap if_live there
 
@@ -125,10 +125,10 @@ granted_sits : (old new : Stage) (name : List ℕ) (width : ℕ) (answer : Resul
     Admits old.service.device (seat old.service.histories (last_id old.names name)) width (is_admitted (AdmitCall width answer ∷ [])) (seat new.service.histories (last_id new.names name))
 granted_sits old new name width (Ok given) admits names even =
     let hs : List History = old.service.histories in
-    let now : new.service.histories ≡ hs ++ admitted old.service.device (length hs + 1) width ∷ [] = ap (λ (s : ServiceState). s.histories) admits.3 in
+    let now : new.service.histories ≡ hs ++ admitted_history old.service.device (length hs + 1) width ∷ [] = ap (λ (s : ServiceState). s.histories) admits.3 in
     let id : last_id new.names name ≡ length old.names + 1 = ap (λ ns. last_id ns name) names ∙ newest_id old.names name in
     ap (λ l. seat l (last_id new.names name)) now
-    ∙ (ap (seat (hs ++ admitted old.service.device (length hs + 1) width ∷ [])) id ∙ ap seat_in (newest_live hs old.service.device width (length old.names) even))
+    ∙ (ap (seat (hs ++ admitted_history old.service.device (length hs + 1) width ∷ [])) id ∙ ap seat_in (newest_live hs old.service.device width (length old.names) even))
 granted_sits old new name width (Err refusal) admits names even =
     ap (λ (s : ServiceState). seat s.histories (last_id new.names name)) admits.1 ∙ ap (λ ns. seat old.service.histories (last_id ns name)) names
 

@@ -14,7 +14,7 @@ use Rattle.service_core.specs.Calls.{IsMoved}
 use Rattle.service_core.specs.History.{History, state_of}
 use Rattle.service_core.specs.Run.{Call, Happens, Run, IsGivenBackTo}
 use Rattle.service_core.specs.Run.Call.{Admit, Evict, Move, Tenant, Take, Put, GiveBack, Owners}
-use Rattle.service_core.specs.Service.{ServiceState, history_of, live_of, modified}
+use Rattle.service_core.specs.Service.{ServiceState, history_of, live_of, with_changed}
 use Rattle.strips.specs.Plan.{offset_of}
 use Rattle.sessions.specs.SessionText.{blank_word}
 use Rattle.tenant_slot.specs.Names.{state_text}
@@ -34,16 +34,16 @@ lives-append [] ys = omega arith
 lives-append (h ∷ xs) ys = let more = lives-append xs ys in omega (arith, more)
 
 -- a change that keeps which tenancies are live
-lives-kept : (hs : List History) (id : ℕ) (change : History → History) → ((h : History) → (change h).live ≡ h.live) → lives (modified hs id change) ≡ lives hs
+lives-kept : (hs : List History) (id : ℕ) (change : History → History) → ((h : History) → (change h).live ≡ h.live) → lives (with_changed hs id change) ≡ lives hs
 lives-kept [] id change same = refl
 lives-kept (h ∷ hs) id change same = by_test (eqb id 1) (lives-kept hs (id - 1) change same)
   where
-    by_test : (b : Bool) → lives (modified hs (id - 1) change) ≡ lives hs → lives (cond b (change h ∷ hs) (h ∷ modified hs (id - 1) change)) ≡ lives (h ∷ hs)
+    by_test : (b : Bool) → lives (with_changed hs (id - 1) change) ≡ lives hs → lives (cond b (change h ∷ hs) (h ∷ with_changed hs (id - 1) change)) ≡ lives (h ∷ hs)
     by_test true more = ap (λ b. cond b 1 0 + lives hs) (same h)
     by_test false more = ap (λ n. cond h.live 1 0 + n) more
 
 -- and one that ends a tenancy
-pub lives-ended : (hs : List History) (id : ℕ) (change : History → History) → ((h : History) → (change h).live ≡ false) → IsSome (live_of hs id) → lives (modified hs id change) + 1 ≡ lives hs
+pub lives-ended : (hs : List History) (id : ℕ) (change : History → History) → ((h : History) → (change h).live ≡ false) → IsSome (live_of hs id) → lives (with_changed hs id change) + 1 ≡ lives hs
 lives-ended [] id change ends is = absurd (false≢true is)
 lives-ended (h ∷ hs) id change ends is = by_test (eqb id 1) is (lives-ended hs (id - 1) change ends)
   where
@@ -54,15 +54,15 @@ lives-ended (h ∷ hs) id change ends is = by_test (eqb id 1) is (lives-ended hs
         omega (arith, before, after)
     own false e none = absurd (false≢true none)
 
-    by_test : (b : Bool) → IsSome (option_and_then (λ (g : History). cond g.live (Some g) None) (cond b (Some h) (history_of hs (id - 1)))) → (IsSome (live_of hs (id - 1)) → lives (modified hs (id - 1) change) + 1 ≡ lives hs) →
-        lives (cond b (change h ∷ hs) (h ∷ modified hs (id - 1) change)) + 1 ≡ lives (h ∷ hs)
+    by_test : (b : Bool) → IsSome (option_and_then (λ (g : History). cond g.live (Some g) None) (cond b (Some h) (history_of hs (id - 1)))) → (IsSome (live_of hs (id - 1)) → lives (with_changed hs (id - 1) change) + 1 ≡ lives hs) →
+        lives (cond b (change h ∷ hs) (h ∷ with_changed hs (id - 1) change)) + 1 ≡ lives (h ∷ hs)
     by_test true some more = own h.live refl some
     by_test false some more = let rest = more some in omega (arith, rest)
 
 same : (old new : ServiceState) → new ≡ old → lives old.histories ≡ lives new.histories
 same old new is = ap (λ (s : ServiceState). lives s.histories) (sym is)
 
-changed : (old new : ServiceState) (id : ℕ) (change : History → History) → ((h : History) → (change h).live ≡ h.live) → new ≡ record old { histories = modified old.histories id change } → lives old.histories ≡ lives new.histories
+changed : (old new : ServiceState) (id : ℕ) (change : History → History) → ((h : History) → (change h).live ≡ h.live) → new ≡ record old { histories = with_changed old.histories id change } → lives old.histories ≡ lives new.histories
 changed old new id change keeps is = rw is (sym (lives-kept old.histories id change keeps))
 
 given : (o : Option History) (old new : ServiceState) (job : JobState) → IsGivenBackTo o old job new → lives old.histories ≡ lives new.histories

@@ -34,7 +34,7 @@ use Rattle.operator.specs.OperatorText.{admitted_text, last_id, outcome_text}
 use Rattle.operator.specs.Serving.{HasOwnGraph, IsAdmission, IsServed, Stage}
 use Rattle.fpgad_run.specs.Run.{IsAnswered, Telling, Tells}
 use Rattle.fpgad_run.proofs.Telling.{answered_runs}
-use Rattle.replies_law.specs.Alone.{is_own, own}
+use Rattle.replies_law.specs.Alone.{is_own, own_tellings}
 use Rattle.replies_law.specs.Memory.{HaveMemory, RanOut}
 use Rattle.replies_law.proofs.Found.{AllHadMemory, HadMemory}
 
@@ -167,29 +167,29 @@ tried_had id (t ∷ ts) all fits memory =
     )))
 
 holds_had : (id : ℕ) (job : Option JobState) (calls : List Call) → Holds id job calls → (job ≡ None → calls ≡ TakeCall id None ∷ []) → HadMemory calls
-holds_had id (Some job) calls holds own = to_had calls _ holds (tt, tt)
-holds_had id None calls holds own = to_had calls _ (own refl) (tt, tt)
+holds_had id (Some job) calls holds own_tellings = to_had calls _ holds (tt, tt)
+holds_had id None calls holds own_tellings = to_had calls _ (own_tellings refl) (tt, tt)
 
 held_had : (job : Option JobState) (calls : List Call) (outcome : StepOutcome) → Not (outcome ≡ NoMemory) → Not (outcome ≡ Unfit) → PutsHeld job calls outcome → HadMemory calls
 held_had None calls outcome memory fits is = to_had calls [] is.0 tt
 held_had (Some job) calls outcome memory fits is = puts_had job calls outcome memory fits is
 
 operator_had : (old new : Stage) (line : OperatorLine (List ℕ)) (calls : List Call) (text : List ℕ) → HasOwnGraph old → IsServed old line calls text new → Not (RanOut (Operator line) text) → HadMemory calls
-operator_had old new (Admit name width) calls text own is memory = admission_had (live_of old.service.histories (last_id old.names name)) old new name width calls text is memory
-operator_had old new (Evict name) calls text own is memory = to_had calls _ is.4 (tt, tt)
-operator_had old new (Move name offset) calls text own is memory = to_had calls _ is.4 (tt, tt)
-operator_had old new (Step name count) calls text own is memory =
-    to_had calls _ is.6 (tried_had (last_id old.names name) is.0 is.2 (is.9 own) (λ found. memory (found.0, found.1, is.7 ∙ found.2)))
-operator_had old new (Take name) calls text own is memory = holds_had (last_id old.names name) is.0 calls is.1 (is.7 own)
-operator_had old new (Put number) calls text own is memory =
+operator_had old new (Admit name width) calls text own_tellings is memory = admission_had (live_of old.service.histories (last_id old.names name)) old new name width calls text is memory
+operator_had old new (Evict name) calls text own_tellings is memory = to_had calls _ is.4 (tt, tt)
+operator_had old new (Move name offset) calls text own_tellings is memory = to_had calls _ is.4 (tt, tt)
+operator_had old new (Step name count) calls text own_tellings is memory =
+    to_had calls _ is.6 (tried_had (last_id old.names name) is.0 is.2 (is.9 own_tellings) (λ found. memory (found.0, found.1, is.7 ∙ found.2)))
+operator_had old new (Take name) calls text own_tellings is memory = holds_had (last_id old.names name) is.0 calls is.1 (is.7 own_tellings)
+operator_had old new (Put number) calls text own_tellings is memory =
     held_had (job_at old.jobs number) calls is.0 (λ (out : is.0 ≡ NoMemory). memory (is.5 ∙ ap outcome_text out)) is.7 is.1
-operator_had old new ListAll calls text own is memory = to_had calls [] is.0 tt
-operator_had old new Owners calls text own is memory = to_had calls _ is.2 (tt, tt)
+operator_had old new ListAll calls text own_tellings is memory = to_had calls [] is.0 tt
+operator_had old new Owners calls text own_tellings is memory = to_had calls _ is.2 (tt, tt)
 
 act_had : (old new : Stage) (act : Act (List ℕ)) (calls : List Call) (text : List ℕ) → HasOwnGraph old → IsAnswered old act calls text new → Not (RanOut act text) → HadMemory calls
-act_had old new (Operator line) calls text own is memory = operator_had old new line calls text own is memory
-act_had old new (Session name line) calls text own is memory =
-    line_had (last_id old.names name) line calls is.0 new.service (λ (out : is.0 ≡ Served (Err NotServedNoMemory)). memory (is.5 ∙ ap answer_text out)) is.1 (is.7 own)
+act_had old new (Operator line) calls text own_tellings is memory = operator_had old new line calls text own_tellings is memory
+act_had old new (Session name line) calls text own_tellings is memory =
+    line_had (last_id old.names name) line calls is.0 new.service (λ (out : is.0 ≡ Served (Err NotServedNoMemory)). memory (is.5 ∙ ap answer_text out)) is.1 (is.7 own_tellings)
 
 -- the graph stays the device's own
 admission_graph : (o : Option History) (old new : Stage) (name : List ℕ) (width : ℕ) (calls : List Call) (text : List ℕ) → IsAdmission o old name width calls text new → new.graph ≡ old.graph
@@ -208,19 +208,19 @@ act_graph old new (Operator Owners) calls text is = ap (λ (s : Stage). s.graph)
 act_graph old new (Session name line) calls text is = is.6
 
 own_graph_stays : (old new : Stage) (act : Act (List ℕ)) (calls : List Call) (text : List ℕ) → IsAnswered old act calls text new → HasOwnGraph old → HasOwnGraph new
-own_graph_stays old new act calls text is own =
-    act_graph old new act calls text is ∙ (own ∙ ap own_graph (sym (run_device old.service calls new.service (answered_runs old act calls text new is))))
+own_graph_stays old new act calls text is own_tellings =
+    act_graph old new act calls text is ∙ (own_tellings ∙ ap own_graph (sym (run_device old.service calls new.service (answered_runs old act calls text new is))))
 
 -- one after another, of all acts and of a name's own
 pub all_had : (old last : Stage) (ts : List Telling) → Tells old ts last → HasOwnGraph old → HaveMemory ts → AllHadMemory ts
-all_had old last [] tells own have = tt
-all_had old last (t ∷ ts) tells own have =
-    (act_had old tells.0 t.act t.calls t.text own tells.1 have.0, all_had tells.0 last ts tells.2 (own_graph_stays old tells.0 t.act t.calls t.text tells.1 own) have.1)
+all_had old last [] tells own_tellings have = tt
+all_had old last (t ∷ ts) tells own_tellings have =
+    (act_had old tells.0 t.act t.calls t.text own_tellings tells.1 have.0, all_had tells.0 last ts tells.2 (own_graph_stays old tells.0 t.act t.calls t.text tells.1 own_tellings) have.1)
 
-pub own_had : (name : List ℕ) (old last : Stage) (ts : List Telling) → Tells old ts last → HasOwnGraph old → HaveMemory (own name ts) → AllHadMemory (own name ts)
+pub own_had : (name : List ℕ) (old last : Stage) (ts : List Telling) → Tells old ts last → HasOwnGraph old → HaveMemory (own_tellings name ts) → AllHadMemory (own_tellings name ts)
 own_had name old last [] tells graph have = tt
 own_had name old last (t ∷ ts) tells graph have = by_own (is_own name t.act) have (own_had name tells.0 last ts tells.2 (own_graph_stays old tells.0 t.act t.calls t.text tells.1 graph))
   where
-    by_own : (b : Bool) → HaveMemory (cond b (t ∷ own name ts) (own name ts)) → (HaveMemory (own name ts) → AllHadMemory (own name ts)) → AllHadMemory (cond b (t ∷ own name ts) (own name ts))
+    by_own : (b : Bool) → HaveMemory (cond b (t ∷ own_tellings name ts) (own_tellings name ts)) → (HaveMemory (own_tellings name ts) → AllHadMemory (own_tellings name ts)) → AllHadMemory (cond b (t ∷ own_tellings name ts) (own_tellings name ts))
     by_own true have rest = (act_had old tells.0 t.act t.calls t.text graph tells.1 have.0, rest have.1)
     by_own false have rest = rest have

@@ -19,7 +19,7 @@ use Rattle.blif.specs.declared.fault.BlifFaultKind.{BlifFaultKind}
 use Rattle.blif.specs.declared.fault.BlifFaultKind.TheVariants.{Unknown, BadCover, MixedCover, TooWide, TwoDrivers, Undriven, RepeatedOutput, BadLatch, NoModel, OverLimit}
 use Rattle.blif.specs.declared.keyword.Keyword.{Keyword}
 use Rattle.blif.specs.declared.keyword.Keyword.TheVariants.{Model, Inputs, Outputs, Clock, Names, Latch, End, Skipped, Other, Row}
-use Rattle.blif.specs.BlifFaults.{WordFault, at_words, driven, driver_faults, fault_where, faults_in, is_model, kind_faults, of_line, row_faults, table_faults}
+use Rattle.blif.specs.BlifFaults.{WordFault, at_words, driven_nets, driver_faults, fault_where, faults_in, is_model, kind_faults, of_line, row_faults, table_faults}
 use Rattle.blif.specs.CircuitOf.{all_faults, at_line, circuit_of, circuit_of_lines, declared_in, final_faults, line_faults, undriven_faults}
 use Rattle.blif.specs.Circuits.{circuit_from}
 use Rattle.blif.specs.Covers.{is_mixed, is_row}
@@ -27,7 +27,7 @@ use Rattle.blif.specs.Faults.{fault_of_lines, net_of, number_of}
 use Rattle.blif.specs.Keywords.{args_of, last_of}
 use Rattle.blif.specs.LatchLines.{control_of, is_latch}
 use Rattle.blif.specs.LineNets.{latch_output, names_in, output_of, reads_in}
-use Rattle.blif.specs.Names.{has_name, placed, repeats_from, with_name, with_names}
+use Rattle.blif.specs.Names.{has_name, names_with_index, repeats_from, with_name, with_names}
 use Rattle.blif.specs.Sights.{Sights, kind_of, names_of, sights_of}
 use Rattle.replies_law.specs.ReadBack.{NetsAreWords, NoFeed}
 use Rattle.replies_law.proofs.EachLemmas.{Each, each-append, each-drop, each-filter, each-flat_map, each-get, each-map, each-take}
@@ -58,7 +58,7 @@ numbered_names : (n : ℕ) (names : List (List ℕ)) → Each NoFeed names → E
 numbered_names n [] each = tt
 numbered_names n (name ∷ names) each = (each.0, numbered_names (n + 1) names each.1)
 
-placed_other : (test : List ℕ → Bool) (names : List (List ℕ)) → Each NoFeed names → Each PlacedOther (placed test names)
+placed_other : (test : List ℕ → Bool) (names : List (List ℕ)) → Each NoFeed names → Each PlacedOther (names_with_index test names)
 placed_other test names each = each-filter PlacedOther (λ name. test name.1) (enumerate_from 0 names) (numbered_names 0 names each)
 
 where_other : (b : Bool) (kind : BlifFaultKind) → NamesOther kind → Each WordOther (fault_where b kind)
@@ -114,14 +114,14 @@ row_other (Some cover) words =
 
 kind_other : (lut_size : ℕ) (above : Sights) (keyword : Keyword) (words : List (List ℕ)) → Each NoFeed words → Each WordOther (kind_faults lut_size above keyword words)
 kind_other lut_size above Model words each = where_other above.begun Unknown tt
-kind_other lut_size above Inputs words each = drivers_other (driven above) (args_of words) (each-drop NoFeed 1 words each)
+kind_other lut_size above Inputs words each = drivers_other (driven_nets above) (args_of words) (each-drop NoFeed 1 words each)
 kind_other lut_size above Outputs words each =
     each-map PlacedOther WordOther (λ name. record { word = name.0; kind = RepeatedOutput name.1 }) (λ name is. is) (repeats_from 0 above.outputs (args_of words)) (repeats_other 0 above.outputs (args_of words) (each-drop NoFeed 1 words each))
 kind_other lut_size above Clock words each =
     let test : List ℕ → Bool = λ name. not (has_name above.declared name) && has_name above.drivers name in
-    each-map PlacedOther WordOther (λ name. record { word = name.0; kind = TwoDrivers name.1 }) (λ name is. is) (placed test (args_of words)) (placed_other test (args_of words) (each-drop NoFeed 1 words each))
-kind_other lut_size above Names words each = table_other lut_size (driven above) (args_of words) (each-drop NoFeed 1 words each)
-kind_other lut_size above Latch words each = latch_faults_other (is_latch (args_of words)) (driven above) (args_of words) (each-drop NoFeed 1 words each)
+    each-map PlacedOther WordOther (λ name. record { word = name.0; kind = TwoDrivers name.1 }) (λ name is. is) (names_with_index test (args_of words)) (placed_other test (args_of words) (each-drop NoFeed 1 words each))
+kind_other lut_size above Names words each = table_other lut_size (driven_nets above) (args_of words) (each-drop NoFeed 1 words each)
+kind_other lut_size above Latch words each = latch_faults_other (is_latch (args_of words)) (driven_nets above) (args_of words) (each-drop NoFeed 1 words each)
 kind_other lut_size above Other words each = (tt, tt)
 kind_other lut_size above Row words each = row_other above.cover words
 kind_other lut_size above End words each = tt
@@ -166,14 +166,14 @@ unfolding undriven_faults
 undriven_other drivers line each =
     let test : List ℕ → Bool = λ name. not (has_name drivers name) in
     let names = reads_in (kind_of line) line.words in
-    at_other true line.number (at_words Undriven (placed test names))
-    (each-map PlacedOther WordOther (λ name. record { word = name.0; kind = Undriven name.1 }) (λ name is. is) (placed test names) (placed_other test names (reads_other (kind_of line) line.words each)))
+    at_other true line.number (at_words Undriven (names_with_index test names))
+    (each-map PlacedOther WordOther (λ name. record { word = name.0; kind = Undriven name.1 }) (λ name is. is) (names_with_index test names) (placed_other test names (reads_other (kind_of line) line.words each)))
 
 final_other : (declared : List (List ℕ)) (lines : List JoinedLine) → Each HasWords lines → Each FoundOther (final_faults declared lines)
 unfolding final_faults
 final_other declared [] each = (tt, tt)
 final_other declared (line ∷ lines) each =
-    each-flat_map HasWords FoundOther (undriven_faults (driven (sights_of declared (line ∷ lines)))) (undriven_other (driven (sights_of declared (line ∷ lines)))) (line ∷ lines) each
+    each-flat_map HasWords FoundOther (undriven_faults (driven_nets (sights_of declared (line ∷ lines)))) (undriven_other (driven_nets (sights_of declared (line ∷ lines)))) (line ∷ lines) each
 
 -- the least element is one of the elements
 least_other : (all : List (Found BlifFault)) → Each FoundOther all → IfSome (least_by precedes all) FoundOther

@@ -15,8 +15,8 @@ use Rattle.service_core.specs.Calls.{IsAdmitted, IsEvicted, IsMoved}
 use Rattle.service_core.specs.History.{History, with_here}
 use Rattle.service_core.specs.Run.{Call, Happens, Run, IsGivenBackTo}
 use Rattle.service_core.specs.Run.Call.{Admit, Evict, Move, Tenant, Take, Put, GiveBack, Owners}
-use Rattle.service_core.specs.Service.{ServiceState, admitted, history_of, live_of, modified}
-use Rattle.service_core.specs.Tenancy.{closed, if_live}
+use Rattle.service_core.specs.Service.{ServiceState, admitted_history, history_of, live_of, with_changed}
+use Rattle.service_core.specs.Tenancy.{closed_history, if_live}
 use Rattle.service_core.proofs.Lists.{history_of-zero, history_of-modified, history_of-push}
 use Rattle.service_core.proofs.MovedStrips.{same_histories}
 use Rattle.sessions.specs.declared.line.SessionLine.{SessionLine}
@@ -42,13 +42,13 @@ Same id old new = live_of new.histories id ≡ live_of old.histories id
 live_of-zero : (hs : List History) → live_of hs 0 ≡ None
 live_of-zero hs = ap if_live (history_of-zero hs)
 
-live_of-other : (hs : List History) (t id : ℕ) (change : History → History) → Apart t id → live_of (modified hs t change) id ≡ live_of hs id
+live_of-other : (hs : List History) (t id : ℕ) (change : History → History) → Apart t id → live_of (with_changed hs t change) id ≡ live_of hs id
 live_of-other hs t id change apart = by_test (eqb id t) refl
   where
-    by_test : (b : Bool) → eqb id t ≡ b → live_of (modified hs t change) id ≡ live_of hs id
+    by_test : (b : Bool) → eqb id t ≡ b → live_of (with_changed hs t change) id ≡ live_of hs id
     by_test true e =
         let none : id ≡ 0 = apart (sym ((Decides-eqb id t).0 e)) in
-        ap (live_of (modified hs t change)) none ∙ (live_of-zero (modified hs t change) ∙ (sym (live_of-zero hs) ∙ ap (live_of hs) (sym none)))
+        ap (live_of (with_changed hs t change)) none ∙ (live_of-zero (with_changed hs t change) ∙ (sym (live_of-zero hs) ∙ ap (live_of hs) (sym none)))
     by_test false e = ap if_live (history_of-modified hs t id change ∙ ap (λ b. cond b (option_map change (history_of hs id)) (history_of hs id)) e)
 
 -- a call is made for that tenancy
@@ -69,7 +69,7 @@ AreFor t (call ∷ calls) = IsFor t call × AreFor t calls
 nothing : (id : ℕ) (old new : ServiceState) → new ≡ old → Same id old new
 nothing id old new same = ap (λ (s : ServiceState). live_of s.histories id) same
 
-changed : (id t : ℕ) (old new : ServiceState) (change : History → History) → Apart t id → new ≡ record old { histories = modified old.histories t change } → Same id old new
+changed : (id t : ℕ) (old new : ServiceState) (change : History → History) → Apart t id → new ≡ record old { histories = with_changed old.histories t change } → Same id old new
 changed id t old new change apart is = ap (λ (s : ServiceState). live_of s.histories id) is ∙ live_of-other old.histories t id change apart
 
 given : (o : Option History) (id : ℕ) (old new : ServiceState) (job : JobState) → Apart job.step.id id → IsGivenBackTo o old job new → Same id old new
@@ -104,13 +104,13 @@ local_calls id t old (call ∷ calls) new on apart run = local_calls id t run.0 
 pub admission_local : (id width : ℕ) (old new : ServiceState) (answer : Result (ℕ × ℕ) OpRefusal) → id ≤ length old.histories → IsAdmitted old width answer new → Same id old new
 admission_local id width old new (Ok given) within is =
     let hs : List History = old.histories in
-    let h : History = admitted old.device (length hs + 1) width in
+    let h : History = admitted_history old.device (length hs + 1) width in
     let same : history_of (hs ++ h ∷ []) id ≡ history_of hs id = grind (arith, nat_tests, history_of-push hs h id, within) in
     ap (λ (s : ServiceState). live_of s.histories id) is.3 ∙ ap if_live same
 admission_local id width old new (Err refusal) within is = nothing id old new is.1
 
 pub eviction_local : (id t : ℕ) (old new : ServiceState) (answer : Result (Unit {0}) OpRefusal) → Apart t id → IsEvicted old t answer new → Same id old new
-eviction_local id t old new (Ok u) apart is = ap (λ (s : ServiceState). live_of s.histories id) is.1 ∙ live_of-other old.histories t id closed apart
+eviction_local id t old new (Ok u) apart is = ap (λ (s : ServiceState). live_of s.histories id) is.1 ∙ live_of-other old.histories t id closed_history apart
 eviction_local id t old new (Err refusal) apart is = nothing id old new is.2
 
 pub move_local : (id t offset : ℕ) (old new : ServiceState) (answer : Result (Unit {0}) OpRefusal) → IsMoved old t offset answer new → Same id old new

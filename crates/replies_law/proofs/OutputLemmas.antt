@@ -6,11 +6,11 @@ use Rattle.arch_file.specs.declared.fault.ArchFault.{ArchFault}
 use Rattle.line_text.specs.Lines.{physical_lines}
 use Rattle.script_text.specs.declared.act.Act.{Act}
 use Rattle.script_text.specs.Script.{Acts, acts_from}
-use Rattle.service_core.specs.Service.{empty}
+use Rattle.service_core.specs.Service.{empty_service}
 use Rattle.sessions.specs.Fitting.{own_graph}
 use Rattle.fpgad_run.specs.declared.inputs.Architecture.{Architecture}
 use Rattle.fpgad_run.specs.declared.inputs.Architecture.TheVariants.{InScript, Text, Unreadable}
-use Rattle.fpgad_run.specs.Program.{checked, device_of, start_of}
+use Rattle.fpgad_run.specs.Program.{checked_start, device_of, start_of}
 use Rattle.script_replies.specs.Asking.{replies_in}
 use Rattle.replies_law.specs.ReadBack.{HasName, IsOutputReadBack}
 use Rattle.replies_law.proofs.EachLemmas.{Each}
@@ -20,7 +20,7 @@ use Rattle.replies_law.proofs.SizeLemmas.{are_tellable}
 use Rattle.replies_law.proofs.ToldLemmas.{told_is_read}
 
 -- the acts are a script's
-checked_has : (r : Result Arch ArchFault) (within : Bool) (lines : List (List ℕ)) (said : Acts) → acts_from 1 within lines ≡ said → (arch : Arch) (acts : List (Act (List ℕ))) → checked r said ≡ Ok (arch, acts) → Each HasName acts
+checked_has : (r : Result Arch ArchFault) (within : Bool) (lines : List (List ℕ)) (said : Acts) → acts_from 1 within lines ≡ said → (arch : Arch) (acts : List (Act (List ℕ))) → checked_start r said ≡ Ok (arch, acts) → Each HasName acts
 checked_has (Err fault) within lines said is arch acts e = cc
 checked_has (Ok own) within lines (Err line) is arch acts e = cc
 checked_has (Ok own) within lines (Ok said) is arch acts e =
@@ -41,4 +41,4 @@ output_is_read options tracks architecture input output r small =
     let P : List ℕ → Type 0 = λ o. length o < 2 ^ 64 in
     let tellable = are_tellable r.tellings each (subst P r.output_is small) in
     ap (λ acts. replies_in acts output) (sym r.all) ∙ ap (replies_in (map (λ t. t.act) r.tellings)) r.output_is
-    ∙ told_is_read nets_are_words (record { names = []; jobs = []; service = empty device; graph = own_graph device }) r.last r.tellings r.told (record { even = refl; names = tt }) refl tellable
+    ∙ told_is_read nets_are_words (record { names = []; jobs = []; service = empty_service device; graph = own_graph device }) r.last r.tellings r.told (record { even = refl; names = tt }) refl tellable

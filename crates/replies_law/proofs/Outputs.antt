@@ -8,7 +8,7 @@ use Rattle.device_book.specs.declared.book.Owned.{Owned}
 use Rattle.service_core.specs.History.{History}
 use Rattle.service_core.specs.Owners.{ListsOwnersOf}
 use Rattle.service_core.specs.Run.{Call, Run}
-use Rattle.service_core.specs.Service.{ServiceState, empty, live_of}
+use Rattle.service_core.specs.Service.{ServiceState, empty_service, live_of}
 use Rattle.service_core.proofs.Effects.{Kept, run_keeps}
 use Rattle.service_core.proofs.Keeps.{IsService-empty}
 use Rattle.sessions.specs.Fitting.{own_graph}
@@ -21,7 +21,8 @@ use Rattle.operator.specs.OperatorText.{admitted_text, last_id, names_after, out
 use Rattle.operator.specs.OwnersText.{owners_text}
 use Rattle.operator.specs.Serving.{IsAdmission, IsServed, Stage}
 use Rattle.fpgad_run.specs.Program.{device_of}
-use Rattle.fpgad_run.specs.Run.{IsAnswered, Section, Telling, Tells, output_of, sections_after, told_operator, told_session, written}
+use Rattle.script_text.specs.Replies.{Section, output_of}
+use Rattle.fpgad_run.specs.Run.{IsAnswered, Telling, Tells, sections_after, told_operator, told_session, replies_text}
 use Rattle.replies_law.proofs.Found.{AllHadMemory, HadMemory}
 use Rattle.replies_law.proofs.Memory.{all_had}
 use Rattle.fpgad_run.proofs.Telling.{answered_runs}
@@ -116,7 +117,7 @@ sections_alike (t ∷ ts) (u ∷ us) sections alike =
     ap (λ a. sections_after (told_session sections a t.text) ts) alike.0
     ∙ (ap (λ x. sections_after (told_session sections u.act x) ts) alike.1 ∙ sections_alike ts us (told_session sections u.act u.text) alike.2)
 
-written_alike : (ts us : List Telling) → Alike ts us → written ts ≡ written us
+written_alike : (ts us : List Telling) → Alike ts us → replies_text ts ≡ replies_text us
 written_alike ts us alike =
     ap (λ o. output_of o (sections_after [] ts)) (operator_texts ts us alike) ∙ ap (output_of (flat_map (λ (t : Telling). told_operator t.act t.text) us)) (sections_alike ts us [] alike)
 
@@ -126,10 +127,10 @@ has_one_output options start output other r s had has =
     let pair : ◌≡◌ {A = Arch × List (Act (List ℕ))} (r.arch, r.acts) (s.arch, s.acts) = cc in
     let arch : s.arch ≡ r.arch = sym (ap (λ (p : Arch × List (Act (List ℕ))). p.0) pair) in
     let acts : r.acts ≡ s.acts = ap (λ (p : Arch × List (Act (List ℕ))). p.1) pair in
-    let P : Arch → Type 0 = λ a. Tells (record { names = []; jobs = []; service = empty (device_of options a); graph = own_graph (device_of options a) }) s.tellings s.last in
+    let P : Arch → Type 0 = λ a. Tells (record { names = []; jobs = []; service = empty_service (device_of options a); graph = own_graph (device_of options a) }) s.tellings s.last in
     r.output_is
-    ∙ (written_alike r.tellings s.tellings (tells_alike r.tellings s.tellings (record { names = []; jobs = []; service = empty (device_of options r.arch); graph = own_graph (device_of options r.arch) }) r.last s.last r.told (subst P arch s.told)
+    ∙ (written_alike r.tellings s.tellings (tells_alike r.tellings s.tellings (record { names = []; jobs = []; service = empty_service (device_of options r.arch); graph = own_graph (device_of options r.arch) }) r.last s.last r.told (subst P arch s.told)
     (r.all ∙ (acts ∙ sym s.all)) (IsService-empty (device_of options r.arch))
-    (all_had (record { names = []; jobs = []; service = empty (device_of options r.arch); graph = own_graph (device_of options r.arch) }) r.last r.tellings r.told refl had)
-    (all_had (record { names = []; jobs = []; service = empty (device_of options s.arch); graph = own_graph (device_of options s.arch) }) s.last s.tellings s.told refl has))
+    (all_had (record { names = []; jobs = []; service = empty_service (device_of options r.arch); graph = own_graph (device_of options r.arch) }) r.last r.tellings r.told refl had)
+    (all_had (record { names = []; jobs = []; service = empty_service (device_of options s.arch); graph = own_graph (device_of options s.arch) }) s.last s.tellings s.told refl has))
     ∙ sym s.output_is)

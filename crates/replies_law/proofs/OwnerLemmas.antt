@@ -9,7 +9,7 @@ use Rattle.rr_graph.specs.declared.resource.Resource.{Resource}
 use Rattle.rr_graph.specs.declared.resource.ResourceKind.{ResourceKind}
 use Rattle.rr_graph.specs.declared.resource.ResourceKind.TheVariants.{Opin as OpinHeld, Ipin as IpinHeld, ChanX as ChanXHeld, ChanY as ChanYHeld, Pad}
 use Rattle.vpr_files.specs.NodeText.{kind_word, node_text_of, number_word, position_text}
-use Rattle.vpr_files.specs.TextLines.{spaced}
+use Rattle.vpr_files.specs.TextLines.{word_after_space}
 use Rattle.operator.specs.OwnersText.{owned_text, owners_text, resource_text}
 use Rattle.replies_law.specs.ReadBack.{NoFeed}
 use Rattle.replies_law.proofs.FeedLemmas.{IsLine, decimal_no_feed, no_feed-append}
@@ -48,9 +48,9 @@ node_other : (rows : ℕ) (node : Node) → NoFeed (node_text_of rows node)
 unfolding node_text_of
 node_other rows node =
     let word = number_word node.kind ((node.y == 0) || nat_lt rows node.y) in
-    no_feed-append (kind_word node.kind ++ spaced (position_text node.x node.y) ++ spaced word) (spaced (decimal node.n))
-    (no_feed-append (kind_word node.kind ++ spaced (position_text node.x node.y)) (spaced word)
-    (no_feed-append (kind_word node.kind) (spaced (position_text node.x node.y)) (kind_other node.kind) (position_other node.x node.y))
+    no_feed-append (kind_word node.kind ++ word_after_space (position_text node.x node.y) ++ word_after_space word) (word_after_space (decimal node.n))
+    (no_feed-append (kind_word node.kind ++ word_after_space (position_text node.x node.y)) (word_after_space word)
+    (no_feed-append (kind_word node.kind) (word_after_space (position_text node.x node.y)) (kind_other node.kind) (position_other node.x node.y))
     (number_other node.kind ((node.y == 0) || nat_lt rows node.y))) (decimal_no_feed node.n)
 
 resource_other : (rows : ℕ) (r : Resource) (kind : ResourceKind) → NoFeed (resource_text rows r kind)

@@ -9,13 +9,14 @@ use Rattle.line_text.proofs.NameLemmas.{with_name-first, with_name-later}
 use Rattle.script_text.specs.declared.act.Act.{Act}
 use Rattle.script_text.specs.declared.act.Act.TheVariants.{Operator, Session}
 use Rattle.printed_replies.specs.Printing.{asked_in, printed_for, section_of, told_to}
-use Rattle.printed_replies.specs.Replies.{AnsweredLine, AskedLine, heading, names_of, replied, with_speaker}
+use Rattle.printed_replies.specs.Replies.{AnsweredLine, AskedLine, heading, names_of, with_reply, with_speaker}
 use Rattle.script_replies.specs.Asking.{asked_of}
-use Rattle.fpgad_run.specs.Run.{Section, Telling, section_text, sections_after, told_operator, told_session, with_text, written}
-use Rattle.replies_law.specs.ReadBack.{answered}
+use Rattle.script_text.specs.Replies.{Section, section_text}
+use Rattle.fpgad_run.specs.Run.{Telling, sections_after, told_operator, told_session, with_text, replies_text}
+use Rattle.replies_law.specs.ReadBack.{answered_line}
 
 abbrev pub lines_of : List Telling → List AnsweredLine
-lines_of tellings = map answered tellings
+lines_of tellings = map answered_line tellings
 
 -- the operator's texts
 operator_told : (tellings : List Telling) → told_to None (lines_of tellings) ≡ flat_map (λ t. told_operator t.act t.text) tellings
@@ -23,7 +24,7 @@ operator_told [] = refl
 operator_told (t ∷ ts) = by_act t.act (operator_told ts)
   where
     by_act : (act : Act (List ℕ)) → told_to None (lines_of ts) ≡ flat_map (λ t. told_operator t.act t.text) ts →
-        told_to None (replied (asked_of act) t.text ∷ lines_of ts) ≡ told_operator act t.text ++ flat_map (λ t. told_operator t.act t.text) ts
+        told_to None (with_reply (asked_of act) t.text ∷ lines_of ts) ≡ told_operator act t.text ++ flat_map (λ t. told_operator t.act t.text) ts
     by_act (Operator line) more = ap (λ o. t.text ++ o) more
     by_act (Session name line) more = more
 
@@ -134,7 +135,7 @@ sections_told (t ∷ ts) names f distinct none = by_act t.act (sections_told ts 
     by_act : (act : Act (List ℕ)) → sections_after (map (λ n. sec n (f n)) names) ts ≡ map (λ n. sec n (f n ++ told_to (Some n) (lines_of ts))) (names_from names (asked_in (lines_of ts))) →
         ((name : List ℕ) → sections_after (map (λ n. sec n (f n ++ more_for name t.text n)) (with_name names name)) ts ≡ map (λ n. sec n ((f n ++ more_for name t.text n) ++ told_to (Some n) (lines_of ts))) (names_from (with_name names name) (asked_in (lines_of ts)))) →
         sections_after (told_session (map (λ n. sec n (f n)) names) act t.text) ts
-        ≡ map (λ n. sec n (f n ++ told_to (Some n) (replied (asked_of act) t.text ∷ lines_of ts))) (names_from names (asked_of act ∷ asked_in (lines_of ts)))
+        ≡ map (λ n. sec n (f n ++ told_to (Some n) (with_reply (asked_of act) t.text ∷ lines_of ts))) (names_from names (asked_of act ∷ asked_in (lines_of ts)))
     by_act (Operator line) same more = same
     by_act (Session name line) same more =
         ap (λ ss. sections_after ss ts) (one_told f name t.text names distinct (none name)) ∙ more name
@@ -145,7 +146,7 @@ section_texts : (f : List ℕ → List ℕ) (names : List (List ℕ)) → flat_m
 section_texts f [] = refl
 section_texts f (n ∷ names) = ap (λ t. (heading (Some n) ++ f n) ++ t) (section_texts f names)
 
-pub printed_is_written : (tellings : List Telling) → printed_for (lines_of tellings) ≡ written tellings
+pub printed_is_written : (tellings : List Telling) → printed_for (lines_of tellings) ≡ replies_text tellings
 printed_is_written tellings =
     let lines = lines_of tellings in
     let names = names_of (asked_in lines) in

@@ -4,7 +4,8 @@ use Rattle.std.specs.Prelude.{flat_map}
 use Rattle.std.specs.Str.{bytes_eq}
 use Rattle.script_text.specs.declared.act.Act.{Act}
 use Rattle.script_text.specs.declared.act.Act.TheVariants.{Operator, Session}
-use Rattle.fpgad_run.specs.Run.{Section, Telling, heading, section_text, sections_after, told_operator, told_session, with_text, written}
+use Rattle.script_text.specs.Replies.{Section, heading, section_text}
+use Rattle.fpgad_run.specs.Run.{Telling, sections_after, told_operator, told_session, with_text, replies_text}
 use Rattle.replies_law.specs.ReadBack.{AreTellable, HasName}
 use Rattle.replies_law.proofs.EachLemmas.{Each}
 
@@ -46,7 +47,7 @@ sections_long (s ∷ sections) =
     let own = length-append (heading s.name) s.text in
     omega (arith, more, whole, own)
 
-all_written : (ts : List Telling) → all_told ts ≤ length (written ts)
+all_written : (ts : List Telling) → all_told ts ≤ length (replies_text ts)
 all_written ts =
     let operator = flat_map (λ t. told_operator t.act t.text) ts in
     let sections = sections_after [] ts in
@@ -61,5 +62,5 @@ tellable_from : (ts : List Telling) → Each HasName (map (λ t. t.act) ts) → 
 tellable_from [] each small = tt
 tellable_from (t ∷ ts) each small = ((each.0, omega (arith, small)), tellable_from ts each.1 (omega (arith, small)))
 
-pub are_tellable : (ts : List Telling) → Each HasName (map (λ t. t.act) ts) → length (written ts) < 2 ^ 64 → AreTellable ts
+pub are_tellable : (ts : List Telling) → Each HasName (map (λ t. t.act) ts) → length (replies_text ts) < 2 ^ 64 → AreTellable ts
 are_tellable ts each small = tellable_from ts each (let all = all_written ts in omega (arith, small, all))

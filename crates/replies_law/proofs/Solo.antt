@@ -15,7 +15,7 @@ use Rattle.service_core.specs.Calls.{IsAdmitted}
 use Rattle.service_core.specs.History.{History}
 use Rattle.service_core.specs.Run.{Call, Run, CanAdmit, RefusesAdmission}
 use Rattle.service_core.specs.Run.Call.{Admit as AdmitCall}
-use Rattle.service_core.specs.Service.{ServiceState, admitted, empty, history_of, live_of, placed_width}
+use Rattle.service_core.specs.Service.{ServiceState, admitted_history, empty_service, history_of, live_of, placed_width}
 use Rattle.service_core.specs.Tenancy.{if_live}
 use Rattle.service_core.proofs.Keeps.{IsService-empty}
 use Rattle.service_core.proofs.Lists.{history_of-push}
@@ -36,7 +36,7 @@ use Rattle.fpgad_run.proofs.Telling.{answered_runs}
 use Rattle.replies_law.proofs.Found.{AllHadMemory, HadMemory}
 use Rattle.replies_law.proofs.Memory.{all_had}
 use Rattle.replies_law.specs.Memory.{HaveMemory}
-use Rattle.replies_law.specs.Alone.{AreLeft, IsAlone, IsLeft, Plays, admissions, fits, grants, is_about, is_admit, is_own, own, own_acts}
+use Rattle.replies_law.specs.Alone.{AreLeft, IsAlone, IsLeft, Plays, admissions, fits, grants, is_about, is_admit, is_own, own_tellings, own_acts}
 use Rattle.replies_law.proofs.Lines.{newest_id}
 use Rattle.replies_law.proofs.Others.{Apart, AreFor, Same, eviction_local, for_line, for_tried, local_calls}
 use Rattle.replies_law.proofs.Scripts.{is_the_same, own_of, run_sits}
@@ -50,15 +50,15 @@ AllOwn name [] = ⊤
 AllOwn name (act ∷ acts) = (is_own name act ≡ true) × AllOwn name acts
 
 own_left : (name : List ℕ) (act : Act (List ℕ)) → is_own name act ≡ true → IsLeft name act
-own_left name (Session other line) own = tt
-own_left name (Operator (Admit other width)) own = tt
-own_left name (Operator (Evict other)) own = tt
-own_left name (Operator (Step other count)) own = tt
-own_left name (Operator (Move other offset)) own = tt
-own_left name (Operator (Take other)) own = absurd (false≢true own)
-own_left name (Operator (Put number)) own = tt
-own_left name (Operator ListAll) own = tt
-own_left name (Operator Owners) own = tt
+own_left name (Session other line) own_tellings = tt
+own_left name (Operator (Admit other width)) own_tellings = tt
+own_left name (Operator (Evict other)) own_tellings = tt
+own_left name (Operator (Step other count)) own_tellings = tt
+own_left name (Operator (Move other offset)) own_tellings = tt
+own_left name (Operator (Take other)) own_tellings = absurd (false≢true own_tellings)
+own_left name (Operator (Put number)) own_tellings = tt
+own_left name (Operator ListAll) own_tellings = tt
+own_left name (Operator Owners) own_tellings = tt
 
 all_left : (name : List ℕ) (ts : List Telling) → AllOwn name (map (λ t. t.act) ts) → AreLeft name ts
 all_left name [] all = tt
@@ -79,7 +79,7 @@ own_all name (act ∷ acts) all = ap (λ b. cond b (act ∷ own_acts name acts) 
 -- only its last tenancy may be live
 record Lonely (device : Device) (name : List ℕ) (stage : Stage) : Type 0 where
   calls : List Call
-  runs : Run (empty device) calls stage.service
+  runs : Run (empty_service device) calls stage.service
   sound : Sound device name stage
   last : (id : ℕ) → IsSome (live_of stage.service.histories id) → id ≡ last_id stage.names name
 
@@ -206,7 +206,7 @@ admission_grants None device name old new width calls text live lonely is had fe
         Grants device name device.columns (Operator (Admit name width)) calls old new
     by_answer (Ok given) admits_it names called had =
         let hs : List History = old.service.histories in
-        let h : History = admitted old.service.device (length hs + 1) width in
+        let h : History = admitted_history old.service.device (length hs + 1) width in
         let now : new.service.histories ≡ hs ++ h ∷ [] = ap (λ (s : ServiceState). s.histories) admits_it.3 in
         let long : length new.service.histories ≡ length (hs ++ h ∷ []) = ap length now in
         let more : length (hs ++ h ∷ []) ≡ length hs + length (h ∷ []) = length-append hs (h ∷ []) in
@@ -249,20 +249,20 @@ operator_grants device name old new (Admit other width) calls text lonely is abo
 operator_grants device name old new (Evict other) calls text lonely is about had few =
     let same : other ≡ name = sym ((bytes_eq-Decides name other).0 about) in
     let P : List ℕ → Type 0 = λ n. IsServed old (Evict n) calls text new in
-    let own = subst P same is in
-    let long : length old.service.histories ≡ length new.service.histories = lengths-evicted old.service new.service (last_id old.names name) own.0 own.1 in
+    let own_tellings = subst P same is in
+    let long : length old.service.histories ≡ length new.service.histories = lengths-evicted old.service new.service (last_id old.names name) own_tellings.0 own_tellings.1 in
     record {
       given = tt;
       grows = omega (arith, long);
-      last = stays_last device name old new lonely own.2 (λ id apart. eviction_local id (last_id old.names name) old.service new.service own.0 apart own.1);
+      last = stays_last device name old new lonely own_tellings.2 (λ id apart. eviction_local id (last_id old.names name) old.service new.service own_tellings.0 apart own_tellings.1);
     }
 operator_grants device name old new (Step other count) calls text lonely is about had few =
     let same : other ≡ name = sym ((bytes_eq-Decides name other).0 about) in
     let P : List ℕ → Type 0 = λ n. IsServed old (Step n count) calls text new in
-    let own = subst P same is in
+    let own_tellings = subst P same is in
     let t : ℕ = last_id old.names name in
     let Q : List Call → Type 0 = λ cs. Run old.service cs new.service in
-    steady_grants device name (Operator (Step other count)) old new calls tt lonely own.4 (subst (AreFor t) (sym own.6) (for_tried t own.0 old.service new.service own.2 (subst Q own.6 own.3))) own.3
+    steady_grants device name (Operator (Step other count)) old new calls tt lonely own_tellings.4 (subst (AreFor t) (sym own_tellings.6) (for_tried t own_tellings.0 old.service new.service own_tellings.2 (subst Q own_tellings.6 own_tellings.3))) own_tellings.3
 operator_grants device name old new (Move other offset) calls text lonely is about had few = absurd (false≢true about)
 operator_grants device name old new (Take other) calls text lonely is about had few = absurd (false≢true about)
 operator_grants device name old new (Put number) calls text lonely is about had few = absurd (false≢true about)
@@ -271,9 +271,9 @@ operator_grants device name old new Owners calls text lonely is about had few = 
 
 act_grants : (device : Device) (name : List ℕ) (old new : Stage) (act : Act (List ℕ)) (calls : List Call) (text : List ℕ) → Lonely device name old → IsAnswered old act calls text new → is_own name act ≡ true → HadMemory calls →
     length old.service.histories + is_admit act ≤ 65535 → Grants device name device.columns act calls old new
-act_grants device name old new (Operator line) calls text lonely is own had few = operator_grants device name old new line calls text lonely is own had few
-act_grants device name old new (Session other line) calls text lonely is own had few =
-    let same : other ≡ name = sym ((bytes_eq-Decides name other).0 own) in
+act_grants device name old new (Operator line) calls text lonely is own_tellings had few = operator_grants device name old new line calls text lonely is own_tellings had few
+act_grants device name old new (Session other line) calls text lonely is own_tellings had few =
+    let same : other ≡ name = sym ((bytes_eq-Decides name other).0 own_tellings) in
     let P : List ℕ → Type 0 = λ n. IsAnswered old (Session n line) calls text new in
     let mine = subst P same is in
     steady_grants device name (Session other line) old new calls tt lonely mine.3 (for_line (last_id old.names name) old.service line calls new.service mine.0 mine.1 mine.2) mine.2
@@ -281,33 +281,33 @@ act_grants device name old new (Session other line) calls text lonely is own had
 -- one after another
 all_granted : (device : Device) (name : List ℕ) (old last : Stage) (ts : List Telling) → Tells old ts last → Lonely device name old → AllOwn name (map (λ t. t.act) ts) → AllHadMemory ts →
     length old.service.histories + admissions (map (λ t. t.act) ts) ≤ 65535 → AreGiven device.columns ts
-all_granted device name old last [] tells lonely own had few = tt
-all_granted device name old last (t ∷ ts) tells lonely own had few =
+all_granted device name old last [] tells lonely own_tellings had few = tt
+all_granted device name old last (t ∷ ts) tells lonely own_tellings had few =
     let mid : Stage = tells.0 in
     let now : length old.service.histories + is_admit t.act ≤ 65535 = omega (arith, few) in
-    let did = act_grants device name old mid t.act t.calls t.text lonely tells.1 own.0 had.0 now in
+    let did = act_grants device name old mid t.act t.calls t.text lonely tells.1 own_tellings.0 had.0 now in
     let grows = did.grows in
     let next : Lonely device name mid = record {
       calls = lonely.calls ++ t.calls;
-      runs = Run-append (empty device) lonely.calls old.service t.calls mid.service lonely.runs (answered_runs old t.act t.calls t.text mid tells.1);
-      sound = sound_after device name old mid t.act t.calls t.text lonely.sound tells.1 (own_left name t.act own.0);
+      runs = Run-append (empty_service device) lonely.calls old.service t.calls mid.service lonely.runs (answered_runs old t.act t.calls t.text mid tells.1);
+      sound = sound_after device name old mid t.act t.calls t.text lonely.sound tells.1 (own_left name t.act own_tellings.0);
       last = did.last;
     } in
-    (did.given, all_granted device name mid last ts tells.2 next own.1 had.1 (omega (arith, few, grows)))
+    (did.given, all_granted device name mid last ts tells.2 next own_tellings.1 had.1 (omega (arith, few, grows)))
 
-own_granted : (columns : ℕ) (name : List ℕ) (ts : List Telling) → AreGiven columns ts → AreGiven columns (own name ts)
+own_granted : (columns : ℕ) (name : List ℕ) (ts : List Telling) → AreGiven columns ts → AreGiven columns (own_tellings name ts)
 own_granted columns name [] are = tt
 own_granted columns name (t ∷ ts) are = by_own (is_own name t.act) (own_granted columns name ts are.1)
   where
-    by_own : (b : Bool) → AreGiven columns (own name ts) → AreGiven columns (cond b (t ∷ own name ts) (own name ts))
+    by_own : (b : Bool) → AreGiven columns (own_tellings name ts) → AreGiven columns (cond b (t ∷ own_tellings name ts) (own_tellings name ts))
     by_own true rest = (are.0, rest)
     by_own false rest = rest
 
-own_memory : (name : List ℕ) (ts : List Telling) → HaveMemory ts → HaveMemory (own name ts)
+own_memory : (name : List ℕ) (ts : List Telling) → HaveMemory ts → HaveMemory (own_tellings name ts)
 own_memory name [] had = tt
 own_memory name (t ∷ ts) had = by_own (is_own name t.act) (own_memory name ts had.1)
   where
-    by_own : (b : Bool) → HaveMemory (own name ts) → HaveMemory (cond b (t ∷ own name ts) (own name ts))
+    by_own : (b : Bool) → HaveMemory (own_tellings name ts) → HaveMemory (cond b (t ∷ own_tellings name ts) (own_tellings name ts))
     by_own true rest = (had.0, rest)
     by_own false rest = rest
 
@@ -320,12 +320,12 @@ is_alone options other tracks other_tracks architecture other_architecture input
     let same : own_acts name r.acts ≡ own_acts name s.acts = sym acts ∙ sym (own_all name s.acts own_script) in
     let P : List (Act (List ℕ)) → Type 0 = λ acts. 0 + admissions acts ≤ 65535 in
     let count : 0 + admissions (map (λ t. t.act) s.tellings) ≤ 65535 = subst P (sym s.all) (omega (arith, few)) in
-    let other_are : AreGiven other.columns (own name s.tellings) = own_granted other.columns name s.tellings (all_granted narrow name (record { names = []; jobs = []; service = empty narrow; graph = own_graph narrow }) s.last s.tellings s.told
-    (record { calls = []; runs = refl; sound = record { kept = IsService-empty narrow; on = refl; even = refl; elsewhere = tt }; last = λ id live. absurd (false≢true live) }) own_told (all_had (record { names = []; jobs = []; service = empty narrow; graph = own_graph narrow }) s.last s.tellings s.told refl had) count) in
+    let other_are : AreGiven other.columns (own_tellings name s.tellings) = own_granted other.columns name s.tellings (all_granted narrow name (record { names = []; jobs = []; service = empty_service narrow; graph = own_graph narrow }) s.last s.tellings s.told
+    (record { calls = []; runs = refl; sound = record { kept = IsService-empty narrow; on = refl; even = refl; elsewhere = tt }; last = λ id live. absurd (false≢true live) }) own_told (all_had (record { names = []; jobs = []; service = empty_service narrow; graph = own_graph narrow }) s.last s.tellings s.told refl had) count) in
     let other_plays : Plays name s.tellings = record { left = all_left name s.tellings own_told; memory = own_memory name s.tellings had } in
-    let start : Stage = record { names = []; jobs = []; service = empty device; graph = own_graph device } in
-    let narrow_start : Stage = record { names = []; jobs = []; service = empty narrow; graph = own_graph narrow } in
-    let given : map (λ t. given_to t.act t.calls) (own name r.tellings) ≡ map (λ t. given_to t.act t.calls) (own name s.tellings) = grant_the_same other.columns device narrow (own name r.tellings) (own name s.tellings) None arch rows (run_sits options tracks architecture input output name r plays)
+    let start : Stage = record { names = []; jobs = []; service = empty_service device; graph = own_graph device } in
+    let narrow_start : Stage = record { names = []; jobs = []; service = empty_service narrow; graph = own_graph narrow } in
+    let given : map (λ t. given_to t.act t.calls) (own_tellings name r.tellings) ≡ map (λ t. given_to t.act t.calls) (own_tellings name s.tellings) = grant_the_same other.columns device narrow (own_tellings name r.tellings) (own_tellings name s.tellings) None arch rows (run_sits options tracks architecture input output name r plays)
     (run_sits other other_tracks other_architecture other_input other_output name s other_plays)
     (own_of options tracks architecture input output name r ∙ (same ∙ sym (own_of other other_tracks other_architecture other_input other_output name s))) (are_given other.columns name start r.last r.tellings r.told are) other_are in
     let same_grants : grants name r.tellings ≡ grants name s.tellings = sym (grants_told name start r.last r.tellings r.told) ∙ (given ∙ grants_told name narrow_start s.last s.tellings s.told) in

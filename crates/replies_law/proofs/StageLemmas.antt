@@ -5,7 +5,7 @@ use Rattle.service_core.specs.declared.op_refusal.OpRefusal.{OpRefusal}
 use Rattle.service_core.specs.Calls.{IsAdmitted, IsEvicted}
 use Rattle.service_core.specs.History.{History}
 use Rattle.service_core.specs.Run.{Call}
-use Rattle.service_core.specs.Service.{ServiceState, admitted, live_of}
+use Rattle.service_core.specs.Service.{ServiceState, admitted_history, live_of}
 use Rattle.script_text.specs.declared.act.Act.TheVariants.{Operator}
 use Rattle.script_text.specs.declared.operator_line.OperatorLine.{OperatorLine}
 use Rattle.script_text.specs.declared.operator_line.OperatorLine.TheVariants.{Admit, Evict, Move, List as ListAll, Owners, Step, Take, Put}
@@ -15,7 +15,7 @@ use Rattle.operator.proofs.OperatorLemmas.{lengths-evicted, lengths-moved}
 use Rattle.operator.proofs.Stepping.{AreSteady, lengths-run, steady_held, steady_take}
 use Rattle.printed_replies.specs.declared.asked.ReplyForm.{ReplyForm}
 use Rattle.printed_replies.specs.declared.asked.ReplyForm.TheVariants.{Admission, Eviction, Lines, Tenancies}
-use Rattle.printed_replies.specs.Lengths.{behind}
+use Rattle.printed_replies.specs.Lengths.{after_prefix}
 use Rattle.printed_replies.specs.Printing.{IsReply}
 use Rattle.printed_replies.specs.Replies.{live_after}
 use Rattle.script_replies.specs.Asking.{operator_form}
@@ -50,20 +50,20 @@ stays old new form text is fine reads same = record {
   fine = subst IsFine (sym is) fine;
 }
 
-refused_keeps : (n number : ℕ) (name : List ℕ) → cond (is_some (behind (codes "ok") (refused_text number name))) (n + 1) n ≡ n
+refused_keeps : (n number : ℕ) (name : List ℕ) → cond (is_some (after_prefix (codes "ok") (refused_text number name))) (n + 1) n ≡ n
 refused_keeps n number name = refl
 
 -- an admission
 admission_told : (o : Option History) (old new : Stage) (name : List ℕ) (width : ℕ) (calls : List Call) (text : List ℕ) → IsAdmission o old name width calls text new → IsFine old → NoFeed name → IsTold old new Admission text
 admission_told (Some h) old new name width calls text is fine other =
     stays old new Admission text is.2 fine (line_read text (refused_text 7 (codes "NameInUse")) is.1 (refused_line 7 (codes "NameInUse") refl))
-    (ap (λ t. cond (is_some (behind (codes "ok") t)) (lives old.service.histories + 1) (lives old.service.histories)) is.1)
+    (ap (λ t. cond (is_some (after_prefix (codes "ok") t)) (lives old.service.histories + 1) (lives old.service.histories)) is.1)
 admission_told None old new name width calls text is fine other = by_answer is.0 is.1 is.2 is.5
   where
     by_answer : (answer : Result (ℕ × ℕ) OpRefusal) → IsAdmitted old.service width answer new.service → new.names ≡ names_after old.names name answer → text ≡ admitted_text answer → IsTold old new Admission text
     by_answer (Ok given) admits names told =
         let hs = old.service.histories in
-        let h : History = admitted old.service.device (length hs + 1) width in
+        let h : History = admitted_history old.service.device (length hs + 1) width in
         let now : new.service.histories ≡ hs ++ h ∷ [] = ap (λ (s : ServiceState). s.histories) admits.3 in
         let count : lives new.service.histories ≡ lives hs + (1 + 0) = ap lives now ∙ lives-append hs (h ∷ []) in
         let long = length-append hs (h ∷ []) in
@@ -72,12 +72,12 @@ admission_told None old new name width calls text is fine other = by_answer is.0
         let even = fine.even in
         record {
           reads = line_read text (admitted_text (Ok given)) told (admitted_line (Ok given));
-          lives = ap (λ t. cond (is_some (behind (codes "ok") t)) (lives hs + 1) (lives hs)) told ∙ omega (arith, count);
+          lives = ap (λ t. cond (is_some (after_prefix (codes "ok") t)) (lives hs + 1) (lives hs)) told ∙ omega (arith, count);
           fine = record { even = omega (arith, long, size, named, even); names = subst AreOther (sym names) (other, fine.names) };
         }
     by_answer (Err refusal) admits names told = record {
       reads = line_read text (admitted_text (Err refusal)) told (admitted_line (Err refusal));
-      lives = ap (λ t. cond (is_some (behind (codes "ok") t)) (lives old.service.histories + 1) (lives old.service.histories)) told ∙ ap (λ (s : ServiceState). lives s.histories) (sym admits.1);
+      lives = ap (λ t. cond (is_some (after_prefix (codes "ok") t)) (lives old.service.histories + 1) (lives old.service.histories)) told ∙ ap (λ (s : ServiceState). lives s.histories) (sym admits.1);
       fine = fine_same old new names (ap (λ (s : ServiceState). length s.histories) (sym admits.1)) fine;
     }
 
@@ -89,12 +89,12 @@ eviction_told old new id text (Ok nothing) evicts names told fine =
     let now : lives new.service.histories + 1 ≡ lives hs = ap (λ (s : ServiceState). lives s.histories + 1) evicts.1 ∙ ends in
     record {
       reads = line_read text (evicted_text (Ok nothing)) told (evicted_line (Ok nothing));
-      lives = ap (λ t. cond (is_some (behind (codes "ok") t)) (lives hs - 1) (lives hs)) told ∙ omega (arith, now);
+      lives = ap (λ t. cond (is_some (after_prefix (codes "ok") t)) (lives hs - 1) (lives hs)) told ∙ omega (arith, now);
       fine = fine_same old new names (lengths-evicted old.service new.service id (Ok nothing) evicts) fine;
     }
 eviction_told old new id text (Err refusal) evicts names told fine = record {
   reads = line_read text (evicted_text (Err refusal)) told (evicted_line (Err refusal));
-  lives = ap (λ t. cond (is_some (behind (codes "ok") t)) (lives old.service.histories - 1) (lives old.service.histories)) told ∙ ap (λ (s : ServiceState). lives s.histories) (sym evicts.2);
+  lives = ap (λ t. cond (is_some (after_prefix (codes "ok") t)) (lives old.service.histories - 1) (lives old.service.histories)) told ∙ ap (λ (s : ServiceState). lives s.histories) (sym evicts.2);
   fine = fine_same old new names (lengths-evicted old.service new.service id (Err refusal) evicts) fine;
 }
 

@@ -15,13 +15,13 @@ use Rattle.script_text.specs.declared.act.Act.TheVariants.{Operator, Session}
 use Rattle.script_text.specs.declared.operator_line.OperatorLine.TheVariants.{Admit, Evict, Move, List as ListAll, Owners, Step, Take, Put}
 use Rattle.operator.specs.OperatorText.{admitted_text, last_id, refused_text}
 use Rattle.operator.specs.Serving.{IsAdmission, Stage}
-use Rattle.printed_replies.specs.Lengths.{behind}
+use Rattle.printed_replies.specs.Lengths.{after_prefix}
 use Rattle.fpgad_run.specs.Run.{IsAnswered, Telling, Tells}
-use Rattle.replies_law.specs.Alone.{AreGranted, IsGranted, granted, grants, is_own, own}
+use Rattle.replies_law.specs.Alone.{AreGranted, IsGranted, is_admitted, grants, is_own, own_tellings}
 use Rattle.replies_law.proofs.Seats.{AreGiven, IsGiven, admits, given_to}
 
 abbrev told_ok : List ℕ → Bool
-told_ok text = is_some (behind (codes "ok") text)
+told_ok text = is_some (after_prefix (codes "ok") text)
 
 answer_told : (answer : Result (ℕ × ℕ) OpRefusal) (width : ℕ) → admits (AdmitCall width answer ∷ []) ≡ told_ok (admitted_text answer)
 answer_told (Ok given) width = refl
@@ -52,7 +52,7 @@ in_use_told : (o : Option History) (old new : Stage) (name : List ℕ) (width : 
 in_use_told (Some h) old new name width calls text is told = is.0
 in_use_told None old new name width calls text is told = absurd (other_answer is.0 (sym is.5 ∙ told))
 
-act_told : (old new : Stage) (act : Act (List ℕ)) (calls : List Call) (text : List ℕ) → IsAnswered old act calls text new → given_to act calls ≡ granted act text
+act_told : (old new : Stage) (act : Act (List ℕ)) (calls : List Call) (text : List ℕ) → IsAnswered old act calls text new → given_to act calls ≡ is_admitted act text
 act_told old new (Session name line) calls text is = refl
 act_told old new (Operator (Admit name width)) calls text is = admission_told (live_of old.service.histories (last_id old.names name)) old new name width calls text is
 act_told old new (Operator (Evict name)) calls text is = refl
@@ -76,19 +76,19 @@ act_given columns old new (Operator ListAll) calls text is told = tt
 act_given columns old new (Operator Owners) calls text is told = tt
 
 -- and all acts of a name
-pub grants_told : (name : List ℕ) (old last : Stage) (ts : List Telling) → Tells old ts last → map (λ t. given_to t.act t.calls) (own name ts) ≡ grants name ts
+pub grants_told : (name : List ℕ) (old last : Stage) (ts : List Telling) → Tells old ts last → map (λ t. given_to t.act t.calls) (own_tellings name ts) ≡ grants name ts
 grants_told name old last [] tells = refl
 grants_told name old last (t ∷ ts) tells = by_own (is_own name t.act) (grants_told name tells.0 last ts tells.2) (act_told old tells.0 t.act t.calls t.text tells.1)
   where
-    by_own : (b : Bool) → map (λ t. given_to t.act t.calls) (own name ts) ≡ grants name ts → given_to t.act t.calls ≡ granted t.act t.text →
-        map (λ t. given_to t.act t.calls) (cond b (t ∷ own name ts) (own name ts)) ≡ map (λ t. granted t.act t.text) (cond b (t ∷ own name ts) (own name ts))
-    by_own true rest one = ap (λ g. g ∷ map (λ (t : Telling). given_to t.act t.calls) (own name ts)) one ∙ ap (λ gs. granted t.act t.text ∷ gs) rest
+    by_own : (b : Bool) → map (λ t. given_to t.act t.calls) (own_tellings name ts) ≡ grants name ts → given_to t.act t.calls ≡ is_admitted t.act t.text →
+        map (λ t. given_to t.act t.calls) (cond b (t ∷ own_tellings name ts) (own_tellings name ts)) ≡ map (λ t. is_admitted t.act t.text) (cond b (t ∷ own_tellings name ts) (own_tellings name ts))
+    by_own true rest one = ap (λ g. g ∷ map (λ (t : Telling). given_to t.act t.calls) (own_tellings name ts)) one ∙ ap (λ gs. is_admitted t.act t.text ∷ gs) rest
     by_own false rest one = rest
 
-pub are_given : (columns : ℕ) (name : List ℕ) (old last : Stage) (ts : List Telling) → Tells old ts last → AreGranted columns (own name ts) → AreGiven columns (own name ts)
+pub are_given : (columns : ℕ) (name : List ℕ) (old last : Stage) (ts : List Telling) → Tells old ts last → AreGranted columns (own_tellings name ts) → AreGiven columns (own_tellings name ts)
 are_given columns name old last [] tells are = tt
 are_given columns name old last (t ∷ ts) tells are = by_own (is_own name t.act) are (are_given columns name tells.0 last ts tells.2)
   where
-    by_own : (b : Bool) → AreGranted columns (cond b (t ∷ own name ts) (own name ts)) → (AreGranted columns (own name ts) → AreGiven columns (own name ts)) → AreGiven columns (cond b (t ∷ own name ts) (own name ts))
+    by_own : (b : Bool) → AreGranted columns (cond b (t ∷ own_tellings name ts) (own_tellings name ts)) → (AreGranted columns (own_tellings name ts) → AreGiven columns (own_tellings name ts)) → AreGiven columns (cond b (t ∷ own_tellings name ts) (own_tellings name ts))
     by_own true are rest = (act_given columns old tells.0 t.act t.calls t.text tells.1 are.0, rest are.1)
     by_own false are rest = rest are

@@ -7,10 +7,10 @@ use Rattle.operator.specs.OperatorText.{last_id}
 use Rattle.operator.specs.Serving.{Stage}
 use Rattle.operator.proofs.Stepping.{lengths-run, steady_asks}
 use Rattle.printed_replies.specs.Printing.{HasReply, HaveReplies, IsReply, asked_in}
-use Rattle.printed_replies.specs.Replies.{Speaker, live_after, replied, replies_in as printed_replies_in}
+use Rattle.printed_replies.specs.Replies.{Speaker, live_after, with_reply, replies_in as printed_replies_in}
 use Rattle.printed_replies.proofs.PrintLemmas.{read_back}
 use Rattle.script_replies.specs.Asking.{asked_of, replies_in, session_form}
-use Rattle.fpgad_run.specs.Run.{IsAnswered, Telling, Tells, written}
+use Rattle.fpgad_run.specs.Run.{IsAnswered, Telling, Tells, replies_text}
 use Rattle.replies_law.specs.ReadBack.{AreTellable, HasName, NetsAreWords}
 use Rattle.replies_law.proofs.LiveLemmas.{lives, lives-run}
 use Rattle.replies_law.proofs.SectionLemmas.{lines_of, printed_is_written}
@@ -31,11 +31,11 @@ session_has words name old new (t ∷ ts) live tells tellable =
     by_act t.act tells.1 (λ next. session_has words name tells.0 new ts next tells.2 tellable.1)
   where
     by_name : (b : Bool) (n : List ℕ) (line : _) → IsReply live (session_form line) t.text → ((next : ℕ) → HaveReplies (Some name) next (lines_of ts)) →
-        HasReply b live (replied (asked_of (Session n line)) t.text) (λ next. HaveReplies (Some name) next (lines_of ts))
+        HasReply b live (with_reply (asked_of (Session n line)) t.text) (λ next. HaveReplies (Some name) next (lines_of ts))
     by_name true n line reads more = (reads, more (live_after live (session_form line) t.text))
     by_name false n line reads more = more live
 
-    by_act : (act : Act (List ℕ)) → IsAnswered old act t.calls t.text tells.0 → ((next : ℕ) → HaveReplies (Some name) next (lines_of ts)) → HaveReplies (Some name) live (replied (asked_of act) t.text ∷ lines_of ts)
+    by_act : (act : Act (List ℕ)) → IsAnswered old act t.calls t.text tells.0 → ((next : ℕ) → HaveReplies (Some name) next (lines_of ts)) → HaveReplies (Some name) live (with_reply (asked_of act) t.text ∷ lines_of ts)
     by_act (Operator line) is more = more live
     by_act (Session n line) is more = by_name (bytes_eq name n) n line (session_told words old tells.0 n line t.calls t.text live is tellable.0.1) more
 
@@ -46,7 +46,7 @@ operator_has old new (t ∷ ts) tells fine tellable =
     by_act t.act tells.1 tellable.0.0 (λ f. operator_has tells.0 new ts tells.2 f tellable.1)
   where
     by_act : (act : Act (List ℕ)) → IsAnswered old act t.calls t.text tells.0 → HasName act → (IsFine tells.0 → HaveReplies None (lives (tells.0).service.histories) (lines_of ts)) →
-        HaveReplies None (lives old.service.histories) (replied (asked_of act) t.text ∷ lines_of ts)
+        HaveReplies None (lives old.service.histories) (with_reply (asked_of act) t.text ∷ lines_of ts)
     by_act (Operator line) is named more =
         let told = operator_told old tells.0 line t.calls t.text is fine named tellable.0.1 in
         let P : ℕ → Type 0 = λ n. HaveReplies None n (lines_of ts) in
@@ -67,7 +67,7 @@ asked_lines [] = refl
 asked_lines (t ∷ ts) = ap (λ ls. asked_of t.act ∷ ls) (asked_lines ts)
 
 pub told_is_read : NetsAreWords → (start last : Stage) (ts : List Telling) → Tells start ts last → IsFine start → lives start.service.histories ≡ 0 → AreTellable ts →
-    replies_in (map (λ t. t.act) ts) (written ts) ≡ Ok (lines_of ts)
+    replies_in (map (λ t. t.act) ts) (replies_text ts) ≡ Ok (lines_of ts)
 told_is_read words start last ts tells fine none tellable =
-    ap (λ asked. printed_replies_in asked (written ts)) (asked_lines ts) ∙ ap (printed_replies_in (asked_in (lines_of ts))) (sym (printed_is_written ts))
+    ap (λ asked. printed_replies_in asked (replies_text ts)) (asked_lines ts) ∙ ap (printed_replies_in (asked_in (lines_of ts))) (sym (printed_is_written ts))
     ∙ read_back (lines_of ts) (all_have words start last ts tells fine none tellable)

@@ -5,7 +5,7 @@ use Rattle.std.specs.List.{enumerate_from, filter_map, list_all, onto_first, pos
 use Rattle.std.proofs.lemmas.Bool.{and_from, and_parts}
 use Rattle.std.specs.Option.{option_map_or}
 use Rattle.line_text.specs.declared.fault.LineFault.{LineFault}
-use Rattle.line_text.specs.Lines.{JoinedLine, ends_in_backslash, fault_of, is_continued, joined, joined_bytes, kept, lines_of, physical_lines, runs, trimmed, without_comment, without_last}
+use Rattle.line_text.specs.Lines.{JoinedLine, ends_in_backslash, fault_of, is_continued, joined_line, joined_bytes, joined_part, lines_of, physical_lines, runs, trim_end, without_comment, without_last}
 use Rattle.line_text.specs.Words.{is_blank, is_filled}
 use Rattle.printed_replies.specs.Lengths.{is_line_feed}
 use Rattle.replies_law.specs.ReadBack.{NoFeed, is_other}
@@ -50,10 +50,10 @@ runs_other (line ∷ lines) each = by_test (is_continued line.1) (runs_other lin
     by_test true rest = onto_run line (runs lines) each.0 rest
     by_test false rest = ((each.0, tt), rest)
 
-kept_other : (line : List ℕ) → NoFeed line → NoFeed (kept line)
+kept_other : (line : List ℕ) → NoFeed line → NoFeed (joined_part line)
 kept_other line all =
     let before = take_other (position_or_len (λ byte. eqb byte 35) line) line all in
-    let bytes = trimmed (without_comment line) in
+    let bytes = trim_end (without_comment line) in
     let short : NoFeed bytes = take_other (length (without_comment line) - suffix_len is_blank (without_comment line)) (without_comment line) before in
     by_test bytes (ends_in_backslash bytes) short
   where
@@ -63,7 +63,7 @@ kept_other line all =
 
 bytes_other : (run : List (ℕ × List ℕ)) → Each IsNumbered run → NoFeed (joined_bytes run)
 bytes_other [] each = refl
-bytes_other (line ∷ run) each = no_feed-append (kept line.1) (joined_bytes run) (kept_other line.1 each.0) (bytes_other run each.1)
+bytes_other (line ∷ run) each = no_feed-append (joined_part line.1) (joined_bytes run) (kept_other line.1 each.0) (bytes_other run each.1)
 
 split_other : (bytes : List ℕ) → NoFeed bytes → Each NoFeed (slice_split is_blank bytes)
 split_other [] all = (refl, tt)
@@ -79,7 +79,7 @@ split_other (b ∷ bytes) all =
 abbrev pub HasWords : JoinedLine → Type 0
 HasWords line = Each NoFeed line.words
 
-joined_other : (run : List (ℕ × List ℕ)) → Each IsNumbered run → HasWords (joined run)
+joined_other : (run : List (ℕ × List ℕ)) → Each IsNumbered run → HasWords (joined_line run)
 joined_other run each = each-filter NoFeed is_filled (slice_split is_blank (joined_bytes run)) (split_other (joined_bytes run) (bytes_other run each))
 
 unless_other : (faults : List LineFault) (lines read : List JoinedLine) → option_map_or Err (slice_get faults 0) (Ok lines) ≡ Ok read → Each HasWords lines → Each HasWords read
@@ -90,5 +90,5 @@ pub words_other : (text : List ℕ) (lines : List JoinedLine) → lines_of text 
 unfolding lines_of
 words_other text lines is =
     let all = runs (enumerate_from 1 (physical_lines text)) in
-    let each = each-map (Each IsNumbered) HasWords joined joined_other all (runs_other (enumerate_from 1 (physical_lines text)) (numbered_other 1 (physical_lines text) (lines_other text))) in
-    unless_other (filter_map fault_of all) (filter (λ line. is_filled line.words) (map joined all)) lines is (each-filter HasWords (λ line. is_filled line.words) (map joined all) each)
+    let each = each-map (Each IsNumbered) HasWords joined_line joined_other all (runs_other (enumerate_from 1 (physical_lines text)) (numbered_other 1 (physical_lines text) (lines_other text))) in
+    unless_other (filter_map fault_of all) (filter (λ line. is_filled line.words) (map joined_line all)) lines is (each-filter HasWords (λ line. is_filled line.words) (map joined_line all) each)

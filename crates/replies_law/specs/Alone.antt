@@ -2,12 +2,13 @@
 -- were granted; on nothing else of a script.
 use Rattle.std.specs.Prelude.{codes, is_some, ◌&&◌, nat_le, ℕ, ◌≡◌, ◌⊎◌, ◌+◌, ◌<◌, ◌≤◌, ◌^◌, Bool, false, List, [], ◌∷◌, if◌then◌else◌, length, map, filter, Some, Ok, ⊤}
 use Rattle.std.specs.Str.{bytes_eq}
+use Rattle.service_core.specs.declared.service.TheConstants.{MAX_ADMISSIONS}
 use Rattle.script_text.specs.declared.act.Act.{Act}
 use Rattle.script_text.specs.declared.act.Act.TheVariants.{Operator, Session}
 use Rattle.script_text.specs.declared.operator_line.OperatorLine.{OperatorLine}
 use Rattle.script_text.specs.declared.operator_line.OperatorLine.TheVariants.{Admit, Evict, Step, Take}
 use Rattle.operator.specs.OperatorText.{refused_text}
-use Rattle.printed_replies.specs.Lengths.{behind}
+use Rattle.printed_replies.specs.Lengths.{after_prefix}
 use Rattle.printed_replies.specs.Printing.{told_to}
 use Rattle.printed_replies.specs.Replies.{AnsweredLine, Reading, and_then}
 use Rattle.script_replies.specs.Asking.{replies_in}
@@ -34,17 +35,17 @@ is_own name (Operator line) = is_about name line
 abbrev pub own_acts : List ℕ → List (Act (List ℕ)) → List (Act (List ℕ))
 own_acts name acts = filter (is_own name) acts
 
-abbrev pub own : List ℕ → List Telling → List Telling
-own name tellings = filter (λ t. is_own name t.act) tellings
+abbrev pub own_tellings : List ℕ → List Telling → List Telling
+own_tellings name tellings = filter (λ t. is_own name t.act) tellings
 
 -- an admission is granted if it is answered `ok ..`
-abbrev pub granted : Act (List ℕ) → List ℕ → Bool
-granted (Operator (Admit name width)) text = is_some (behind (codes "ok") text)
-granted act text = false
+abbrev pub is_admitted : Act (List ℕ) → List ℕ → Bool
+is_admitted (Operator (Admit name width)) text = is_some (after_prefix (codes "ok") text)
+is_admitted act text = false
 
 -- which of the name's admissions were granted
 abbrev pub grants : List ℕ → List Telling → List Bool
-grants name tellings = map (λ t. granted t.act t.text) (own name tellings)
+grants name tellings = map (λ t. is_admitted t.act t.text) (own_tellings name tellings)
 
 -- the operator takes no job of the name by hand
 abbrev pub IsLeft : List ℕ → Act (List ℕ) → Type 0
@@ -86,7 +87,7 @@ pub record ArePrintedAlike (name : List ℕ) (acts other_acts : List (Act (List 
 -- no job of the name is taken by hand, and memory doesn't run out for its own acts
 pub record Plays (name : List ℕ) (tellings : List Telling) : Type 0 where
   pub left : AreLeft name tellings
-  pub memory : HaveMemory (own name tellings)
+  pub memory : HaveMemory (own_tellings name tellings)
 
 -- Two runs print the same for a name if its own acts are the same in both scripts, the same of its
 -- admissions are granted, and the devices have the same architecture and number of rows. The
@@ -104,7 +105,7 @@ abbrev pub fits : ℕ → ℕ → Bool
 fits columns width = nat_le 1 width && nat_le width columns
 
 abbrev pub IsGranted : ℕ → Act (List ℕ) → List ℕ → Type 0
-IsGranted columns (Operator (Admit name width)) text = (text ≡ refused_text 7 (codes "NameInUse")) ⊎ (is_some (behind (codes "ok") text) ≡ fits columns width)
+IsGranted columns (Operator (Admit name width)) text = (text ≡ refused_text 7 (codes "NameInUse")) ⊎ (is_some (after_prefix (codes "ok") text) ≡ fits columns width)
 IsGranted columns act text = ⊤
 
 abbrev pub AreGranted : ℕ → List Telling → Type 0
@@ -127,5 +128,5 @@ abbrev pub IsAlone : Type 0
 IsAlone = (options other : Options) (tracks other_tracks : ℕ) (architecture other_architecture : Architecture) (input other_input output other_output name : List ℕ) →
     (r : IsReplies options (start_of tracks architecture input) output) (s : IsReplies other (start_of other_tracks other_architecture other_input) other_output) →
     length output < 2 ^ 64 → length other_output < 2 ^ 64 → r.arch ≡ s.arch → options.rows ≡ other.rows →
-    s.acts ≡ own_acts name r.acts → AreGranted other.columns (own name r.tellings) → admissions s.acts ≤ 65535 → Plays name r.tellings → HaveMemory s.tellings →
+    s.acts ≡ own_acts name r.acts → AreGranted other.columns (own_tellings name r.tellings) → admissions s.acts ≤ MAX_ADMISSIONS → Plays name r.tellings → HaveMemory s.tellings →
     ArePrintedAlike name r.acts s.acts output other_output

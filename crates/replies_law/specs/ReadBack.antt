@@ -10,7 +10,7 @@ use Rattle.script_text.specs.declared.act.Act.{Act}
 use Rattle.script_text.specs.declared.act.Act.TheVariants.{Operator}
 use Rattle.script_text.specs.declared.operator_line.OperatorLine.TheVariants.{Admit}
 use Rattle.printed_replies.specs.Lengths.{is_line_feed}
-use Rattle.printed_replies.specs.Replies.{AnsweredLine, replied}
+use Rattle.printed_replies.specs.Replies.{AnsweredLine, with_reply}
 use Rattle.script_replies.specs.Asking.{asked_of, replies_in}
 use Rattle.fpgad_run.specs.declared.inputs.Architecture.{Architecture}
 use Rattle.fpgad_run.specs.declared.options.Options.{Options}
@@ -30,8 +30,8 @@ pub record NetsAreWords : Type 0 where
   pub nets : (text : List ℕ) (lut_size : ℕ) (circuit : Circuit) (net : ℕ) → circuit_of text lut_size ≡ Ok circuit → NoFeed (net_name circuit net)
 
 -- an act with its reply
-abbrev pub answered : Telling → AnsweredLine
-answered t = replied (asked_of t.act) t.text
+abbrev pub answered_line : Telling → AnsweredLine
+answered_line t = with_reply (asked_of t.act) t.text
 
 -- private: the name in an admission contains no line feed; names in a script never do
 abbrev pub HasName : Act (List ℕ) → Type 0
@@ -46,4 +46,4 @@ AreTellable (t ∷ ts) = (HasName t.act × (length t.text < 2 ^ 64)) × AreTella
 -- the replies to the acts of a script are read back from what the program writes for it
 abbrev pub IsOutputReadBack : Type 0
 IsOutputReadBack = (options : Options) (tracks : ℕ) (architecture : Architecture) (input output : List ℕ) → (r : IsReplies options (start_of tracks architecture input) output) → length output < 2 ^ 64 →
-    replies_in r.acts output ≡ Ok (map answered r.tellings)
+    replies_in r.acts output ≡ Ok (map answered_line r.tellings)

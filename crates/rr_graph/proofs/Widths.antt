@@ -4,7 +4,7 @@ use Rattle.std.proofs.lemmas.Nat.{mul-le}
 use Rattle.rr_graph.specs.declared.node.Node.{Node}
 use Rattle.rr_graph.specs.declared.numbering.Numbering.{Numbering}
 use Rattle.rr_graph.specs.declared.table.Tables.{Tables}
-use Rattle.rr_graph.specs.Geometry.{is_node, moved}
+use Rattle.rr_graph.specs.Geometry.{is_node, node_at_offset}
 use Rattle.rr_graph.specs.Graph.{make_node}
 use Rattle.rr_graph.specs.Numbering.{IsNumbering, node_of, column_count}
 use Rattle.rr_graph.specs.Table.{IsRowBelow, IsRows}
@@ -67,7 +67,7 @@ part_of nodes width tables wires met inputs kept some few = record {
 pub node_of_all : (nodes : Numbering) (width : ℕ) (node : Node) → width ≤ nodes.strip.width → is_node nodes.arch (with_width nodes width).strip node ≡ true →
     is_node nodes.arch nodes.strip node ≡ true
 node_of_all nodes width node few is =
-    let same : moved 0 node ≡ node = ap (λ x. make_node x node.kind node.y node.n) (omega arith) in
+    let same : node_at_offset 0 node ≡ node = ap (λ x. make_node x node.kind node.y node.n) (omega arith) in
     subst (λ a. is_node nodes.arch nodes.strip a ≡ true) same
     (node_moved nodes.arch (with_width nodes width).strip nodes.strip 0 node refl refl (omega (arith, few)) is)
 

@@ -39,10 +39,10 @@ mod ways;
 
 pub use edges::Edges;
 pub use fabric::Fabric;
-pub use graph::{Ends, Numbers, StripGraph, one_graph};
+pub use graph::{EdgeEnds, Numbers, StripGraph, one_graph};
 pub use joins::sides_at;
 pub use laws::{laws_of_geometry, laws_of_ways};
 pub use node::{Node, NodeKind};
-pub use part::Part;
+pub use part::GraphPart;
 pub use resource::{Resource, ResourceKind};
 pub use ways::{across_of, point_from_sink, up_of};

@@ -1,5 +1,6 @@
 //! The table of the tracks that the inputs of a logic block meet, and those that each pad meets.
 ghost use Rattle.std.specs.Prelude.{◌≡◌, ◌+◌, ◌*◌, ◌≤◌, ◌<◌, IfOk, length, if◌then◌else◌};
+ghost use Rattle.arch_file.specs.declared.arch.TheConstants.{MAX_IO_RAT, MAX_PINS};
 ghost use Rattle.arch_file.specs.declared.arch.Arch.{Arch};
 ghost use Rattle.arch_file.specs.Arch.{IsArch};
 ghost use Rattle.rr_graph.specs.Geometry.{is_read, is_block_row};
@@ -42,7 +43,7 @@ fn met_by(arch: &Arch, row: u32, track: u32) -> bool
 /// The table of an architecture, with a row of 64 tracks for logic blocks and one for each pad.
 pub(crate) fn met_table(alloc: Global, arch: &Arch, pads: u32) -> Result<Vec<bool>, AllocError>
     requires arch { IsArch arch.now }
-    requires pads { pads ≤ 8 }
+    requires pads { pads ≤ MAX_IO_RAT }
     ensures long { IfOk result (λ table. length table.items ≡ 64 * (pads + 1)) }
     ensures met { IfOk result (λ table. IsMetTable arch.now table.items) }
 {
@@ -73,7 +74,7 @@ fn met_in(table: &[bool], arch: &Arch, row: u32, track: u32) -> bool
 pub(crate) fn is_met(table: &[bool], arch: &Arch, strip: Strip, sink: Node, track: u32) -> bool
     requires arch { IsArch arch.now }
     requires table { IsMetTable arch.now table.now }
-    requires sink { sink.n < 145 }
+    requires sink { sink.n < MAX_PINS }
     ensures { result ≡ is_met arch.now strip sink track }
 {
     if is_block_row(strip, sink.y) {

@@ -7,7 +7,7 @@ ghost use Rattle.rr_graph.specs.declared.node.NodeKind.TheVariants.{Sink};
 ghost use Rattle.rr_graph.specs.Ways.{ends_towards, AreMet};
 
 use crate::geometry::{capacity_of, is_block_row, is_node};
-use crate::graph::{Ends, Numbers, StripGraph};
+use crate::graph::{EdgeEnds, Numbers, StripGraph};
 use crate::met::{is_met, met_row};
 use crate::node::{Node, NodeKind};
 use crate::numbering::Nodes;
@@ -20,7 +20,7 @@ use std::marker::Model;
 /// The graph of a strip with the first columns of a graph: it reads that graph's tables, and stores
 /// none of its own. Its value is the architecture and the strip.
 #[derive(Drop)]
-pub struct Part<'a> {
+pub struct GraphPart<'a> {
     pub(crate) nodes: &'a Nodes,
     pub(crate) table: &'a Tables,
     pub(crate) wires: &'a Tables,
@@ -29,7 +29,7 @@ pub struct Part<'a> {
     pub(crate) width: u32,
 }
 
-impl<'a> Model for Part<'a> {
+impl<'a> Model for GraphPart<'a> {
     ghost use Rattle.rr_graph.specs.Graph.{Basis};
     ghost use Rattle.rr_graph.specs.Fabric.{IsPart, basis_of, with_width};
 
@@ -43,23 +43,23 @@ impl<'a> Model for Part<'a> {
 
 /// The ends of a node's edges in the tables, if the strip has `width` columns.
 #[inline(always)]
-fn row_from<'a>(nodes: &Nodes, tables: &'a Tables, width: u32, node: usize, x: u32) -> Ends<'a>
+fn row_from<'a>(nodes: &Nodes, tables: &'a Tables, width: u32, node: usize, x: u32) -> EdgeEnds<'a>
     requires column { x ≡ column_of nodes.now.numbering node }
     requires row { HasRow (with_width nodes.now.numbering width) tables.now node }
     ensures { map (λ end. end + result.base) result.list.now
         ≡ ends_of (with_width nodes.now.numbering width) tables.now node }
 {
     let base = nodes.base(x);
-    Ends {
+    EdgeEnds {
         list: tables.of_column(width, x).row(node - base),
         base,
     }
 }
 
-impl<'a> Part<'a> {
+impl<'a> GraphPart<'a> {
     /// The ends of a node's edges, in order.
     #[inline(always)]
-    pub(crate) fn all_ends(&self, node: usize) -> Ends<'a>
+    pub(crate) fn all_ends(&self, node: usize) -> EdgeEnds<'a>
         requires { node < (graph_of self.now).count }
         ensures { map (λ end. end + result.base) result.list.now ≡ (graph_of self.now).ends node }
     {
@@ -69,7 +69,7 @@ impl<'a> Part<'a> {
 
     /// The ends of a node's edges that matter on ways to a sink, in order.
     #[inline(always)]
-    pub(crate) fn some_ends(&self, node: usize, place: Node, sink: Node) -> Ends<'a>
+    pub(crate) fn some_ends(&self, node: usize, place: Node, sink: Node) -> EdgeEnds<'a>
         requires node { node < (graph_of self.now).count }
         requires place { (graph_of self.now).node node ≡ place }
         ensures { map (λ end. end + result.base) result.list.now
@@ -92,7 +92,7 @@ impl<'a> Part<'a> {
     }
 }
 
-impl<'a> StripGraph for Part<'a> {
+impl<'a> StripGraph for GraphPart<'a> {
     ghost basis = { λ part. part };
 
     fn count(&self) -> usize {
@@ -116,12 +116,12 @@ impl<'a> StripGraph for Part<'a> {
     }
 
     #[inline(always)]
-    fn ends(&self, node: usize) -> Ends<'_> {
+    fn ends(&self, node: usize) -> EdgeEnds<'_> {
         self.all_ends(node)
     }
 
     #[inline(always)]
-    fn ends_towards(&self, node: usize, place: Node, sink: Node) -> Ends<'_> {
+    fn ends_towards(&self, node: usize, place: Node, sink: Node) -> EdgeEnds<'_> {
         self.some_ends(node, place, sink)
     }
 

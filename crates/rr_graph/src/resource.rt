@@ -50,7 +50,7 @@ impl Resource {
     }
 
     /// The resource, moved this number of columns to the right.
-    pub fn moved(self, columns: u32) -> Resource
+    pub fn at_offset(self, columns: u32) -> Resource
         requires { self.x + columns < 2 ^ 32 }
         ensures { result ≡ moved_resource columns self }
     {

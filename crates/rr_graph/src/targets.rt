@@ -1,6 +1,7 @@
 //! Searches for the ends of a node's edges only where they can be: in the node's own column and
 //! row, and in the next ones.
 ghost use Rattle.std.specs.Prelude.{◌≡◌, ◌+◌, ◌-◌, ◌*◌, ◌<◌, ◌≤◌, OnOk, []};
+ghost use Rattle.grid.specs.declared.TheConstants.{MAX_COLUMNS};
 ghost use Rattle.arch_file.specs.Arch.{IsWithin};
 ghost use Rattle.rr_graph.specs.Node.{rank_of};
 ghost use Rattle.rr_graph.specs.Numbering.{column_count};
@@ -21,7 +22,7 @@ struct Targets<'a> {
     x: u32,
     kind: NodeKind,
     ghost small: { HasSmallNumbers a },
-    ghost few: { x ≤ 256 },
+    ghost few: { x ≤ MAX_COLUMNS },
     // In column 0 there is only a vertical channel.
     ghost there: { (x ≡ 0) → rank_of kind ≡ 5 },
 }
@@ -95,7 +96,7 @@ impl Targets<'_> {
         if is_slot(&numbering.arch, numbering.strip, kind, y, a.n)
             && joins(&numbering.arch, numbering.strip, a, b)
         {
-            let index = self.nodes.first(kind, y) + a.n as usize;
+            let index = self.nodes.nodes_before(kind, y) + a.n as usize;
             row.push((x as usize * numbering.members.len() + index - numbering.before) as u32)?;
             Ok(())
         } else {
@@ -124,8 +125,8 @@ impl Targets<'_> {
         ensures { OnOk result (IsRowAt self.now.nodes.now.numbering self.now.a row.new.items
             self.now.x ((rank_of self.now.kind + 1) * 65536)) }
     {
-        let from = self.nodes.first(self.kind, self.first_row());
-        let to = self.nodes.first(self.kind, self.end_row());
+        let from = self.nodes.nodes_before(self.kind, self.first_row());
+        let to = self.nodes.nodes_before(self.kind, self.end_row());
         self.add_part(row, from, to)
     }
 
@@ -194,7 +195,7 @@ fn columns_right(from: NodeKind, to: NodeKind) -> u32
 /// Appends the nodes of a column to which edges of `a` lead.
 fn add_column(row: &mut Vec<u32>, nodes: &Nodes, a: Node, x: u32) -> Result<(), AllocError>
     requires small { HasSmallNumbers a }
-    requires x { x ≤ 256 }
+    requires x { x ≤ MAX_COLUMNS }
     requires row { IsRowBelow nodes.now.numbering a row.old.items
         (x * column_count nodes.now.numbering) }
     ensures { OnOk result (IsRowBelow nodes.now.numbering a row.new.items
@@ -224,7 +225,7 @@ pub(crate) fn add_row(
     a: Node,
     last: u32,
 ) -> Result<(), AllocError>
-    requires last { IsWithin a.x last 256 }
+    requires last { IsWithin a.x last MAX_COLUMNS }
     requires small { HasSmallNumbers a }
     requires row { row.old.items ≡ [] }
     ensures { OnOk result (IsRowBelow nodes.now.numbering a row.new.items

@@ -17,7 +17,7 @@ use Rattle.operator.proofs.Served.{served_runs}
 use Rattle.workers_law.specs.SameScript.{items_by}
 use Rattle.fpgad_run.specs.Run.{IsAnswered, Telling, Tells}
 use Rattle.same_answers.specs.InOrder.{AreRepliedTo, IsRepliedTo, acts_of, answer_for, answers_for}
-use Rattle.same_answers.specs.SameAnswers.{begun, from_session, if_session}
+use Rattle.same_answers.specs.SameAnswers.{stage_at_session, from_session, if_session}
 use Rattle.same_answers.proofs.ByHand.{AreNotByHand, IsNotByHand}
 
 -- the calls are no events of any tenancy
@@ -86,10 +86,10 @@ begins name old t tellings new tells later more free = by_act t.act refl tells.1
     }
 
 pub has_begun : (name : List ℕ) (old : Stage) (tellings : List Telling) (new : Stage) (tells : Tells old tellings new) → AreNotByHand (acts_of tellings) →
-    Begun name old (begun old tellings new tells) new (acts_of tellings) (answers_for name tellings) (AreRepliedTo name tellings)
+    Begun name old (stage_at_session old tellings new tells) new (acts_of tellings) (answers_for name tellings) (AreRepliedTo name tellings)
 has_begun name old [] new tells free = record { calls = []; run = refl; quiet = λ id. refl; graph = refl; rest = []; tells = tells; acts_are = refl; text_is = refl; replied = λ are. are }
 has_begun name old (t ∷ tellings) new tells free =
-    begins name old t tellings new tells (begun tells.0 tellings new tells.2) (λ less. has_begun name tells.0 tellings new tells.2 less) free
+    begins name old t tellings new tells (stage_at_session tells.0 tellings new tells.2) (λ less. has_begun name tells.0 tellings new tells.2 less) free
 
 -- the operator's lines have no items
 pub same_items : (name : List ℕ) (acts : List (Act (List ℕ))) → items_by name (from_session acts) ≡ items_by name acts

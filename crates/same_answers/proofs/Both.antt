@@ -13,11 +13,12 @@ use Rattle.tenant_slot.specs.declared.reply.Reply.{Reply}
 use Rattle.tenant_slot.specs.SingleUser.{State, start}
 use Rattle.service_core.specs.declared.device.Device.{Device}
 use Rattle.service_core.specs.OwnEvents.{own_events}
-use Rattle.service_core.specs.Service.{ServiceState, empty, live_of, live_width, strip_on}
+use Rattle.service_core.specs.Service.{ServiceState, empty_service, live_of, live_width, strip_on}
 use Rattle.service_core.proofs.Effects.{run_device}
 use Rattle.sessions.specs.Fitting.{own_graph}
 use Rattle.sessions.specs.Items.{items_of}
 use Rattle.script_text.specs.declared.act.Act.{Act}
+use Rattle.script_text.specs.Replies.{section_of}
 use Rattle.script_text.specs.Script.{acts_from}
 use Rattle.script_text.specs.Threaded.{Parts, nothing_said}
 use Rattle.script_text.specs.Threaded.Within.{Head, Script}
@@ -29,14 +30,14 @@ use Rattle.workers_law.specs.Waited.{waits_for_each, waited_text}
 use Rattle.workers_law.specs.Workers.{HasWaitedText, Waits}
 use Rattle.fpgad_run.specs.declared.inputs.Architecture.{Architecture}
 use Rattle.fpgad_run.specs.declared.inputs.Architecture.TheVariants.{InScript, Text, Unreadable}
-use Rattle.fpgad_run.specs.OnThreads.{said_in, section_of, threaded_start_of}
-use Rattle.fpgad_run.specs.Program.{checked, device_of, start_of}
+use Rattle.fpgad_run.specs.OnThreads.{said_in, threaded_start_of}
+use Rattle.fpgad_run.specs.Program.{checked_start, device_of, start_of}
 use Rattle.fpgad_run.specs.Run.{sections_after}
 use Rattle.same_answers.specs.InOrder.{AreLeftAlone, HasTextInOrder, acts_of, answers_for}
-use Rattle.same_answers.specs.SameAnswers.{HasSameAnswers, HasStrip, IsRepliedIn, begun, from_session, text_of}
+use Rattle.same_answers.specs.SameAnswers.{HasSameAnswers, HasStrip, IsRepliedIn, stage_at_session, from_session, text_of}
 use Rattle.same_answers.proofs.Beginning.{has_begun, same_items}
 use Rattle.same_answers.proofs.ByHand.{AreNotByHand, not_by_hand}
-use Rattle.same_answers.proofs.Sections.{same_sections, section_is, told_of}
+use Rattle.same_answers.proofs.Sections.{section_is}
 
 -- both readings have the same architecture, and say the same
 record AreRead (arch other_arch : Arch) (acts : List (Act (List ℕ))) (parts : Parts) : Type 0 where
@@ -45,7 +46,7 @@ record AreRead (arch other_arch : Arch) (acts : List (Act (List ℕ))) (parts : 
   free : AreNotByHand acts
 
 are_read : IsReadTheSame → (r : Result Arch ArchFault) (head : Bool) (text : List ℕ) (arch other_arch : Arch) (acts : List (Act (List ℕ))) (parts : Parts) →
-    (said : Result (List (Act (List ℕ))) ℕ) → acts_from 1 head (physical_lines text) ≡ said → (heard : Result Parts ℕ) → said_in head (physical_lines text) ≡ heard → checked r said ≡ Ok (arch, acts) → checked r heard ≡ Ok (other_arch, parts) → AreRead arch other_arch acts parts
+    (said : Result (List (Act (List ℕ))) ℕ) → acts_from 1 head (physical_lines text) ≡ said → (heard : Result Parts ℕ) → said_in head (physical_lines text) ≡ heard → checked_start r said ≡ Ok (arch, acts) → checked_start r heard ≡ Ok (other_arch, parts) → AreRead arch other_arch acts parts
 are_read read_the_same (Err fault) head text arch other_arch acts parts said is heard hears one other = cc
 are_read read_the_same (Ok own) head text arch other_arch acts parts (Err line) is heard hears one other = cc
 are_read read_the_same (Ok own) head text arch other_arch acts parts (Ok said) is (Err line) hears one other = cc
@@ -79,15 +80,15 @@ abbrev IsNamed : List (List ℕ) → ServiceState → Conversation → Type 0
 IsNamed names service c = (c.id ≡ last_id names c.said.name) × (is_some c.told ≡ is_some (live_of service.histories c.id))
 
 conversation : (name : List ℕ) (width : ℕ) (names : List (List ℕ)) (service : ServiceState) (begin : ℕ → State) (cs : List Conversation) → All (HasText names service begin) cs → All (IsNamed names service) cs → All (IsRepliedIn name) cs → HasStrip name width names service →
-    waits_for_each false (items_of (input_of name (map (λ c. c.said) cs))) ≡ true → told_of name (map told_in cs) ≡ waited_text (begin width) (items_of (input_of name (map (λ c. c.said) cs)))
+    waits_for_each false (items_of (input_of name (map (λ c. c.said) cs))) ≡ true → text_of name (map told_in cs) ≡ waited_text (begin width) (items_of (input_of name (map (λ c. c.said) cs)))
 conversation name width names service begin [] texts named replied strip waits = refl
 conversation name width names service begin (c ∷ cs) texts named replied strip waits = by_test (bytes_eq name c.said.name) refl waits (conversation name width names service begin cs (All-tail (HasText names service begin) c cs texts) (All-tail (IsNamed names service) c cs named) (All-tail (IsRepliedIn name) c cs replied) strip)
   where
     rest : List ℕ
     rest = input_of name (map (λ (c : Conversation). c.said) cs)
 
-    by_test : (b : Bool) → bytes_eq name c.said.name ≡ b → waits_for_each false (items_of (if b then c.said.input else rest)) ≡ true → (waits_for_each false (items_of rest) ≡ true → told_of name (map told_in cs) ≡ waited_text (begin width) (items_of rest)) →
-        (if b then (told_in c).text else told_of name (map told_in cs)) ≡ waited_text (begin width) (items_of (if b then c.said.input else rest))
+    by_test : (b : Bool) → bytes_eq name c.said.name ≡ b → waits_for_each false (items_of (if b then c.said.input else rest)) ≡ true → (waits_for_each false (items_of rest) ≡ true → text_of name (map told_in cs) ≡ waited_text (begin width) (items_of rest)) →
+        (if b then (told_in c).text else text_of name (map told_in cs)) ≡ waited_text (begin width) (items_of (if b then c.said.input else rest))
     by_test true e mine others =
         let same : name ≡ c.said.name = (bytes_eq-Decides name c.said.name).0 e in
         let id : c.id ≡ last_id names name = (All-head (IsNamed names service) c cs named).0 ∙ ap (last_id names) (sym same) in
@@ -100,12 +101,12 @@ both_same text_in_order same_with read_the_same options other architecture input
     let read : AreRead r.arch s.arch r.acts s.parts = starts read_the_same options.tracks architecture input r.arch s.arch r.acts s.parts r.begins (ap (λ tracks. threaded_start_of tracks architecture input) device.0 ∙ s.begins) in
     let own : Device = device_of options r.arch in
     let begin : State = start r.arch (strip_on own width) in
-    let from : Stage = record { names = []; jobs = []; service = empty own; graph = own_graph own } in
+    let from : Stage = record { names = []; jobs = []; service = empty_service own; graph = own_graph own } in
     let b = has_begun name from r.tellings r.last r.told (subst AreNotByHand (sym r.all) read.free) in
     let acts : acts_of b.rest ≡ from_session r.acts = b.acts_are ∙ ap from_session r.all in
     let items : items_by name (acts_of b.rest) ≡ items_by name r.acts = ap (items_by name) acts ∙ same_items name r.acts in
-    let stage : Stage = begun from r.tellings r.last r.told in
-    let graph : HasOwnGraph stage = b.graph ∙ ap own_graph (sym (run_device (empty own) b.calls stage.service b.run)) in
+    let stage : Stage = stage_at_session from r.tellings r.last r.told in
+    let graph : HasOwnGraph stage = b.graph ∙ ap own_graph (sym (run_device (empty_service own) b.calls stage.service b.run)) in
     let nothing : own_events (last_id stage.names name) b.calls ≡ [] = ap (map (λ (x : Event × Option Reply). x.0)) (b.quiet (last_id stage.names name)) in
     let alone : answers_for name b.rest ≡ waited_text begin (items_by name (acts_of b.rest)) =
     text_in_order own b.calls stage r.last name width b.rest b.run graph nothing strip b.tells (ap (waits_for_each false) items ∙ waits) (subst (AreLeftAlone name) (sym acts) left) (b.replied replied) in
@@ -114,12 +115,12 @@ both_same text_in_order same_with read_the_same options other architecture input
     let other_begin : ℕ → State = λ w. start s.arch (strip_on other_own w) in
     let cs : List Conversation = s.served.ran.conversations in
     let input_is : items_of (input_of name (map (λ (c : Conversation). c.said) cs)) ≡ items_by name r.acts = ap (λ said. items_of (input_of name said)) s.served.ran.said ∙ sym (read.same.items name) in
-    let told : told_of name (map told_in cs) ≡ waited_text (other_begin width) (items_of (input_of name (map (λ (c : Conversation). c.said) cs))) =
+    let told : text_of name (map told_in cs) ≡ waited_text (other_begin width) (items_of (input_of name (map (λ (c : Conversation). c.said) cs))) =
     conversation name width s.served.names s.served.service other_begin cs (same_with other_own s.parts s.answered s.served) s.served.ran.live other_replied other_strip
     (ap (waits_for_each false) input_is ∙ waits) in
     let state_of : Arch → ℕ → State = λ arch rows. start arch (record { width = width; rows = rows; io_rat = arch.io_rat }) in
     let same_begin : other_begin width ≡ begin = ap (λ arch. state_of arch other.rows) (sym read.arch_is) ∙ ap (state_of r.arch) (sym device.2) in
     let on_threads : text_of name (map section_of s.answered.sections.items) ≡ waited_text begin (items_by name r.acts) =
-    same_sections name s.answered.sections.items ∙ (ap (told_of name) s.served.ran.sections_are
-    ∙ (told ∙ (ap (λ state. waited_text state (items_of (input_of name (map (λ (c : Conversation). c.said) cs)))) same_begin ∙ ap (waited_text begin) input_is))) in
+    ap (text_of name) s.served.ran.sections_are
+    ∙ (told ∙ (ap (λ state. waited_text state (items_of (input_of name (map (λ (c : Conversation). c.said) cs)))) same_begin ∙ ap (waited_text begin) input_is)) in
     (in_order, on_threads)

@@ -13,7 +13,7 @@ use Rattle.script_text.specs.declared.act.Act.{Act}
 use Rattle.script_text.specs.declared.act.Act.TheVariants.{Operator, Session}
 use Rattle.script_text.specs.declared.operator_line.OperatorLine.{OperatorLine}
 use Rattle.script_text.specs.Script.{Acts, acts_from, begins_text, form_by, form_in, form_of, is_name, operator_form, operator_line, session_form, with_act, with_line, without_blanks}
-use Rattle.script_text.specs.Threaded.{Heard, Parts, Within, heard, hears_form, behind_word, ended, is_by_hand, threaded_from, with_operator, with_said}
+use Rattle.script_text.specs.Threaded.{Heard, Parts, Within, heard_so_far, hears_form, after_first_word, with_feed, is_by_hand, threaded_from, with_operator, with_said}
 use Rattle.script_text.specs.Threaded.Within.{Head, Script, Upload}
 
 abbrev pub IsNotByHand : Act (List ℕ) → Type 0
@@ -32,7 +32,7 @@ in_text (Upload name) = true
 
 -- the same of the lines that are left
 abbrev Later : ℕ → List (List ℕ) → Parts → Type 0
-Later number lines new = (within : Within) (mid : Parts) → threaded_from (number + 1) (heard mid within) lines ≡ Ok new → (acts : List (Act (List ℕ))) → acts_from (number + 1) (in_text within) lines ≡ Ok acts → AreNotByHand acts
+Later number lines new = (within : Within) (mid : Parts) → threaded_from (number + 1) (heard_so_far mid within) lines ≡ Ok new → (acts : List (Act (List ℕ))) → acts_from (number + 1) (in_text within) lines ≡ Ok acts → AreNotByHand acts
 
 abbrev Hears : ℕ → Option Heard → List (List ℕ) → Result Parts ℕ
 Hears number next lines = option_map_or (λ h. threaded_from (number + 1) h lines) next (Err number)
@@ -44,16 +44,16 @@ one_more : (act : Act (List ℕ)) (r : Acts) (acts : List (Act (List ℕ))) → 
 one_more act (Err number) acts one rest is = cc
 one_more act (Ok more) acts one rest is = subst AreNotByHand (same_acts (act ∷ more) acts is) (one, rest more refl)
 
-operator_one : (number : ℕ) (lines : List (List ℕ)) (old new : Parts) (asked : OperatorLine (List ℕ)) (acts : List (Act (List ℕ))) → Later number lines new → (b : Bool) → is_by_hand asked ≡ b → Hears number (if b then None else Some (heard (with_operator old asked) Script)) lines ≡ Ok new →
+operator_one : (number : ℕ) (lines : List (List ℕ)) (old new : Parts) (asked : OperatorLine (List ℕ)) (acts : List (Act (List ℕ))) → Later number lines new → (b : Bool) → is_by_hand asked ≡ b → Hears number (if b then None else Some (heard_so_far (with_operator old asked) Script)) lines ≡ Ok new →
     with_act (Operator asked) (acts_from (number + 1) false lines) ≡ Ok acts → AreNotByHand acts
 operator_one number lines old new asked acts later true e goes is = cc
 operator_one number lines old new asked acts later false e goes is = one_more (Operator asked) (acts_from (number + 1) false lines) acts e (later Script (with_operator old asked) goes) is
 
 session_one : (number : ℕ) (line : List ℕ) (lines : List (List ℕ)) (old new : Parts) (acts : List (Act (List ℕ))) (other : List ℕ) → Later number lines new → (form : LineForm) → Hears number (hears_form old (session_form other form) line) lines ≡ Ok new →
     with_line number (session_form other form) lines (acts_from (number + 1) (begins_text (session_form other form)) lines) ≡ Ok acts → AreNotByHand acts
-session_one number line lines old new acts other later (LineAsks item) goes is = one_more (Session other item) (acts_from (number + 1) false lines) acts tt (later Script (with_said old other (ended (behind_word line))) goes) is
+session_one number line lines old new acts other later (LineAsks item) goes is = one_more (Session other item) (acts_from (number + 1) false lines) acts tt (later Script (with_said old other (with_feed (after_first_word line))) goes) is
 session_one number line lines old new acts other later (LineBegins kind) goes is =
-    one_more (Session other (text_item kind (text_ahead lines))) (acts_from (number + 1) true lines) acts tt (later (Upload other) (with_said old other (ended (behind_word line))) goes) is
+    one_more (Session other (text_item kind (text_ahead lines))) (acts_from (number + 1) true lines) acts tt (later (Upload other) (with_said old other (with_feed (after_first_word line))) goes) is
 
 asked_one : (number : ℕ) (line : List ℕ) (lines : List (List ℕ)) (old new : Parts) (acts : List (Act (List ℕ))) → Later number lines new → (asked : Option (OperatorLine (List ℕ))) → Hears number (hears_form old (operator_form asked) line) lines ≡ Ok new →
     with_line number (operator_form asked) lines (acts_from (number + 1) (begins_text (operator_form asked)) lines) ≡ Ok acts → AreNotByHand acts
@@ -88,12 +88,12 @@ unfolding form_in
 form_is line = refl
 
 -- a line of a text
-text_line : (number : ℕ) (lines : List (List ℕ)) (mid new : Parts) (within : Within) (acts : List (Act (List ℕ))) → in_text within ≡ true → Later number lines new → (b : Bool) → threaded_from (number + 1) (heard mid (if b then Script else within)) lines ≡ Ok new →
+text_line : (number : ℕ) (lines : List (List ℕ)) (mid new : Parts) (within : Within) (acts : List (Act (List ℕ))) → in_text within ≡ true → Later number lines new → (b : Bool) → threaded_from (number + 1) (heard_so_far mid (if b then Script else within)) lines ≡ Ok new →
     acts_from (number + 1) (not b) lines ≡ Ok acts → AreNotByHand acts
 text_line number lines mid new within acts text later true goes is = later Script mid goes acts is
 text_line number lines mid new within acts text later false goes is = later within mid goes acts (ap (λ b. acts_from (number + 1) b lines) text ∙ is)
 
-pub not_by_hand : (number : ℕ) (within : Within) (old : Parts) (lines : List (List ℕ)) (new : Parts) → threaded_from number (heard old within) lines ≡ Ok new → (acts : List (Act (List ℕ))) → acts_from number (in_text within) lines ≡ Ok acts → AreNotByHand acts
+pub not_by_hand : (number : ℕ) (within : Within) (old : Parts) (lines : List (List ℕ)) (new : Parts) → threaded_from number (heard_so_far old within) lines ≡ Ok new → (acts : List (Act (List ℕ))) → acts_from number (in_text within) lines ≡ Ok acts → AreNotByHand acts
 not_by_hand number Script old [] new goes acts is = subst AreNotByHand (same_acts [] acts is) tt
 not_by_hand number Head old [] new goes acts is = subst AreNotByHand (same_acts [] acts is) tt
 not_by_hand number (Upload name) old [] new goes acts is = subst AreNotByHand (same_acts [] acts is) tt
@@ -104,4 +104,4 @@ not_by_hand number Script old (line ∷ lines) new goes acts is =
 not_by_hand number Head old (line ∷ lines) new goes acts is =
     text_line number lines old new Head acts refl (λ within mid more others are. not_by_hand (number + 1) within mid lines new more others are) (ends_text line) goes is
 not_by_hand number (Upload name) old (line ∷ lines) new goes acts is =
-    text_line number lines (with_said old name (ended line)) new (Upload name) acts refl (λ within mid more others are. not_by_hand (number + 1) within mid lines new more others are) (ends_text line) goes is
+    text_line number lines (with_said old name (with_feed line)) new (Upload name) acts refl (λ within mid more others are. not_by_hand (number + 1) within mid lines new more others are) (ends_text line) goes is

@@ -1,14 +1,12 @@
 -- The text of a name's section is what its session is answered.
 use Rattle.std.proofs.Common.{◌≡◌, ℕ, List, [], ◌∷◌, ◌++◌, Bool, true, false, refl, sym, ap, ◌∙◌, append_assoc, append-nil}
-use Rattle.std.specs.Prelude.{map, if◌then◌else◌}
+use Rattle.std.specs.Prelude.{if◌then◌else◌}
 use Rattle.std.specs.Str.{bytes_eq}
 use Rattle.std.proofs.lemmas.Slice.Eq.{bytes_eq-Decides}
 use Rattle.script_text.specs.declared.act.Act.{Act}
 use Rattle.script_text.specs.declared.act.Act.TheVariants.{Operator, Session}
-use Rattle.script_threads.specs.declared.answered.Section.{Section as Answer}
-use Rattle.script_threads.specs.Served.{Told, section_told}
-use Rattle.fpgad_run.specs.OnThreads.{section_of}
-use Rattle.fpgad_run.specs.Run.{Section, Telling, sections_after, told_session, with_text}
+use Rattle.script_text.specs.Replies.{Section}
+use Rattle.fpgad_run.specs.Run.{Telling, sections_after, told_session, with_text}
 use Rattle.same_answers.specs.InOrder.{answer_for, answers_for}
 use Rattle.same_answers.specs.SameAnswers.{text_of}
 
@@ -60,12 +58,3 @@ all_answers sections name (t ∷ tellings) =
 
 pub section_is : (name : List ℕ) (tellings : List Telling) → text_of name (sections_after [] tellings) ≡ answers_for name tellings
 section_is name tellings = all_answers [] name tellings
-
--- the same sections, as the threads' answers name them
-abbrev pub told_of : List ℕ → List Told → List ℕ
-told_of name [] = []
-told_of name (s ∷ sections) = if bytes_eq name s.name then s.text else told_of name sections
-
-pub same_sections : (name : List ℕ) (sections : List Answer) → text_of name (map section_of sections) ≡ told_of name (map section_told sections)
-same_sections name [] = refl
-same_sections name (s ∷ sections) = ap (λ text. if bytes_eq name s.name.now then s.text.items else text) (same_sections name sections)

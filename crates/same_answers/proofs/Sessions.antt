@@ -17,7 +17,7 @@ use Rattle.sessions.specs.Fitting.{own_graph}
 use Rattle.sessions.specs.Items.{with_item}
 use Rattle.sessions.specs.SessionAnswer.{Asks, LeavesNone}
 use Rattle.sessions.specs.SessionText.{answer_text}
-use Rattle.sessions.specs.WholeSession.{Turn, Item, Meanwhile, written}
+use Rattle.sessions.specs.WholeSession.{Turn, Item, Meanwhile, text_of_turns}
 use Rattle.script_text.specs.declared.act.Act.{Act}
 use Rattle.script_text.specs.declared.act.Act.TheVariants.{Operator, Session}
 use Rattle.script_text.specs.declared.operator_line.OperatorLine.{OperatorLine}
@@ -41,7 +41,7 @@ pub record IsSession (id : ℕ) (old : ServiceState) (items : List SessionLine) 
   pub new : ServiceState
   pub are : OwnTurns id old turns new
   pub items_are : items_in turns ≡ items
-  pub text_is : written turns ≡ text
+  pub text_is : text_of_turns turns ≡ text
   pub replied : AreReplied id turns
 
 nothing_more : (id : ℕ) (old : ServiceState) → IsSession id old [] []
@@ -75,7 +75,7 @@ one_item id old mid line calls answer text more items asks run leaves told reply
   new = s.new;
   are = (mid, asks, run, leaves, s.are);
   items_are = ap (λ xs. line ∷ xs) s.items_are;
-  text_is = ap (λ t. t ++ written s.turns) (sym told) ∙ ap (λ t. text ++ t) s.text_is;
+  text_is = ap (λ t. t ++ text_of_turns s.turns) (sym told) ∙ ap (λ t. text ++ t) s.text_is;
   replied = (subst IsReply told reply, s.replied);
 }
 

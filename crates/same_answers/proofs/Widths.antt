@@ -7,10 +7,10 @@ use Rattle.tenant_slot.specs.declared.event.Event.TheVariants.{Command as Asked}
 use Rattle.service_core.specs.declared.not_served.NotServed.TheVariants.{NoMemory, JournalFull, NoSuchTenancy}
 use Rattle.service_core.specs.declared.put_reply.PutReply.TheVariants.{Recorded, Full, Gone}
 use Rattle.service_core.specs.History.{History, with_entry, with_here}
-use Rattle.service_core.specs.Tenancy.{closed, if_live}
+use Rattle.service_core.specs.Tenancy.{closed_history, if_live}
 use Rattle.service_core.specs.Run.{Call, Happens, Run, IsGivenBackTo, step_entry}
 use Rattle.service_core.specs.Run.Call.{Admit, Evict, Move, Tenant, Take, Put, GiveBack, Owners}
-use Rattle.service_core.specs.Service.{ServiceState, history_of, live_of, live_width, modified}
+use Rattle.service_core.specs.Service.{ServiceState, history_of, live_of, live_width, with_changed}
 use Rattle.service_core.proofs.Lists.{history_of-modified, history_of-past, history_of-push}
 use Rattle.service_core.proofs.MovedStrips.{same_histories}
 use Rattle.operator.proofs.Stepping.{AreSteady, Steady}
@@ -42,16 +42,16 @@ same_width : (change : History → History) → KeepsWidth change → (o : Optio
 same_width change keeps None = refl
 same_width change keeps (Some h) = width_some (change h) ∙ ((rw ((keeps h).0, (keeps h).1) refl) ∙ sym (width_some h))
 
-width_changed : (hs : List History) (t id width : ℕ) (change : History → History) → KeepsWidth change → live_width hs id ≡ Some width → live_width (modified hs t change) id ≡ Some width
+width_changed : (hs : List History) (t id width : ℕ) (change : History → History) → KeepsWidth change → live_width hs id ≡ Some width → live_width (with_changed hs t change) id ≡ Some width
 width_changed hs t id width change keeps was =
     let P : Option History → Type 0 = λ o. width_in o ≡ Some width in
     subst P (sym (history_of-modified hs t id change))
     (elim (eqb id t) as (λ b. width_in (if b then option_map change (history_of hs id) else history_of hs id) ≡ Some width) [ true ↦ same_width change keeps (history_of hs id) ∙ was | false ↦ was ])
 
-width_of_other : (hs : List History) (t id width : ℕ) → t ≢ id → live_width hs id ≡ Some width → live_width (modified hs t closed) id ≡ Some width
+width_of_other : (hs : List History) (t id width : ℕ) → t ≢ id → live_width hs id ≡ Some width → live_width (with_changed hs t closed_history) id ≡ Some width
 width_of_other hs t id width differ was =
     let not : eqb id t ≡ false = grind (arith, nat_tests) in
-    let same : history_of (modified hs t closed) id ≡ history_of hs id = rw not at (history_of-modified hs t id closed) in
+    let same : history_of (with_changed hs t closed_history) id ≡ history_of hs id = rw not at (history_of-modified hs t id closed_history) in
     ap width_in same ∙ was
 
 width_pushed : (hs : List History) (h : History) (id width : ℕ) → live_width hs id ≡ Some width → live_width (hs ++ h ∷ []) id ≡ Some width
@@ -64,7 +64,7 @@ width_pushed hs h id width was = by_id (eqb id (length hs + 1)) refl
 same : (id width : ℕ) (old new : ServiceState) → new ≡ old → HasWidth id width old → HasWidth id width new
 same id width old new is was = let P : ServiceState → Type 0 = λ s. HasWidth id width s in subst P (sym is) was
 
-changed : (id width t : ℕ) (old new : ServiceState) (change : History → History) → KeepsWidth change → new ≡ record old { histories = modified old.histories t change } → HasWidth id width old → HasWidth id width new
+changed : (id width t : ℕ) (old new : ServiceState) (change : History → History) → KeepsWidth change → new ≡ record old { histories = with_changed old.histories t change } → HasWidth id width old → HasWidth id width new
 changed id width t old new change keeps is was = let P : ServiceState → Type 0 = λ s. HasWidth id width s in subst P (sym is) (width_changed old.histories t id width change keeps was)
 
 given_back : (id width : ℕ) (o : Option History) (old new : ServiceState) (job : JobState) → IsGivenBackTo o old job new → HasWidth id width old → HasWidth id width new

@@ -5,7 +5,7 @@ use Rattle.tenant_slot.specs.SingleUser.{start}
 use Rattle.service_core.specs.declared.device.Device.{Device}
 use Rattle.service_core.specs.OwnEvents.{own_events}
 use Rattle.service_core.specs.Run.{Call, Run}
-use Rattle.service_core.specs.Service.{empty, live_width, strip_on}
+use Rattle.service_core.specs.Service.{empty_service, live_width, strip_on}
 use Rattle.script_text.specs.declared.act.Act.{Act}
 use Rattle.script_text.specs.declared.act.Act.TheVariants.{Operator, Session}
 use Rattle.script_text.specs.declared.operator_line.OperatorLine.TheVariants.{Evict, Step, Take}
@@ -53,6 +53,6 @@ acts_of tellings = map (λ t. t.act) tellings
 -- steps are made on the device's own graph, as those of the program are.
 abbrev pub HasTextInOrder : Type 0
 HasTextInOrder = (device : Device) (before : List Call) (old new : Stage) (name : List ℕ) (width : ℕ) (tellings : List Telling) →
-    Run (empty device) before old.service → HasOwnGraph old → own_events (last_id old.names name) before ≡ [] → live_width old.service.histories (last_id old.names name) ≡ Some width → Tells old tellings new →
+    Run (empty_service device) before old.service → HasOwnGraph old → own_events (last_id old.names name) before ≡ [] → live_width old.service.histories (last_id old.names name) ≡ Some width → Tells old tellings new →
     waits_for_each false (items_by name (acts_of tellings)) ≡ true → AreLeftAlone name (acts_of tellings) → AreRepliedTo name tellings →
     answers_for name tellings ≡ waited_text (start device.arch (strip_on device width)) (items_by name (acts_of tellings))

@@ -2,11 +2,12 @@
 use Rattle.std.specs.Prelude.{ℕ, ◌≡◌, false, true, List, [], ◌∷◌, map, All, IfSome, Some, if◌then◌else◌}
 use Rattle.std.specs.Str.{bytes_eq}
 use Rattle.tenant_slot.specs.SingleUser.{start}
-use Rattle.service_core.specs.Service.{ServiceState, empty, live_width, strip_on}
+use Rattle.service_core.specs.Service.{ServiceState, empty_service, live_width, strip_on}
 use Rattle.sessions.specs.Fitting.{own_graph}
 use Rattle.session_threads.specs.Told.{told_text}
 use Rattle.script_text.specs.declared.act.Act.{Act}
 use Rattle.script_text.specs.declared.act.Act.TheVariants.{Operator, Session}
+use Rattle.script_text.specs.Replies.{Section, section_of}
 use Rattle.operator.specs.OperatorText.{last_id}
 use Rattle.operator.specs.Serving.{Stage}
 use Rattle.script_threads.specs.Served.{Conversation}
@@ -14,9 +15,9 @@ use Rattle.workers_law.specs.SameScript.{items_by}
 use Rattle.workers_law.specs.Waited.{IsReply, waits_for_each, waited_text}
 use Rattle.fpgad_run.specs.declared.inputs.Architecture.{Architecture}
 use Rattle.fpgad_run.specs.declared.options.Options.{Options}
-use Rattle.fpgad_run.specs.OnThreads.{AreThreadedReplies, section_of, threaded_start_of}
+use Rattle.fpgad_run.specs.OnThreads.{AreThreadedReplies, threaded_start_of}
 use Rattle.fpgad_run.specs.Program.{IsReplies, Start, device_of, start_of}
-use Rattle.fpgad_run.specs.Run.{Section, Telling, Tells, sections_after}
+use Rattle.fpgad_run.specs.Run.{Telling, Tells, sections_after}
 use Rattle.same_answers.specs.InOrder.{AreLeftAlone, AreRepliedTo}
 
 -- the acts from the first session's line on
@@ -30,12 +31,12 @@ abbrev pub if_session : Act (List ℕ) → Stage → Stage → Stage
 if_session (Operator line) now later = later
 if_session (Session name item) now later = now
 
-abbrev pub begun : (old : Stage) (tellings : List Telling) (new : Stage) → Tells old tellings new → Stage
-begun old [] new tells = old
-begun old (t ∷ tellings) new tells = if_session t.act old (begun tells.0 tellings new tells.2)
+abbrev pub stage_at_session : (old : Stage) (tellings : List Telling) (new : Stage) → Tells old tellings new → Stage
+stage_at_session old [] new tells = old
+stage_at_session old (t ∷ tellings) new tells = if_session t.act old (stage_at_session tells.0 tellings new tells.2)
 
-abbrev pub stage_begun : {options : Options} {start : Start (List (Act (List ℕ)))} {output : List ℕ} → IsReplies options start output → Stage
-stage_begun {options} r = begun (record { names = []; jobs = []; service = empty (device_of options r.arch); graph = own_graph (device_of options r.arch) }) r.tellings r.last r.told
+abbrev pub session_stage : {options : Options} {start : Start (List (Act (List ℕ)))} {output : List ℕ} → IsReplies options start output → Stage
+session_stage {options} r = stage_at_session (record { names = []; jobs = []; service = empty_service (device_of options r.arch); graph = own_graph (device_of options r.arch) }) r.tellings r.last r.told
 
 -- the name's last tenancy is live, in a strip of that width
 abbrev pub HasStrip : List ℕ → ℕ → List (List ℕ) → ServiceState → Type 0
@@ -64,7 +65,7 @@ abbrev pub HasSameAnswers : Type 0
 HasSameAnswers = (options other : Options) (architecture : Architecture) (input output other_output name : List ℕ) (width : ℕ) → HaveSameDevice options other →
     (r : IsReplies options (start_of options.tracks architecture input) output) (s : AreThreadedReplies other (threaded_start_of other.tracks architecture input) other_output) →
     waits_for_each false (items_by name r.acts) ≡ true → AreLeftAlone name (from_session r.acts) →
-    HasStrip name width (stage_begun r).names (stage_begun r).service → HasStrip name width s.served.names s.served.service →
+    HasStrip name width (session_stage r).names (session_stage r).service → HasStrip name width s.served.names s.served.service →
     AreRepliedTo name r.tellings → All (IsRepliedIn name) s.served.ran.conversations →
     (text_of name (sections_after [] r.tellings) ≡ waited_text (start r.arch (strip_on (device_of options r.arch) width)) (items_by name r.acts))
     × (text_of name (map section_of s.answered.sections.items) ≡ waited_text (start r.arch (strip_on (device_of options r.arch) width)) (items_by name r.acts))

@@ -18,7 +18,7 @@ use Rattle.script_text.specs.declared.operator_line.OperatorLine.{OperatorLine}
 use Rattle.script_text.specs.declared.operator_line.OperatorLine.TheVariants.{Admit, Evict, Move, List as ListAll, Owners, Step, Take, Put}
 use Rattle.sessions.specs.declared.line.SessionLine.{SessionLine}
 use Rattle.script_replies.specs.declared.usage.Usage.{Usage}
-use Rattle.script_replies.specs.Usage.{IsWithin, Told, admitted, begins_job, counted, is_job, is_own, is_refusal, last_of, steps_asked, told_of, usage_of, with_act, with_line, with_operator}
+use Rattle.script_replies.specs.Usage.{IsWithin, Told, admitted_columns, begins_job, usage_in, is_job, is_own, is_refusal, last_of, steps_asked, told_of, usage_of, with_act, with_line, with_operator}
 
 abbrev make : ℕ → ℕ → ℕ → ℕ → ℕ → Usage
 make columns lines refused jobs steps = record { columns = columns; lines = lines; refused = refused; jobs = jobs; steps = steps }
@@ -54,12 +54,12 @@ sum_more xs x = sum_by_push (λ n. n) xs x
 -- one more act, by what counts of it
 abbrev with_told : List ℕ → Act (List ℕ) → Bool → Usage → Usage
 with_told name act refused usage =
-    make (option_map_or (λ number. number) (admitted name act refused) usage.columns) (usage.lines + cond (is_own name act) 1 0) (usage.refused + cond (is_own name act && refused) 1 0)
+    make (option_map_or (λ number. number) (admitted_columns name act refused) usage.columns) (usage.lines + cond (is_own name act) 1 0) (usage.refused + cond (is_own name act && refused) 1 0)
     (usage.jobs + cond (is_job name act && not refused) 1 0) (min (usage.steps + steps_asked name act refused) (2 ^ 64 - 1))
 
-told_more : (name : List ℕ) (xs : List Told) (one : Told) → counted name (xs ++ one ∷ []) ≡ with_told name one.act one.refused (counted name xs)
+told_more : (name : List ℕ) (xs : List Told) (one : Told) → usage_in name (xs ++ one ∷ []) ≡ with_told name one.act one.refused (usage_in name xs)
 told_more name xs one =
-    let columns = ap last_of (filter_map-append (λ (t : Told). admitted name t.act t.refused) xs (one ∷ [])) ∙ last_more (filter_map (λ (t : Told). admitted name t.act t.refused) xs) (admitted name one.act one.refused) in
+    let columns = ap last_of (filter_map-append (λ (t : Told). admitted_columns name t.act t.refused) xs (one ∷ [])) ∙ last_more (filter_map (λ (t : Told). admitted_columns name t.act t.refused) xs) (admitted_columns name one.act one.refused) in
     let lines = count_more (λ (t : Told). is_own name t.act) xs one in
     let refused = count_more (λ (t : Told). is_own name t.act && t.refused) xs one in
     let jobs = count_more (λ (t : Told). is_job name t.act && not t.refused) xs one in
@@ -126,11 +126,11 @@ by_act : (name : List ℕ) (act : Act (List ℕ)) (refused : Bool) (usage : Usag
 by_act name (Operator line) refused usage few = by_operator name line refused usage few
 by_act name (Session own line) refused usage few = by_session (bytes_eq own name) (begins_job line) refused usage few
 
-pub counted_more : (name : List ℕ) (xs : List Told) (one : Told) → counted name (xs ++ one ∷ []) ≡ with_act name one.act one.refused (counted name xs)
-counted_more name xs one = told_more name xs one ∙ by_act name one.act one.refused (counted name xs) (omega arith)
+pub counted_more : (name : List ℕ) (xs : List Told) (one : Told) → usage_in name (xs ++ one ∷ []) ≡ with_act name one.act one.refused (usage_in name xs)
+counted_more name xs one = told_more name xs one ∙ by_act name one.act one.refused (usage_in name xs) (omega arith)
 
 -- as many are counted as there are acts
-pub counted_within : (name : List ℕ) (told : List Told) (place : ℕ) → place < 2 ^ 64 - 1 → IsWithin (2 ^ 64 - 1) (counted name (take place told))
+pub counted_within : (name : List ℕ) (told : List Told) (place : ℕ) → place < 2 ^ 64 - 1 → IsWithin (2 ^ 64 - 1) (usage_in name (take place told))
 counted_within name told place low =
     let long : length (take place told) ≡ min place (length told) = length-take place told in
     let lines = few (λ (t : Told). is_own name t.act) (take place told) in
@@ -140,9 +140,9 @@ counted_within name told place low =
 
 -- the first acts with one more
 pub counted_next : (name : List ℕ) (told : List Told) (place : ℕ) (one : Told) → place < length told → get_or told place one ≡ one
-    → counted name (take (place + 1) told) ≡ with_act name one.act one.refused (counted name (take place told))
+    → usage_in name (take (place + 1) told) ≡ with_act name one.act one.refused (usage_in name (take place told))
 counted_next name told place one within is =
-    ap (counted name) (take_more told place one within ∙ ap (λ t. take place told ++ t ∷ []) is) ∙ counted_more name (take place told) one
+    ap (usage_in name) (take_more told place one within ∙ ap (λ t. take place told ++ t ∷ []) is) ∙ counted_more name (take place told) one
 
 -- the act at a place, with its reply
 pub told_at : (acts : List (Act (List ℕ))) (replies : List AnsweredLine) (place : ℕ) (act : Act (List ℕ)) (line : AnsweredLine) → place < length acts → place < length replies
@@ -159,16 +159,16 @@ told_long acts replies = length-map (zip acts replies) (λ (p : Act (List ℕ) �
 
 -- all acts
 pub all_told : (name : List ℕ) (acts : List (Act (List ℕ))) (replies : List AnsweredLine) (place : ℕ) → min (length acts) (length replies) ≤ place
-    → counted name (take place (told_of acts replies)) ≡ usage_of name acts replies
+    → usage_in name (take place (told_of acts replies)) ≡ usage_of name acts replies
 all_told name acts replies place many =
     let long : length (told_of acts replies) ≡ min (length acts) (length replies) = told_long acts replies in
-    ap (counted name) (take_all place (told_of acts replies) (omega arith))
+    ap (usage_in name) (take_all place (told_of acts replies) (omega arith))
 
 -- one more act is counted
 pub counted_step : (name : List ℕ) (acts : List (Act (Bor (List ℕ)))) (lines : List Answered) (place : ℕ) (act : Act (Bor (List ℕ))) (none : Answered) (refused : Bool) (usage result : Usage)
     → place < length acts → place < length lines → act ≡ get_or acts place act → refused ≡ is_refusal (answered_line (get_or lines place none)).reply
-    → usage ≡ counted name (take place (told_of (map named_act acts) (map answered_line lines))) → result ≡ with_act name (named_act act) refused usage
-    → result ≡ counted name (take (place + 1) (told_of (map named_act acts) (map answered_line lines)))
+    → usage ≡ usage_in name (take place (told_of (map named_act acts) (map answered_line lines))) → result ≡ with_act name (named_act act) refused usage
+    → result ≡ usage_in name (take (place + 1) (told_of (map named_act acts) (map answered_line lines)))
 counted_step name acts lines place act none refused usage result in_acts in_lines act_is refused_is usage_is result_is =
     let many : List (Act (List ℕ)) = map named_act acts in
     let replies : List AnsweredLine = map answered_line lines in

@@ -72,9 +72,9 @@ abbrev pub steps_in : List ℕ → OperatorLine (List ℕ) → ℕ
 steps_in name (Step own steps) = if bytes_eq own name then steps else 0
 steps_in name line = 0
 
-abbrev pub admitted : List ℕ → Act (List ℕ) → Bool → Option ℕ
-admitted name (Operator line) refused = if refused then None else columns_in name line
-admitted name (Session own line) refused = None
+abbrev pub admitted_columns : List ℕ → Act (List ℕ) → Bool → Option ℕ
+admitted_columns name (Operator line) refused = if refused then None else columns_in name line
+admitted_columns name (Session own line) refused = None
 
 abbrev pub steps_asked : List ℕ → Act (List ℕ) → Bool → ℕ
 steps_asked name (Operator line) refused = if refused then 0 else steps_in name line
@@ -86,9 +86,9 @@ last_of numbers = option_map_or (λ number. number) (last_or None numbers) 0
 
 -- what a name used: the columns of its last admission; the numbers of its lines, of those that were
 -- refused, and of the jobs that it began; and the sum of the steps
-abbrev pub counted : List ℕ → List Told → Usage
-counted name told = record {
-  columns = last_of (filter_map (λ one. admitted name one.act one.refused) told);
+abbrev pub usage_in : List ℕ → List Told → Usage
+usage_in name told = record {
+  columns = last_of (filter_map (λ one. admitted_columns name one.act one.refused) told);
   lines = length (filter (λ one. is_own name one.act) told);
   refused = length (filter (λ one. is_own name one.act && one.refused) told);
   jobs = length (filter (λ one. is_job name one.act && not one.refused) told);
@@ -96,7 +96,7 @@ counted name told = record {
 }
 
 abbrev pub usage_of : List ℕ → List (Act (List ℕ)) → List AnsweredLine → Usage
-usage_of name acts replies = counted name (told_of acts replies)
+usage_of name acts replies = usage_in name (told_of acts replies)
 
 -- private: the usage with one more act
 abbrev pub with_line : SessionLine → Bool → Usage → Usage

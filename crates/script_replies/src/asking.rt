@@ -7,7 +7,7 @@ ghost use Rattle.script_text.specs.Script.{named_act, named_operator};
 ghost use Rattle.tenant_slot.specs.Names.{file_text};
 
 use line_text::NameSet;
-use printed_replies::{Asked, ReadError, Replies, ReplyForm};
+use printed_replies::{Asked, Replies, ReplyError, ReplyForm};
 use script_text::{Act, OperatorLine};
 use sessions::SessionLine;
 use std::alloc::{AllocError, Global};
@@ -71,7 +71,7 @@ pub fn read_replies<'t, 'p>(
     alloc: Global,
     acts: &[Act<&'t [u8]>],
     printed: &'p [u8],
-) -> Result<Replies<'t, 'p>, ReadError>
+) -> Result<Replies<'t, 'p>, ReplyError>
     ensures { Gives printed.now (replies_in (map named_act acts.now) printed.now) result }
 {
     let asked = asked_lines(alloc, acts)?;

@@ -28,6 +28,6 @@ pub use advising::{advice_for, is_refusal};
 pub use asking::{file_of, read_replies, session_names};
 pub use lines::{ScriptLine, script_lines};
 pub use listing::{ToldLine, told_lines};
-pub use printed_replies::{ReadError, Replies};
+pub use printed_replies::{Replies, ReplyError};
 pub use report::write_told;
 pub use usage::{Usage, is_own, usage_of};

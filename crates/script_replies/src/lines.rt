@@ -40,7 +40,7 @@ pub fn script_lines<'t>(
         };
         lines.push(line)?;
         place = if has_text(act) {
-            behind_text(behind)
+            after_text(behind)
         } else {
             behind
         };
@@ -98,7 +98,7 @@ fn begins_text(line: &SessionLine) -> bool {
 }
 
 /// The rest after the text at the start; empty if no line ends the text.
-fn behind_text(place: Place<'_>) -> Place<'_>
+fn after_text(place: Place<'_>) -> Place<'_>
     requires { place.number + length place.rest.now < 2 ^ 64 }
     ensures { result.number + length result.rest.now < 2 ^ 64 }
 {

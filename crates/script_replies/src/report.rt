@@ -3,7 +3,7 @@ ghost use Rattle.std.specs.Prelude.{◌≡◌, [], flat_map, decimal};
 ghost use Rattle.std.specs.Option.{option_map_or};
 ghost use Rattle.line_text.specs.Writing.{Writes};
 ghost use Rattle.text_parts.specs.Parts.{bytes_of_part};
-ghost use Rattle.script_replies.specs.Told.{advice_text, asked_text, count_text, optional, told_text};
+ghost use Rattle.script_replies.specs.Told.{advice_text, asked_text, count_text, text_if, told_text};
 
 use crate::listing::ToldLine;
 use line_text::{Failed, Sink};
@@ -41,9 +41,9 @@ fn write_asked<K: Sink>(sink: &mut K, told: &ToldLine<'_>) -> Result<(), Failed>
             Part::Text(": "),
             Part::Bytes(told.line),
             Part::Text("\n"),
-            optional(told.reply.is_some(), "    "),
+            text_if(told.reply.is_some(), "    "),
             Part::Bytes(told.reply.unwrap_or(b"")),
-            optional(told.reply.is_some(), "\n"),
+            text_if(told.reply.is_some(), "\n"),
         ],
     )
 }
@@ -55,10 +55,10 @@ fn write_advice<K: Sink>(sink: &mut K, told: &ToldLine<'_>) -> Result<(), Failed
     write_parts(
         sink,
         &[
-            optional(told.advice.is_some(), "    "),
-            optional(told.fault.is_some(), "line "),
+            text_if(told.advice.is_some(), "    "),
+            text_if(told.fault.is_some(), "line "),
             number(told.fault),
-            optional(told.fault.is_some(), " of the script: "),
+            text_if(told.fault.is_some(), " of the script: "),
             Part::Text(told.advice.unwrap_or("")),
         ],
     )
@@ -71,17 +71,17 @@ fn write_count<K: Sink>(sink: &mut K, told: &ToldLine<'_>) -> Result<(), Failed>
     write_parts(
         sink,
         &[
-            optional(told.alike.is_some(), " ("),
+            text_if(told.alike.is_some(), " ("),
             number(told.alike),
-            optional(told.alike.is_some(), " lines are refused so)"),
-            optional(told.advice.is_some(), "\n"),
+            text_if(told.alike.is_some(), " lines are refused so)"),
+            text_if(told.advice.is_some(), "\n"),
         ],
     )
 }
 
 /// A text that is written only if something is there.
-fn optional(is_there: bool, text: &'static str) -> Part<'static>
-    ensures { bytes_of_part result ≡ optional is_there text.now }
+fn text_if(is_there: bool, text: &'static str) -> Part<'static>
+    ensures { bytes_of_part result ≡ text_if is_there text.now }
 {
     Part::Text(if is_there { text } else { "" })
 }

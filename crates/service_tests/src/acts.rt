@@ -9,15 +9,12 @@ ghost use Rattle.job_state.specs.JobValue.{basis_in};
 use crate::cores::{begins_packing, finishes, leads_to, new_core, new_graph, text};
 use fixtures::AND;
 use job_state::{AnyJob, Done};
-use service_core::{PutReply, Service};
+use service_core::{PutReply, Service, window_for};
 use std::alloc::Global;
 use strips::{DeviceGraph, Window};
-use tenant_slot::{Command, StateName, StepReply};
+use tenant_slot::{Command, MAX_ENTRIES, StateName, StepReply};
 
 const PLACE: Command = Command::Place { seed: 7, effort: 0 };
-
-/// The most entries of a journal.
-const MAX_ENTRIES: u32 = 65_536;
 
 /// The job that is out.
 #[derive(Clone, Copy, PartialEq, Eq)]
@@ -245,7 +242,7 @@ fn come_back(
     match core.take(1) {
         Some(job) => {
             case.act(alloc, core, graph, case.before);
-            match stepped(core, graph, job) {
+            match step_made(core, graph, job) {
                 Some(done) => {
                     case.act(alloc, core, graph, case.after);
                     comes_to(core, done, case, back)
@@ -258,9 +255,9 @@ fn come_back(
 }
 
 /// Makes the step of a job. If memory runs out the job is given back.
-fn stepped(core: &mut Service, graph: &DeviceGraph, job: AnyJob) -> Option<Done> {
-    match job.window(graph, 0) {
-        Some(window) => made(core, job, &window),
+fn step_made(core: &mut Service, graph: &DeviceGraph, job: AnyJob) -> Option<Done> {
+    match window_for(&job, graph, 0) {
+        Some(window) => done_of(core, job, &window),
         None => {
             core.give_back(job.into_back());
             None
@@ -268,7 +265,7 @@ fn stepped(core: &mut Service, graph: &DeviceGraph, job: AnyJob) -> Option<Done>
     }
 }
 
-fn made(core: &mut Service, job: AnyJob, window: &Window<'_>) -> Option<Done>
+fn done_of(core: &mut Service, job: AnyJob, window: &Window<'_>) -> Option<Done>
     requires { window.now ≡ basis_in job.step.sources }
 {
     match job.step(window) {

@@ -1,6 +1,7 @@
 //! A core to be tested, and calls of it. A function that can end early doesn't hold a core: it
 //! borrows the core, and its caller drops the core by a call.
 ghost use Rattle.std.specs.Prelude.{◌≡◌, ◌≤◌, IfSome};
+ghost use Rattle.grid.specs.declared.TheConstants.{MAX_COLUMNS};
 ghost use Rattle.arch_file.specs.Arch.{IsArch};
 ghost use Rattle.job_state.specs.JobValue.{basis_in};
 
@@ -8,7 +9,7 @@ use arch_file::{Arch, read_arch};
 use fixtures::ARCHITECTURE;
 use job_state::{AnyJob, Done};
 use line_text::Text;
-use service_core::{Device, PutReply, Receipt, Service};
+use service_core::{Device, PutReply, Receipt, Service, window_for};
 use std::alloc::Global;
 use strips::{DeviceGraph, Window};
 use tenant_slot::{Command, Reply, SharedText, StateName, StepReply};
@@ -26,7 +27,7 @@ pub(crate) fn architecture(alloc: Global) -> Option<Arch>
 /// The core of a device with this number of columns and one row.
 pub(crate) fn new_core(alloc: Global, columns: u32) -> Option<Service>
     requires some { 1 ≤ columns }
-    requires few { columns ≤ 256 }
+    requires few { columns ≤ MAX_COLUMNS }
 {
     match architecture(alloc) {
         Some(arch) => {
@@ -60,7 +61,7 @@ pub(crate) fn limited_core(alloc: Global, text_limit: u64) -> Option<Service> {
 /// The graph of that device.
 pub(crate) fn new_graph(alloc: Global, columns: u32) -> Option<DeviceGraph>
     requires some { 1 ≤ columns }
-    requires few { columns ≤ 256 }
+    requires few { columns ≤ MAX_COLUMNS }
 {
     match architecture(alloc) {
         Some(arch) => {
@@ -127,7 +128,7 @@ pub(crate) fn step_at(
     offset: u32,
     job: AnyJob,
 ) -> Option<PutReply> {
-    match job.window(graph, offset) {
+    match window_for(&job, graph, offset) {
         Some(window) => step_through(core, job, &window),
         None => {
             core.give_back(job.into_back());

@@ -3,10 +3,10 @@ use crate::cores::architecture;
 use device_book::Book;
 use rr_graph::{Resource, ResourceKind};
 use std::alloc::Global;
-use strips::{Layout, NoRoom, PlacedStrip};
+use strips::{NoRoom, PlacedStrip, StripPlan};
 
 /// Places a strip of that width at the least offset at which it fits, and returns the offset.
-fn placed(layout: &mut Layout, id: u32, width: u32) -> Option<u32> {
+fn place_strip(layout: &mut StripPlan, id: u32, width: u32) -> Option<u32> {
     if layout.is_full() || layout.offset(id).is_some() {
         return None;
     }
@@ -16,7 +16,7 @@ fn placed(layout: &mut Layout, id: u32, width: u32) -> Option<u32> {
 }
 
 /// Whether a strip that is there moves to that offset, or doesn't fit there.
-fn moves(layout: &mut Layout, id: u32, offset: u32) -> Option<Result<(), NoRoom>> {
+fn moves(layout: &mut StripPlan, id: u32, offset: u32) -> Option<Result<(), NoRoom>> {
     if layout.offset(id).is_some() {
         Some(layout.move_to(id, offset))
     } else {
@@ -25,13 +25,13 @@ fn moves(layout: &mut Layout, id: u32, offset: u32) -> Option<Result<(), NoRoom>
 }
 
 /// Whether a strip takes the place of one that is gone, and the other moves next to it.
-fn takes_the_place(layout: &mut Layout) -> bool {
-    let is_placed = placed(layout, 1, 4) == Some(0)
-        && placed(layout, 2, 4) == Some(5)
-        && placed(layout, 3, 1) == None;
+fn takes_the_place(layout: &mut StripPlan) -> bool {
+    let is_placed = place_strip(layout, 1, 4) == Some(0)
+        && place_strip(layout, 2, 4) == Some(5)
+        && place_strip(layout, 3, 1) == None;
     layout.remove(1);
     is_placed
-        && placed(layout, 3, 3) == Some(0)
+        && place_strip(layout, 3, 3) == Some(0)
         && layout.offset(2) == Some(5)
         && layout.is_bad_width(10)
         && moves(layout, 2, 3) == Some(Err(NoRoom))
@@ -41,7 +41,7 @@ fn takes_the_place(layout: &mut Layout) -> bool {
 
 #[test]
 fn a_strip_takes_the_place_of_one_that_is_gone(rt: HostRuntime) {
-    let mut layout = Layout::new(9);
+    let mut layout = StripPlan::new(9);
     let is_so = takes_the_place(&mut layout);
     drop(layout);
     assert!(rt; is_so);

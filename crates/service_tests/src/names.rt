@@ -1,12 +1,12 @@
 //! The names and numbers that replies are printed with.
 use service_core::OpRefusal;
-use tenant_slot::{FileKind, NotServed, Refusal, StateName};
+use tenant_slot::{FileKind, NotAnswered, Refusal, StateName};
 
 fn are_named() -> bool {
     StateName::Packing.name() == "Packing"
         && FileKind::Net.name() == "net"
-        && NotServed::JournalFull.number() == 2
-        && NotServed::NoMemory.name() == "NoMemory"
+        && NotAnswered::JournalFull.number() == 2
+        && NotAnswered::NoMemory.name() == "NoMemory"
         && OpRefusal::NoRoom.number() == 2
         && OpRefusal::NoRoom.name() == "NoRoom"
 }

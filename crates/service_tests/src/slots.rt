@@ -1,6 +1,7 @@
 //! A slot to be tested, and a job that leaves it and comes back. A function that can end early
 //! doesn't hold a slot: it borrows the slot, and its caller drops the slot by a call.
 ghost use Rattle.std.specs.Prelude.{◌≡◌, ◌<◌};
+ghost use Rattle.tenant_slot.specs.declared.slot.TheConstants.{MAX_ENTRIES};
 ghost use Rattle.grid.specs.Sizes.{IsStripSize};
 ghost use Rattle.job_state.specs.JobValue.{basis_in};
 
@@ -9,6 +10,7 @@ use arch_file::SharedArch;
 use fixtures::AND;
 use grid::Strip;
 use job_state::{AnyJob, Done, JobKind, SharedText, Sources};
+use service_core::window_for;
 use std::alloc::Global;
 use strips::{DeviceGraph, Window};
 use tenant_slot::{Advance, Command, Reply, Slot, StateName, StepReply};
@@ -107,7 +109,7 @@ fn tells_its_step(slot: &mut Slot, graph: &DeviceGraph) -> bool {
 fn goes_round(slot: &mut Slot, graph: &DeviceGraph, job: AnyJob) -> bool
     requires { job.step.id ≡ slot.old.id }
 {
-    match job.window(graph, 0) {
+    match window_for(&job, graph, 0) {
         Some(window) => is_made(slot, &window, job),
         None => {
             slot.give_back(job.into_back());
@@ -151,9 +153,9 @@ fn is_finished(slot: &mut Slot, graph: &DeviceGraph) -> bool {
 
 fn puts(slot: &mut Slot, graph: &DeviceGraph, job: AnyJob) -> bool
     requires id { job.step.id ≡ slot.old.id }
-    requires room { slot.old.state.entries < 65536 }
+    requires room { slot.old.state.entries < MAX_ENTRIES }
 {
-    match job.window(graph, 0) {
+    match window_for(&job, graph, 0) {
         Some(window) => puts_through(slot, &window, job),
         None => {
             slot.give_back(job.into_back());
@@ -164,7 +166,7 @@ fn puts(slot: &mut Slot, graph: &DeviceGraph, job: AnyJob) -> bool
 
 fn puts_through(slot: &mut Slot, window: &Window<'_>, job: AnyJob) -> bool
     requires id { job.step.id ≡ slot.old.id }
-    requires room { slot.old.state.entries < 65536 }
+    requires room { slot.old.state.entries < MAX_ENTRIES }
     requires window { window.now ≡ basis_in job.step.sources }
 {
     match job.step(window) {
@@ -195,7 +197,7 @@ fn job_leaves(alloc: Global, slot: &mut Slot, graph: &DeviceGraph) -> bool {
         && tells_its_step(slot, graph)
         && is_finished(slot, graph)
         && slot.state() == StateName::Packed
-        && slot.routed().is_empty()
+        && slot.routed_resources().is_empty()
 }
 
 fn is_so_with(alloc: Global, graph: &DeviceGraph) -> bool {

@@ -6,8 +6,8 @@ use Rattle.std.proofs.lemmas.Option.{slice_get-get_or}
 use Rattle.service_core.specs.Receipt.{Receipted}
 use Rattle.shared_core.specs.CoreState.{CoreState}
 use Rattle.transcripts.specs.declared.item.Item.{Item}
-use Rattle.transcripts.specs.declared.item.Place.{Place}
-use Rattle.transcripts.specs.declared.item.Place.TheVariants.{Receipt, Note, Refused}
+use Rattle.transcripts.specs.declared.item.ItemAnswer.{ItemAnswer}
+use Rattle.transcripts.specs.declared.item.ItemAnswer.TheVariants.{Receipt, Note, Refused}
 use Rattle.transcripts.specs.Transcripts.{TranscriptState, receipt_in, receipts_of}
 use Rattle.settling.specs.Settling.{Claim, IsBorneOut, IsFirstBad, claims_from, claims_in, claims_of, has_id}
 
@@ -28,7 +28,7 @@ pub at_index : {A : Type 0} (xs : List A) (i : ℕ) (x : A) → i < length xs �
 at_index xs i x within is = slice_get-get_or xs i x within ∙ ap Some (sym is)
 
 -- an item that has no receipt
-pub no_receipt_in : (p : Place) → ((r : Receipted) → p ≡ Receipt r → ⊥) → receipt_in p ≡ None
+pub no_receipt_in : (p : ItemAnswer) → ((r : Receipted) → p ≡ Receipt r → ⊥) → receipt_in p ≡ None
 no_receipt_in (Receipt r) not = absurd (not r refl)
 no_receipt_in (Note n) not = refl
 no_receipt_in (Refused r) not = refl

@@ -5,7 +5,7 @@ use Rattle.std.specs.Prelude.{All, AllPairs, slice_get, if◌then◌else◌, ◌
 use Rattle.std.proofs.lemmas.Bool.Decides.{nat_tests, Decides-eqb}
 use Rattle.std.proofs.lemmas.List.Elements.{All-cons, All-head, All-nil, All-tail}
 use Rattle.std.proofs.lemmas.List.Kept.{AllPairs-cons}
-use Rattle.shared_core.specs.CoreState.{Marked, ShareState, given_in, is_leased, marked_of, places_in, places_of, remarked}
+use Rattle.shared_core.specs.CoreState.{Marked, ShareState, given_in, is_leased, marked_of, places_in, places_of, with_changed_marks}
 use Rattle.shared_core.specs.Accounts.{leases_in, places_sum}
 use Rattle.shared_core.proofs.Marks.{marked_of-remarked, marked_of-zero}
 use Rattle.transcripts.specs.Transcripts.{TranscriptState, receipts_of}
@@ -33,28 +33,28 @@ in_given : (o : Option Marked) → given_in (option_map cleared o) ≡ false
 in_given None = refl
 in_given (Some m) = refl
 
-leased-cleared : (ms : List Marked) (id other : ℕ) → is_leased (remarked ms id cleared) other ≡ (if eqb other id then false else is_leased ms other)
+leased-cleared : (ms : List Marked) (id other : ℕ) → is_leased (with_changed_marks ms id cleared) other ≡ (if eqb other id then false else is_leased ms other)
 leased-cleared ms id other = grind (arith, nat_tests, marked_of-remarked ms id other cleared, in_given (marked_of ms other))
 
-places-cleared : (ms : List Marked) (id other : ℕ) → eqb other id ≡ false → places_of (remarked ms id cleared) other ≡ places_of ms other
+places-cleared : (ms : List Marked) (id other : ℕ) → eqb other id ≡ false → places_of (with_changed_marks ms id cleared) other ≡ places_of ms other
 places-cleared ms id other e = grind (arith, nat_tests, marked_of-remarked ms id other cleared)
 
 flag_few : (b : Bool) → (if b then 1 else 0) ≤ 1
 flag_few true = omega arith
 flag_few false = omega arith
 
-leases-cleared : (ms : List Marked) (id : ℕ) → leases_in ms ≤ leases_in (remarked ms id cleared) + 1
+leases-cleared : (ms : List Marked) (id : ℕ) → leases_in ms ≤ leases_in (with_changed_marks ms id cleared) + 1
 leases-cleared [] id = omega arith
 leases-cleared (m ∷ ms) id =
-    elim (eqb id 1) as (λ b. leases_in (m ∷ ms) ≤ leases_in (if b then cleared m ∷ ms else m ∷ remarked ms (id - 1) cleared) + 1) [
+    elim (eqb id 1) as (λ b. leases_in (m ∷ ms) ≤ leases_in (if b then cleared m ∷ ms else m ∷ with_changed_marks ms (id - 1) cleared) + 1) [
       | true ↦ omega (arith, flag_few m.given)
       | false ↦ omega (arith, leases-cleared ms (id - 1))
     ]
 
-places_sum-cleared : (ms : List Marked) (id : ℕ) → places_sum ms ≡ length (places_of ms id) + places_sum (remarked ms id cleared)
+places_sum-cleared : (ms : List Marked) (id : ℕ) → places_sum ms ≡ length (places_of ms id) + places_sum (with_changed_marks ms id cleared)
 places_sum-cleared [] id = omega arith
 places_sum-cleared (m ∷ ms) id =
-    elim (eqb id 1) as (λ b. places_sum (m ∷ ms) ≡ length (places_in (if b then Some m else marked_of ms (id - 1))) + places_sum (if b then cleared m ∷ ms else m ∷ remarked ms (id - 1) cleared)) [
+    elim (eqb id 1) as (λ b. places_sum (m ∷ ms) ≡ length (places_in (if b then Some m else marked_of ms (id - 1))) + places_sum (if b then cleared m ∷ ms else m ∷ with_changed_marks ms (id - 1) cleared)) [
       | true ↦ omega arith
       | false ↦ omega (arith, places_sum-cleared ms (id - 1))
     ]
@@ -81,11 +81,11 @@ or_left : (a b : Bool) → a ≡ false → (a || b) ≡ true → b ≡ true
 or_left true b not is = cc
 or_left false b not is = is
 
-rest_has : (t : TranscriptState) (ts : List TranscriptState) (ms : List Marked) → ((id : ℕ) → is_leased ms id ≡ true → has_id (t ∷ ts) id ≡ true) → (id : ℕ) → is_leased (remarked ms t.id cleared) id ≡ true → has_id ts id ≡ true
+rest_has : (t : TranscriptState) (ts : List TranscriptState) (ms : List Marked) → ((id : ℕ) → is_leased ms id ≡ true → has_id (t ∷ ts) id ≡ true) → (id : ℕ) → is_leased (with_changed_marks ms t.id cleared) id ≡ true → has_id ts id ≡ true
 rest_has t ts ms there id is = by_test (eqb id t.id) refl
   where
     by_test : (b : Bool) → eqb id t.id ≡ b → has_id ts id ≡ true
-    by_test true e = let no : is_leased (remarked ms t.id cleared) id ≡ false = leased-cleared ms t.id id ∙ (rw e refl) in cc
+    by_test true e = let no : is_leased (with_changed_marks ms t.id cleared) id ≡ false = leased-cleared ms t.id id ∙ (rw e refl) in cc
     by_test false e =
         let mine : is_leased ms id ≡ true = sym (leased-cleared ms t.id id ∙ (rw e refl)) ∙ is in
         let turned : eqb t.id id ≡ false = grind (arith, nat_tests) in
@@ -95,23 +95,23 @@ rest_has t ts ms there id is = by_test (eqb id t.id) refl
 pub enough : (ts : List TranscriptState) (ms : List Marked) → ((id : ℕ) → is_leased ms id ≡ true → has_id ts id ≡ true) → leases_in ms ≤ length ts
 enough [] ms there = let none = no_leases ms (λ id is. let never = there id is in cc) in omega arith
 enough (t ∷ ts) ms there =
-    let rest = enough ts (remarked ms t.id cleared) (rest_has t ts ms there) in
+    let rest = enough ts (with_changed_marks ms t.id cleared) (rest_has t ts ms there) in
     let one = leases-cleared ms t.id in
     omega arith
 
 -- and if they are as many, no two are of one tenancy
 pub apart : (ts : List TranscriptState) (ms : List Marked) → ((id : ℕ) → is_leased ms id ≡ true → has_id ts id ≡ true) → leases_in ms ≡ length ts → are_apart ts ≡ true
 apart [] ms there many = refl
-apart (t ∷ ts) ms there many = by_test (λ same. apart ts (remarked ms t.id cleared) (rest_has t ts ms there) same) (has_id ts t.id) refl
+apart (t ∷ ts) ms there many = by_test (λ same. apart ts (with_changed_marks ms t.id cleared) (rest_has t ts ms there) same) (has_id ts t.id) refl
   where
-    others : leases_in (remarked ms t.id cleared) ≡ length ts
-    others = let few = enough ts (remarked ms t.id cleared) (rest_has t ts ms there) in let one = leases-cleared ms t.id in omega arith
+    others : leases_in (with_changed_marks ms t.id cleared) ≡ length ts
+    others = let few = enough ts (with_changed_marks ms t.id cleared) (rest_has t ts ms there) in let one = leases-cleared ms t.id in omega arith
 
     again : has_id ts t.id ≡ true → (id : ℕ) → is_leased ms id ≡ true → (b : Bool) → eqb id t.id ≡ b → has_id ts id ≡ true
     again e id is true f = let same : id ≡ t.id = (Decides-eqb id t.id).0 f in rw same e
     again e id is false f = let turned : eqb t.id id ≡ false = grind (arith, nat_tests) in or_left (eqb t.id id) (has_id ts id) turned (there id is)
 
-    by_test : (leases_in (remarked ms t.id cleared) ≡ length ts → are_apart ts ≡ true) → (b : Bool) → has_id ts t.id ≡ b → (not (has_id ts t.id) && are_apart ts) ≡ true
+    by_test : (leases_in (with_changed_marks ms t.id cleared) ≡ length ts → are_apart ts ≡ true) → (b : Bool) → has_id ts t.id ≡ b → (not (has_id ts t.id) && are_apart ts) ≡ true
     by_test ih true e = let all : leases_in ms ≤ length ts = enough ts ms (λ id is. again e id is (eqb id t.id) refl) in absurd (omega arith)
     by_test ih false e = rw e (ih others)
 
@@ -149,21 +149,21 @@ AreFit ms ts = All (λ t. Fits (receipts_of t.items) (places_of ms t.id)) ts
 abbrev pub HavePlaces : List Marked → List TranscriptState → Type 0
 HavePlaces ms ts = All (λ t. places_told (receipts_of t.items) ≡ places_of ms t.id) ts
 
-fit-cleared : (ms : List Marked) (id : ℕ) (ts : List TranscriptState) → has_id ts id ≡ false → AreFit ms ts → AreFit (remarked ms id cleared) ts
-fit-cleared ms id [] none all = All-nil (λ (u : TranscriptState). Fits (receipts_of u.items) (places_of (remarked ms id cleared) u.id))
+fit-cleared : (ms : List Marked) (id : ℕ) (ts : List TranscriptState) → has_id ts id ≡ false → AreFit ms ts → AreFit (with_changed_marks ms id cleared) ts
+fit-cleared ms id [] none all = All-nil (λ (u : TranscriptState). Fits (receipts_of u.items) (places_of (with_changed_marks ms id cleared) u.id))
 fit-cleared ms id (t ∷ ts) none all =
     let d = differs t ts id none in
-    All-cons (λ (u : TranscriptState). Fits (receipts_of u.items) (places_of (remarked ms id cleared) u.id)) t ts
+    All-cons (λ (u : TranscriptState). Fits (receipts_of u.items) (places_of (with_changed_marks ms id cleared) u.id)) t ts
     (rw (places-cleared ms id t.id d.0) (All-head (λ (u : TranscriptState). Fits (receipts_of u.items) (places_of ms u.id)) t ts all))
     (fit-cleared ms id ts d.1 (All-tail (λ (u : TranscriptState). Fits (receipts_of u.items) (places_of ms u.id)) t ts all))
 
-places-back : (ms : List Marked) (id : ℕ) (ts : List TranscriptState) → has_id ts id ≡ false → HavePlaces (remarked ms id cleared) ts → HavePlaces ms ts
+places-back : (ms : List Marked) (id : ℕ) (ts : List TranscriptState) → has_id ts id ≡ false → HavePlaces (with_changed_marks ms id cleared) ts → HavePlaces ms ts
 places-back ms id [] none all = All-nil (λ (u : TranscriptState). places_told (receipts_of u.items) ≡ places_of ms u.id)
 places-back ms id (t ∷ ts) none all =
     let d = differs t ts id none in
     All-cons (λ (u : TranscriptState). places_told (receipts_of u.items) ≡ places_of ms u.id) t ts
-    (All-head (λ (u : TranscriptState). places_told (receipts_of u.items) ≡ places_of (remarked ms id cleared) u.id) t ts all ∙ places-cleared ms id t.id d.0)
-    (places-back ms id ts d.1 (All-tail (λ (u : TranscriptState). places_told (receipts_of u.items) ≡ places_of (remarked ms id cleared) u.id) t ts all))
+    (All-head (λ (u : TranscriptState). places_told (receipts_of u.items) ≡ places_of (with_changed_marks ms id cleared) u.id) t ts all ∙ places-cleared ms id t.id d.0)
+    (places-back ms id ts d.1 (All-tail (λ (u : TranscriptState). places_told (receipts_of u.items) ≡ places_of (with_changed_marks ms id cleared) u.id) t ts all))
 
 pub record Exact (ms : List Marked) (ts : List TranscriptState) : Type 0 where
   pub each : HavePlaces ms ts
@@ -185,7 +185,7 @@ sums ms [] is fit = record {
 sums ms (t ∷ ts) is fit =
     let a = apart-cons t ts is in
     let mine : Fits (receipts_of t.items) (places_of ms t.id) = All-head (λ (u : TranscriptState). Fits (receipts_of u.items) (places_of ms u.id)) t ts fit in
-    let rest : Sums (remarked ms t.id cleared) ts = sums (remarked ms t.id cleared) ts a.1 (fit-cleared ms t.id ts a.0 (All-tail (λ (u : TranscriptState). Fits (receipts_of u.items) (places_of ms u.id)) t ts fit)) in
+    let rest : Sums (with_changed_marks ms t.id cleared) ts = sums (with_changed_marks ms t.id cleared) ts a.1 (fit-cleared ms t.id ts a.0 (All-tail (λ (u : TranscriptState). Fits (receipts_of u.items) (places_of ms u.id)) t ts fit)) in
     let s = places_sum-cleared ms t.id in
     record {
       few = (let f = mine.few in let g = rest.few in omega arith);
@@ -193,7 +193,7 @@ sums ms (t ∷ ts) is fit =
           let f = mine.few in
           let g = rest.few in
           let here : length (receipts_of t.items) ≡ length (places_of ms t.id) = omega arith in
-          let there : receipts_in ts ≡ places_sum (remarked ms t.id cleared) = omega arith in
+          let there : receipts_in ts ≡ places_sum (with_changed_marks ms t.id cleared) = omega arith in
           let others = rest.exact there in
           record {
             each = All-cons (λ (u : TranscriptState). places_told (receipts_of u.items) ≡ places_of ms u.id) t ts (mine.all here) (places-back ms t.id ts a.0 others.each);

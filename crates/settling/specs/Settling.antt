@@ -1,5 +1,6 @@
 -- When the answers to sessions are what the journals say, entry by entry.
 use Rattle.std.specs.Prelude.{ℕ, ◌≡◌, ◌+◌, ◌<◌, ◌≤◌, List, [], ◌∷◌, ◌++◌, length, map, All, AllPairs, ◌≢◌, Bool, true, false, Some, slice_get, ◌==◌, ◌||◌, ◌⊎◌}
+use Rattle.tenant_slot.specs.declared.slot.TheConstants.{MAX_ENTRIES}
 use Rattle.tenant_slot.specs.declared.event.Event.TheVariants.{Command as Asked}
 use Rattle.service_core.specs.declared.entry.Entry.{Entry}
 use Rattle.service_core.specs.declared.not_served.NoteCause.TheVariants.{JournalFull}
@@ -9,7 +10,7 @@ use Rattle.service_core.specs.Service.{ServiceState, journal_of}
 use Rattle.shared_core.specs.CoreState.{CoreState, Marked, ShareState, is_leased, is_marked, places_of, puts_in}
 use Rattle.shared_core.specs.Reaching.{is_of_threads, own_receipts}
 use Rattle.transcripts.specs.declared.item.Item.{Item}
-use Rattle.transcripts.specs.declared.item.Place.TheVariants.{Note}
+use Rattle.transcripts.specs.declared.item.ItemAnswer.TheVariants.{Note}
 use Rattle.transcripts.specs.Transcripts.{TranscriptState, receipts_of}
 use Rattle.settling.specs.declared.not_settled.Cause.{Cause}
 use Rattle.settling.specs.declared.not_settled.Cause.TheVariants.{Missing, Mismatch, NotFull}
@@ -82,7 +83,7 @@ TellsFull item = (n : Noted) × (item.place ≡ Note n) × (n.cause ≡ JournalF
 
 -- the journal is full, if the answer to an item says so
 abbrev pub IsFullIfTold : ServiceState → TranscriptState → Type 0
-IsFullIfTold service t = All (λ i. TellsFull i → length (journal_of service t.id) ≡ 65536) t.items
+IsFullIfTold service t = All (λ i. TellsFull i → length (journal_of service t.id) ≡ MAX_ENTRIES) t.items
 
 -- a transcript of that tenancy says that its journal is full, and it is not
 abbrev pub IsToldInVain : ServiceState → List TranscriptState → ℕ → Type 0

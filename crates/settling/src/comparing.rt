@@ -8,7 +8,7 @@ use service_core::{Entry, Receipt};
 use shared_core::{Begun, Core};
 use std::sync::ledger::Ledger;
 use tenant_slot::Event;
-use transcripts::{Place, Transcript};
+use transcripts::{ItemAnswer, Transcript};
 
 /// The id and the place of a receipt.
 pub(crate) type At = (u32, u32);
@@ -34,7 +34,7 @@ pub(crate) fn has_each_lease<C: Begun, P: Ledger>(
         has_id transcripts.now id ≡ true) (LacksLease core.now transcripts.now) }
 {
     for index in 0..core.admissions() {
-        if core.leased(index + 1) && !has_id(transcripts, index + 1) {
+        if core.is_leased(index + 1) && !has_id(transcripts, index + 1) {
             return false;
         }
     }
@@ -68,7 +68,7 @@ fn is_borne_out<C: Begun, P: Ledger>(
     if receipt.id() != id || repeated || (receipt.place() as u64) < least {
         return false;
     }
-    if !core.marked(receipt.id(), receipt.place()) {
+    if !core.is_marked(receipt.id(), receipt.place()) {
         return false;
     }
     match core.entry(receipt.id(), receipt.place()) {
@@ -93,7 +93,7 @@ fn mismatch_in<C: Begun, P: Ledger>(
     let items = transcript.items();
     let mut least = 0;
     for j in 0..items.len() {
-        let Place::Receipt(receipt) = &items[j].place else {
+        let ItemAnswer::Receipt(receipt) = &items[j].place else {
             continue;
         };
         if !is_borne_out(core, id, repeated, least, receipt) {

@@ -7,14 +7,14 @@ use service_core::NoteCause;
 use shared_core::{Begun, Core};
 use std::sync::ledger::Ledger;
 use tenant_slot::MAX_ENTRIES;
-use transcripts::{Item, Place, Transcript};
+use transcripts::{Item, ItemAnswer, Transcript};
 
 /// Whether the answer to an item says that the journal is full.
 fn tells_full(item: &Item) -> bool
     ensures { MatchBool result (TellsFull item.now) (TellsFull item.now → ⊥) }
 {
     match &item.place {
-        Place::Note(note) => matches!(note.cause(), NoteCause::JournalFull),
+        ItemAnswer::Note(note) => matches!(note.cause(), NoteCause::JournalFull),
         _ => false,
     }
 }

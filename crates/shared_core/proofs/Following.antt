@@ -5,8 +5,8 @@ use Rattle.std.proofs.lemmas.Bool.Decides.{nat_tests}
 use Rattle.service_core.specs.declared.entry.Entry.{Entry}
 use Rattle.strips.specs.Plan.{with_moved}
 use Rattle.service_core.specs.History.{History, with_entry, with_here}
-use Rattle.service_core.specs.Tenancy.{closed, if_live}
-use Rattle.service_core.specs.Service.{ServiceState, history_of, modified, without_tenancy}
+use Rattle.service_core.specs.Tenancy.{closed_history, if_live}
+use Rattle.service_core.specs.Service.{ServiceState, history_of, with_changed, without_tenancy}
 use Rattle.service_core.proofs.Lists.{history_of-modified, history_of-past, history_of-push, length-modified}
 use Rattle.shared_core.specs.Following.{Follows, GoesOn, Stays}
 
@@ -55,7 +55,7 @@ GoesOn-entry e h = record { id = refl; arch = refl; strip = refl; entries = ahea
 pub GoesOn-here : (here : Option Bool) (h : History) → GoesOn h (with_here here h)
 GoesOn-here here h = record { id = refl; arch = refl; strip = refl; entries = whole h.entries; closed = λ is. is }
 
-pub GoesOn-closed : (h : History) → GoesOn h (closed h)
+pub GoesOn-closed : (h : History) → GoesOn h (closed_history h)
 GoesOn-closed h = record { id = refl; arch = refl; strip = refl; entries = whole h.entries; closed = λ is. refl }
 
 -- each service goes on as itself
@@ -77,7 +77,7 @@ Follows-trans a b c one two = record {
     at_option id h (Some g) e goes = some_trans h g (history_of c.histories id) goes (two.each id g e)
 
 abbrev pub changed_at : ServiceState → ℕ → (History → History) → ServiceState
-changed_at s id change = record s { histories = modified s.histories id change }
+changed_at s id change = record s { histories = with_changed s.histories id change }
 
 pub Follows-changed : (s : ServiceState) (id : ℕ) (change : History → History) → ((h : History) → GoesOn h (change h)) → Follows s (changed_at s id change)
 Follows-changed s id change goes = record {
@@ -92,7 +92,7 @@ Follows-changed s id change goes = record {
 -- one tenancy fewer
 pub Follows-without : (s : ServiceState) (id : ℕ) → Follows s (without_tenancy s id)
 Follows-without s id =
-    let kept = Follows-changed s id closed GoesOn-closed in record { device = refl; each = kept.each }
+    let kept = Follows-changed s id closed_history GoesOn-closed in record { device = refl; each = kept.each }
 
 -- a strip moved
 pub Follows-moved : (s : ServiceState) (id offset : ℕ) → Follows s (record s { plan = with_moved s.plan id offset })

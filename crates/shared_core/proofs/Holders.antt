@@ -9,9 +9,9 @@ use Rattle.std.proofs.lemmas.List.Quantifiers.{position-Some}
 use Rattle.std.proofs.lemmas.List.Sums.{fails_before_first}
 use Rattle.std.proofs.lemmas.Option.{slice_get-get_or, slice_get_within, get_or_from_slice_get}
 use Rattle.strips.specs.declared.placed_strip.PlacedStrip.{PlacedStrip}
-use Rattle.strips.specs.Plan.{strip_of, without}
+use Rattle.strips.specs.Plan.{strip_of, strips_without}
 use Rattle.strips.proofs.Laid.{strip_of-without}
-use Rattle.shared_core.specs.CoreState.{AreSlotted, handed, holder_of, if_somebody, number_of}
+use Rattle.shared_core.specs.CoreState.{AreSlotted, numbers_after, holder_of, if_somebody, number_of}
 
 -- the numbers belong to the same tenancies
 pub AreSlotted-same : (live live' : ℕ → Bool) (holders : List ℕ) → ((id : ℕ) → live' id ≡ live id) → AreSlotted live holders → AreSlotted live' holders
@@ -173,14 +173,14 @@ freed_number live holders new n id was some at w = record {
     gone m other same is = let got = holds new m other is in got.1 (some_is other 0 (sym got.0 ∙ (ap (slice_get new) same ∙ w.here)))
 
 -- the numbers in use are at most as many as the strips
-fewer : (strips : List PlacedStrip) (id : ℕ) → length (without strips id) ≤ length strips
+fewer : (strips : List PlacedStrip) (id : ℕ) → length (strips_without strips id) ≤ length strips
 fewer [] id = omega arith
 fewer (s ∷ strips) id = grind (arith, nat_tests, fewer strips id)
 
-pub shrinks : (strips : List PlacedStrip) (id : ℕ) → is_some (strip_of strips id) ≡ true → length (without strips id) + 1 ≤ length strips
+pub shrinks : (strips : List PlacedStrip) (id : ℕ) → is_some (strip_of strips id) ≡ true → length (strips_without strips id) + 1 ≤ length strips
 shrinks [] id some = cc
 shrinks (s ∷ strips) id some =
-    elim (eqb s.id id) as (λ b. eqb s.id id ≡ b → is_some (if b then Some s else strip_of strips id) ≡ true → length (without (s ∷ strips) id) + 1 ≤ length (s ∷ strips)) [
+    elim (eqb s.id id) as (λ b. eqb s.id id ≡ b → is_some (if b then Some s else strip_of strips id) ≡ true → length (strips_without (s ∷ strips) id) + 1 ≤ length (s ∷ strips)) [
       | true ↦ λ e here. rw e (let few = fewer strips id in omega arith)
       | false ↦ λ e there. rw e (let few = shrinks strips id there in omega arith)
     ] refl some
@@ -189,13 +189,13 @@ as_many : (ids : List ℕ) (strips : List PlacedStrip) → ((n m id : ℕ) → s
 as_many [] strips once there = omega arith
 as_many (x ∷ ids) strips once there =
     let less = shrinks strips x (there 0 x refl) in
-    let rest = as_many ids (without strips x) (λ n m id at also. suc_is n m (once (suc n) (suc m) id at also)) (λ n id at. other n id at) in
+    let rest = as_many ids (strips_without strips x) (λ n m id at also. suc_is n m (once (suc n) (suc m) id at also)) (λ n id at. other n id at) in
     omega arith
   where
     suc_is : (n m : ℕ) → suc n ≡ suc m → n ≡ m
     suc_is n m is = omega arith
 
-    other : (n id : ℕ) → slice_get ids n ≡ Some id → is_some (strip_of (without strips x) id) ≡ true
+    other : (n id : ℕ) → slice_get ids n ≡ Some id → is_some (strip_of (strips_without strips x) id) ≡ true
     other n id at =
         let differ : id ≢ x = λ same. (let zero_is : suc n ≡ 0 = once (suc n) 0 x (at ∙ ap Some same) refl in omega arith) in
         let e : eqb id x ≡ false = grind (arith, nat_tests) in
@@ -214,14 +214,14 @@ free_number live holders strips was placed few = by_option (number_of holders 0)
         absurd (omega arith)
 
 -- a tenancy gets a number
-pub AreSlotted-given : (live : ℕ → Bool) (holders : List ℕ) (strips : List PlacedStrip) (id : ℕ) → AreSlotted live holders → live 0 ≡ false → live id ≡ false → id ≢ 0 → ((other : ℕ) → live other ≡ true → is_some (strip_of strips other) ≡ true) → length strips < 64 → AreSlotted (λ other. if eqb other id then true else live other) (handed holders (number_of holders 0) id)
+pub AreSlotted-given : (live : ℕ → Bool) (holders : List ℕ) (strips : List PlacedStrip) (id : ℕ) → AreSlotted live holders → live 0 ≡ false → live id ≡ false → id ≢ 0 → ((other : ℕ) → live other ≡ true → is_some (strip_of strips other) ≡ true) → length strips < 64 → AreSlotted (λ other. if eqb other id then true else live other) (numbers_after holders (number_of holders 0) id)
 AreSlotted-given live holders strips id was nobody fresh some placed few =
     let free = free_number live holders strips was placed few in
     let at = number_there holders 0 free.0 free.1 in
     rw free.1 (given_number live holders (set holders free.0 id) free.0 id was nobody fresh some at.1 (written holders free.0 id at.0))
 
 -- and gives it back
-pub AreSlotted-freed : (live : ℕ → Bool) (holders : List ℕ) (id : ℕ) → AreSlotted live holders → live id ≡ true → id ≢ 0 → AreSlotted (λ other. if eqb other id then false else live other) (handed holders (number_of holders id) 0)
+pub AreSlotted-freed : (live : ℕ → Bool) (holders : List ℕ) (id : ℕ) → AreSlotted live holders → live id ≡ true → id ≢ 0 → AreSlotted (λ other. if eqb other id then false else live other) (numbers_after holders (number_of holders id) 0)
 AreSlotted-freed live holders id was is some =
     let got = number_is holders id (was.each id is) in
     let at = number_there holders id got.0 got.1 in

@@ -15,7 +15,7 @@ use Rattle.service_core.specs.declared.put_reply.PutReply.TheVariants.{Recorded,
 use Rattle.service_core.specs.History.{History, with_entry, with_here}
 use Rattle.service_core.specs.Tenancy.{if_live}
 use Rattle.service_core.specs.Receipt.{Receipted}
-use Rattle.service_core.specs.Service.{ServiceState, entries_in, history_of, live_of, modified}
+use Rattle.service_core.specs.Service.{ServiceState, entries_in, history_of, live_of, with_changed}
 use Rattle.service_core.specs.Kept.{with_entry_of, with_here_of}
 use Rattle.service_core.specs.Calls.{IsGivenBack, IsPut, IsServed, IsTaken, Puts}
 use Rattle.service_core.specs.Run.{IsGivenBackTo, IsReceipt, step_entry}
@@ -34,19 +34,19 @@ puts_among-push [] e = omega arith
 puts_among-push (x ∷ es) e = omega (arith, puts_among-push es e)
 
 -- one entry more in one journal
-puts_in-entry : (hs : List History) (id : ℕ) (e : Entry) (h : History) → history_of hs id ≡ Some h → puts_in (modified hs id (with_entry e)) ≡ puts_in hs + put_mark e
+puts_in-entry : (hs : List History) (id : ℕ) (e : Entry) (h : History) → history_of hs id ≡ Some h → puts_in (with_changed hs id (with_entry e)) ≡ puts_in hs + put_mark e
 puts_in-entry [] id e h at = cc
 puts_in-entry (g ∷ hs) id e h at =
-    elim (eqb id 1) as (λ b. (if b then Some g else history_of hs (id - 1)) ≡ Some h → puts_in (if b then with_entry e g ∷ hs else g ∷ modified hs (id - 1) (with_entry e)) ≡ puts_in (g ∷ hs) + put_mark e) [
+    elim (eqb id 1) as (λ b. (if b then Some g else history_of hs (id - 1)) ≡ Some h → puts_in (if b then with_entry e g ∷ hs else g ∷ with_changed hs (id - 1) (with_entry e)) ≡ puts_in (g ∷ hs) + put_mark e) [
       | true ↦ λ here. omega (arith, puts_among-push g.entries e)
       | false ↦ λ there. omega (arith, puts_in-entry hs (id - 1) e h there)
     ] at
 
 -- a change that keeps the journals
-pub puts_in-kept : (hs : List History) (id : ℕ) (change : History → History) → ((h : History) → (change h).entries ≡ h.entries) → puts_in (modified hs id change) ≡ puts_in hs
+pub puts_in-kept : (hs : List History) (id : ℕ) (change : History → History) → ((h : History) → (change h).entries ≡ h.entries) → puts_in (with_changed hs id change) ≡ puts_in hs
 puts_in-kept [] id change keeps = refl
 puts_in-kept (g ∷ hs) id change keeps =
-    elim (eqb id 1) as (λ b. puts_in (if b then change g ∷ hs else g ∷ modified hs (id - 1) change) ≡ puts_in (g ∷ hs)) [
+    elim (eqb id 1) as (λ b. puts_in (if b then change g ∷ hs else g ∷ with_changed hs (id - 1) change) ≡ puts_in (g ∷ hs)) [
       | true ↦ ap (λ es. puts_among es + puts_in hs) (keeps g)
       | false ↦ ap (λ n. puts_among g.entries + n) (puts_in-kept hs (id - 1) change keeps)
     ]
@@ -70,7 +70,7 @@ longer_in change grows None = omega arith
 longer_in change grows (Some h) = grows h
 
 Grows-changed : (s : ServiceState) (id : ℕ) (change : History → History) (puts : ℕ) → ((h : History) → GoesOn h (change h)) → ((h : History) → (change h).live ≡ h.live) → ((h : History) → length h.entries ≤ length (change h).entries) →
-    puts_in (modified s.histories id change) ≡ puts_in s.histories + puts → Grows s (changed_at s id change) puts
+    puts_in (with_changed s.histories id change) ≡ puts_in s.histories + puts → Grows s (changed_at s id change) puts
 Grows-changed s id change puts goes live longer put = record {
   follows = Follows-changed s id change goes;
   stays = Stays-changed s id change live;

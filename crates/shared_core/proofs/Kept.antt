@@ -7,19 +7,19 @@ use Rattle.tenant_slot.specs.declared.command.Command.{Command}
 use Rattle.tenant_slot.specs.declared.event.Event.TheVariants.{Command as Asked}
 use Rattle.tenant_slot.proofs.Runs.{step-served}
 use Rattle.service_core.specs.History.{History, state_of}
-use Rattle.service_core.specs.Tenancy.{closed, if_live}
+use Rattle.service_core.specs.Tenancy.{closed_history, if_live}
 use Rattle.service_core.specs.declared.not_served.NotServed.{NotServed}
 use Rattle.service_core.specs.declared.not_served.NotServed.TheVariants.{NoMemory, JournalFull, NoSuchTenancy}
 use Rattle.service_core.specs.declared.op_refusal.OpRefusal.{OpRefusal}
 use Rattle.service_core.specs.declared.op_refusal.OpRefusal.TheVariants.{BadWidth, IdsSpent, NoMemory as OpNoMemory, NoRoom, NoSuchTenancy as OpNoSuchTenancy, TooManyStrips}
 use Rattle.service_core.specs.Receipt.{Receipted}
-use Rattle.service_core.specs.Service.{AreAlone, IsAloneOn, ServiceState, admitted, entries_in, history_of, live_of, modified, placed_width, live_width, with_tenancy, without_tenancy}
+use Rattle.service_core.specs.Service.{AreAlone, IsAloneOn, ServiceState, admitted_history, entries_in, history_of, live_of, with_changed, placed_width, live_width, with_tenancy, without_tenancy}
 use Rattle.service_core.specs.Calls.{IsAdmitted, IsEvicted, IsMoved, IsServed}
 use Rattle.service_core.specs.Run.{IsReceipt}
 use Rattle.service_core.specs.Headline.{AreParted}
 use Rattle.service_core.proofs.MovedStrips.{same_histories}
 use Rattle.service_core.proofs.Lists.{All-history_of, history_of-modified, history_of-past, history_of-push, history_of-zero, length-modified}
-use Rattle.shared_core.specs.CoreState.{AreSlotted, CoreState, LeaseState, Marked, SlotTable, can_lease, given, handed, has_room_in, is_leased, is_live, marked_of, number_of, places_of, remarked, unmarked, with_place}
+use Rattle.shared_core.specs.CoreState.{AreSlotted, CoreState, LeaseState, Marked, SlotTable, can_lease, with_lease, numbers_after, has_room_in, is_leased, is_live, marked_of, number_of, places_of, with_changed_marks, no_marks, with_place}
 use Rattle.shared_core.specs.Accounts.{AreMarks, IsAccount, IsRising, entries_of}
 use Rattle.shared_core.specs.Following.{Follows}
 use Rattle.shared_core.specs.Reaching.{IsReached}
@@ -50,12 +50,12 @@ IsAccount-grown begun stay old new marks holders commands puts shares more total
 }
 
 -- who is live
-in_closed : (o : Option History) → is_some (if_live (option_map closed o)) ≡ false
+in_closed : (o : Option History) → is_some (if_live (option_map closed_history o)) ≡ false
 in_closed None = refl
 in_closed (Some h) = refl
 
-live-closed : (hs : List History) (id other : ℕ) → is_live (modified hs id closed) other ≡ (if eqb other id then false else is_live hs other)
-live-closed hs id other = grind (arith, nat_tests, history_of-modified hs id other closed, in_closed (history_of hs other))
+live-closed : (hs : List History) (id other : ℕ) → is_live (with_changed hs id closed_history) other ≡ (if eqb other id then false else is_live hs other)
+live-closed hs id other = grind (arith, nat_tests, history_of-modified hs id other closed_history, in_closed (history_of hs other))
 
 live-push : (hs : List History) (h : History) (other : ℕ) → h.live ≡ true → is_live (hs ++ h ∷ []) other ≡ (if eqb other (length hs + 1) then true else is_live hs other)
 live-push hs h other live = grind (arith, nat_tests, history_of-push hs h other)
@@ -67,12 +67,12 @@ no_next : (hs : List History) → is_live hs (length hs + 1) ≡ false
 no_next hs = ap (λ o. is_some (if_live o)) (history_of-past hs (length hs + 1) (omega arith))
 
 -- a tenancy that ends keeps its journal
-in_entries : (o : Option History) → length (entries_in (option_map closed o)) ≡ length (entries_in o)
+in_entries : (o : Option History) → length (entries_in (option_map closed_history o)) ≡ length (entries_in o)
 in_entries None = refl
 in_entries (Some h) = refl
 
-entries-closed : (hs : List History) (id other : ℕ) → entries_of (modified hs id closed) other ≡ entries_of hs other
-entries-closed hs id other = grind (arith, nat_tests, history_of-modified hs id other closed, in_entries (history_of hs other))
+entries-closed : (hs : List History) (id other : ℕ) → entries_of (with_changed hs id closed_history) other ≡ entries_of hs other
+entries-closed hs id other = grind (arith, nat_tests, history_of-modified hs id other closed_history, in_entries (history_of hs other))
 
 entries-push : (hs : List History) (h : History) (other : ℕ) → h.entries ≡ [] → entries_of (hs ++ h ∷ []) other ≡ entries_of hs other
 entries-push hs h other none =
@@ -84,7 +84,7 @@ entries-push hs h other none =
 some_live : (hs : List History) (id : ℕ) → IsSome (live_of hs id) → is_live hs id ≡ true
 some_live hs id some = grind (arith, nat_tests)
 
-pub IsAccount-evicted : (begun : ServiceState) (stay : Bool) (old new : ServiceState) (id : ℕ) (marks : List Marked) (holders : List ℕ) (commands : ℕ × ℕ × ℕ × ℕ) (puts : ℕ × ℕ × ℕ) (shares : ℕ) → stay ≡ false → IsEvicted old id (Ok tt) new → IsAccount begun stay old marks holders commands puts shares → IsAccount begun stay new marks (handed holders (number_of holders id) 0) commands puts shares
+pub IsAccount-evicted : (begun : ServiceState) (stay : Bool) (old new : ServiceState) (id : ℕ) (marks : List Marked) (holders : List ℕ) (commands : ℕ × ℕ × ℕ × ℕ) (puts : ℕ × ℕ × ℕ) (shares : ℕ) → stay ≡ false → IsEvicted old id (Ok tt) new → IsAccount begun stay old marks holders commands puts shares → IsAccount begun stay new marks (numbers_after holders (number_of holders id) 0) commands puts shares
 IsAccount-evicted begun stay old new id marks holders commands puts shares may is was =
     let hs : List History = old.histories in
     let live : is_live hs id ≡ true = some_live hs id is.0 in
@@ -93,10 +93,10 @@ IsAccount-evicted begun stay old new id marks holders commands puts shares may i
       follows = Follows-trans begun old (without_tenancy old id) was.follows (Follows-without old id);
       stays = λ e. absurd (cc);
       reached = λ e. absurd (cc);
-      placed = record { count = was.placed.count ∙ sym (length-modified hs id closed); few = was.placed.few; rising = λ other. rw (entries-closed hs id other) (was.placed.rising other) };
-      slotted = AreSlotted-same (λ other. if eqb other id then false else is_live hs other) (is_live (modified hs id closed)) (handed holders (number_of holders id) 0) (live-closed hs id) (AreSlotted-freed (is_live hs) holders id was.slotted live some);
+      placed = record { count = was.placed.count ∙ sym (length-modified hs id closed_history); few = was.placed.few; rising = λ other. rw (entries-closed hs id other) (was.placed.rising other) };
+      slotted = AreSlotted-same (λ other. if eqb other id then false else is_live hs other) (is_live (with_changed hs id closed_history)) (numbers_after holders (number_of holders id) 0) (live-closed hs id) (AreSlotted-freed (is_live hs) holders id was.slotted live some);
       commanded = was.commanded;
-      put = record { all = was.put.all ∙ sym (puts_in-kept hs id closed (λ h. refl)); cut = was.put.cut; own = was.put.own; few = was.put.few };
+      put = record { all = was.put.all ∙ sym (puts_in-kept hs id closed_history (λ h. refl)); cut = was.put.cut; own = was.put.own; few = was.put.few };
     })
 
 -- a strip that moves keeps the histories
@@ -131,22 +131,22 @@ is_some-map f (Some x) = refl
 pub has_strip : (s : ServiceState) (id : ℕ) → placed_width s.plan.strips id ≡ live_width s.histories id → is_live s.histories id ≡ true → is_some (strip_of s.plan.strips id) ≡ true
 has_strip s id same live = sym (is_some-map (λ p. p.width) (strip_of s.plan.strips id)) ∙ (ap is_some same ∙ (is_some-map (λ h. h.strip.width) (live_of s.histories id) ∙ live))
 
-pub IsAccount-admitted : (begun : ServiceState) (stay : Bool) (old new : ServiceState) (width : ℕ) (told : ℕ × ℕ) (marks : List Marked) (holders : List ℕ) (commands : ℕ × ℕ × ℕ × ℕ) (puts : ℕ × ℕ × ℕ) (shares : ℕ) → stay ≡ false → IsAdmitted old width (Ok told) new → AreParted old.device old → IsAccount begun stay old marks holders commands puts shares → IsAccount begun stay new (marks ++ unmarked ∷ []) (handed holders (number_of holders 0) told.0) commands puts shares
+pub IsAccount-admitted : (begun : ServiceState) (stay : Bool) (old new : ServiceState) (width : ℕ) (told : ℕ × ℕ) (marks : List Marked) (holders : List ℕ) (commands : ℕ × ℕ × ℕ × ℕ) (puts : ℕ × ℕ × ℕ) (shares : ℕ) → stay ≡ false → IsAdmitted old width (Ok told) new → AreParted old.device old → IsAccount begun stay old marks holders commands puts shares → IsAccount begun stay new (marks ++ no_marks ∷ []) (numbers_after holders (number_of holders 0) told.0) commands puts shares
 IsAccount-admitted begun stay old new width told marks holders commands puts shares may is parted was =
     let hs : List History = old.histories in
-    let h : History = admitted old.device (length hs + 1) width in
+    let h : History = admitted_history old.device (length hs + 1) width in
     let ids : length hs < 65535 = is.0.ids_left in
-    let given_it : AreSlotted (λ other. if eqb other (length hs + 1) then true else is_live hs other) (handed holders (number_of holders 0) (length hs + 1)) = AreSlotted-given (is_live hs) holders old.plan.strips (length hs + 1) was.slotted (nobody hs) (no_next hs) (λ never. omega arith) (λ other live. has_strip old other (parted.of_live other) live) is.0.few_strips in
+    let given_it : AreSlotted (λ other. if eqb other (length hs + 1) then true else is_live hs other) (numbers_after holders (number_of holders 0) (length hs + 1)) = AreSlotted-given (is_live hs) holders old.plan.strips (length hs + 1) was.slotted (nobody hs) (no_next hs) (λ never. omega arith) (λ other live. has_strip old other (parted.of_live other) live) is.0.few_strips in
     rw (is.3, is.1) (record {
       follows = Follows-trans begun old (with_tenancy old width told.1) was.follows (Follows-push old (with_tenancy old width told.1) h refl refl);
       stays = λ e. absurd (cc);
       reached = λ e. absurd (cc);
       placed = record {
-        count = length-append marks (unmarked ∷ []) ∙ (ap (λ n. n + 1) was.placed.count ∙ sym (length-append hs (h ∷ [])));
-        few = omega (arith, length-append marks (unmarked ∷ []), was.placed.count);
+        count = length-append marks (no_marks ∷ []) ∙ (ap (λ n. n + 1) was.placed.count ∙ sym (length-append hs (h ∷ [])));
+        few = omega (arith, length-append marks (no_marks ∷ []), was.placed.count);
         rising = λ other. rw (entries-push hs h other refl, places_of-push marks other) (was.placed.rising other);
       };
-      slotted = AreSlotted-same (λ other. if eqb other (length hs + 1) then true else is_live hs other) (is_live (hs ++ h ∷ [])) (handed holders (number_of holders 0) (length hs + 1)) (λ other. live-push hs h other refl) given_it;
+      slotted = AreSlotted-same (λ other. if eqb other (length hs + 1) then true else is_live hs other) (is_live (hs ++ h ∷ [])) (numbers_after holders (number_of holders 0) (length hs + 1)) (λ other. live-push hs h other refl) given_it;
       commanded = record { all = was.commanded.all ∙ sym (places_sum-push marks); cut = was.commanded.cut; spare = ap (λ n. commands.1 + n) (leases_in-push marks) ∙ was.commanded.spare; none_spare = was.commanded.none_spare };
       put = record { all = omega (arith, was.put.all, puts_in-push hs h); cut = was.put.cut; own = was.put.own; few = was.put.few };
     })
@@ -178,7 +178,7 @@ pub live_within : (hs : List History) (id : ℕ) → is_live hs id ≡ true → 
 live_within hs id live = let got = live_is_there hs id live in within hs id got.0 got.1
 
 has_marks : (ms : List Marked) (id : ℕ) → 0 < id → id ≤ length ms → (m : Marked) × (marked_of ms id ≡ Some m)
-has_marks ms id pos le = (get_or ms (id - 1) unmarked, marked_of-at ms id unmarked pos le)
+has_marks ms id pos le = (get_or ms (id - 1) no_marks, marked_of-at ms id no_marks pos le)
 
 pub room_live : (hs : List History) (id : ℕ) → has_room_in (live_of hs id) ≡ true → is_live hs id ≡ true
 room_live hs id room = at_option (live_of hs id) room
@@ -188,7 +188,7 @@ room_live hs id room = at_option (live_of hs id) room
     at_option (Some h) is = refl
 
 -- a lease is given
-pub IsAccount-leased : (begun : ServiceState) (stay : Bool) (s : ServiceState) (ms : List Marked) (holders : List ℕ) (total parts amount whole : ℕ) (puts : ℕ × ℕ × ℕ) (shares id parts' amount' : ℕ) → is_live s.histories id ≡ true → is_leased ms id ≡ false → parts' + 1 ≡ parts → amount' + 0 ≡ amount → IsAccount begun stay s ms holders (total, parts, amount, whole) puts shares → IsAccount begun stay s (remarked ms id given) holders (total, parts', amount', whole) puts shares
+pub IsAccount-leased : (begun : ServiceState) (stay : Bool) (s : ServiceState) (ms : List Marked) (holders : List ℕ) (total parts amount whole : ℕ) (puts : ℕ × ℕ × ℕ) (shares id parts' amount' : ℕ) → is_live s.histories id ≡ true → is_leased ms id ≡ false → parts' + 1 ≡ parts → amount' + 0 ≡ amount → IsAccount begun stay s ms holders (total, parts, amount, whole) puts shares → IsAccount begun stay s (with_changed_marks ms id with_lease) holders (total, parts', amount', whole) puts shares
 IsAccount-leased begun stay s ms holders total parts amount whole puts shares id parts' amount' live free ps as' was =
     let there = live_within s.histories id live in
     let count = was.placed.count in
@@ -198,7 +198,7 @@ IsAccount-leased begun stay s ms holders total parts amount whole puts shares id
       follows = was.follows;
       stays = was.stays;
       reached = λ e. reached_leased begun s ms id (was.reached e);
-      placed = record { count = length-remarked ms id given ∙ was.placed.count; few = omega (arith, length-remarked ms id given, was.placed.few); rising = λ other. rw (places_of-given ms id other) (was.placed.rising other) };
+      placed = record { count = length-remarked ms id with_lease ∙ was.placed.count; few = omega (arith, length-remarked ms id with_lease, was.placed.few); rising = λ other. rw (places_of-given ms id other) (was.placed.rising other) };
       slotted = was.slotted;
       commanded = record { all = was.commanded.all ∙ sym (places_sum-given ms id); cut = was.commanded.cut; spare = omega (arith, was.commanded.spare, leases_in-given ms id got.0 got.1 none); none_spare = omega (arith, was.commanded.none_spare) };
       put = was.put;
@@ -209,7 +209,7 @@ pub part_left : (begun : ServiceState) (stay : Bool) (s : ServiceState) (ms : Li
 part_left begun stay s ms holders commands puts shares was = omega (arith, was.commanded.spare, leases_in-few ms, was.placed.few)
 
 -- an entry of a lease
-pub IsAccount-marked : (begun : ServiceState) (stay : Bool) (old new : ServiceState) (id : ℕ) (command : Command) (r : Receipted) (ms : List Marked) (holders : List ℕ) (commands : ℕ × ℕ × ℕ × ℕ) (puts : ℕ × ℕ × ℕ) (shares total' : ℕ) → IsServed old id command (Ok r) new → is_live old.histories id ≡ true → total' ≡ commands.0 + 1 → IsAccount begun stay old ms holders commands puts shares → IsAccount begun stay new (remarked ms id (with_place r.place)) holders (total', commands.1, commands.2, commands.3) puts shares
+pub IsAccount-marked : (begun : ServiceState) (stay : Bool) (old new : ServiceState) (id : ℕ) (command : Command) (r : Receipted) (ms : List Marked) (holders : List ℕ) (commands : ℕ × ℕ × ℕ × ℕ) (puts : ℕ × ℕ × ℕ) (shares total' : ℕ) → IsServed old id command (Ok r) new → is_live old.histories id ≡ true → total' ≡ commands.0 + 1 → IsAccount begun stay old ms holders commands puts shares → IsAccount begun stay new (with_changed_marks ms id (with_place r.place)) holders (total', commands.1, commands.2, commands.3) puts shares
 IsAccount-marked begun stay old new id command r ms holders commands puts shares total' is live ts was =
     let there = live_within old.histories id live in
     let count = was.placed.count in
@@ -230,7 +230,7 @@ IsAccount-marked begun stay old new id command r ms holders commands puts shares
       put = record { all = omega (arith, was.put.all, grows.put); cut = was.put.cut; own = was.put.own; few = was.put.few };
     }
   where
-    by_id : (r.place ≡ entries_of old.histories id) × (entries_of new.histories id ≡ entries_of old.histories id + 1) → (m : Marked) → marked_of ms id ≡ Some m → Grows old new 0 → (other : ℕ) (b : Bool) → eqb other id ≡ b → IsRising (entries_of begun.histories other) (places_of (remarked ms id (with_place r.place)) other) (entries_of new.histories other)
+    by_id : (r.place ≡ entries_of old.histories id) × (entries_of new.histories id ≡ entries_of old.histories id + 1) → (m : Marked) → marked_of ms id ≡ Some m → Grows old new 0 → (other : ℕ) (b : Bool) → eqb other id ≡ b → IsRising (entries_of begun.histories other) (places_of (with_changed_marks ms id (with_place r.place)) other) (entries_of new.histories other)
     by_id at m here grows other true e =
         let same : other ≡ id = (Decides-eqb other id).0 e in
         rw (same, places_of-place ms id r.place m here, at.0, at.1) (rising-push (entries_of begun.histories id) (places_of ms id) (entries_of old.histories id) (was.placed.rising id))

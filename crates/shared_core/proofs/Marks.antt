@@ -4,7 +4,7 @@ use Rattle.std.specs.Prelude.{option_map, if◌then◌else◌, All}
 use Rattle.std.proofs.Math.ListN.{set}
 use Rattle.std.proofs.lemmas.Bool.Decides.{nat_tests}
 use Rattle.std.proofs.lemmas.List.Elements.{All-cons, All-head, All-tail}
-use Rattle.shared_core.specs.CoreState.{Marked, marked_of, remarked}
+use Rattle.shared_core.specs.CoreState.{Marked, marked_of, with_changed_marks}
 
 -- no marks have the id 0, or one past the last
 pub marked_of-zero : (ms : List Marked) → marked_of ms 0 ≡ None
@@ -25,31 +25,31 @@ marked_of-at ms id d pos le = let e : id - 1 + 1 ≡ id = omega arith in rw e at
 
 pub ruleset by_id = (marked_of-zero, marked_of-past, marked_of-at)
 
-pub length-remarked : (ms : List Marked) (id : ℕ) (change : Marked → Marked) → length (remarked ms id change) ≡ length ms
+pub length-remarked : (ms : List Marked) (id : ℕ) (change : Marked → Marked) → length (with_changed_marks ms id change) ≡ length ms
 length-remarked [] id change = refl
 length-remarked (m ∷ ms) id change = grind (arith, nat_tests, length-remarked ms (id - 1) change)
 
-remarked-next : (ms : List Marked) (i : ℕ) (d : Marked) (change : Marked → Marked) → i < length ms → remarked ms (i + 1) change ≡ set ms i (change (get_or ms i d))
+remarked-next : (ms : List Marked) (i : ℕ) (d : Marked) (change : Marked → Marked) → i < length ms → with_changed_marks ms (i + 1) change ≡ set ms i (change (get_or ms i d))
 remarked-next [] i d change lt = absurd (omega arith)
 remarked-next (m ∷ ms) zero d change lt = refl
 remarked-next (m ∷ ms) (suc i) d change lt = grind (arith, nat_tests, remarked-next ms i d change (omega arith))
 
 -- a write of the changed marks
-pub set-remarked : (ms : List Marked) (id : ℕ) (old : Marked) (change : Marked → Marked) → 0 < id → id ≤ length ms → old ≡ get_or ms (id - 1) old → set ms (id - 1) (change old) ≡ remarked ms id change
+pub set-remarked : (ms : List Marked) (id : ℕ) (old : Marked) (change : Marked → Marked) → 0 < id → id ≤ length ms → old ≡ get_or ms (id - 1) old → set ms (id - 1) (change old) ≡ with_changed_marks ms id change
 set-remarked ms id old change pos le is =
     let e : id - 1 + 1 ≡ id = omega arith in
-    let m : remarked ms id change ≡ set ms (id - 1) (change (get_or ms (id - 1) old)) = rw e at (remarked-next ms (id - 1) old change (omega arith)) in
+    let m : with_changed_marks ms id change ≡ set ms (id - 1) (change (get_or ms (id - 1) old)) = rw e at (remarked-next ms (id - 1) old change (omega arith)) in
     sym (m ∙ ap (λ m. set ms (id - 1) (change m)) (sym is))
 
-pub All-remarked : (P : Marked → Type 0) (ms : List Marked) (id : ℕ) (change : Marked → Marked) → ((m : Marked) → marked_of ms id ≡ Some m → P m → P (change m)) → All P ms → All P (remarked ms id change)
+pub All-remarked : (P : Marked → Type 0) (ms : List Marked) (id : ℕ) (change : Marked → Marked) → ((m : Marked) → marked_of ms id ≡ Some m → P m → P (change m)) → All P ms → All P (with_changed_marks ms id change)
 All-remarked P [] id change keeps all = all
 All-remarked P (m ∷ ms) id change keeps all =
-    elim (eqb id 1) as (λ b. ((g : Marked) → (if b then Some m else marked_of ms (id - 1)) ≡ Some g → P g → P (change g)) → All P (if b then change m ∷ ms else m ∷ remarked ms (id - 1) change)) [
+    elim (eqb id 1) as (λ b. ((g : Marked) → (if b then Some m else marked_of ms (id - 1)) ≡ Some g → P g → P (change g)) → All P (if b then change m ∷ ms else m ∷ with_changed_marks ms (id - 1) change)) [
       | true ↦ λ keep. All-cons P (change m) ms (keep m refl (All-head P m ms all)) (All-tail P m ms all)
-      | false ↦ λ keep. All-cons P m (remarked ms (id - 1) change) (All-head P m ms all) (All-remarked P ms (id - 1) change keep (All-tail P m ms all))
+      | false ↦ λ keep. All-cons P m (with_changed_marks ms (id - 1) change) (All-head P m ms all) (All-remarked P ms (id - 1) change keep (All-tail P m ms all))
     ] keeps
 
-pub marked_of-remarked : (ms : List Marked) (id other : ℕ) (change : Marked → Marked) → marked_of (remarked ms id change) other ≡ (if eqb other id then option_map change (marked_of ms other) else marked_of ms other)
+pub marked_of-remarked : (ms : List Marked) (id other : ℕ) (change : Marked → Marked) → marked_of (with_changed_marks ms id change) other ≡ (if eqb other id then option_map change (marked_of ms other) else marked_of ms other)
 marked_of-remarked [] id other change = grind (arith, nat_tests)
 marked_of-remarked (m ∷ ms) id other change = grind (arith, nat_tests, marked_of-remarked ms (id - 1) (other - 1) change)
 

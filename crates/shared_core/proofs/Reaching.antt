@@ -15,7 +15,7 @@ use Rattle.service_core.specs.Calls.{IsGivenBack, IsServed, IsTaken, Puts}
 use Rattle.service_core.specs.Run.{Call, Happens, Run}
 use Rattle.service_core.specs.Run.Call.{Admit, Evict, Move, Tenant, Take, Put, GiveBack, Owners}
 use Rattle.service_core.specs.Service.{ServiceState}
-use Rattle.shared_core.specs.CoreState.{Marked, given, marked_of, places_of, remarked, unmarked, with_place}
+use Rattle.shared_core.specs.CoreState.{Marked, with_lease, marked_of, places_of, with_changed_marks, no_marks, with_place}
 use Rattle.shared_core.specs.CoreCalls.{puts_of}
 use Rattle.shared_core.specs.Following.{Follows, Stays}
 use Rattle.shared_core.specs.Reaching.{IsReached, is_of_threads, own_receipt, own_receipts}
@@ -63,7 +63,7 @@ mine id command r = let e : eqb id id ≡ true = grind (arith, nat_tests) in rw 
 others : (id other : ℕ) (command : Command) (r : Receipted) → eqb other id ≡ false → own_receipt other (Tenant id command (Ok r)) ≡ []
 others id other command r differ = let e : eqb id other ≡ false = grind (arith, nat_tests) in rw e refl
 
-pub reached_marked : (begun old new : ServiceState) (marks : List Marked) (id : ℕ) (command : Command) (r : Receipted) (m : Marked) → marked_of marks id ≡ Some m → IsServed old id command (Ok r) new → IsReached begun old marks → IsReached begun new (remarked marks id (with_place r.place))
+pub reached_marked : (begun old new : ServiceState) (marks : List Marked) (id : ℕ) (command : Command) (r : Receipted) (m : Marked) → marked_of marks id ≡ Some m → IsServed old id command (Ok r) new → IsReached begun old marks → IsReached begun new (with_changed_marks marks id (with_place r.place))
 reached_marked begun old new marks id command r m at is was = record {
   calls = was.calls ++ call ∷ [];
   run = Run-push begun was.calls old call new was.run is;
@@ -74,7 +74,7 @@ reached_marked begun old new marks id command r m at is was = record {
     call : Call
     call = Tenant id command (Ok r)
 
-    by_id : (other : ℕ) (b : Bool) → eqb other id ≡ b → places_in_calls other (was.calls ++ call ∷ []) ≡ places_of (remarked marks id (with_place r.place)) other
+    by_id : (other : ℕ) (b : Bool) → eqb other id ≡ b → places_in_calls other (was.calls ++ call ∷ []) ≡ places_of (with_changed_marks marks id (with_place r.place)) other
     by_id other true e =
         let same : other ≡ id = (Decides-eqb other id).0 e in
         let more : own_receipts id (was.calls ++ call ∷ []) ≡ own_receipts id was.calls ++ r ∷ [] = own_receipts-push id was.calls call ∙ ap (λ rs. own_receipts id was.calls ++ rs) (mine id command r) in
@@ -85,7 +85,7 @@ reached_marked begun old new marks id command r m at is was = record {
         ap (λ rs. map (λ (x : Receipted). x.place) rs) more ∙ (was.commands other ∙ sym (places_of-other marks id other r.place e))
 
 -- a lease that is given has entered no command
-pub reached_leased : (begun service : ServiceState) (marks : List Marked) (id : ℕ) → IsReached begun service marks → IsReached begun service (remarked marks id given)
+pub reached_leased : (begun service : ServiceState) (marks : List Marked) (id : ℕ) → IsReached begun service marks → IsReached begun service (with_changed_marks marks id with_lease)
 reached_leased begun service marks id was = record {
   calls = was.calls;
   run = was.run;
@@ -94,7 +94,7 @@ reached_leased begun service marks id was = record {
 }
 
 -- a core at its beginning
-pub reached_none : (begun : ServiceState) (n : ℕ) → IsReached begun begun (replicate n unmarked)
+pub reached_none : (begun : ServiceState) (n : ℕ) → IsReached begun begun (replicate n no_marks)
 reached_none begun n = record {
   calls = [];
   run = refl;

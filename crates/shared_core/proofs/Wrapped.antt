@@ -5,14 +5,14 @@ use Rattle.std.proofs.lemmas.Bool.Decides.{nat_tests, Decides-eqb}
 use Rattle.std.proofs.lemmas.List.{length-replicate}
 use Rattle.std.proofs.lemmas.Option.{slice_get_past}
 use Rattle.strips.specs.declared.placed_strip.PlacedStrip.{PlacedStrip}
-use Rattle.strips.specs.Plan.{strip_of, without}
+use Rattle.strips.specs.Plan.{strip_of, strips_without}
 use Rattle.strips.proofs.Laid.{strip_of-without}
 use Rattle.service_core.specs.declared.entry.Entry.{Entry}
 use Rattle.service_core.specs.History.{History}
 use Rattle.service_core.specs.Tenancy.{if_live}
 use Rattle.service_core.specs.Service.{AreAlone, IsAloneOn, ServiceState, entries_in, history_of, journal_of}
 use Rattle.service_core.proofs.Lists.{All-history_of, history_of-past}
-use Rattle.shared_core.specs.CoreState.{AreSlotted, Marked, handed, is_live, number_of, puts_among, puts_in, unmarked}
+use Rattle.shared_core.specs.CoreState.{AreSlotted, Marked, numbers_after, is_live, number_of, puts_among, puts_in, no_marks}
 use Rattle.shared_core.specs.Accounts.{IsAccount}
 use Rattle.shared_core.proofs.Sums.{leases_in-none, places_of-none, places_sum-none}
 use Rattle.shared_core.proofs.Following.{Follows-same, Stays-same}
@@ -97,15 +97,15 @@ and_both : (a b : Bool) → (a && b) ≡ true → (a ≡ true) × (b ≡ true)
 and_both true b is = (refl, is)
 and_both false b never = cc
 
-pub slotted_live : (hs : List History) (holders : List ℕ) (strips : List PlacedStrip) (i : ℕ) → ((id : ℕ) → is_live hs id ≡ true → is_some (strip_of strips id) ≡ true) → length strips ≤ 64 → is_live hs 0 ≡ false → is_live hs (i + 1) ≡ true → AreSlotted (live_upto hs i) holders → AreSlotted (live_upto hs (i + 1)) (handed holders (number_of holders 0) (i + 1))
+pub slotted_live : (hs : List History) (holders : List ℕ) (strips : List PlacedStrip) (i : ℕ) → ((id : ℕ) → is_live hs id ≡ true → is_some (strip_of strips id) ≡ true) → length strips ≤ 64 → is_live hs 0 ≡ false → is_live hs (i + 1) ≡ true → AreSlotted (live_upto hs i) holders → AreSlotted (live_upto hs (i + 1)) (numbers_after holders (number_of holders 0) (i + 1))
 slotted_live hs holders strips i placed few nobody live was =
     let less = shrinks strips (i + 1) (placed (i + 1) live) in
     let next_not : live_upto hs i (i + 1) ≡ false = (let e : nat_lt (i + 1) (i + 1) ≡ false = grind (arith, nat_tests) in rw e refl) in
     let zero_not : live_upto hs i 0 ≡ false = (let e : nat_lt 0 (i + 1) ≡ true = grind (arith, nat_tests) in rw (e, nobody) refl) in
-    AreSlotted-same (λ id. if eqb id (i + 1) then true else live_upto hs i id) (live_upto hs (i + 1)) (handed holders (number_of holders 0) (i + 1)) (λ id. upto_live hs i id live)
-    (AreSlotted-given (live_upto hs i) holders (without strips (i + 1)) (i + 1) was zero_not next_not (λ never. omega arith) (λ id is. others id is) (omega arith))
+    AreSlotted-same (λ id. if eqb id (i + 1) then true else live_upto hs i id) (live_upto hs (i + 1)) (numbers_after holders (number_of holders 0) (i + 1)) (λ id. upto_live hs i id live)
+    (AreSlotted-given (live_upto hs i) holders (strips_without strips (i + 1)) (i + 1) was zero_not next_not (λ never. omega arith) (λ id is. others id is) (omega arith))
   where
-    others : (id : ℕ) → live_upto hs i id ≡ true → is_some (strip_of (without strips (i + 1)) id) ≡ true
+    others : (id : ℕ) → live_upto hs i id ≡ true → is_some (strip_of (strips_without strips (i + 1)) id) ≡ true
     others id is =
         let both = and_both (nat_lt id (i + 1)) (is_live hs id) is in
         let below = both.0 in
@@ -117,7 +117,7 @@ pub none_past : (s : ServiceState) (id : ℕ) → AreAlone s → slice_get (jour
 none_past s id alone = slice_get_past (journal_of s id) 65536 (few_entries s id alone)
 
 -- the account at its beginning
-pub IsAccount-wrapped : (begun : ServiceState) (stay : Bool) (s : ServiceState) (marks : List Marked) (holders : List ℕ) (total parts amount whole put_total put_parts put_whole : ℕ) → begun ≡ s → length s.histories ≤ 65535 → marks ≡ replicate (length s.histories) unmarked → AreSlotted (is_live s.histories) holders →
+pub IsAccount-wrapped : (begun : ServiceState) (stay : Bool) (s : ServiceState) (marks : List Marked) (holders : List ℕ) (total parts amount whole put_total put_parts put_whole : ℕ) → begun ≡ s → length s.histories ≤ 65535 → marks ≡ replicate (length s.histories) no_marks → AreSlotted (is_live s.histories) holders →
     total ≡ 0 → parts ≡ 65536 → amount ≡ 0 → whole ≡ 65536 → put_total ≡ puts_in s.histories → put_parts ≡ 17 → put_whole ≡ 17 → IsAccount begun stay s marks holders (total, parts, amount, whole) (put_total, put_parts, put_whole) 0
 IsAccount-wrapped begun stay s marks holders total parts amount whole put_total put_parts put_whole same few are slotted t p a w pt pp pw =
     let hs : List History = s.histories in
@@ -126,8 +126,8 @@ IsAccount-wrapped begun stay s marks holders total parts amount whole put_total 
       stays = λ e. Stays-same s;
       reached = λ e. rw are (reached_none s (length hs));
       placed = record {
-        count = rw are (length-replicate (length hs) unmarked);
-        few = rw are (omega (arith, few, length-replicate (length hs) unmarked));
+        count = rw are (length-replicate (length hs) no_marks);
+        few = rw are (omega (arith, few, length-replicate (length hs) no_marks));
         rising = λ id. rw (are, places_of-none (length hs) id) (omega arith);
       };
       slotted = slotted;

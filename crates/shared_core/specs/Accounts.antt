@@ -1,5 +1,7 @@
 -- Private: the account that the core keeps.
 use Rattle.std.specs.Prelude.{ℕ, Bool, true, ◌≡◌, ◌+◌, ◌≤◌, List, [], ◌∷◌, length, if◌then◌else◌}
+use Rattle.shared_core.specs.declared.shared.TheConstants.{MAX_WORKERS}
+use Rattle.service_core.specs.declared.service.TheConstants.{MAX_ADMISSIONS}
 use Rattle.service_core.specs.History.{History}
 use Rattle.service_core.specs.Service.{ServiceState, history_of, entries_in}
 use Rattle.shared_core.specs.CoreState.{AreSlotted, Marked, is_live, places_of, puts_in}
@@ -31,23 +33,23 @@ entries_of histories id = length (entries_in (history_of histories id))
 -- order, after the entries with which the core began
 pub record AreMarks (begun histories : List History) (marks : List Marked) : Type 0 where
   pub count : length marks ≡ length histories
-  pub few : length marks ≤ 65535
+  pub few : length marks ≤ MAX_ADMISSIONS
   pub rising : (id : ℕ) → IsRising (entries_of begun id) (places_of marks id) (entries_of histories id)
 
 -- the ledger of commands counts the marked entries, and each lease that was given has one of its
 -- parts
 pub record CountsCommands (marks : List Marked) (total parts amount whole : ℕ) : Type 0 where
   pub all : total ≡ places_sum marks
-  pub cut : whole ≡ 65536
-  pub spare : parts + leases_in marks ≡ 65536
+  pub cut : whole ≡ MAX_ADMISSIONS + 1
+  pub spare : parts + leases_in marks ≡ MAX_ADMISSIONS + 1
   pub none_spare : amount ≡ 0
 
 -- the ledger of puts counts the put entries, and each share that was given has one of its parts
 pub record CountsPuts (histories : List History) (total parts whole shares : ℕ) : Type 0 where
   pub all : total ≡ puts_in histories
-  pub cut : whole ≡ 17
-  pub own : parts + shares ≡ 17
-  pub few : shares ≤ 16
+  pub cut : whole ≡ MAX_WORKERS + 1
+  pub own : parts + shares ≡ MAX_WORKERS + 1
+  pub few : shares ≤ MAX_WORKERS
 
 -- the service goes on from the one with which the core began, and if the tenancies are to stay they
 -- do; it was reached by calls of threads, in which exactly the leases' commands are served; and the

@@ -2,6 +2,8 @@
 -- inside.
 use Rattle.std.specs.Prelude.{ℕ, ◌≡◌, ◌+◌, ◌<◌, [], ◌∷◌, ◌++◌, true, false, Option, Some, None, Result, Ok, Err, length, replicate}
 use Rattle.std.specs.declared.alloc.AllocError.{AllocError}
+use Rattle.shared_core.specs.declared.shared.TheConstants.{MAX_WORKERS}
+use Rattle.strips.specs.declared.layout.TheConstants.{MAX_STRIPS}
 use Rattle.job_state.specs.declared.step.JobStep.{JobStep}
 use Rattle.service_core.specs.declared.op_refusal.OpRefusal.{OpRefusal}
 use Rattle.service_core.specs.declared.not_served.NotServed.{NotServed}
@@ -9,7 +11,7 @@ use Rattle.service_core.specs.declared.put_reply.PutReply.{PutReply}
 use Rattle.service_core.specs.declared.put_reply.PutReply.TheVariants.{Recorded, Full, Gone}
 use Rattle.service_core.specs.Receipt.{Receipted}
 use Rattle.service_core.specs.Service.{ServiceState}
-use Rattle.shared_core.specs.CoreState.{AreSlotted, CoreState, LeaseState, Marked, ShareState, can_lease, given, is_live, puts_in, remarked, unmarked, with_holder, with_place}
+use Rattle.shared_core.specs.CoreState.{AreSlotted, CoreState, LeaseState, Marked, ShareState, can_lease, with_lease, is_live, puts_in, with_changed_marks, no_marks, with_holder, with_place}
 
 -- only the service changes
 abbrev pub ChangesService : CoreState → CoreState → Type 0
@@ -19,15 +21,15 @@ ChangesService old new = new ≡ record old { service = new.service }
 -- to no share
 pub record IsWrapped (service : ServiceState) (core : CoreState) : Type 0 where
   pub same : core.service ≡ service
-  pub marks : core.marks ≡ replicate (length service.histories) unmarked
+  pub marks : core.marks ≡ replicate (length service.histories) no_marks
   pub slotted : AreSlotted (is_live service.histories) core.slots.holders
-  pub none_queued : core.slots.queued ≡ replicate 64 false
+  pub none_queued : core.slots.queued ≡ replicate MAX_STRIPS false
   pub shares : core.shares ≡ 0
   pub own_puts : core.own_puts ≡ puts_in service.histories
 
 -- an admission gives the id the first slot number that is nobody's
 abbrev pub Admits : CoreState → Result (ℕ × ℕ) OpRefusal → CoreState → Type 0
-Admits old (Ok told) new = new ≡ record old { service = new.service; marks = old.marks ++ unmarked ∷ []; slots = with_holder old.slots 0 told.0 }
+Admits old (Ok told) new = new ≡ record old { service = new.service; marks = old.marks ++ no_marks ∷ []; slots = with_holder old.slots 0 told.0 }
 Admits old (Err refusal) new = new ≡ old
 
 -- an eviction frees it
@@ -42,7 +44,7 @@ MarksPlace old (Err refusal) new = new ≡ old
 
 -- the entry of a command that is served is marked
 abbrev pub MarksEntry : CoreState → ℕ → Result Receipted NotServed → CoreState → Type 0
-MarksEntry old id (Ok receipt) new = new ≡ record old { service = new.service; marks = remarked old.marks id (with_place receipt.place) }
+MarksEntry old id (Ok receipt) new = new ≡ record old { service = new.service; marks = with_changed_marks old.marks id (with_place receipt.place) }
 MarksEntry old id (Err refusal) new = new ≡ old
 
 -- the lease counts the entry
@@ -68,9 +70,9 @@ CountsOwnPut old answer new = new ≡ record old { service = new.service; own_pu
 -- a lease is given exactly if the tenancy is live and its lease wasn't given; it has made no entry
 abbrev pub GivesLease : CoreState → ℕ → Option LeaseState → CoreState → Type 0
 GivesLease old id None new = (can_lease old id ≡ false) × (new ≡ old)
-GivesLease old id (Some lease) new = (can_lease old id ≡ true) × (lease ≡ record { id = id; made = 0 }) × (new ≡ record old { marks = remarked old.marks id given })
+GivesLease old id (Some lease) new = (can_lease old id ≡ true) × (lease ≡ record { id = id; made = 0 }) × (new ≡ record old { marks = with_changed_marks old.marks id with_lease })
 
 -- a share is given exactly if fewer than 16 were; it has counted no put
 abbrev pub GivesShare : CoreState → Option ShareState → CoreState → Type 0
-GivesShare old None new = (old.shares ≡ 16) × (new ≡ old)
-GivesShare old (Some share) new = (old.shares < 16) × (share ≡ record { puts = 0 }) × (new ≡ record old { shares = old.shares + 1 })
+GivesShare old None new = (old.shares ≡ MAX_WORKERS) × (new ≡ old)
+GivesShare old (Some share) new = (old.shares < MAX_WORKERS) × (share ≡ record { puts = 0 }) × (new ≡ record old { shares = old.shares + 1 })

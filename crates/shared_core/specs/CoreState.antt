@@ -1,8 +1,10 @@
 -- All tenancies, and the account of what sessions and workers entered.
 use Rattle.std.specs.Prelude.{ℕ, ◌≡◌, ◌+◌, ◌-◌, List, [], ◌∷◌, ◌++◌, Bool, true, false, not, ◌&&◌, ◌||◌, Option, Some, None, is_some, length, set, position, slice_get, slice_index_or, nat_lt, ◌==◌, if◌then◌else◌}
+use Rattle.tenant_slot.specs.declared.slot.TheConstants.{MAX_ENTRIES}
+use Rattle.strips.specs.declared.layout.TheConstants.{MAX_STRIPS}
 use Rattle.tenant_slot.specs.declared.event.Event.{Event}
 use Rattle.tenant_slot.specs.declared.event.Event.TheVariants.{Command as Asked, Advance as Stepped}
-use Rattle.tenant_slot.specs.SingleUser.{running}
+use Rattle.tenant_slot.specs.SingleUser.{kind_that_runs}
 use Rattle.service_core.specs.declared.entry.Entry.{Entry}
 use Rattle.service_core.specs.History.{History, state_of}
 use Rattle.service_core.specs.Service.{ServiceState, live_of}
@@ -38,12 +40,12 @@ pub record ShareState : Type 0 where
   pub puts : ℕ
 
 -- the marks of a tenancy whose lease wasn't given
-abbrev pub unmarked : Marked
-unmarked = record { given = false; places = [] }
+abbrev pub no_marks : Marked
+no_marks = record { given = false; places = [] }
 
 -- the marks after the lease is given
-abbrev pub given : Marked → Marked
-given m = record m { given = true }
+abbrev pub with_lease : Marked → Marked
+with_lease m = record m { given = true }
 
 -- the marks with one more place
 abbrev pub with_place : ℕ → Marked → Marked
@@ -55,9 +57,9 @@ marked_of [] id = None
 marked_of (m ∷ ms) id = if id == 1 then Some m else marked_of ms (id - 1)
 
 -- the marks after a change of those of this id
-abbrev pub remarked : List Marked → ℕ → (Marked → Marked) → List Marked
-remarked [] id change = []
-remarked (m ∷ ms) id change = if id == 1 then change m ∷ ms else m ∷ remarked ms (id - 1) change
+abbrev pub with_changed_marks : List Marked → ℕ → (Marked → Marked) → List Marked
+with_changed_marks [] id change = []
+with_changed_marks (m ∷ ms) id change = if id == 1 then change m ∷ ms else m ∷ with_changed_marks ms (id - 1) change
 
 abbrev pub given_in : Option Marked → Bool
 given_in None = false
@@ -105,12 +107,12 @@ is_live histories id = is_some (live_of histories id)
 -- a live tenancy whose journal has room
 abbrev pub has_room_in : Option History → Bool
 has_room_in None = false
-has_room_in (Some h) = nat_lt (length h.entries) 65536
+has_room_in (Some h) = nat_lt (length h.entries) MAX_ENTRIES
 
 -- no step of the tenancy will follow: it isn't live, no job of it runs, or its journal is full
 abbrev pub is_idle_in : Option History → Bool
 is_idle_in None = true
-is_idle_in (Some h) = not (is_some (running (state_of h).name) && nat_lt (length h.entries) 65536)
+is_idle_in (Some h) = not (is_some (kind_that_runs (state_of h).name) && nat_lt (length h.entries) MAX_ENTRIES)
 
 -- the tenancy is live, and its lease wasn't given
 abbrev pub can_lease : CoreState → ℕ → Bool
@@ -121,13 +123,13 @@ abbrev pub number_of : List ℕ → ℕ → Option ℕ
 number_of holders id = position (λ holder. holder == id) holders
 
 -- the numbers after this one is handed over
-abbrev pub handed : List ℕ → Option ℕ → ℕ → List ℕ
-handed holders None to = holders
-handed holders (Some number) to = set holders number to
+abbrev pub numbers_after : List ℕ → Option ℕ → ℕ → List ℕ
+numbers_after holders None to = holders
+numbers_after holders (Some number) to = set holders number to
 
 -- the numbers after the first tenancy's number became the second's
 abbrev pub with_holder : SlotTable → ℕ → ℕ → SlotTable
-with_holder slots from to = record slots { holders = handed slots.holders (number_of slots.holders from) to }
+with_holder slots from to = record slots { holders = numbers_after slots.holders (number_of slots.holders from) to }
 
 abbrev pub if_somebody : Option ℕ → Option ℕ
 if_somebody None = None
@@ -138,9 +140,9 @@ abbrev pub holder_of : List ℕ → ℕ → Option ℕ
 holder_of holders number = if_somebody (slice_get holders number)
 
 -- that number, if it isn't marked
-abbrev pub unqueued : SlotTable → Option ℕ → Option ℕ
-unqueued slots None = None
-unqueued slots (Some number) = if slice_index_or slots.queued number false then None else Some number
+abbrev pub unmarked_number : SlotTable → Option ℕ → Option ℕ
+unmarked_number slots None = None
+unmarked_number slots (Some number) = if slice_index_or slots.queued number false then None else Some number
 
 -- the numbers with this one marked, or not
 abbrev pub with_mark : SlotTable → Option ℕ → Bool → SlotTable
@@ -149,11 +151,11 @@ with_mark slots (Some number) mark = record slots { queued = set slots.queued nu
 
 -- the slot number of a tenancy that has a step to take, if the number isn't marked
 abbrev pub ready_number : CoreState → ℕ → Option ℕ
-ready_number core id = if takeable_in (live_of core.service.histories id) then unqueued core.slots (number_of core.slots.holders id) else None
+ready_number core id = if takeable_in (live_of core.service.histories id) then unmarked_number core.slots (number_of core.slots.holders id) else None
 
 -- exactly those tenancies have slot numbers, each one of 64, and no two tenancies have the same
 pub record AreSlotted (live : ℕ → Bool) (holders : List ℕ) : Type 0 where
-  pub count : length holders ≡ 64
+  pub count : length holders ≡ MAX_STRIPS
   pub each : (id : ℕ) → live id ≡ true → is_some (number_of holders id) ≡ true
   pub only : (number id : ℕ) → holder_of holders number ≡ Some id → live id ≡ true
   pub once : (number other id : ℕ) → holder_of holders number ≡ Some id → holder_of holders other ≡ Some id → number ≡ other

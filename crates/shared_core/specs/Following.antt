@@ -2,7 +2,7 @@
 use Rattle.std.specs.Prelude.{ℕ, ◌≡◌, false, [], Some, length, take, IsSomeAnd}
 use Rattle.arch_file.specs.declared.arch.Arch.{Arch}
 use Rattle.service_core.specs.History.{History}
-use Rattle.service_core.specs.Service.{ServiceState, empty, history_of}
+use Rattle.service_core.specs.Service.{ServiceState, empty_service, history_of}
 use Rattle.shared_core.specs.CoreState.{is_live}
 
 -- a history goes on: it is of the same tenancy and architecture, in a strip of the same size; its
@@ -30,4 +30,4 @@ abbrev pub some_arch : Arch
 some_arch = record { io_rat = 1; pins = []; cluster_size = 1; lut_size = 1; tracks = 1; fc_output = 1; fc_input = 1; fc_pad = 1 }
 
 abbrev pub no_service : ServiceState
-no_service = empty (record { arch = some_arch; columns = 1; rows = 1 })
+no_service = empty_service (record { arch = some_arch; columns = 1; rows = 1 })

@@ -2,7 +2,7 @@
 ghost use Rattle.std.specs.Prelude.{◌≡◌, option_copied, true};
 ghost use Rattle.service_core.specs.Calls.{IsServed};
 ghost use Rattle.service_core.specs.Service.{live_of};
-ghost use Rattle.shared_core.specs.CoreState.{given, has_place, has_room_in, marked_of, unmarked};
+ghost use Rattle.shared_core.specs.CoreState.{with_lease, has_place, has_room_in, marked_of, no_marks};
 ghost use Rattle.shared_core.specs.Accounts.{AreRising};
 ghost use Rattle.shared_core.specs.CoreCalls.{MarksPlace};
 
@@ -30,7 +30,7 @@ impl Model for LeaseMarks {
 impl LeaseMarks {
     /// The marks of a tenancy whose lease wasn't given.
     pub(crate) fn new(alloc: Global) -> Self
-        ensures { result ≡ unmarked }
+        ensures { result ≡ no_marks }
     {
         LeaseMarks {
             given: false,
@@ -55,7 +55,7 @@ impl LeaseMarks {
 
     /// Marks the lease as given.
     pub(crate) fn give(&mut self)
-        ensures { self.new ≡ given self.old }
+        ensures { self.new ≡ with_lease self.old }
     {
         self.given = true;
     }

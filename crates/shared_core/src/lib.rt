@@ -27,5 +27,5 @@ mod wrapping;
 pub use begun::Begun;
 pub use lease_marks::LeaseMarks;
 pub use locked::Shared;
-pub use shared::{Core, MAX_SHARES};
+pub use shared::{Core, MAX_WORKERS};
 pub use tokens::{Lease, Share};

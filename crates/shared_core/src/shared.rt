@@ -1,11 +1,12 @@
 //! The service with its account.
-ghost use Rattle.std.specs.Prelude.{◌≡◌, ◌≤◌, IfErr, IfOk, Some, length, option_copied, option_map, slice_get, true, false};
+ghost use Rattle.std.specs.Prelude.{◌+◌, ◌≡◌, ◌≤◌, IfErr, IfOk, Some, length, option_copied, option_map, slice_get, true, false};
+ghost use Rattle.service_core.specs.declared.service.TheConstants.{MAX_ADMISSIONS};
 ghost use Rattle.strips.specs.Plan.{offset_of};
 ghost use Rattle.service_core.specs.Calls.{IsAdmitted, IsEvicted, IsGivenBack, IsMoved, IsServed, IsTaken, Puts};
 ghost use Rattle.service_core.specs.Headline.{AreParted};
 ghost use Rattle.service_core.specs.History.{state_of};
 ghost use Rattle.service_core.specs.Kept.{IsDevice};
-ghost use Rattle.service_core.specs.Service.{AreAlone, empty, journal_of, live_of};
+ghost use Rattle.service_core.specs.Service.{AreAlone, empty_service, journal_of, live_of};
 ghost use Rattle.shared_core.specs.CoreCalls.{Admits, ChangesService, CountsCommand, CountsOwnPut, CountsPut, Evicts, GivesLease, GivesShare, IsWrapped, MarksEntry};
 ghost use Rattle.shared_core.specs.CoreState.{AreSlotted, can_lease, has_room_in, holder_of, is_idle_in, is_leased, is_live, is_marked, ready_number, with_mark};
 
@@ -25,7 +26,7 @@ use std::sync::ledger::{Blank, Book, Ledger};
 use tenant_slot::{Command, MAX_ENTRIES, StateName};
 
 /// The most shares.
-pub const MAX_SHARES: u32 = 16;
+pub const MAX_WORKERS: u32 = 16;
 
 /// All tenancies, and the account of what sessions and workers entered.
 #[derive(Drop)]
@@ -64,10 +65,11 @@ impl<C: Begun, P: Ledger> Core<C, P> {
     ) -> Result<Self, AllocError>
         requires device { IsDevice device }
         requires commands { (commands.name ≡ C.name) × (commands.parts ≡ C.parts)
-            × (commands.parts ≡ 65536) }
-        requires puts { (puts.name ≡ P.name) × (puts.parts ≡ P.parts) × (puts.parts ≡ 17) }
-        requires begun { C.begun ≡ empty device }
-        ensures { IfOk result (λ core. IsWrapped (empty device) core) }
+            × (commands.parts ≡ MAX_ADMISSIONS + 1) }
+        requires puts { (puts.name ≡ P.name) × (puts.parts ≡ P.parts) × (puts.parts
+            ≡ MAX_WORKERS + 1) }
+        requires begun { C.begun ≡ empty_service device }
+        ensures { IfOk result (λ core. IsWrapped (empty_service device) core) }
     {
         let service = Service::new(alloc, device)?;
         match Core::over(alloc, service, commands, puts) {
@@ -89,8 +91,9 @@ impl<C: Begun, P: Ledger> Core<C, P> {
         puts: Blank,
     ) -> Result<Self, (Service, AllocError)>
         requires commands { (commands.name ≡ C.name) × (commands.parts ≡ C.parts)
-            × (commands.parts ≡ 65536) }
-        requires puts { (puts.name ≡ P.name) × (puts.parts ≡ P.parts) × (puts.parts ≡ 17) }
+            × (commands.parts ≡ MAX_ADMISSIONS + 1) }
+        requires puts { (puts.name ≡ P.name) × (puts.parts ≡ P.parts) × (puts.parts
+            ≡ MAX_WORKERS + 1) }
         requires begun { C.begun ≡ service }
         ensures ok { IfOk result (λ core. IsWrapped service core) }
         ensures err { IfErr result (λ back. back.0 ≡ service) }
@@ -117,10 +120,17 @@ impl<C: Begun, P: Ledger> Core<C, P> {
         })
     }
 
+    /// The service, for its readers.
+    pub fn service(&self) -> &Service
+        ensures { result.now ≡ self.now.service }
+    {
+        &self.service
+    }
+
     /// The number of tenancies that have been admitted so far: their ids are 1 to that number.
     pub fn admissions(&self) -> u32
         ensures value { result ≡ length self.now.service.histories }
-        ensures few { result ≤ 65535 }
+        ensures few { result ≤ MAX_ADMISSIONS }
         ensures marks { length self.now.marks ≡ result }
         ensures alone { AreAlone self.now.service }
     {
@@ -156,7 +166,7 @@ impl<C: Begun, P: Ledger> Core<C, P> {
     }
 
     /// Whether the tenancy's lease made this entry of its journal, also of closed tenancies.
-    pub fn marked(&self, id: u32, place: u32) -> bool
+    pub fn is_marked(&self, id: u32, place: u32) -> bool
         ensures { result ≡ is_marked self.now.marks id place }
     {
         match marks_of(&self.marks, id) {
@@ -166,7 +176,7 @@ impl<C: Begun, P: Ledger> Core<C, P> {
     }
 
     /// Whether a tenancy's lease was given, also of closed tenancies.
-    pub fn leased(&self, id: u32) -> bool
+    pub fn is_leased(&self, id: u32) -> bool
         ensures { result ≡ is_leased self.now.marks id }
     {
         match marks_of(&self.marks, id) {
@@ -200,7 +210,7 @@ impl<C: Begun, P: Ledger> Core<C, P> {
     fn can_lease(&self, id: u32) -> bool
         ensures { result ≡ can_lease self.now id }
     {
-        self.service.state(id).is_some() && !self.leased(id)
+        self.service.state(id).is_some() && !self.is_leased(id)
     }
 
     /// Whether the tenancy is live and its journal has room.
@@ -357,7 +367,7 @@ impl<C: Begun, P: Ledger> Core<C, P> {
     pub fn share(&mut self) -> Option<Share<P>>
         ensures { GivesShare self.old result self.new }
     {
-        if self.shares == MAX_SHARES {
+        if self.shares == MAX_WORKERS {
             return None;
         }
         let part = self.own.split_off(1, 0);
@@ -380,7 +390,7 @@ impl<C: Begun, P: Ledger> Core<C, P> {
     }
 
     /// Unmarks a slot number, and returns the live tenancy whose number it is. Takes no memory.
-    pub fn popped(&mut self, slot: u32) -> Option<u32>
+    pub fn unmark_number(&mut self, slot: u32) -> Option<u32>
         ensures value { result ≡ holder_of self.old.slots.holders slot }
         ensures core { self.new ≡ record self.old {
           slots = with_mark self.old.slots (Some slot) false;

@@ -1,6 +1,7 @@
 //! The 64 slot numbers.
 ghost use Rattle.std.specs.Prelude.{◌≡◌, ◌<◌, Some, false, true, replicate, IfSome};
-ghost use Rattle.shared_core.specs.CoreState.{holder_of, number_of, unqueued, with_holder, with_mark};
+ghost use Rattle.strips.specs.declared.layout.TheConstants.{MAX_STRIPS};
+ghost use Rattle.shared_core.specs.CoreState.{holder_of, number_of, unmarked_number, with_holder, with_mark};
 
 use std::marker::Model;
 
@@ -13,19 +14,24 @@ pub(crate) struct Slots {
 
 impl Model for Slots {
     ghost use Rattle.std.specs.Prelude.{◌≡◌, length};
+    ghost use Rattle.strips.specs.declared.layout.TheConstants.{MAX_STRIPS};
     ghost use Rattle.shared_core.specs.CoreState.{SlotTable};
 
     ghost Value = { SlotTable };
 
     ghost view = { λ s. record { holders = s.holders; queued = s.queued } };
 
-    ghost invariant = { λ s. (length s.holders ≡ 64) × (length s.queued ≡ 64) };
+    ghost invariant = { λ s. (length s.holders ≡ MAX_STRIPS) × (length s.queued ≡ MAX_STRIPS) };
 }
 
 impl Slots {
     /// All numbers, each nobody's.
     pub(crate) fn new() -> Self
-        ensures { result ≡ record { holders = replicate 64 0; queued = replicate 64 false } }
+        ensures { result ≡ record {
+          holders = replicate MAX_STRIPS 0;
+          queued = replicate
+              MAX_STRIPS false;
+        } }
     {
         Slots {
             holders: [0; 64],
@@ -36,7 +42,7 @@ impl Slots {
     /// The number of a tenancy, or the first that is nobody's.
     fn number(&self, id: u32) -> Option<usize>
         ensures value { result ≡ number_of self.now.holders id }
-        ensures small { IfSome result (λ n. n < 64) }
+        ensures small { IfSome result (λ n. n < MAX_STRIPS) }
     {
         self.holders.iter().position(|holder| *holder == id)
     }
@@ -52,7 +58,7 @@ impl Slots {
 
     /// Marks the number of a tenancy as queued, if it isn't.
     pub(crate) fn mark(&mut self, id: u32) -> Option<u32>
-        ensures value { result ≡ unqueued self.old (number_of self.old.holders id) }
+        ensures value { result ≡ unmarked_number self.old (number_of self.old.holders id) }
         ensures slots { self.new ≡ with_mark self.old result true }
     {
         let number = self.number(id)?;

@@ -1,8 +1,10 @@
 //! What a core makes for a service that it begins with.
 ghost use Rattle.std.specs.Prelude.{◌≡◌, ◌+◌, ◌<◌, ◌≤◌, [], ◌∷◌, false, replicate, length, IfOk};
+ghost use Rattle.service_core.specs.declared.service.TheConstants.{MAX_ADMISSIONS};
+ghost use Rattle.strips.specs.declared.layout.TheConstants.{MAX_STRIPS};
 ghost use Rattle.service_core.specs.Headline.{AreParted};
 ghost use Rattle.service_core.specs.Service.{AreAlone, journal_of};
-ghost use Rattle.shared_core.specs.CoreState.{AreSlotted, is_live, puts_among, puts_in, unmarked};
+ghost use Rattle.shared_core.specs.CoreState.{AreSlotted, is_live, puts_among, puts_in, no_marks};
 
 use crate::lease_marks::LeaseMarks;
 use crate::slots::Slots;
@@ -15,8 +17,8 @@ use tenant_slot::{Event, MAX_ENTRIES};
 /// Marks of each tenancy that has been admitted, with no lease given.
 pub(crate) fn no_marks(alloc: Global, service: &Service) -> Result<Vec<LeaseMarks>, AllocError>
     ensures marks { IfOk result (λ marks.
-        marks.items ≡ replicate (length service.now.histories) unmarked) }
-    ensures few { length service.now.histories ≤ 65535 }
+        marks.items ≡ replicate (length service.now.histories) no_marks) }
+    ensures few { length service.now.histories ≤ MAX_ADMISSIONS }
 {
     let admissions = service.admissions();
     let mut marks = Vec::new(alloc);
@@ -29,9 +31,9 @@ pub(crate) fn no_marks(alloc: Global, service: &Service) -> Result<Vec<LeaseMark
 /// A slot number for each live tenancy.
 pub(crate) fn slots_of(service: &Service) -> Slots
     requires parted { AreParted service.now.device service.now }
-    requires few { length service.now.plan.strips ≤ 64 }
+    requires few { length service.now.plan.strips ≤ MAX_STRIPS }
     ensures slotted { AreSlotted (is_live service.now.histories) result.holders }
-    ensures queued { result.queued ≡ replicate 64 false }
+    ensures queued { result.queued ≡ replicate MAX_STRIPS false }
 {
     let mut slots = Slots::new();
     for index in 0..service.admissions() {

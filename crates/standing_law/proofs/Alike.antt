@@ -22,7 +22,7 @@ use Rattle.tenant_slot.specs.declared.reply.Reply.TheVariants.{Refused}
 use Rattle.tenant_slot.specs.declared.reply.StateName.{StateName}
 use Rattle.tenant_slot.specs.declared.reply.StateName.TheVariants.{Empty, Loaded, Packing, Packed, Placing, Placed, Routing, Routed, Unrouted}
 use Rattle.tenant_slot.specs.Results.{failure_of, kept_at_end}
-use Rattle.tenant_slot.specs.SingleUser.{State, advance, after, answer_to, at_rest, circuit_in, finished, go_on, is_lawful, is_next, misfit_of, pack_unless, place, place_unless, replies_to, routed_unless, running, serve, sources_of, start, state_after, step, with_circuit}
+use Rattle.tenant_slot.specs.SingleUser.{State, advance, after_reply, answer_to, at_rest, circuit_in, state_at_end, go_on, is_lawful, is_next, misfit_of, pack_unless, place, place_unless, replies_to, routed_unless, kind_that_runs, serve, sources_of, start, state_after, step, with_circuit}
 use Rattle.tenant_slot.proofs.Runs.{step-room}
 use Rattle.standing_law.specs.Standing.{AreSame, ChangesNothing, HasRoom, IsSame, StandAlike, Withdraws, has_seed}
 
@@ -96,7 +96,7 @@ ended-numbered : (t : State) (g n : ℕ) (o : Option RoutingFailure) → StandAl
 ended-numbered t g n None = record { rest = refl; seeds = λ h. (refl, refl) }
 ended-numbered t g n (Some failure) = record { rest = refl; seeds = λ h. (refl, refl) }
 
-finished-numbered : (t : State) (g n : ℕ) (kind : JobKind) → StandAlike (finished (numbered t g n) kind) (finished t kind)
+finished-numbered : (t : State) (g n : ℕ) (kind : JobKind) → StandAlike (state_at_end (numbered t g n) kind) (state_at_end t kind)
 finished-numbered t g n PackingJob = record { rest = refl; seeds = λ h. (refl, refl) }
 finished-numbered t g n PlacingJob = record { rest = refl; seeds = λ h. (refl, refl) }
 finished-numbered t g n RoutingJob = ended-numbered t g n (failure_of (end_value (sources_of t RoutingJob)))
@@ -166,7 +166,7 @@ rests_unseeded Routing none = cc
 rests_unseeded Routed none = cc
 rests_unseeded Unrouted none = cc
 
-packs_only : (name : StateName) (kind : JobKind) → has_seed name ≡ false → running name ≡ Some kind → kind ≡ PackingJob
+packs_only : (name : StateName) (kind : JobKind) → has_seed name ≡ false → kind_that_runs name ≡ Some kind → kind ≡ PackingJob
 packs_only Empty kind none runs = cc
 packs_only Loaded kind none runs = cc
 packs_only Packing kind none runs = cc
@@ -242,13 +242,13 @@ advance-numbered : (t : State) (g n : ℕ) (made other : Advance) (o : Option Jo
 advance-numbered t g n made other None one two = (tt, refl)
 advance-numbered t g n made other (Some kind) one two = next-if (is_next (numbered t g n) made) (is_next t other) _ _ _ _ one two (go_on-numbered t g n kind)
 
-advance-seeded : (t : State) (d e g n : ℕ) (made other : Advance) (o : Option JobKind) → has_seed t.name ≡ false → running t.name ≡ o → is_next (seeded t d e g n) made ≡ true → is_next t other ≡ true → AnswersAlike (advance (seeded t d e g n) made o) (advance t other o)
+advance-seeded : (t : State) (d e g n : ℕ) (made other : Advance) (o : Option JobKind) → has_seed t.name ≡ false → kind_that_runs t.name ≡ o → is_next (seeded t d e g n) made ≡ true → is_next t other ≡ true → AnswersAlike (advance (seeded t d e g n) made o) (advance t other o)
 advance-seeded t d e g n made other None none is one two = (tt, refl)
 advance-seeded t d e g n made other (Some kind) none is one two = next-if (is_next (seeded t d e g n) made) (is_next t other) _ _ _ _ one two (go_on-seeded t d e g n kind none (packs_only t.name kind none is))
 
 stepped-alike : (s t : State) (made other : Advance) → StandAlike s t → is_next s made ≡ true → is_next t other ≡ true → AnswersAlike (answer_to s (Stepped made)) (answer_to t (Stepped other))
 stepped-alike s t made other alike = by_seed (λ x. is_next x made ≡ true → is_next t other ≡ true → AnswersAlike (answer_to x (Stepped made)) (answer_to t (Stepped other))) s t alike
-    (λ g n. advance-numbered t g n made other (running t.name), λ d e g n none. advance-seeded t d e g n made other (running t.name) none refl)
+    (λ g n. advance-numbered t g n made other (kind_that_runs t.name), λ d e g n none. advance-seeded t d e g n made other (kind_that_runs t.name) none refl)
 
 -- an event
 
@@ -261,7 +261,7 @@ answers-alike s t (Stepped made) (Stepped other) alike is = stepped-alike s t ma
 counted-alike : (u v : State) (n m : ℕ) → StandAlike u v → StandAlike (record u { entries = n }) (record v { entries = m })
 counted-alike u v n m alike = record { rest = ap (λ (x : State). record x { entries = n }) alike.rest; seeds = alike.seeds }
 
-after-alike : (s t : State) (a b : Option State) → StandAlike s t → ChangesAlike a b → StandAlike (after s a) (after t b)
+after-alike : (s t : State) (a b : Option State) → StandAlike s t → ChangesAlike a b → StandAlike (after_reply s a) (after_reply t b)
 after-alike s t None None alike change = counted-alike s t (s.entries + 1) (t.entries + 1) alike
 after-alike s t None (Some v) alike change = absurd change
 after-alike s t (Some u) None alike change = absurd change
@@ -272,8 +272,8 @@ step-alike s t event other alike is room space =
     let one = step-room s event room in
     let two = step-room t other space in
     let answers = answers-alike s t event other alike is in
-    let left : StandAlike (after s (answer_to s event).0) (after t (answer_to t other).0) = after-alike s t (answer_to s event).0 (answer_to t other).0 alike answers.0 in
-    let left_one : StandAlike (step s event).0 (after t (answer_to t other).0) = subst (λ (p : State × Option Reply). StandAlike p.0 (after t (answer_to t other).0)) (sym one) left in (
+    let left : StandAlike (after_reply s (answer_to s event).0) (after_reply t (answer_to t other).0) = after-alike s t (answer_to s event).0 (answer_to t other).0 alike answers.0 in
+    let left_one : StandAlike (step s event).0 (after_reply t (answer_to t other).0) = subst (λ (p : State × Option Reply). StandAlike p.0 (after_reply t (answer_to t other).0)) (sym one) left in (
       subst (λ (p : State × Option Reply). StandAlike (step s event).0 p.0) (sym two) left_one,
       ap (λ (p : State × Option Reply). p.1) one ∙ (ap Some answers.1 ∙ sym (ap (λ (p : State × Option Reply). p.1) two)),
     )
@@ -290,19 +290,19 @@ goes_on s t (e ∷ events) (f ∷ others) alike are =
 
 -- an event that changes nothing
 abbrev StepIf : State → Event → Bool → State × Option Reply
-StepIf s event full = if full then (s, None) else (after s (answer_to s event).0, Some (answer_to s event).1)
+StepIf s event full = if full then (s, None) else (after_reply s (answer_to s event).0, Some (answer_to s event).1)
 
 left-if : (full : Bool) (s t : State) (event : Event) → StandAlike s t → ChangesNothing s event → StandAlike (StepIf s event full).0 t
 left-if true s t event alike nothing = alike
 left-if false s t event alike nothing =
     let same : StandAlike (record s { entries = s.entries + 1 }) t = counted-alike s t (s.entries + 1) t.entries alike in
-    subst (λ o. StandAlike (after s o) t) (sym nothing) same
+    subst (λ o. StandAlike (after_reply s o) t) (sym nothing) same
 
 pub left_out : (s t : State) (event : Event) → StandAlike s t → ChangesNothing s event → StandAlike (step s event).0 t
 left_out s t event alike nothing = left-if (eqb s.entries 65536) s t event alike nothing
 
 -- a withdrawal
-withdrawn-if : (b : Bool) (s : State) → b ≡ true → StandAlike (after s (if b then serve s Withdraw else (None, Refused (WrongState s.name))).0) (start s.arch s.strip)
+withdrawn-if : (b : Bool) (s : State) → b ≡ true → StandAlike (after_reply s (if b then serve s Withdraw else (None, Refused (WrongState s.name))).0) (start s.arch s.strip)
 withdrawn-if true s lawful = record { rest = refl; seeds = λ h. cc }
 withdrawn-if false s lawful = absurd cc
 

@@ -1,5 +1,6 @@
 -- When two states of a tenancy stand alike.
 use Rattle.std.specs.Prelude.{◌≡◌, ◌≢◌, List, [], ◌∷◌, Bool, true, false, None, ⊤}
+use Rattle.tenant_slot.specs.declared.slot.TheConstants.{MAX_ENTRIES}
 use Rattle.tenant_slot.specs.declared.command.Command.TheVariants.{Withdraw}
 use Rattle.tenant_slot.specs.declared.event.Event.{Event}
 use Rattle.tenant_slot.specs.declared.event.Event.TheVariants.{Command as Asked, Advance as Stepped}
@@ -24,7 +25,7 @@ pub record StandAlike (s t : State) : Type 0 where
 
 -- the journal isn't full
 abbrev pub HasRoom : State → Type 0
-HasRoom s = s.entries ≢ 65536
+HasRoom s = s.entries ≢ MAX_ENTRIES
 
 -- an event that changes nothing but the number of entries: a command that is refused or only asks,
 -- or a step that is stale

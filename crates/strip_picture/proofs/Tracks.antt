@@ -12,7 +12,8 @@ use Rattle.rr_graph.specs.declared.node.NodeKind.TheVariants.{Source, Sink, Opin
 use Rattle.picture_lines.specs.declared.lattice.Direction.{Direction}
 use Rattle.picture_lines.specs.declared.lattice.Direction.TheVariants.{Across, Up}
 use Rattle.strip_files.specs.declared.route_node.RouteNode.{RouteNode}
-use Rattle.strip_picture.specs.declared.channels.TheConstants.{CHANNELS, MOST_TRACKS}
+use Rattle.arch_file.specs.declared.arch.TheConstants.{MAX_TRACKS}
+use Rattle.strip_picture.specs.declared.channels.TheConstants.{CHANNELS}
 use Rattle.strip_picture.specs.Channels.{HasTracks, IsNoWire, IsWireOf, channel_number, goes, is_wire, tracks_in}
 
 or-false : (b : Bool) → (b || false) ≡ b
@@ -160,10 +161,10 @@ one_bit false m e = ap (λ k. k == 1) e
 
 -- the number of set bits of a channel is the number of its used tracks
 pub counted : (nodes : List RouteNode) (used : List ℕ) (d : Direction) (x y : ℕ) → x ≤ 256 → y ≤ 64 → HasTracks nodes used
-    → count_by (λ t. bit_and (get_or used (channel_number d x y) 0 / 2 ^ t) 1 == 1) (range_with_len 0 MOST_TRACKS) ≡ tracks_in d x y nodes
+    → count_by (λ t. bit_and (get_or used (channel_number d x y) 0 / 2 ^ t) 1 == 1) (range_with_len 0 MAX_TRACKS) ≡ tracks_in d x y nodes
 unfolding tracks_in
 counted nodes used d x y lx ly h =
-    same_count (λ t. bit_and (get_or used (channel_number d x y) 0 / 2 ^ t) 1 == 1) (λ t. list_any (is_wire d x y t) nodes) 0 MOST_TRACKS
+    same_count (λ t. bit_and (get_or used (channel_number d x y) 0 / 2 ^ t) 1 == 1) (λ t. list_any (is_wire d x y t) nodes) 0 MAX_TRACKS
     (λ t least most. one_bit (list_any (is_wire d x y t) nodes) _ (shr_and_one (get_or used (channel_number d x y) 0) t ∙ h.bits d x y t lx ly most))
 
 -- before any node is read, no bit is set
@@ -178,6 +179,6 @@ none_used channels long = record {
 }
 
 pub counted_at : (nodes : List RouteNode) (used : List ℕ) (d : Direction) (x y number count : ℕ) → x ≤ 256 → y ≤ 64 → number ≡ channel_number d x y
-    → count ≡ count_by (λ t. bit_and (get_or used number 0 / 2 ^ t) 1 == 1) (range_with_len 0 MOST_TRACKS) → HasTracks nodes used → count ≡ tracks_in d x y nodes
+    → count ≡ count_by (λ t. bit_and (get_or used number 0 / 2 ^ t) 1 == 1) (range_with_len 0 MAX_TRACKS) → HasTracks nodes used → count ≡ tracks_in d x y nodes
 counted_at nodes used d x y number count lx ly is told h =
-    told ∙ (ap (λ k. count_by (λ t. bit_and (get_or used k 0 / 2 ^ t) 1 == 1) (range_with_len 0 MOST_TRACKS)) is ∙ counted nodes used d x y lx ly h)
+    told ∙ (ap (λ k. count_by (λ t. bit_and (get_or used k 0 / 2 ^ t) 1 == 1) (range_with_len 0 MAX_TRACKS)) is ∙ counted nodes used d x y lx ly h)

@@ -4,7 +4,7 @@ use Rattle.std.specs.List.{concat}
 use Rattle.picture_lines.specs.declared.lattice.Direction.{Direction}
 use Rattle.picture_lines.specs.declared.lattice.Direction.TheVariants.{Across, Up}
 use Rattle.picture_lines.specs.declared.lattice.Lattice.{Lattice}
-use Rattle.strip_picture.specs.declared.channels.ChannelUse.{ChannelUse}
+use Rattle.strip_picture.specs.declared.channels.ChannelTracks.{ChannelTracks}
 
 -- the middle of a column or row, or of the channel after it
 abbrev pub middle : Lattice → ℕ → Bool → ℕ
@@ -27,6 +27,6 @@ text_at x y number =
     concat (codes "<text x=\"" ∷ decimal x ∷ codes "\" y=\"-" ∷ decimal y ∷ codes "\" dy=\".35em\">" ∷ decimal number ∷ codes "</text>\n" ∷ [])
 
 -- the text in the middle of a channel: the number of its used tracks
-abbrev pub number_text : Lattice → ChannelUse → List ℕ
+abbrev pub number_text : Lattice → ChannelTracks → List ℕ
 number_text lattice channel =
     text_at (middle lattice channel.x (goes_up channel.direction)) (middle lattice channel.y (goes_across channel.direction)) channel.tracks

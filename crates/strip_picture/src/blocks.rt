@@ -6,7 +6,7 @@ use crate::plan::Plan;
 use line_text::Sink;
 use picture_lines::write_box;
 use rr_graph::NodeKind;
-use strip_files::{Block, BlockKind, RouteNode, RoutedStrip};
+use strip_files::{BlockKind, PlacedBlock, RouteNode, RoutedStrip};
 use text_parts::{Part, Pen};
 
 /// The largest number of letters of a name in a title.
@@ -63,7 +63,7 @@ fn write_kind<K: Sink>(
 }
 
 /// Writes the box of a block.
-fn write_place<K: Sink>(pen: &mut Pen<'_, K>, plan: Plan, block: Block<'_>) {
+fn write_place<K: Sink>(pen: &mut Pen<'_, K>, plan: Plan, block: PlacedBlock<'_>) {
     let place = block.place;
     let y = plan.lattice.start(place.y);
     let height = plan.lattice.block;
@@ -76,7 +76,7 @@ fn write_place<K: Sink>(pen: &mut Pen<'_, K>, plan: Plan, block: Block<'_>) {
 }
 
 /// Writes the title of a block: its kind, its name, its place, and its BLEs.
-fn write_title<K: Sink>(pen: &mut Pen<'_, K>, block: Block<'_>, elements: &[&[u8]]) {
+fn write_title<K: Sink>(pen: &mut Pen<'_, K>, block: PlacedBlock<'_>, elements: &[&[u8]]) {
     let word = match block.kind {
         BlockKind::InputPad => "input ",
         BlockKind::OutputPad => "output ",

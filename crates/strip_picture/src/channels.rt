@@ -1,9 +1,13 @@
 //! How many tracks of each channel are used.
 ghost use Rattle.std.specs.Prelude.{◌≡◌, ◌≤◌, ◌<◌, ◌++◌, ◌∷◌, ◌*◌, ◌/◌, ◌%◌, ◌^◌, ◌==◌, [], List, bit_and, bit_or, count_by, length, slice_index, slice_set as set, IfOk, MatchOption};
 ghost use Rattle.std.specs.List.{range_with_len};
+ghost use Rattle.arch_file.specs.declared.arch.TheConstants.{MAX_TRACKS};
+ghost use Rattle.grid.specs.declared.TheConstants.{MAX_COLUMNS, MAX_ROWS};
 ghost use Rattle.strip_files.specs.declared.route_node.RouteNode.{RouteNode};
 ghost use Rattle.strip_picture.specs.Channels.{HasTracks, IsNoWire, IsWireOf, across_uses, channel_number, tracks_in, up_uses, use_of};
 
+use arch_file::MAX_TRACKS;
+use grid::MAX_ROWS;
 use picture_lines::Direction;
 use rr_graph::{Node, NodeKind};
 use std::alloc::{AllocError, Global};
@@ -13,13 +17,10 @@ use strip_files::{RouteNode, RoutedStrip, StripSize};
 /// from 0 to 64.
 const CHANNELS: usize = 33_410;
 
-/// The largest number of tracks of a channel.
-pub const MOST_TRACKS: u32 = 64;
-
 /// The number of used tracks of a channel. A channel is above a row in one column, or right of a
 /// column in one row.
 #[derive(Clone, Copy, PartialEq, Eq)]
-pub struct ChannelUse {
+pub struct ChannelTracks {
     pub direction: Direction,
     pub x: u32,
     pub y: u32,
@@ -30,9 +31,9 @@ pub struct ChannelUse {
 #[derive(Drop)]
 pub struct Channels {
     /// Those above rows, from row 0.
-    pub across: Vec<ChannelUse>,
+    pub across: Vec<ChannelTracks>,
     /// Those right of columns, from column 0.
-    pub up: Vec<ChannelUse>,
+    pub up: Vec<ChannelTracks>,
 }
 
 /// Returns how many tracks of each channel of a strip the routes of its nets use. A track that is
@@ -55,7 +56,7 @@ fn used_tracks(alloc: Global, nodes: &[RouteNode]) -> Result<Vec<u64>, AllocErro
 {
     let mut used = no_tracks(alloc, CHANNELS)?;
     for read in nodes {
-        used = marked(used, *read);
+        used = mark_track(used, *read);
     }
     Ok(used)
 }
@@ -69,7 +70,7 @@ fn no_tracks(alloc: Global, channels: usize) -> Result<Vec<u64>, AllocError>
 }
 
 /// The used tracks with that of one more node, if it is a wire.
-fn marked(used: Vec<u64>, read: RouteNode) -> Vec<u64>
+fn mark_track(used: Vec<u64>, read: RouteNode) -> Vec<u64>
     requires { length used.items ≡ CHANNELS }
     ensures { (nodes : List RouteNode) → HasTracks nodes used.items →
         HasTracks (nodes ++ read ∷ []) result.items }
@@ -83,7 +84,7 @@ fn marked(used: Vec<u64>, read: RouteNode) -> Vec<u64>
 /// The used tracks with one more in the channel of that number.
 fn with_track(mut used: Vec<u64>, number: usize, track: u32) -> Vec<u64>
     requires channel { number < length used.items }
-    requires track { track < MOST_TRACKS }
+    requires track { track < MAX_TRACKS }
     ensures { result.items ≡ set used.items number
         (bit_or (slice_index used.items number) (1 * 2 ^ track % 2 ^ 64)) }
 {
@@ -96,7 +97,7 @@ fn channel_of(read: RouteNode) -> Option<usize>
     ensures { MatchOption result (IsNoWire read) (IsWireOf read) }
 {
     let Node { x, kind, y, n } = read.node;
-    if y > 64 || n >= MOST_TRACKS {
+    if y > MAX_ROWS || n >= MAX_TRACKS {
         return None;
     }
     match kind {
@@ -108,8 +109,8 @@ fn channel_of(read: RouteNode) -> Option<usize>
 
 /// The number of a channel among all channels of the largest strip.
 fn channel_number(direction: Direction, x: u32, y: u32) -> usize
-    requires column { x ≤ 256 }
-    requires row { y ≤ 64 }
+    requires column { x ≤ MAX_COLUMNS }
+    requires row { y ≤ MAX_ROWS }
     ensures { result ≡ channel_number direction x y }
 {
     let cell = 2 * (65 * x as usize + y as usize);
@@ -122,24 +123,24 @@ fn channel_number(direction: Direction, x: u32, y: u32) -> usize
 /// The number of used tracks of a channel.
 fn tracks_in(used: &[u64], direction: Direction, x: u32, y: u32) -> usize
     requires used { length used.now ≡ CHANNELS }
-    requires column { x ≤ 256 }
-    requires row { y ≤ 64 }
+    requires column { x ≤ MAX_COLUMNS }
+    requires row { y ≤ MAX_ROWS }
     ensures { (nodes : List RouteNode) → HasTracks nodes used.now →
         result ≡ tracks_in direction x y nodes }
 {
-    bits_set(used[channel_number(direction, x, y)], MOST_TRACKS)
+    bits_set(used[channel_number(direction, x, y)], MAX_TRACKS)
 }
 
 /// A channel with the number of its used tracks.
-fn use_of(used: &[u64], direction: Direction, x: u32, y: u32) -> ChannelUse
+fn use_of(used: &[u64], direction: Direction, x: u32, y: u32) -> ChannelTracks
     requires used { length used.now ≡ CHANNELS }
-    requires column { x ≤ 256 }
-    requires row { y ≤ 64 }
+    requires column { x ≤ MAX_COLUMNS }
+    requires row { y ≤ MAX_ROWS }
     ensures { (nodes : List RouteNode) → HasTracks nodes used.now →
         result ≡ use_of nodes direction x y }
 {
     let tracks = tracks_in(used, direction, x, y);
-    ChannelUse {
+    ChannelTracks {
         direction,
         x,
         y,
@@ -149,7 +150,7 @@ fn use_of(used: &[u64], direction: Direction, x: u32, y: u32) -> ChannelUse
 
 /// How many of the first `count` bits are set.
 fn bits_set(bits: u64, count: u32) -> usize
-    requires { count ≤ 64 }
+    requires { count ≤ MAX_TRACKS }
     ensures { result ≡ count_by (λ track. bit_and (bits / 2 ^ track) 1 == 1)
         (range_with_len 0 count) }
 {
@@ -161,7 +162,7 @@ fn across_channels(
     alloc: Global,
     size: StripSize,
     used: &[u64],
-) -> Result<Vec<ChannelUse>, AllocError>
+) -> Result<Vec<ChannelTracks>, AllocError>
     requires { length used.now ≡ CHANNELS }
     ensures { IfOk result (λ channels. (nodes : List RouteNode) → HasTracks nodes used.now →
         channels.items ≡ across_uses size nodes) }
@@ -176,7 +177,11 @@ fn across_channels(
 }
 
 /// The channels right of columns.
-fn up_channels(alloc: Global, size: StripSize, used: &[u64]) -> Result<Vec<ChannelUse>, AllocError>
+fn up_channels(
+    alloc: Global,
+    size: StripSize,
+    used: &[u64],
+) -> Result<Vec<ChannelTracks>, AllocError>
     requires { length used.now ≡ CHANNELS }
     ensures { IfOk result (λ channels. (nodes : List RouteNode) → HasTracks nodes used.now →
         channels.items ≡ up_uses size nodes) }

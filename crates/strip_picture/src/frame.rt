@@ -42,7 +42,7 @@ impl Frame {
     }
 
     /// The distance of the strip from the left.
-    fn left(&self) -> u32
+    fn left_margin(&self) -> u32
         ensures { result ≤ 4000 }
     {
         4 * self.plan.font
@@ -129,7 +129,13 @@ impl Frame {
     /// Begins a group whose origin is the beginning of column 0 and row 0, with a transformation
     /// for its contents.
     fn begin_group<K: Sink>(&self, pen: &mut Pen<'_, K>, turn: &str) {
-        begin_group(pen, self.plan.lattice, self.left(), self.ground(), turn);
+        begin_group(
+            pen,
+            self.plan.lattice,
+            self.left_margin(),
+            self.ground(),
+            turn,
+        );
     }
 
     /// Writes the numbers of columns below the strip.

@@ -5,7 +5,7 @@ ghost use Rattle.std.specs.List.{flat_map};
 ghost use Rattle.line_text.specs.Writing.{Writes};
 ghost use Rattle.strip_picture.specs.Numbers.{goes_across, goes_up, middle, number_text, text_at};
 
-use crate::channels::{ChannelUse, Channels};
+use crate::channels::{ChannelTracks, Channels};
 use crate::frame::Frame;
 use crate::plan::Plan;
 use line_text::{Failed, Sink};
@@ -62,7 +62,7 @@ pub(crate) fn write_bars<K: Sink>(
 fn write_level<K: Sink>(
     pen: &mut Pen<'_, K>,
     plan: Plan,
-    channels: &[ChannelUse],
+    channels: &[ChannelTracks],
     fullest: usize,
     level: usize,
 ) {
@@ -82,7 +82,7 @@ fn level_of(tracks: usize, fullest: usize) -> usize {
         .min(LEVELS)
 }
 
-fn write_bar<K: Sink>(pen: &mut Pen<'_, K>, plan: Plan, channel: ChannelUse) {
+fn write_bar<K: Sink>(pen: &mut Pen<'_, K>, plan: Plan, channel: ChannelTracks) {
     let lattice = plan.lattice;
     let x = lattice.start(channel.x.min(256));
     let y = lattice.start(channel.y.min(256));
@@ -98,7 +98,7 @@ fn write_bar<K: Sink>(pen: &mut Pen<'_, K>, plan: Plan, channel: ChannelUse) {
 pub(crate) fn write_numbers<K: Sink>(
     sink: &mut K,
     lattice: Lattice,
-    channels: &[ChannelUse],
+    channels: &[ChannelTracks],
 ) -> Result<(), Failed>
     ensures { Writes K.contents K.has_failed sink.old sink.new
         (flat_map (number_text lattice) channels.now) result }
@@ -114,7 +114,7 @@ pub(crate) fn write_numbers<K: Sink>(
 pub fn write_number<K: Sink>(
     sink: &mut K,
     lattice: Lattice,
-    channel: ChannelUse,
+    channel: ChannelTracks,
 ) -> Result<(), Failed>
     ensures { Writes K.contents K.has_failed sink.old sink.new (number_text lattice channel)
         result }

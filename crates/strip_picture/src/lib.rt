@@ -21,7 +21,7 @@ mod pieces;
 mod plan;
 mod routes;
 
-pub use channels::{ChannelUse, Channels, channels_of};
+pub use channels::{ChannelTracks, Channels, channels_of};
 pub use heat::write_number;
 pub use picture::{Full, View, draw, draw_with_ends};
 pub use picture_lines::DrawError;

@@ -26,14 +26,14 @@ pub(crate) fn write_end<K: Sink>(pen: &mut Pen<'_, K>, name: &[u8], letters: usi
         return escape(pen, name);
     }
     pen.text("…");
-    escape(pen, back(name, letters.saturating_sub(1)));
+    escape(pen, last_bytes(name, letters.saturating_sub(1)));
 }
 
 /// Writes a name in up to three lines of `letters` letters, as the inside of a `text` whose lines
 /// begin at that column. If it is longer, the first line and the last two are written.
 pub(crate) fn write_lines<K: Sink>(pen: &mut Pen<'_, K>, name: &[u8], letters: usize, x: u32) {
     escape(pen, front(name, letters));
-    let rest = behind(name, letters);
+    let rest = bytes_after(name, letters);
     if rest.is_empty() {
         return;
     }
@@ -41,17 +41,17 @@ pub(crate) fn write_lines<K: Sink>(pen: &mut Pen<'_, K>, name: &[u8], letters: u
     if rest.len() <= letters.saturating_mul(2) {
         escape(pen, front(rest, letters));
     } else {
-        let end = back(rest, letters.saturating_mul(2).saturating_sub(1));
+        let end = last_bytes(rest, letters.saturating_mul(2).saturating_sub(1));
         pen.text("…");
         escape(pen, front(end, letters.saturating_sub(1)));
     }
     pen.text("</tspan>");
-    let rest = behind(rest, letters);
+    let rest = bytes_after(rest, letters);
     if rest.is_empty() {
         return;
     }
     begin_line(pen, x);
-    escape(pen, back(rest, letters));
+    escape(pen, last_bytes(rest, letters));
     pen.text("</tspan>");
 }
 
@@ -71,12 +71,12 @@ fn front(name: &[u8], count: usize) -> &[u8] {
 }
 
 /// The bytes after the first `count`.
-fn behind(name: &[u8], count: usize) -> &[u8] {
+fn bytes_after(name: &[u8], count: usize) -> &[u8] {
     let (_, back) = name.split_at(count.min(name.len()));
     back
 }
 
 /// The last `count` bytes, or all.
-fn back(name: &[u8], count: usize) -> &[u8] {
-    behind(name, name.len().saturating_sub(count))
+fn last_bytes(name: &[u8], count: usize) -> &[u8] {
+    bytes_after(name, name.len().saturating_sub(count))
 }

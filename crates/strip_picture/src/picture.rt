@@ -2,7 +2,7 @@
 use crate::blocks::{
     write_blocks, write_cluster_names, write_end_blocks, write_ends, write_pad_names, write_places,
 };
-use crate::channels::{ChannelUse, Channels, channels_of};
+use crate::channels::{ChannelTracks, Channels, channels_of};
 use crate::frame::Frame;
 use crate::heat::{write_bars, write_numbers, write_scale};
 use crate::names::write_beginning;
@@ -114,7 +114,7 @@ impl<'a, 't> Sheet<'a, 't> {
             frame: Frame::of(plan),
             view,
             detail,
-            fullest: fullest(&channels.across).max(fullest(&channels.up)),
+            fullest: most_tracks(&channels.across).max(most_tracks(&channels.up)),
             ends,
         }
     }
@@ -129,7 +129,7 @@ impl<'a, 't> Sheet<'a, 't> {
 }
 
 /// The number of used tracks of the fullest of these channels.
-fn fullest(channels: &[ChannelUse]) -> usize {
+fn most_tracks(channels: &[ChannelTracks]) -> usize {
     let mut most = 0;
     for channel in channels {
         most = channel.tracks.max(most);
@@ -138,7 +138,7 @@ fn fullest(channels: &[ChannelUse]) -> usize {
 }
 
 /// The number of used tracks of these channels together.
-fn wires(channels: &[ChannelUse]) -> usize {
+fn wires(channels: &[ChannelTracks]) -> usize {
     let mut wires = 0usize;
     for channel in channels {
         wires = wires.saturating_add(channel.tracks);

@@ -1,5 +1,7 @@
 //! The drawing of the nodes of a route: lines for adjoining wires, and lines from pins to wires.
-ghost use Rattle.std.specs.Prelude.{◌+◌, ◌≤◌};
+ghost use Rattle.std.specs.Prelude.{◌-◌, ◌+◌, ◌≤◌};
+ghost use Rattle.arch_file.specs.declared.arch.TheConstants.{MAX_PINS};
+ghost use Rattle.grid.specs.declared.TheConstants.{MAX_COLUMNS};
 
 use crate::plan::Plan;
 use picture_lines::Direction;
@@ -17,10 +19,10 @@ pub(crate) struct Run {
     pub(crate) first: u32,
     /// The largest.
     pub(crate) last: u32,
-    ghost channel_small: { channel ≤ 256 },
-    ghost track_small: { track ≤ 144 },
+    ghost channel_small: { channel ≤ MAX_COLUMNS },
+    ghost track_small: { track ≤ MAX_PINS - 1 },
     ghost first_small: { first ≤ last },
-    ghost last_small: { last ≤ 256 },
+    ghost last_small: { last ≤ MAX_COLUMNS },
 }
 
 impl Run {
@@ -59,7 +61,7 @@ impl Run {
 
     /// The number of wires.
     pub(crate) fn count(self) -> u32
-        ensures { result ≤ 257 }
+        ensures { result ≤ MAX_COLUMNS + 1 }
     {
         self.last - self.first + 1
     }
@@ -150,7 +152,7 @@ fn stub_of(plan: Plan, pin: RouteNode, wire: RouteNode) -> Option<Stub> {
     let offset = 1 + pin.node.n % (plan.lattice.block - 1);
     match wire.node.kind {
         NodeKind::ChanX if wire.node.x == pin.node.x => {
-            upright(
+            vertical_stub(
                 plan,
                 plan.lattice.start(pin.node.x) + offset,
                 pin.node.y,
@@ -175,11 +177,11 @@ fn pad_stub(plan: Plan, pin: RouteNode, wire: RouteNode) -> Option<Stub> {
         return None;
     }
     let middle = plan.pad_start(pin.node.x, pin.node.n) + plan.pad_width() / 2;
-    upright(plan, middle, pin.node.y, wire)
+    vertical_stub(plan, middle, pin.node.y, wire)
 }
 
 /// The vertical line at that column from a wire of a horizontal channel to the block in that row.
-fn upright(plan: Plan, x: u32, row: u32, wire: RouteNode) -> Option<Stub> {
+fn vertical_stub(plan: Plan, x: u32, row: u32, wire: RouteNode) -> Option<Stub> {
     let (command, length) = reach(plan, row, wire.node.y, wire.node.n, "v-", "v")?;
     Some(Stub {
         x,
@@ -212,8 +214,8 @@ fn reach(
     back: &'static str,
     on: &'static str,
 ) -> Option<(&'static str, u32)>
-    requires channel { channel ≤ 256 }
-    requires track { track ≤ 144 }
+    requires channel { channel ≤ MAX_COLUMNS }
+    requires track { track ≤ MAX_PINS - 1 }
 {
     if channel == place {
         Some((back, track + 1))

@@ -2,14 +2,16 @@
 //!
 //! The letters of clusters, and those of pads, are as large as the longest name allows in one line,
 //! but a line counts as at most ten letters. Pads are as high as a block.
-ghost use Rattle.std.specs.Prelude.{◌+◌, ◌*◌, ◌≤◌};
+ghost use Rattle.std.specs.Prelude.{◌-◌, ◌+◌, ◌*◌, ◌≤◌};
+ghost use Rattle.grid.specs.declared.TheConstants.{MAX_COLUMNS};
+ghost use Rattle.arch_file.specs.declared.arch.TheConstants.{MAX_IO_RAT, MAX_PINS, MAX_TRACKS};
 
 use picture_lines::Lattice;
 use rr_graph::NodeKind;
 use strip_files::{BlockKind, RoutedStrip, StripSize};
 
 /// The largest number of letters of a line in a block.
-const MOST_LETTERS: u32 = 10;
+const MAX_LETTERS: u32 = 10;
 
 /// The number of tracks of a channel in which a number fits.
 const NUMBER_TRACKS: u32 = 9;
@@ -49,9 +51,9 @@ struct Most {
     letters: u32,
     /// The letters of the longest name of a pad, from 3 to 10.
     pad_letters: u32,
-    ghost tracks_small: { (1 ≤ tracks) × (tracks ≤ 64) },
-    ghost pin_small: { pin ≤ 144 },
-    ghost pads_small: { (1 ≤ pads) × (pads ≤ 8) },
+    ghost tracks_small: { (1 ≤ tracks) × (tracks ≤ MAX_TRACKS) },
+    ghost pin_small: { pin ≤ MAX_PINS - 1 },
+    ghost pads_small: { (1 ≤ pads) × (pads ≤ MAX_IO_RAT) },
     ghost letters_small: { (3 ≤ letters) × (letters ≤ 10) },
     ghost pad_letters_small: { (3 ≤ pad_letters) × (pad_letters ≤ 10) },
 }
@@ -70,7 +72,7 @@ impl Plan {
 
     /// The plan of a strip with that number of tracks.
     fn new(size: StripSize, most: Most, tracks: u32) -> Self
-        requires { (1 ≤ tracks) × (tracks ≤ 64) }
+        requires { (1 ≤ tracks) × (tracks ≤ MAX_TRACKS) }
     {
         let channel = tracks + 1;
         let block = channel.max(12).max(most.pin + 2).max(3 * most.pads).min(65);
@@ -96,8 +98,8 @@ impl Plan {
 
     /// The position at which a pad begins in its column.
     pub(crate) fn pad_start(&self, column: u32, pad: u32) -> u32
-        requires column { column ≤ 257 }
-        requires pad { pad ≤ 144 }
+        requires column { column ≤ MAX_COLUMNS + 1 }
+        requires pad { pad ≤ MAX_PINS - 1 }
         ensures { result ≤ 43_000 }
     {
         self.lattice.start(column) + pad * self.pad
@@ -149,7 +151,7 @@ impl Most {
     fn see_blocks(&mut self, strip: &RoutedStrip<'_>) {
         for block in strip.blocks.iter() {
             self.pads = self.pads.max(block.place.subblock + 1);
-            let letters = block.name.len().min(MOST_LETTERS as usize) as u32;
+            let letters = block.name.len().min(MAX_LETTERS as usize) as u32;
             if block.kind == BlockKind::Cluster {
                 self.letters = self.letters.max(letters);
             } else {

@@ -16,7 +16,7 @@ pub(crate) const TOLD_LETTERS: usize = 60;
 const COLOURS: usize = 12;
 
 /// The largest number of lines that are drawn. More would make a picture of more than 10 MB.
-const MOST_LINES: u64 = 300_000;
+const MAX_LINES: u64 = 300_000;
 
 /// How much of the routes is drawn.
 #[derive(Clone, Copy, PartialEq, Eq)]
@@ -40,9 +40,9 @@ impl Detail {
             runs = runs.saturating_add(u64::from(step.run.is_some()));
             stubs = stubs.saturating_add(u64::from(step.stub.is_some()));
         }
-        if runs.saturating_add(stubs).saturating_add(stubs) <= MOST_LINES {
+        if runs.saturating_add(stubs).saturating_add(stubs) <= MAX_LINES {
             Detail::Pins
-        } else if runs <= MOST_LINES {
+        } else if runs <= MAX_LINES {
             Detail::Wires
         } else {
             Detail::Nothing

@@ -13,7 +13,7 @@ use Rattle.strip_place.specs.Boards.{places_on, drawn_block}
 use Rattle.block_places.specs.Placed.{is_same_place, place_of}
 use Rattle.strip_place.specs.Seating.{exchanged_site}
 use Rattle.strip_place.specs.Sites.{AreDistinct, AreOneToOne, IsSiteFor, drawn_for, first_site, site_count, site_place, sites_of}
-use Rattle.strip_place.specs.Pass.{Draw, exchanged, drawn, after_draw, after_move, is_kept, cost_of}
+use Rattle.strip_place.specs.Pass.{Draw, place_after, drawn_place, after_draw, after_move, is_kept, cost_of}
 use Rattle.strip_place.proofs.Boarding.{map_itself}
 use Rattle.strip_place.proofs.KeptSites.{is_itself, told_apart}
 use Rattle.strip_place.proofs.Standing.{place_is}
@@ -23,7 +23,7 @@ use Rattle.strip_place.proofs.Starts.{site_inside, start_inside}
 past_first : (target first number : ℕ) → target ≡ first + number → target - first ≡ number
 past_first target first number is = omega (arith, is)
 
-drawn_here : (strip : Strip) (kind : Kind) (target word : ℕ) → IsSiteFor strip kind target → target ≡ drawn_for strip kind word → site_place strip target ≡ drawn strip kind word
+drawn_here : (strip : Strip) (kind : Kind) (target word : ℕ) → IsSiteFor strip kind target → target ≡ drawn_for strip kind word → site_place strip target ≡ drawn_place strip kind word
 drawn_here strip kind target word inside goes =
     place_is strip kind target inside
     ∙ ap (λ n. get_or (places_of strip kind) n (place_at 0 0 0)) (past_first target (first_site strip kind) (word % site_count strip kind) goes)
@@ -44,13 +44,13 @@ module _ (strip : Strip) (distinct : AreDistinct strip) where
   chosen false true home target site = refl
   chosen false false home target site = refl
 
-  exchange_carried : (home target site : ℕ) → Inside home → Inside target → Inside site → site_place strip (exchanged_site home target site) ≡ exchanged (site_place strip home) (site_place strip target) (site_place strip site)
+  exchange_carried : (home target site : ℕ) → Inside home → Inside target → Inside site → site_place strip (exchanged_site home target site) ≡ place_after (site_place strip home) (site_place strip target) (site_place strip site)
   exchange_carried home target site h t s =
       chosen (eqb site home) (eqb site target) home target site
       ∙ ap (λ (b : Bool). cond b (site_place strip target) (cond (eqb site target) (site_place strip home) (site_place strip site))) (sym (test_carried site home s h))
       ∙ ap (λ (b : Bool). cond (is_same_place (site_place strip site) (site_place strip home)) (site_place strip target) (cond b (site_place strip home) (site_place strip site))) (sym (test_carried site target s t))
 
-  map_carried : (home target : ℕ) (sites : List ℕ) → Inside home → Inside target → All Inside sites → places_on strip (map (exchanged_site home target) sites) ≡ map (exchanged (site_place strip home) (site_place strip target)) (places_on strip sites)
+  map_carried : (home target : ℕ) (sites : List ℕ) → Inside home → Inside target → All Inside sites → places_on strip (map (exchanged_site home target) sites) ≡ map (place_after (site_place strip home) (site_place strip target)) (places_on strip sites)
   map_carried home target [] h t all = refl
   map_carried home target (site ∷ sites) h t all =
       let head = exchange_carried home target site h t (All-head Inside site sites all) in
@@ -90,9 +90,9 @@ module _ (strip : Strip) (distinct : AreDistinct strip) (task : Task) (temperatu
   drawn_is : places_on strip moved ≡ after_move strip task draw places
   drawn_is =
       map_carried strip distinct (get_or sites block 0) target sites (start_inside strip task.kinds sites standing block 0 here) (site_inside strip (get_or task.kinds block Logic) target inside) (start_inside strip task.kinds sites standing)
-      ∙ ap (λ (p : Place). map (exchanged p (site_place strip target)) places) (sym (get_or-map (site_place strip) sites block 0 (place_at 0 0 0) here))
-      ∙ ap (λ (p : Place). map (exchanged (place_of places block) p) places) (drawn_here strip (get_or task.kinds block Logic) target draw.v inside goes)
-      ∙ ap (λ b. map (exchanged (place_of places b) (drawn strip (get_or task.kinds b Logic) draw.v)) places) is
+      ∙ ap (λ (p : Place). map (place_after p (site_place strip target)) places) (sym (get_or-map (site_place strip) sites block 0 (place_at 0 0 0) here))
+      ∙ ap (λ (p : Place). map (place_after (place_of places block) p) places) (drawn_here strip (get_or task.kinds block Logic) target draw.v inside goes)
+      ∙ ap (λ b. map (place_after (place_of places b) (drawn_place strip (get_or task.kinds b Logic) draw.v)) places) is
 
   pub draw_stays : target ≡ get_or sites block 0 → after_draw strip task temperature draw places ≡ places
   draw_stays same =

@@ -5,7 +5,7 @@ use Rattle.grid.specs.declared.place.Kind.TheVariants.{Logic, Pad}
 use Rattle.grid.specs.declared.place.Place.{Place}
 use Rattle.grid.specs.Places.{place_at, places_of}
 use Rattle.strip_place.specs.Task.{Task}
-use Rattle.strip_place.specs.Pass.{Draw, after_draw, cost_of, drawn, is_kept, pass_of, spread}
+use Rattle.strip_place.specs.Pass.{Draw, after_draw, cost_of, drawn_place, is_kept, pass_of, spread}
 use Rattle.strip_place.specs.Anneal.{is_past_last, temperature_at}
 use Rattle.strip_place.specs.Start.{placed_first}
 
@@ -32,7 +32,7 @@ unfolding cost_of
 cost = refl
 
 -- word 8 draws, of six places for pads, the third
-drawn_pad : drawn strip Pad 8 ≡ place_at 2 0 0
+drawn_pad : drawn_place strip Pad 8 ≡ place_at 2 0 0
 unfolding places_of
 drawn_pad = refl
 

@@ -5,12 +5,12 @@ use Rattle.std.proofs.lemmas.Bool.{cases_eq, cases_lt}
 use Rattle.std.proofs.lemmas.Bool.Decides.{nat_tests}
 use Rattle.strip_place.specs.declared.net_box.NetBox.{NetBox}
 use Rattle.strip_place.specs.declared.point.Point.{Point}
-use Rattle.strip_place.specs.Boxes.{AreBoxes, AreRenewed, CanRenew, IsAmong, IsBoxBy, IsDeep, IsFollowed, at_column, at_row, box_at, met}
-use Rattle.strip_place.specs.Extents.{HasMoved, IsNear, count_at, mirrored}
+use Rattle.strip_place.specs.Boxes.{AreBoxes, AreRenewed, CanRenew, IsAmong, IsBoxBy, IsDeep, IsFollowed, at_column, at_row, box_at, with_block}
+use Rattle.strip_place.specs.Extents.{HasMoved, IsNear, count_at, mirrored_counts}
 use Rattle.strip_place.specs.Nets.{AreTouched, net_at, times_on}
 use Rattle.strip_place.specs.declared.sides.Sides.{Sides}
 use Rattle.strip_place.specs.Sides.{sides_of}
-use Rattle.strip_place.specs.Wiring.{nowhere, point_at}
+use Rattle.strip_place.specs.Wiring.{no_point, point_at}
 use Rattle.strip_place.proofs.Ends.{swapped_once}
 use Rattle.strip_place.proofs.Lengths.{is_in}
 use Rattle.strip_place.proofs.Nearness.{IsNearSoFar, near_all, near_more}
@@ -59,9 +59,9 @@ near_moved old new near next from to deep small stood each is = near_all new 2 (
         by (inr off) at = grind (arith, nat_tests, at)
 
 -- a block that was farther than the two nearest moves, as seen from the other side
-near_moved_mirrored : (old new : ℕ → ℕ) (near next from to : ℕ) → next < 65535 - from → from ≤ 65535 → to ≤ 65535 → HasMoved old new from to → IsNear (mirrored old) near next → IsNear (mirrored new) (min (65535 - to) near) (min next (max near (65535 - to)))
+near_moved_mirrored : (old new : ℕ → ℕ) (near next from to : ℕ) → next < 65535 - from → from ≤ 65535 → to ≤ 65535 → HasMoved old new from to → IsNear (mirrored_counts old) near next → IsNear (mirrored_counts new) (min (65535 - to) near) (min next (max near (65535 - to)))
 near_moved_mirrored old new near next from to deep from_inside to_inside moved is =
-    near_moved (mirrored old) (mirrored new) near next (65535 - from) (65535 - to) deep (omega arith)
+    near_moved (mirrored_counts old) (mirrored_counts new) near next (65535 - from) (65535 - to) deep (omega arith)
     (let e : from ≡ 65535 - (65535 - from) = omega arith in subst (λ n. 0 < old n) e moved.stood)
     (λ c inside. (let each = moved.each (65535 - c) in grind (arith, nat_tests, each))) is
 
@@ -78,7 +78,7 @@ moved_back old new from to moved = record {
 
 -- a box that is extended to the block's new point
 box_moved : (columns new_columns rows new_rows : ℕ → ℕ) (box : NetBox) (from to : Point) → from.x ≤ 65535 → from.y ≤ 65535 → to.x ≤ 65535 → to.y ≤ 65535 → HasMoved columns new_columns from.x to.x → HasMoved rows new_rows from.y to.y → IsDeep box (sides_of from) → IsBoxBy columns rows box
-    → IsBoxBy new_columns new_rows (met box (sides_of to))
+    → IsBoxBy new_columns new_rows (with_block box (sides_of to))
 box_moved columns new_columns rows new_rows box from to from_x from_y to_x to_y across along deep is = record {
   left = near_moved columns new_columns box.near.left box.next.left from.x to.x deep.left to_x across.stood (λ c inside. across.each c) is.left;
   right = near_moved_mirrored columns new_columns box.near.right box.next.right from.x to.x deep.right from_x to_x across is.right;
@@ -93,10 +93,10 @@ box_moved columns new_columns rows new_rows box from to from_x from_y to_x to_y 
 module _ (old new : List Point) (nets : List (List ℕ)) (block other : ℕ) (from to : Point) (are : AreExchanged old new block other from to)
     (there : (number : ℕ) → number < length nets → 0 < times_on other (net_at nets number) → point_at old other ≡ to) (first second : List ℕ) (mine : AreTouched nets block first) (theirs : AreTouched nets other second)
     (from_x : from.x ≤ 65535) (from_y : from.y ≤ 65535) (to_x : to.x ≤ 65535) (to_y : to.y ≤ 65535) where
-  same : (f : Point → ℕ) → f nowhere ≡ 0 → (k : ℕ) → k < length first → IsAmong second (get_or first k 0) → (c : ℕ) → count_at (map f new) (net_at nets (get_or first k 0)) c ≡ count_at (map f old) (net_at nets (get_or first k 0)) c
+  same : (f : Point → ℕ) → f no_point ≡ 0 → (k : ℕ) → k < length first → IsAmong second (get_or first k 0) → (c : ℕ) → count_at (map f new) (net_at nets (get_or first k 0)) c ≡ count_at (map f old) (net_at nets (get_or first k 0)) c
   same f none k lt found = same_each f none old new block other from to (net_at nets (get_or first k 0)) are (there (get_or first k 0) (mine.within k lt)) (mine.on k lt ∙ sym (rw found.2 at (theirs.on found.0 found.1)))
 
-  moves : (f : Point → ℕ) → f nowhere ≡ 0 → (k : ℕ) → k < length first → (IsAmong second (get_or first k 0) → ⊥) → HasMoved (count_at (map f old) (net_at nets (get_or first k 0))) (count_at (map f new) (net_at nets (get_or first k 0))) (f from) (f to)
+  moves : (f : Point → ℕ) → f no_point ≡ 0 → (k : ℕ) → k < length first → (IsAmong second (get_or first k 0) → ⊥) → HasMoved (count_at (map f old) (net_at nets (get_or first k 0))) (count_at (map f new) (net_at nets (get_or first k 0))) (f from) (f to)
   moves f none k lt off =
       swapped_once (map f old) (map f new) block other (f from) (f to) (net_at nets (get_or first k 0)) (swapped f none old new block other from to are) (mine.on k lt)
       (none_on nets other second (get_or first k 0) theirs (mine.within k lt) (λ j l e. off (j, l, e)))

@@ -2,7 +2,7 @@
 use Rattle.std.proofs.Common.{ℕ, ◌≡◌, ◌+◌, ◌<◌, ◌≤◌, Bool, true, false, List, Option, drop, length, get_or, refl, ap, ◌∙◌, arith}
 use Rattle.std.proofs.lemmas.List.{drop_all, drop_more}
 use Rattle.std.proofs.lemmas.List.Sums.{prefix_len-drop_all, prefix_len-drop_no, prefix_len-drop_yes}
-use Rattle.strip_place.specs.Vacancies.{first_from, mark_at, marked}
+use Rattle.strip_place.specs.Vacancies.{first_from, mark_at, marks_with}
 
 -- all sites from the first one up to this one are marked
 pub record IsSearching (marks : List Bool) (from site : ℕ) : Type 0 where
@@ -25,8 +25,8 @@ pub searching_all : (marks : List Bool) (from site : ℕ) → length marks ≤ s
 searching_all marks from site past so_far = (let none = prefix_len-drop_all (λ (mark : Bool). mark) marks site past in omega (arith, none, so_far.first))
 
 -- one more site is marked
-pub marked_more : (marks : List Bool) (kept : List (Option ℕ)) (index : ℕ) (d : Option ℕ) → index < length kept → marked marks (drop index kept) ≡ marked (mark_at marks (get_or kept index d)) (drop (index + 1) kept)
-marked_more marks kept index d lt = ap (marked marks) (drop_more kept index d lt)
+pub marked_more : (marks : List Bool) (kept : List (Option ℕ)) (index : ℕ) (d : Option ℕ) → index < length kept → marks_with marks (drop index kept) ≡ marks_with (mark_at marks (get_or kept index d)) (drop (index + 1) kept)
+marked_more marks kept index d lt = ap (marks_with marks) (drop_more kept index d lt)
 
-pub marked_all : (marks : List Bool) (kept : List (Option ℕ)) (index : ℕ) → length kept ≤ index → marked marks (drop index kept) ≡ marks
-marked_all marks kept index past = ap (marked marks) (drop_all index kept past)
+pub marked_all : (marks : List Bool) (kept : List (Option ℕ)) (index : ℕ) → length kept ≤ index → marks_with marks (drop index kept) ≡ marks
+marked_all marks kept index past = ap (marks_with marks) (drop_all index kept past)

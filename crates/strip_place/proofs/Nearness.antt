@@ -5,18 +5,18 @@ use Rattle.std.proofs.lemmas.Bool.{cases_eq, cases_lt}
 use Rattle.std.proofs.lemmas.Bool.Decides.{nat_tests}
 use Rattle.strip_place.specs.declared.net_box.NetBox.{NetBox}
 use Rattle.strip_place.specs.declared.point.Point.{Point}
-use Rattle.strip_place.specs.Extents.{HasCome, IsNear, IsReach, mirrored}
-use Rattle.strip_place.specs.Boxes.{IsBoxBy, met}
+use Rattle.strip_place.specs.Extents.{HasCome, IsNear, IsReach, mirrored_counts}
+use Rattle.strip_place.specs.Boxes.{IsBoxBy, with_block}
 use Rattle.strip_place.specs.Sides.{sides_of}
 
 -- the nearest distances of the first blocks
-pub record IsNearSoFar (at_each : ℕ → ℕ) (met near next : ℕ) : Type 0 where
+pub record IsNearSoFar (at_each : ℕ → ℕ) (with_block near next : ℕ) : Type 0 where
   pub near_inside : near ≤ 65535
   pub next_inside : next ≤ 65535
-  pub some : 0 < met → 0 < at_each near
+  pub some : 0 < with_block → 0 < at_each near
   pub below : (coordinate : ℕ) → coordinate < near → at_each coordinate ≡ 0
   pub again : (next ≡ 65535) ⊎ (cond {A = ℕ} (eqb near next) 1 0 < at_each next)
-  pub start : met ≡ 0 → near ≡ 65535
+  pub start : with_block ≡ 0 → near ≡ 65535
 
 pub near_none : (at_each : ℕ → ℕ) → ((c : ℕ) → at_each c ≡ 0) → IsNearSoFar at_each 0 65535 65535
 near_none at_each none = record {
@@ -28,22 +28,22 @@ near_none at_each none = record {
   start = λ z. refl;
 }
 
-pub near_more : (old new : ℕ → ℕ) (met near next value : ℕ) → value ≤ 65535 → ((c : ℕ) → c ≤ 65535 → new c ≡ old c + cond (eqb value c) 1 0) → IsNearSoFar old met near next → IsNearSoFar new (met + 1) (min value near) (min next (max near value))
-near_more old new met near next value small more so_far = record {
+pub near_more : (old new : ℕ → ℕ) (with_block near next value : ℕ) → value ≤ 65535 → ((c : ℕ) → c ≤ 65535 → new c ≡ old c + cond (eqb value c) 1 0) → IsNearSoFar old with_block near next → IsNearSoFar new (with_block + 1) (min value near) (min next (max near value))
+near_more old new with_block near next value small more so_far = record {
   near_inside = omega (arith, small);
   next_inside = (let inside = so_far.next_inside in omega arith);
-  some = λ some. some_by (cases_lt near value) (cases_eq met 0);
+  some = λ some. some_by (cases_lt near value) (cases_eq with_block 0);
   below = λ c lt. (let off = so_far.below c (omega arith) in let each = more c (let inside = so_far.near_inside in omega arith) in grind (arith, nat_tests, off, each));
-  again = again_by (cases_lt value near) (cases_lt near next) (cases_lt value next) (cases_eq met 0) so_far.again;
+  again = again_by (cases_lt value near) (cases_lt near next) (cases_lt value next) (cases_eq with_block 0) so_far.again;
   start = λ z. absurd (omega arith);
 }
   where
-    some_by : (near < value) ⊎ (value ≤ near) → (met ≡ 0) ⊎ (met ≡ 0 → ⊥) → 0 < new (min value near)
+    some_by : (near < value) ⊎ (value ≤ near) → (with_block ≡ 0) ⊎ (with_block ≡ 0 → ⊥) → 0 < new (min value near)
     some_by (inr le) any = (let least : min value near ≡ value = omega arith in let each = more value small in rw least (grind (arith, nat_tests, each)))
     some_by (inl lt) (inl z) = absurd (let first = so_far.start z in omega arith)
     some_by (inl lt) (inr ne) = (let least : min value near ≡ near = omega arith in let some = so_far.some (omega arith) in let each = more near so_far.near_inside in rw least (omega (arith, each, some)))
 
-    again_by : (value < near) ⊎ (near ≤ value) → (near < next) ⊎ (next ≤ near) → (value < next) ⊎ (next ≤ value) → (met ≡ 0) ⊎ (met ≡ 0 → ⊥) → (next ≡ 65535) ⊎ (cond {A = ℕ} (eqb near next) 1 0 < old next)
+    again_by : (value < near) ⊎ (near ≤ value) → (near < next) ⊎ (next ≤ near) → (value < next) ⊎ (next ≤ value) → (with_block ≡ 0) ⊎ (with_block ≡ 0 → ⊥) → (next ≡ 65535) ⊎ (cond {A = ℕ} (eqb near next) 1 0 < old next)
         → (min next (max near value) ≡ 65535) ⊎ (cond {A = ℕ} (eqb (min value near) (min next (max near value))) 1 0 < new (min next (max near value)))
     again_by (inl lt) (inr le) any met_by (inl none) = inl (omega arith)
     again_by (inl lt) (inr le) any met_by (inr g) =
@@ -75,11 +75,11 @@ near_more old new met near next value small more so_far = record {
         two (inl e) = (let some : 0 < old value = subst (λ n. 0 < old n) e (so_far.some (omega arith)) in let each = more value small in grind (arith, nat_tests, each, some))
         two (inr other) = (let each = more value small in grind (arith, nat_tests, each))
 
-pub near_all : (at_each : ℕ → ℕ) (met near next : ℕ) → 0 < met → IsNearSoFar at_each met near next → IsNear at_each near next
-near_all at_each met near next some so_far = record { near_inside = so_far.near_inside; next_inside = so_far.next_inside; some = so_far.some some; below = so_far.below; again = so_far.again }
+pub near_all : (at_each : ℕ → ℕ) (with_block near next : ℕ) → 0 < with_block → IsNearSoFar at_each with_block near next → IsNear at_each near next
+near_all at_each with_block near next some so_far = record { near_inside = so_far.near_inside; next_inside = so_far.next_inside; some = so_far.some some; below = so_far.below; again = so_far.again }
 
 -- one more block, as seen from the other side
-pub more_mirrored : (old new : ℕ → ℕ) (value : ℕ) → value ≤ 65535 → ((c : ℕ) → new c ≡ old c + cond (eqb value c) 1 0) → (c : ℕ) → c ≤ 65535 → mirrored new c ≡ mirrored old c + cond (eqb (65535 - value) c) 1 0
+pub more_mirrored : (old new : ℕ → ℕ) (value : ℕ) → value ≤ 65535 → ((c : ℕ) → new c ≡ old c + cond (eqb value c) 1 0) → (c : ℕ) → c ≤ 65535 → mirrored_counts new c ≡ mirrored_counts old c + cond (eqb (65535 - value) c) 1 0
 more_mirrored old new value small more c inside = (let each = more (65535 - c) in grind (arith, nat_tests, each))
 
 -- the nearest distances are unchanged if all numbers of blocks are
@@ -97,7 +97,7 @@ near_same old new near next same is = record {
     by (inr g) = inr (omega (arith, same next, g))
 
 -- the extent between the nearest distances of two sides
-pub reach_between : (at_each : ℕ → ℕ) (left left_next right right_next : ℕ) → IsNear at_each left left_next → IsNear (mirrored at_each) right right_next → ((c : ℕ) → 65535 < c → at_each c ≡ 0) → IsReach at_each left (65535 - right)
+pub reach_between : (at_each : ℕ → ℕ) (left left_next right right_next : ℕ) → IsNear at_each left left_next → IsNear (mirrored_counts at_each) right right_next → ((c : ℕ) → 65535 < c → at_each c ≡ 0) → IsReach at_each left (65535 - right)
 reach_between at_each left left_next right right_next low high inside = record {
   low_some = low.some;
   high_some = high.some;
@@ -121,7 +121,7 @@ reach_ordered at_each low high is = by (cases_lt high low)
     by (inr le) = le
 
 -- a block arrived and the others are unchanged, as seen from the other side
-pub come_mirrored : (old new : ℕ → ℕ) (from to : ℕ) → from ≤ 65535 → to ≤ 65535 → HasCome old new from to → HasCome (mirrored old) (mirrored new) (65535 - from) (65535 - to)
+pub come_mirrored : (old new : ℕ → ℕ) (from to : ℕ) → from ≤ 65535 → to ≤ 65535 → HasCome old new from to → HasCome (mirrored_counts old) (mirrored_counts new) (65535 - from) (65535 - to)
 come_mirrored old new from to from_inside to_inside come = record {
   arrived = (let e : to ≡ 65535 - (65535 - to) = omega arith in subst (λ n. 0 < new n) e come.arrived);
   kept = λ c inside some. come.kept (65535 - c) (omega arith) (grind (arith, nat_tests, some));
@@ -147,28 +147,28 @@ still_there old new from to near next small is come = by (eqb near from) refl
 -- the box of the first blocks
 pub record IsBoxSoFar (columns rows : ℕ → ℕ) (count : ℕ) (box : NetBox) : Type 0 where
   pub left : IsNearSoFar columns count box.near.left box.next.left
-  pub right : IsNearSoFar (mirrored columns) count box.near.right box.next.right
+  pub right : IsNearSoFar (mirrored_counts columns) count box.near.right box.next.right
   pub bottom : IsNearSoFar rows count box.near.bottom box.next.bottom
-  pub top : IsNearSoFar (mirrored rows) count box.near.top box.next.top
+  pub top : IsNearSoFar (mirrored_counts rows) count box.near.top box.next.top
   pub columns_inside : (column : ℕ) → 65535 < column → columns column ≡ 0
   pub rows_inside : (row : ℕ) → 65535 < row → rows row ≡ 0
 
 pub box_none : (columns rows : ℕ → ℕ) (box : NetBox) → ((c : ℕ) → columns c ≡ 0) → ((c : ℕ) → rows c ≡ 0) → box ≡ record { near = record { left = 65535; right = 65535; bottom = 65535; top = 65535 }; next = record { left = 65535; right = 65535; bottom = 65535; top = 65535 } } → IsBoxSoFar columns rows 0 box
 box_none columns rows box no_columns no_rows is = rw is (record {
   left = near_none columns no_columns;
-  right = near_none (mirrored columns) (λ c. no_columns (65535 - c));
+  right = near_none (mirrored_counts columns) (λ c. no_columns (65535 - c));
   bottom = near_none rows no_rows;
-  top = near_none (mirrored rows) (λ c. no_rows (65535 - c));
+  top = near_none (mirrored_counts rows) (λ c. no_rows (65535 - c));
   columns_inside = λ c past. no_columns c;
   rows_inside = λ c past. no_rows c;
 })
 
-pub box_more : (columns new_columns rows new_rows : ℕ → ℕ) (count : ℕ) (box : NetBox) (block : Point) → block.x ≤ 65535 → block.y ≤ 65535 → ((c : ℕ) → new_columns c ≡ columns c + cond (eqb block.x c) 1 0) → ((c : ℕ) → new_rows c ≡ rows c + cond (eqb block.y c) 1 0) → IsBoxSoFar columns rows count box → IsBoxSoFar new_columns new_rows (count + 1) (met box (sides_of block))
+pub box_more : (columns new_columns rows new_rows : ℕ → ℕ) (count : ℕ) (box : NetBox) (block : Point) → block.x ≤ 65535 → block.y ≤ 65535 → ((c : ℕ) → new_columns c ≡ columns c + cond (eqb block.x c) 1 0) → ((c : ℕ) → new_rows c ≡ rows c + cond (eqb block.y c) 1 0) → IsBoxSoFar columns rows count box → IsBoxSoFar new_columns new_rows (count + 1) (with_block box (sides_of block))
 box_more columns new_columns rows new_rows count box block x_small y_small across up so_far = record {
   left = near_more columns new_columns count box.near.left box.next.left block.x x_small (λ c inside. across c) so_far.left;
-  right = near_more (mirrored columns) (mirrored new_columns) count box.near.right box.next.right (65535 - block.x) (omega arith) (more_mirrored columns new_columns block.x x_small across) so_far.right;
+  right = near_more (mirrored_counts columns) (mirrored_counts new_columns) count box.near.right box.next.right (65535 - block.x) (omega arith) (more_mirrored columns new_columns block.x x_small across) so_far.right;
   bottom = near_more rows new_rows count box.near.bottom box.next.bottom block.y y_small (λ c inside. up c) so_far.bottom;
-  top = near_more (mirrored rows) (mirrored new_rows) count box.near.top box.next.top (65535 - block.y) (omega arith) (more_mirrored rows new_rows block.y y_small up) so_far.top;
+  top = near_more (mirrored_counts rows) (mirrored_counts new_rows) count box.near.top box.next.top (65535 - block.y) (omega arith) (more_mirrored rows new_rows block.y y_small up) so_far.top;
   columns_inside = λ c past. (let each = across c in let off = so_far.columns_inside c past in grind (arith, nat_tests, each, off));
   rows_inside = λ c past. (let each = up c in let off = so_far.rows_inside c past in grind (arith, nat_tests, each, off));
 }
@@ -176,9 +176,9 @@ box_more columns new_columns rows new_rows count box block x_small y_small acros
 pub box_all : (columns rows : ℕ → ℕ) (count : ℕ) (box : NetBox) → 0 < count → IsBoxSoFar columns rows count box → IsBoxBy columns rows box
 box_all columns rows count box some so_far = record {
   left = near_all columns count box.near.left box.next.left some so_far.left;
-  right = near_all (mirrored columns) count box.near.right box.next.right some so_far.right;
+  right = near_all (mirrored_counts columns) count box.near.right box.next.right some so_far.right;
   bottom = near_all rows count box.near.bottom box.next.bottom some so_far.bottom;
-  top = near_all (mirrored rows) count box.near.top box.next.top some so_far.top;
+  top = near_all (mirrored_counts rows) count box.near.top box.next.top some so_far.top;
   columns_inside = so_far.columns_inside;
   rows_inside = so_far.rows_inside;
 }

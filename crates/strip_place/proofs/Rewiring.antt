@@ -11,7 +11,7 @@ use Rattle.strip_place.specs.Boxes.{AreBothRenewed, AreFewOf, AreTouchedBy, IsFo
 use Rattle.strip_place.specs.Sides.{sides_of, sum_of}
 use Rattle.strip_place.proofs.Following.{followed_back, followed_there}
 use Rattle.strip_place.proofs.Lengths.{box_sum}
-use Rattle.strip_place.specs.Wiring.{IsOnNone, IsWired, Wiring, nowhere, point_at, points_after}
+use Rattle.strip_place.specs.Wiring.{IsOnNone, IsWired, Wiring, no_point, point_at, points_after}
 use Rattle.strip_place.proofs.Swaps.{exchanged_back, exchanged_points, grows, least_after, renewed_again, renewed_boxes}
 use Rattle.strip_place.proofs.Touches.{touched_few}
 
@@ -151,7 +151,7 @@ module _ (nets touching : List (List ℕ)) (points : List Point) (boxes : List N
 
 -- points that are written and then restored
 pub points_back : (points : List Point) (block other : ℕ) (there : Point) → block ≢ other → set (set (points_after points block other there) block (point_at points block)) other (point_at points other) ≡ points
-points_back points block other there differs = ext_get_or nowhere (set (set (points_after points block other there) block (point_at points block)) other (point_at points other)) points long (λ k lt. by k (omega (arith, long)) (cases_eq k other) (cases_eq k block))
+points_back points block other there differs = ext_get_or no_point (set (set (points_after points block other there) block (point_at points block)) other (point_at points other)) points long (λ k lt. by k (omega (arith, long)) (cases_eq k other) (cases_eq k block))
   where
     long_two : length (points_after points block other there) ≡ length points
     long_two = length-set (set points block there) other (point_at points block) ∙ length-set points block there
@@ -162,18 +162,18 @@ points_back points block other there differs = ext_get_or nowhere (set (set (poi
     long : length (set (set (points_after points block other there) block (point_at points block)) other (point_at points other)) ≡ length points
     long = length-set (set (points_after points block other there) block (point_at points block)) other (point_at points other) ∙ long_three
 
-    by : (k : ℕ) → k < length points → (k ≡ other) ⊎ (k ≡ other → ⊥) → (k ≡ block) ⊎ (k ≡ block → ⊥) → get_or (set (set (points_after points block other there) block (point_at points block)) other (point_at points other)) k nowhere ≡ get_or points k nowhere
+    by : (k : ℕ) → k < length points → (k ≡ other) ⊎ (k ≡ other → ⊥) → (k ≡ block) ⊎ (k ≡ block → ⊥) → get_or (set (set (points_after points block other there) block (point_at points block)) other (point_at points other)) k no_point ≡ get_or points k no_point
     by k lt (inl e) any =
-        ap (λ n. get_or (set (set (points_after points block other there) block (point_at points block)) other (point_at points other)) n nowhere) e
-        ∙ get_or-set_same (set (points_after points block other there) block (point_at points block)) other (point_at points other) nowhere (omega (arith, long_three))
-        ∙ ap (λ n. get_or points n nowhere) (sym e)
+        ap (λ n. get_or (set (set (points_after points block other there) block (point_at points block)) other (point_at points other)) n no_point) e
+        ∙ get_or-set_same (set (points_after points block other there) block (point_at points block)) other (point_at points other) no_point (omega (arith, long_three))
+        ∙ ap (λ n. get_or points n no_point) (sym e)
     by k lt (inr ne) (inl e) =
-        get_or-set_other (set (points_after points block other there) block (point_at points block)) other k (point_at points other) nowhere ne
-        ∙ ap (λ n. get_or (set (points_after points block other there) block (point_at points block)) n nowhere) e
-        ∙ get_or-set_same (points_after points block other there) block (point_at points block) nowhere (omega (arith, long_two))
-        ∙ ap (λ n. get_or points n nowhere) (sym e)
+        get_or-set_other (set (points_after points block other there) block (point_at points block)) other k (point_at points other) no_point ne
+        ∙ ap (λ n. get_or (set (points_after points block other there) block (point_at points block)) n no_point) e
+        ∙ get_or-set_same (points_after points block other there) block (point_at points block) no_point (omega (arith, long_two))
+        ∙ ap (λ n. get_or points n no_point) (sym e)
     by k lt (inr ne) (inr nor) =
-        get_or-set_other (set (points_after points block other there) block (point_at points block)) other k (point_at points other) nowhere ne
-        ∙ get_or-set_other (points_after points block other there) block k (point_at points block) nowhere nor
-        ∙ get_or-set_other (set points block there) other k (point_at points block) nowhere ne
-        ∙ get_or-set_other points block k there nowhere nor
+        get_or-set_other (set (points_after points block other there) block (point_at points block)) other k (point_at points other) no_point ne
+        ∙ get_or-set_other (points_after points block other there) block k (point_at points block) no_point nor
+        ∙ get_or-set_other (set points block there) other k (point_at points block) no_point ne
+        ∙ get_or-set_other points block k there no_point nor

@@ -8,7 +8,7 @@ use Rattle.grid.specs.declared.place.Kind.{Kind}
 use Rattle.grid.specs.declared.place.Kind.TheVariants.{Logic, Pad}
 use Rattle.strip_place.specs.Sites.{IsSiteFor, first_site, is_among, kept_sites, least_free, seated_behind, site_count, site_for}
 use Rattle.strip_place.specs.Starting.{AreKeptSites}
-use Rattle.strip_place.specs.Vacancies.{Vacancies, all_free, first_from, lowest, marked, without_lowest}
+use Rattle.strip_place.specs.Vacancies.{Vacancies, all_free, first_from, lowest_vacant, marks_with, without_lowest}
 use Rattle.strip_place.proofs.Vacant.{IsLeast, among_before, among_last, among_other}
 use Rattle.strip_place.proofs.Seatings.{Comer, HasRoom, least_seat, nobody, room_more}
 
@@ -22,18 +22,18 @@ marks_more taken marks site lt are other inside = elim (cases_eq other site) [
   | inr differs ↦ get_or-set_other marks site other true false differs ∙ (are other (omega (arith, inside, length-set marks site true)) ∙ sym (among_other taken site other differs))
 ]
 
-pub length-marked : (marks : List Bool) (kept : List (Option ℕ)) → length (marked marks kept) ≡ length marks
+pub length-marked : (marks : List Bool) (kept : List (Option ℕ)) → length (marks_with marks kept) ≡ length marks
 length-marked marks [] = refl
 length-marked marks (None ∷ kept) = length-marked marks kept
 length-marked marks (Some site ∷ kept) = length-marked (set marks site true) kept ∙ length-set marks site true
 
-marks_kept : (taken : List ℕ) (marks : List Bool) (kept : List (Option ℕ)) → ((block site : ℕ) → block < length kept → get_or kept block None ≡ Some site → site < length marks) → AreMarks taken marks → AreMarks (taken ++ kept_sites kept) (marked marks kept)
+marks_kept : (taken : List ℕ) (marks : List Bool) (kept : List (Option ℕ)) → ((block site : ℕ) → block < length kept → get_or kept block None ≡ Some site → site < length marks) → AreMarks taken marks → AreMarks (taken ++ kept_sites kept) (marks_with marks kept)
 marks_kept taken marks [] inside are = rw append-nil are
 marks_kept taken marks (None ∷ kept) inside are = marks_kept taken marks kept (λ b s lt is. inside (suc b) s (omega (arith, lt)) is) are
 marks_kept taken marks (Some site ∷ kept) inside are =
     let here : site < length marks = inside 0 site (omega arith) refl in
     let rest = marks_kept (taken ++ site ∷ []) (set marks site true) kept (λ b s lt is. omega (arith, inside (suc b) s (omega (arith, lt)) is, length-set marks site true)) (marks_more taken marks site here are) in
-    subst (λ (t : List ℕ). AreMarks t (marked (set marks site true) kept)) (append_assoc taken (site ∷ []) (kept_sites kept)) rest
+    subst (λ (t : List ℕ). AreMarks t (marks_with (set marks site true) kept)) (append_assoc taken (site ∷ []) (kept_sites kept)) rest
 
 no_marks : (count : ℕ) → AreMarks [] (all_free count)
 no_marks zero site lt = refl
@@ -133,14 +133,14 @@ module _ (strip : Strip) (blocks : List Comer) (kept : List ℕ) (index : ℕ) (
     inside Logic = omega (arith, so_far.long)
     inside Pad = omega (arith, so_far.long)
 
-    pub lowest_is : lowest vacancies kind ≡ least_free strip kind taken
+    pub lowest_is : lowest_vacant vacancies kind ≡ least_free strip kind taken
     lowest_is = by kind (inside kind) least
       where
-        by : (kind : Kind) → first_site strip kind + site_count strip kind ≤ length vacancies.marks → IsLeast taken (first_site strip kind) (site_count strip kind) (least_free strip kind taken) → lowest vacancies kind ≡ least_free strip kind taken
+        by : (kind : Kind) → first_site strip kind + site_count strip kind ≤ length vacancies.marks → IsLeast taken (first_site strip kind) (site_count strip kind) (least_free strip kind taken) → lowest_vacant vacancies kind ≡ least_free strip kind taken
         by Logic within least = lowest_by strip taken Logic vacancies.marks vacancies.logic so_far.marks within so_far.logic least
         by Pad within least = lowest_by strip taken Pad vacancies.marks vacancies.pads so_far.marks within so_far.pads least
 
-    pub lowest_inside : lowest vacancies kind < length vacancies.marks
+    pub lowest_inside : lowest_vacant vacancies kind < length vacancies.marks
     lowest_inside = omega (arith, lowest_is, least.below, inside kind)
 
     low_next : (site : ℕ) → site ≡ least_free strip kind taken → IsLow strip (taken ++ site ∷ []) kind site
@@ -149,12 +149,12 @@ module _ (strip : Strip) (blocks : List Comer) (kept : List ℕ) (index : ℕ) (
       below = λ s past less. among_before taken site s (least.least s past (omega (arith, is, less)));
     }
 
-    after : (kind : Kind) (site : ℕ) → lowest vacancies kind ≡ site → IsLow strip (taken ++ site ∷ []) kind site → site < length vacancies.marks →
+    after : (kind : Kind) (site : ℕ) → lowest_vacant vacancies kind ≡ site → IsLow strip (taken ++ site ∷ []) kind site → site < length vacancies.marks →
         (length (without_lowest vacancies kind).marks ≡ length vacancies.marks) × AreMarks (taken ++ site ∷ []) (without_lowest vacancies kind).marks × IsLow strip (taken ++ site ∷ []) Logic (without_lowest vacancies kind).logic × IsLow strip (taken ++ site ∷ []) Pad (without_lowest vacancies kind).pads
     after Logic site is low small = rw is (length-set vacancies.marks site true, marks_more taken vacancies.marks site small so_far.marks, low, low_stays strip taken site Pad vacancies.pads so_far.pads)
     after Pad site is low small = rw is (length-set vacancies.marks site true, marks_more taken vacancies.marks site small so_far.marks, low_stays strip taken site Logic vacancies.logic so_far.logic, low)
 
-    pub starting_free : (site : ℕ) → site ≡ lowest vacancies kind → IsStarting strip blocks kept (index + 1) (without_lowest vacancies kind) (sites ++ site ∷ [])
+    pub starting_free : (site : ℕ) → site ≡ lowest_vacant vacancies kind → IsStarting strip blocks kept (index + 1) (without_lowest vacancies kind) (sites ++ site ∷ [])
     starting_free site is =
         let block : Comer = (kind, None) in
         let free : least_free strip kind taken ≡ site = sym (is ∙ lowest_is) in
@@ -173,7 +173,7 @@ module _ (strip : Strip) (blocks : List Comer) (kept : List ℕ) (index : ℕ) (
   starting_all past = sym (so_far.all ∙ (ap (λ (b : List Comer). sites ++ seated_behind strip taken b) (drop_all index blocks past) ∙ append-nil sites))
 
 pub starting_none : (strip : Strip) (blocks : List Comer) (kept : List (Option ℕ)) (total : ℕ) → HasRoom strip (kept_sites kept) blocks → total ≡ site_count strip Logic + site_count strip Pad → ((block site : ℕ) → block < length kept → get_or kept block None ≡ Some site → site < total) →
-    IsStarting strip blocks (kept_sites kept) 0 (record { marks = marked (all_free total) kept; logic = 0; pads = first_site strip Pad }) []
+    IsStarting strip blocks (kept_sites kept) 0 (record { marks = marks_with (all_free total) kept; logic = 0; pads = first_site strip Pad }) []
 starting_none strip blocks kept total room whole inside =
     let nothing : kept_sites kept ++ [] ≡ kept_sites kept = append-nil (kept_sites kept) in
     record {

@@ -7,11 +7,11 @@ use Rattle.std.proofs.lemmas.Bool.{cases_eq, cases_lt}
 use Rattle.std.proofs.lemmas.Bool.Decides.{nat_tests}
 use Rattle.strip_place.specs.declared.net_box.NetBox.{NetBox}
 use Rattle.strip_place.specs.declared.point.Point.{Point}
-use Rattle.strip_place.specs.Extents.{HasCome, count_at, mirrored}
+use Rattle.strip_place.specs.Extents.{HasCome, count_at, mirrored_counts}
 use Rattle.strip_place.specs.Sides.{sides_of}
 use Rattle.strip_place.specs.Nets.{AreNets, AreTouched, net_at, times_on}
 use Rattle.strip_place.specs.Boxes.{AreBothRenewed, AreBoxes, AreRenewed, IsBox, IsBoxBy, at_column, at_row, boxed_length, box_at, half_after, half_of, length_after, no_sides, reach_of, reached_length}
-use Rattle.strip_place.specs.Wiring.{nowhere, point_at, points_after}
+use Rattle.strip_place.specs.Wiring.{no_point, point_at, points_after}
 use Rattle.strip_place.proofs.Ends.{HaveSwapped, coordinate_at, counted, swapped_once, swapped_same}
 use Rattle.strip_place.proofs.Nearness.{near_same}
 use Rattle.strip_place.proofs.Lengths.{box_reach, boxed_is, is_in, lengths_grow, reach_least, sum_le}
@@ -106,9 +106,9 @@ pub exchanged_points : (points : List Point) (block other : ℕ) (there : Point)
 exchanged_points points block other there within inside differs = record {
   differs = differs;
   stood = refl;
-  gone = get_or-set_other (set points block there) other block (point_at points block) nowhere differs ∙ get_or-set_same points block there nowhere within;
-  back = get_or-set_same (set points block there) other (point_at points block) nowhere (omega (arith, length-set points block there));
-  kept = λ k ne nor. get_or-set_other (set points block there) other k (point_at points block) nowhere nor ∙ get_or-set_other points block k there nowhere ne;
+  gone = get_or-set_other (set points block there) other block (point_at points block) no_point differs ∙ get_or-set_same points block there no_point within;
+  back = get_or-set_same (set points block there) other (point_at points block) no_point (omega (arith, length-set points block there));
+  kept = λ k ne nor. get_or-set_other (set points block there) other k (point_at points block) no_point nor ∙ get_or-set_other points block k there no_point ne;
 }
 
 pub exchanged_back : (old new : List Point) (block other : ℕ) (from to : Point) → point_at old other ≡ to → AreExchanged old new block other from to → AreExchanged old new other block to from
@@ -120,7 +120,7 @@ exchanged_back old new block other from to there are = record {
   kept = λ k ne nor. are.kept k nor ne;
 }
 
-pub swapped : (f : Point → ℕ) → f nowhere ≡ 0 → (old new : List Point) (block other : ℕ) (from to : Point) → AreExchanged old new block other from to → HaveSwapped (map f old) (map f new) block other (f from) (f to)
+pub swapped : (f : Point → ℕ) → f no_point ≡ 0 → (old new : List Point) (block other : ℕ) (from to : Point) → AreExchanged old new block other from to → HaveSwapped (map f old) (map f new) block other (f from) (f to)
 swapped f none old new block other from to are = record {
   differs = are.differs;
   stood = coordinate_at f old block none ∙ ap f are.stood;
@@ -136,7 +136,7 @@ abbrev pub y_of : Point → ℕ
 y_of point = point.y
 
 -- on a net with both blocks or neither, each coordinate has as many blocks as before
-pub same_each : (f : Point → ℕ) → f nowhere ≡ 0 → (old new : List Point) (block other : ℕ) (from to : Point) (net : List ℕ) → AreExchanged old new block other from to → (0 < times_on other net → point_at old other ≡ to) → times_on block net ≡ times_on other net → (c : ℕ) → count_at (map f new) net c ≡ count_at (map f old) net c
+pub same_each : (f : Point → ℕ) → f no_point ≡ 0 → (old new : List Point) (block other : ℕ) (from to : Point) (net : List ℕ) → AreExchanged old new block other from to → (0 < times_on other net → point_at old other ≡ to) → times_on block net ≡ times_on other net → (c : ℕ) → count_at (map f new) net c ≡ count_at (map f old) net c
 same_each f none old new block other from to net are there alike =
     swapped_same (map f old) (map f new) block other (f from) (f to) net (swapped f none old new block other from to are) (λ some. coordinate_at f old other none ∙ ap f (there some)) alike
 
@@ -144,9 +144,9 @@ same_each f none old new block other from to net are there alike =
 pub box_counts : (columns new_columns rows new_rows : ℕ → ℕ) (box : NetBox) → ((c : ℕ) → new_columns c ≡ columns c) → ((c : ℕ) → new_rows c ≡ rows c) → IsBoxBy columns rows box → IsBoxBy new_columns new_rows box
 box_counts columns new_columns rows new_rows box across along is = record {
   left = near_same columns new_columns box.near.left box.next.left across is.left;
-  right = near_same (mirrored columns) (mirrored new_columns) box.near.right box.next.right (λ c. across (65535 - c)) is.right;
+  right = near_same (mirrored_counts columns) (mirrored_counts new_columns) box.near.right box.next.right (λ c. across (65535 - c)) is.right;
   bottom = near_same rows new_rows box.near.bottom box.next.bottom along is.bottom;
-  top = near_same (mirrored rows) (mirrored new_rows) box.near.top box.next.top (λ c. along (65535 - c)) is.top;
+  top = near_same (mirrored_counts rows) (mirrored_counts new_rows) box.near.top box.next.top (λ c. along (65535 - c)) is.top;
   columns_inside = λ c past. across c ∙ is.columns_inside c past;
   rows_inside = λ c past. along c ∙ is.rows_inside c past;
 }
@@ -156,7 +156,7 @@ box_same old new block other from to net box are there alike is =
     box_counts (at_column old net) (at_column new net) (at_row old net) (at_row new net) box (same_each x_of refl old new block other from to net are there alike) (same_each y_of refl old new block other from to net are there alike) is
 
 -- a block arrived on a net that doesn't have the other
-come_at : (f : Point → ℕ) → f nowhere ≡ 0 → (old new : List Point) (block other : ℕ) (from to : Point) (net : List ℕ) → AreExchanged old new block other from to → (0 < times_on other net → point_at old other ≡ to) → times_on block net ≡ 1 → times_on other net ≤ 1 → HasCome (count_at (map f old) net) (count_at (map f new) net) (f from) (f to)
+come_at : (f : Point → ℕ) → f no_point ≡ 0 → (old new : List Point) (block other : ℕ) (from to : Point) (net : List ℕ) → AreExchanged old new block other from to → (0 < times_on other net → point_at old other ≡ to) → times_on block net ≡ 1 → times_on other net ≤ 1 → HasCome (count_at (map f old) net) (count_at (map f new) net) (f from) (f to)
 come_at f none old new block other from to net are there once few = record {
   arrived = counted (map f new) block (f to) net (coordinate_at f new block none ∙ ap f are.gone) (omega arith);
   kept = λ c inside some. kept c some (cases_eq (times_on other net) 0);

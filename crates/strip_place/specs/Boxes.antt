@@ -5,10 +5,10 @@ use Rattle.strip_place.specs.declared.boxes.Move.{Move}
 use Rattle.strip_place.specs.declared.net_box.NetBox.{NetBox}
 use Rattle.strip_place.specs.declared.point.Point.{Point}
 use Rattle.strip_place.specs.declared.sides.Sides.{Sides}
-use Rattle.strip_place.specs.Extents.{IsNear, count_at, mirrored}
+use Rattle.strip_place.specs.Extents.{IsNear, count_at, mirrored_counts}
 use Rattle.strip_place.specs.Nets.{AreNets, net_at}
 use Rattle.strip_place.specs.Pass.{spread}
-use Rattle.strip_place.specs.Sides.{farther, nearer, sum_of}
+use Rattle.strip_place.specs.Sides.{farther_sides, nearer_sides, sum_of}
 
 -- the columns, and the rows, of points
 abbrev pub columns_at : List Point → List ℕ
@@ -28,9 +28,9 @@ at_row points net = count_at (rows_at points) net
 -- in each row
 pub record IsBoxBy (columns rows : ℕ → ℕ) (box : NetBox) : Type 0 where
   pub left : IsNear columns box.near.left box.next.left
-  pub right : IsNear (mirrored columns) box.near.right box.next.right
+  pub right : IsNear (mirrored_counts columns) box.near.right box.next.right
   pub bottom : IsNear rows box.near.bottom box.next.bottom
-  pub top : IsNear (mirrored rows) box.near.top box.next.top
+  pub top : IsNear (mirrored_counts rows) box.near.top box.next.top
   pub columns_inside : (column : ℕ) → 65535 < column → columns column ≡ 0
   pub rows_inside : (row : ℕ) → 65535 < row → rows row ≡ 0
 
@@ -57,11 +57,11 @@ rest_of box gone = record {
 
 -- the width plus the height after a block moves from one point to another
 abbrev pub half_after : NetBox → Sides → Sides → ℕ
-half_after box from to = 131070 - sum_of (nearer (rest_of box from) to)
+half_after box from to = 131070 - sum_of (nearer_sides (rest_of box from) to)
 
 -- a box with one more block
-abbrev pub met : NetBox → Sides → NetBox
-met box block = record { near = nearer block box.near; next = nearer box.next (farther box.near block) }
+abbrev pub with_block : NetBox → Sides → NetBox
+with_block box block = record { near = nearer_sides block box.near; next = nearer_sides box.next (farther_sides box.near block) }
 
 -- a block at these distances is farther from each side than the two nearest that the box keeps
 -- there
@@ -143,7 +143,7 @@ IsAmong numbers number = (k : ℕ) × (k < length numbers) × (slice_index numbe
 -- the box, the new box is the old one with the block at its new point
 pub record IsFollowed (points : List Point) (net others : List ℕ) (number : ℕ) (box : NetBox) (from to : Sides) : Type 0 where
   pub both : IsAmong others number → IsBox points net box
-  pub alone : (IsAmong others number → ⊥) → IsDeep box from → IsBox points net (met box to)
+  pub alone : (IsAmong others number → ⊥) → IsDeep box from → IsBox points net (with_block box to)
 
 -- the boxes of the nets with these numbers can be updated after a block of each of them moved
 pub record CanRenew (points : List Point) (nets : List (List ℕ)) (numbers others : List ℕ) (boxes : List NetBox) (from to : Sides) : Type 0 where

@@ -30,17 +30,17 @@ abbrev pub mark_at : List Bool → Option ℕ → List Bool
 mark_at marks None = marks
 mark_at marks (Some site) = slice_set marks site true
 
-abbrev pub marked : List Bool → List (Option ℕ) → List Bool
-marked marks [] = marks
-marked marks (site ∷ kept) = marked (mark_at marks site) kept
+abbrev pub marks_with : List Bool → List (Option ℕ) → List Bool
+marks_with marks [] = marks
+marks_with marks (site ∷ kept) = marks_with (mark_at marks site) kept
 
 -- the first site without a mark
 abbrev pub first_from : List Bool → ℕ → ℕ
 first_from marks from = from + prefix_len (λ (mark : Bool). mark) (drop from marks)
 
-abbrev pub lowest : Vacancies → Kind → ℕ
-lowest vacancies Logic = first_from vacancies.marks vacancies.logic
-lowest vacancies Pad = first_from vacancies.marks vacancies.pads
+abbrev pub lowest_vacant : Vacancies → Kind → ℕ
+lowest_vacant vacancies Logic = first_from vacancies.marks vacancies.logic
+lowest_vacant vacancies Pad = first_from vacancies.marks vacancies.pads
 
 abbrev pub without_lowest : Vacancies → Kind → Vacancies
 without_lowest vacancies Logic = record vacancies { marks = slice_set vacancies.marks (first_from vacancies.marks vacancies.logic) true; logic = first_from vacancies.marks vacancies.logic }

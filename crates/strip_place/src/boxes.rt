@@ -99,7 +99,7 @@ fn renew(
     for number in touched {
         let stood = boxes[*number as usize];
         let net = nets.row(*number as usize);
-        let found = renewed(stood, net, points, made, others, *number);
+        let found = new_box(stood, net, points, made, others, *number);
         boxes[*number as usize] = found;
         total += u64::from(found.half_perimeter());
     }
@@ -109,7 +109,7 @@ fn renew(
 /// The new bounding box of a net, given its box before. It is recomputed from all blocks if the net
 /// has few.
 #[inline(always)]
-fn renewed(
+fn new_box(
     stood: NetBox,
     net: &[u32],
     points: &[Point],
@@ -122,7 +122,7 @@ fn renewed(
     ensures { IsBox points.now net.now result }
 {
     if net.len() > FEW_BLOCKS {
-        return followed(stood, net, points, made, others, number);
+        return large_net_box(stood, net, points, made, others, number);
     }
     NetBox::of(net, points)
 }
@@ -131,7 +131,7 @@ fn renewed(
 /// blocks are on the net, extended to the block's new point if the block was deep inside the old
 /// box, and otherwise recomputed from all blocks.
 #[inline(never)]
-fn followed(
+fn large_net_box(
     stood: NetBox,
     net: &[u32],
     points: &[Point],
@@ -147,7 +147,7 @@ fn followed(
         return stood;
     }
     if stood.is_deep(made.from) {
-        return stood.met(made.to);
+        return stood.with_block(made.to);
     }
     NetBox::of(net, points)
 }

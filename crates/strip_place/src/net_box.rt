@@ -2,7 +2,7 @@
 ghost use Rattle.std.specs.Prelude.{◌≡◌, ◌<◌, ◌≤◌, ⊤, MatchBool, length};
 ghost use Rattle.strip_place.specs.Nets.{IsNetOf};
 ghost use Rattle.strip_place.specs.Sides.{sum_of};
-ghost use Rattle.strip_place.specs.Boxes.{IsBox, IsDeep, half_after, half_of, met, rest};
+ghost use Rattle.strip_place.specs.Boxes.{IsBox, IsDeep, half_after, half_of, with_block, rest};
 
 use crate::point::Point;
 use crate::sides::{FAR, Sides};
@@ -32,7 +32,7 @@ impl NetBox {
             next: nowhere,
         };
         for block in net {
-            found = found.met(Sides::of(points[*block as usize]));
+            found = found.with_block(Sides::of(points[*block as usize]));
         }
         found
     }
@@ -59,7 +59,7 @@ impl NetBox {
             bottom: rest(self.near.bottom, self.next.bottom, from.bottom),
             top: rest(self.near.top, self.next.top, from.top),
         }
-        .nearer(to)
+        .nearer_sides(to)
         .half_perimeter()
     }
 
@@ -75,12 +75,12 @@ impl NetBox {
     }
 
     /// The box with one more block.
-    pub(crate) fn met(self, block: Sides) -> Self
-        ensures { result ≡ met self block }
+    pub(crate) fn with_block(self, block: Sides) -> Self
+        ensures { result ≡ with_block self block }
     {
         NetBox {
-            near: block.nearer(self.near),
-            next: self.next.nearer(self.near.farther(block)),
+            near: block.nearer_sides(self.near),
+            next: self.next.nearer_sides(self.near.farther_sides(block)),
         }
     }
 }

@@ -23,6 +23,12 @@ use rand_pcg::Pcg32;
 use std::alloc::{AllocError, Global};
 use std::marker::Model;
 
+/// The most passes of a placing.
+pub const MAX_PASSES: u32 = 512;
+
+/// The greatest effort of a placing.
+pub const MAX_EFFORT: u32 = 100;
+
 /// The result of a pass.
 #[derive(Clone, Copy, PartialEq, Eq)]
 pub enum PassEnd {
@@ -72,7 +78,7 @@ impl Placing {
         requires size { IsStripSize strip }
         requires fits { fit_of strip packed.now ≡ Fits }
         requires kept { AreKeptOn strip kept.now }
-        requires effort { effort ≤ 100 }
+        requires effort { effort ≤ MAX_EFFORT }
         ensures { IfOk result (λ placing.
             placing ≡ record {
               packed = packed.now;
@@ -172,7 +178,7 @@ impl Placing {
     }
 
     /// The places, as a map from the blocks' keys, to be kept.
-    pub fn kept(&self, alloc: Global) -> Result<Kept, AllocError>
+    pub fn to_kept_places(&self, alloc: Global) -> Result<Kept, AllocError>
         ensures exact { IfOk result (λ kept.
             kept ≡ in_order (zip (keys_of self.now.packed) (places_by_block self.now))) }
         ensures lawful { IfOk result (λ kept. AreKeptOn self.now.strip kept) }

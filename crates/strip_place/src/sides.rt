@@ -1,6 +1,6 @@
 //! The distances of points from the sides of a field that is larger than any strip.
 ghost use Rattle.std.specs.Prelude.{◌≡◌, ◌-◌, ◌≤◌, ◌<◌};
-ghost use Rattle.strip_place.specs.Sides.{farther, nearer, sides_of, sum_of};
+ghost use Rattle.strip_place.specs.Sides.{farther_sides, nearer_sides, sides_of, sum_of};
 
 use crate::point::Point;
 
@@ -35,8 +35,8 @@ impl Sides {
     }
 
     /// At each side, the nearer of two distances.
-    pub(crate) fn nearer(self, other: Self) -> Self
-        ensures { result ≡ nearer self other }
+    pub(crate) fn nearer_sides(self, other: Self) -> Self
+        ensures { result ≡ nearer_sides self other }
     {
         Sides {
             left: self.left.min(other.left),
@@ -47,8 +47,8 @@ impl Sides {
     }
 
     /// At each side, the farther of two distances.
-    pub(crate) fn farther(self, other: Self) -> Self
-        ensures { result ≡ farther self other }
+    pub(crate) fn farther_sides(self, other: Self) -> Self
+        ensures { result ≡ farther_sides self other }
     {
         Sides {
             left: self.left.max(other.left),

@@ -3,7 +3,7 @@ ghost use Rattle.std.specs.Prelude.{◌≡◌, ◌+◌, ◌<◌, ◌≤◌, All,
 ghost use Rattle.std.specs.List.{prefix_len};
 ghost use Rattle.std.specs.Option.{ForSome};
 ghost use Rattle.grid.specs.declared.place.Kind.TheVariants.{Logic, Pad};
-ghost use Rattle.strip_place.specs.Vacancies.{AreSitesOf, all_free, lowest, marked, without_lowest};
+ghost use Rattle.strip_place.specs.Vacancies.{AreSitesOf, all_free, lowest_vacant, marks_with, without_lowest};
 
 use grid::Kind;
 use std::alloc::{AllocError, Global};
@@ -39,7 +39,7 @@ impl Vacancies {
         requires { AreSitesOf (logic + pads) kept.now }
         ensures { IfOk result (λ vacancies.
             vacancies ≡ record {
-              marks = marked (all_free (logic + pads)) kept.now;
+              marks = marks_with (all_free (logic + pads)) kept.now;
               logic = 0;
               pads = logic;
             }) }
@@ -55,8 +55,8 @@ impl Vacancies {
 
     /// Takes the least free site of a kind, and returns it.
     pub(crate) fn take(&mut self, kind: Kind) -> u32
-        requires { lowest self.old kind < length self.old.marks }
-        ensures site { result ≡ lowest self.old kind }
+        requires { lowest_vacant self.old kind < length self.old.marks }
+        ensures site { result ≡ lowest_vacant self.old kind }
         ensures taken { self.new ≡ without_lowest self.old kind }
     {
         match kind {
@@ -79,7 +79,7 @@ impl Vacancies {
 /// Marks the kept sites.
 fn mark(marks: &mut [bool], kept: &[Option<u32>])
     requires { All (λ site. ForSome site (λ number. number < length marks.old)) kept.now }
-    ensures { marks.new ≡ marked marks.old kept.now }
+    ensures { marks.new ≡ marks_with marks.old kept.now }
 {
     for site in kept {
         if let Some(site) = site {

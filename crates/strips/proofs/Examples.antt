@@ -1,7 +1,7 @@
 -- The definitions at small values.
 use Rattle.std.proofs.Common.{◌≡◌, [], ◌∷◌, Some, None, true, false, refl, arith, inl}
 use Rattle.strips.specs.declared.placed_strip.PlacedStrip.{PlacedStrip}
-use Rattle.strips.specs.Plan.{Plan, AreApart, is_bad_width, offset_of, with_strip, without}
+use Rattle.strips.specs.Plan.{Plan, AreApart, is_bad_width, offset_of, with_strip, strips_without}
 
 -- columns 0 to 3
 abbrev left : PlacedStrip
@@ -24,7 +24,7 @@ where_right_stands = refl
 no_third : offset_of both.strips 3 ≡ None
 no_third = refl
 
-left_alone : without both.strips 2 ≡ left ∷ []
+left_alone : strips_without both.strips 2 ≡ left ∷ []
 left_alone = refl
 
 right_again : with_strip (record { columns = 9; strips = left ∷ [] }) right ≡ both

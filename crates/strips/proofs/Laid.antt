@@ -11,14 +11,14 @@ use Rattle.std.proofs.lemmas.List.Quantifiers.{all_pairs_push}
 use Rattle.std.proofs.lemmas.List.Kept.{AllPairs-filter}
 use Rattle.strips.specs.declared.placed_strip.PlacedStrip.{PlacedStrip}
 use Rattle.strips.specs.declared.layout.TheConstants.{MAX_STRIPS}
-use Rattle.strips.specs.Plan.{Plan, IsParted, IsLaidOut, AreApart, FitsAt, strip_of, moved_strip, offset_of, with_moved, without, with_strip}
+use Rattle.strips.specs.Plan.{Plan, IsParted, IsLaidOut, AreApart, FitsAt, strip_of, moved_strip, offset_of, with_moved, strips_without, with_strip}
 
 length_filter_le : (p : PlacedStrip → Bool) (xs : List PlacedStrip) → length (filter p xs) ≤ length xs
 length_filter_le p [] = omega arith
 length_filter_le p (x ∷ xs) = grind (arith, length_filter_le p xs)
 
 -- without one of its strips, a layout is still laid out
-pub IsLaidOut-without : (plan : Plan) (id : ℕ) → IsLaidOut plan → IsLaidOut (record plan { strips = without plan.strips id })
+pub IsLaidOut-without : (plan : Plan) (id : ℕ) → IsLaidOut plan → IsLaidOut (record plan { strips = strips_without plan.strips id })
 IsLaidOut-without plan id laid =
     let others : PlacedStrip → Bool = λ s. not (eqb s.id id) in
     record {
@@ -68,7 +68,7 @@ IsLaidOut-with plan strip laid few fits new =
     }
 
 -- lookup by id, after a strip is removed or added
-pub strip_of-without : (strips : List PlacedStrip) (id other : ℕ) → strip_of (without strips id) other ≡ (if eqb other id then None else strip_of strips other)
+pub strip_of-without : (strips : List PlacedStrip) (id other : ℕ) → strip_of (strips_without strips id) other ≡ (if eqb other id then None else strip_of strips other)
 strip_of-without [] id other = grind (arith, nat_tests)
 strip_of-without (s ∷ strips) id other = grind (arith, nat_tests, strip_of-without strips id other)
 

@@ -7,7 +7,7 @@ use Rattle.grid.specs.declared.Strip.{Strip}
 use Rattle.rr_graph.specs.declared.node.NodeKind.{NodeKind}
 use Rattle.rr_graph.specs.declared.node.NodeKind.TheVariants.{Source, Sink, Opin, Ipin, ChanX, ChanY}
 use Rattle.rr_graph.specs.declared.node.Node.{Node}
-use Rattle.rr_graph.specs.Geometry.{is_node, is_edge, is_slot, is_chan_y, joins, runs_along, sides_at, crosses, is_next, moved}
+use Rattle.rr_graph.specs.Geometry.{is_node, is_edge, is_slot, is_chan_y, joins, runs_along, sides_at, crosses, is_next, node_at_offset}
 use Rattle.strips.specs.declared.placed_strip.PlacedStrip.{PlacedStrip}
 use Rattle.strips.specs.Plan.{AreApart}
 use Rattle.strips.specs.Windows.{strip_of_width, moved_back, is_in_window, IsPinOrAcross, IsBeside}
@@ -218,15 +218,15 @@ windows_apart arch device strip other node apart within = elim (cases_Bool (is_i
 ]
 
 -- moving a node right and back gives the node again
-there_and_back : (d : ℕ) (node : Node) → moved_back d (moved d node) ≡ node
+there_and_back : (d : ℕ) (node : Node) → moved_back d (node_at_offset d node) ≡ node
 there_and_back d node = ap (λ x. record { x = x; kind = node.kind; y = node.y; n = node.n }) (omega arith)
 
-back_and_there : (d : ℕ) (node : Node) → d ≤ node.x → moved d (moved_back d node) ≡ node
+back_and_there : (d : ℕ) (node : Node) → d ≤ node.x → node_at_offset d (moved_back d node) ≡ node
 back_and_there d node few = ap (λ x. record { x = x; kind = node.kind; y = node.y; n = node.n }) (omega (arith, few))
 
 -- a strip's node is in its window
 pub node_there : (arch : Arch) (device : Strip) (strip : PlacedStrip) (node : Node) → is_node arch (strip_of_width device strip.width) node ≡ true →
-    (is_in_window arch device strip (moved strip.offset node) ≡ true) × (moved_back strip.offset (moved strip.offset node) ≡ node)
+    (is_in_window arch device strip (node_at_offset strip.offset node) ≡ true) × (moved_back strip.offset (node_at_offset strip.offset node) ≡ node)
 node_there arch device strip node is =
     let back = there_and_back strip.offset node in
     (and_from _ _ (le-leb strip.offset (node.x + strip.offset) (omega arith)) (ap (is_node arch (strip_of_width device strip.width)) back ∙ is), back)
@@ -240,10 +240,10 @@ window_node arch device strip node h =
 -- a pair of nodes in a window is an edge of the strip exactly if it is an edge of the device
 pub pair_within : (arch : Arch) (device : Strip) (strip : PlacedStrip) (a b : Node) → is_in_window arch device strip a ≡ true → is_in_window arch device strip b ≡ true →
     (is_node arch (strip_of_width device strip.width) (moved_back strip.offset a) ≡ true → is_node arch (strip_of_width device strip.width) (moved_back strip.offset b) ≡ true →
-    is_edge arch device (moved strip.offset (moved_back strip.offset a)) (moved strip.offset (moved_back strip.offset b)) ≡ is_edge arch (strip_of_width device strip.width) (moved_back strip.offset a) (moved_back strip.offset b)) →
+    is_edge arch device (node_at_offset strip.offset (moved_back strip.offset a)) (node_at_offset strip.offset (moved_back strip.offset b)) ≡ is_edge arch (strip_of_width device strip.width) (moved_back strip.offset a) (moved_back strip.offset b)) →
     is_edge arch device a b ≡ is_edge arch (strip_of_width device strip.width) (moved_back strip.offset a) (moved_back strip.offset b)
 pair_within arch device strip a b in_a in_b moves =
     let of_a = window_node arch device strip a in_a in
     let of_b = window_node arch device strip b in_b in
-    sym (ap (λ n. is_edge arch device n (moved strip.offset (moved_back strip.offset b))) (back_and_there strip.offset a of_a.0) ∙ ap (is_edge arch device a) (back_and_there strip.offset b of_b.0))
+    sym (ap (λ n. is_edge arch device n (node_at_offset strip.offset (moved_back strip.offset b))) (back_and_there strip.offset a of_a.0) ∙ ap (is_edge arch device a) (back_and_there strip.offset b of_b.0))
     ∙ moves of_a.1 of_b.1

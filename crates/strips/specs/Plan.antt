@@ -42,8 +42,8 @@ abbrev pub offset_of : List PlacedStrip → ℕ → Option ℕ
 offset_of strips id = option_map (λ strip. strip.offset) (strip_of strips id)
 
 -- the strips without the one with that id
-abbrev pub without : List PlacedStrip → ℕ → List PlacedStrip
-without strips id = filter (λ strip. not (strip.id == id)) strips
+abbrev pub strips_without : List PlacedStrip → ℕ → List PlacedStrip
+strips_without strips id = filter (λ strip. not (strip.id == id)) strips
 
 -- at most MAX_STRIPS strips, separated, none of width 0, and no two with the same id
 pub record IsLaidOut (plan : Plan) : Type 0 where

@@ -5,7 +5,7 @@ use Rattle.grid.specs.declared.Strip.{Strip}
 use Rattle.rr_graph.specs.declared.node.NodeKind.{NodeKind}
 use Rattle.rr_graph.specs.declared.node.NodeKind.TheVariants.{Source, Sink, Opin, Ipin, ChanX, ChanY}
 use Rattle.rr_graph.specs.declared.node.Node.{Node}
-use Rattle.rr_graph.specs.Geometry.{is_node, is_edge, moved}
+use Rattle.rr_graph.specs.Geometry.{is_node, is_edge, node_at_offset}
 use Rattle.rr_graph.specs.Graph.{Basis}
 use Rattle.strips.specs.declared.placed_strip.PlacedStrip.{PlacedStrip}
 
@@ -18,8 +18,8 @@ abbrev pub moved_back : ℕ → Node → Node
 moved_back offset node = record { x = node.x - offset; kind = node.kind; y = node.y; n = node.n }
 
 -- a device node in a strip's own columns; `None` if it lies left of them
-abbrev pub unshifted : ℕ → Node → Option Node
-unshifted offset node = if nat_le offset node.x then Some (moved_back offset node) else None
+abbrev pub in_strip_columns : ℕ → Node → Option Node
+in_strip_columns offset node = if nat_le offset node.x then Some (moved_back offset node) else None
 
 -- the device node is one of the strip's nodes, moved to the strip's offset
 abbrev pub is_in_window : Arch → Strip → PlacedStrip → Node → Bool
@@ -52,4 +52,4 @@ is_on_device device strip offset =
 -- an edge exactly if they form one on the device
 abbrev pub Shows : Basis → ℕ → Basis → Type 0
 Shows device offset strip = (a b : Node) → is_node strip.arch strip.strip a ≡ true → is_node strip.arch strip.strip b ≡ true →
-    is_edge device.arch device.strip (moved offset a) (moved offset b) ≡ is_edge strip.arch strip.strip a b
+    is_edge device.arch device.strip (node_at_offset offset a) (node_at_offset offset b) ≡ is_edge strip.arch strip.strip a b

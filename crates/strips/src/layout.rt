@@ -1,7 +1,7 @@
 //! The strips on a device.
 
 ghost use Rattle.std.specs.Prelude.{◌≡◌, ◌↔◌, ◌<◌, ◌≤◌, ◌+◌, ◌==◌, ◌⊎◌, [], length, map, option_map, All, IsSome, IsTrue, None, Some};
-ghost use Rattle.strips.specs.Plan.{AreApart, AreNear, HasRoomFor, IsFirstFit, IsLaidOut, Moves, is_bad_width, moved_strip, offset_of, strip_of, with_strip, without};
+ghost use Rattle.strips.specs.Plan.{AreApart, AreNear, HasRoomFor, IsFirstFit, IsLaidOut, Moves, is_bad_width, moved_strip, offset_of, strip_of, with_strip, strips_without};
 
 use crate::placed_strip::PlacedStrip;
 use arrayvec::ArrayVec;
@@ -16,12 +16,12 @@ pub struct NoRoom;
 
 /// The strips on a device of `columns` columns, separated from one another.
 #[derive(Drop)]
-pub struct Layout {
+pub struct StripPlan {
     columns: u32,
     strips: ArrayVec<PlacedStrip, MAX_STRIPS>,
 }
 
-impl Model for Layout {
+impl Model for StripPlan {
     ghost use Rattle.strips.specs.Plan.{Plan, IsLaidOut};
 
     ghost Value = { Plan };
@@ -31,12 +31,12 @@ impl Model for Layout {
     ghost invariant = { λ a. IsLaidOut (record { columns = a.columns; strips = a.strips.items }) };
 }
 
-impl Layout {
+impl StripPlan {
     /// Returns the layout of a device of `columns` columns without strips.
     pub fn new(columns: u32) -> Self
         ensures { result ≡ record { columns = columns; strips = [] } }
     {
-        Layout {
+        StripPlan {
             columns,
             strips: ArrayVec::new(),
         }
@@ -90,7 +90,7 @@ impl Layout {
             .map(|strip| strip.offset)
     }
 
-    /// Adds a strip at its offset, for example the one that [`Layout::first_fit`] returned. The
+    /// Adds a strip at its offset, for example the one that [`StripPlan::first_fit`] returned. The
     /// caller must ensure that the strip fits there, that its id is new, and that the layout is not
     /// full.
     pub fn place(&mut self, strip: PlacedStrip)
@@ -122,7 +122,7 @@ impl Layout {
 
     /// Removes the strip with that id, if there is one.
     pub fn remove(&mut self, id: u32)
-        ensures { self.new ≡ record self.old { strips = without self.old.strips id } }
+        ensures { self.new ≡ record self.old { strips = strips_without self.old.strips id } }
     {
         self.strips.retain(|strip| strip.id != id);
     }

@@ -8,7 +8,7 @@
 //! which shows the graph of the strip's own columns as if there were no others; [`laws_of_windows`]
 //! says how the strip's graph lies in the device's.
 //!
-//! A [`Layout`] holds up to [`MAX_STRIPS`] strips in itself: no call takes memory.
+//! A [`StripPlan`] holds up to [`MAX_STRIPS`] strips in itself: no call takes memory.
 #![tactic(auto)]
 
 mod layout;
@@ -16,7 +16,7 @@ mod placed_strip;
 mod shifting;
 mod window;
 
-pub use layout::{Layout, MAX_STRIPS, NoRoom};
+pub use layout::{MAX_STRIPS, NoRoom, StripPlan};
 pub use placed_strip::PlacedStrip;
 pub use shifting::{laws_of_windows, shift, unshift};
 pub use window::{DeviceGraph, Window};

@@ -3,10 +3,10 @@ ghost use Rattle.std.specs.Prelude.{◌≡◌, ◌+◌, ◌<◌, ◌≤◌, ◌^
 ghost use Rattle.arch_file.specs.declared.arch.Arch.{Arch};
 ghost use Rattle.grid.specs.declared.Strip.{Strip};
 ghost use Rattle.rr_graph.specs.declared.node.Node.{Node};
-ghost use Rattle.rr_graph.specs.Geometry.{is_edge, is_node, moved};
+ghost use Rattle.rr_graph.specs.Geometry.{is_edge, is_node, node_at_offset};
 ghost use Rattle.strips.specs.declared.placed_strip.PlacedStrip.{PlacedStrip};
 ghost use Rattle.strips.specs.Plan.{AreApart};
-ghost use Rattle.strips.specs.Windows.{IsBeside, is_in_window, moved_back, strip_of_width, unshifted};
+ghost use Rattle.strips.specs.Windows.{IsBeside, is_in_window, moved_back, strip_of_width, in_strip_columns};
 
 use rr_graph::{Node, laws_of_geometry};
 
@@ -14,7 +14,7 @@ use rr_graph::{Node, laws_of_geometry};
 /// to the right.
 pub fn shift(offset: u32, node: Node) -> Node
     requires { offset + node.x < 2 ^ 32 }
-    ensures { result ≡ moved offset node }
+    ensures { result ≡ node_at_offset offset node }
 {
     Node {
         x: node.x + offset,
@@ -25,7 +25,7 @@ pub fn shift(offset: u32, node: Node) -> Node
 /// Returns the strip's node for a node of the device, for a strip at that offset; `None` if the
 /// node lies to the left of the strip's columns.
 pub fn unshift(offset: u32, node: Node) -> Option<Node>
-    ensures { result ≡ unshifted offset node }
+    ensures { result ≡ in_strip_columns offset node }
 {
     if node.x < offset {
         return None;
@@ -44,8 +44,8 @@ pub fn laws_of_windows()
     // again.
     ensures there { (arch : Arch) (device : Strip) (strip : PlacedStrip) (node : Node) →
         is_node arch (strip_of_width device strip.width) node ≡ true →
-        (is_in_window arch device strip (moved strip.offset node) ≡ true)
-        × (moved_back strip.offset (moved strip.offset node) ≡ node) }
+        (is_in_window arch device strip (node_at_offset strip.offset node) ≡ true)
+        × (moved_back strip.offset (node_at_offset strip.offset node) ≡ node) }
     // An edge of the device's graph with both ends in a strip's window is an edge of the strip's
     // graph, moved there, and each edge of the strip's graph is one of these.
     ensures pairs { (arch : Arch) (device : Strip) (strip : PlacedStrip) (a b : Node) →

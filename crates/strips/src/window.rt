@@ -8,7 +8,9 @@ ghost use Rattle.strips.specs.Windows.{Shows, device_strip, is_on_device};
 
 use arch_file::Arch;
 use grid::Strip;
-use rr_graph::{Ends, Fabric, Node, NodeKind, Numbers, Part, StripGraph, laws_of_geometry};
+use rr_graph::{
+    EdgeEnds, Fabric, GraphPart, Node, NodeKind, Numbers, StripGraph, laws_of_geometry,
+};
 use std::alloc::{AllocError, Global};
 use std::marker::Model;
 
@@ -51,7 +53,7 @@ impl DeviceGraph {
 /// graph.
 #[derive(Drop)]
 pub struct Window<'a> {
-    part: Part<'a>,
+    part: GraphPart<'a>,
 }
 
 impl<'a> Model for Window<'a> {
@@ -106,12 +108,12 @@ impl<'a> StripGraph for Window<'a> {
     }
 
     #[inline(always)]
-    fn ends(&self, node: usize) -> Ends<'_> {
+    fn ends(&self, node: usize) -> EdgeEnds<'_> {
         self.part.ends(node)
     }
 
     #[inline(always)]
-    fn ends_towards(&self, node: usize, place: Node, sink: Node) -> Ends<'_> {
+    fn ends_towards(&self, node: usize, place: Node, sink: Node) -> EdgeEnds<'_> {
         self.part.ends_towards(node, place, sink)
     }
 

@@ -7,7 +7,7 @@ use Rattle.std.proofs.lemmas.Grind.{flat_map-append}
 use Rattle.std.proofs.lemmas.Slice.Eq.{bytes_eq-Decides}
 use Rattle.std.proofs.Math.Seq.{take-append_seam}
 use Rattle.line_text.specs.Lines.{physical_lines}
-use Rattle.tagged_lines.specs.Tags.{Tagged, are_of, closed, ended, have_tags, is_tag, is_whole, output_of, rest_of, tag_of, tagged, told_in, told_to}
+use Rattle.tagged_lines.specs.Tags.{Tagged, are_of, with_last_feed, with_feed, have_tags, is_tag, is_whole, output_of, rest_of, tag_of, tagged_text, told_in, told_to}
 
 abbrev is_blank : ℕ → Bool
 is_blank byte = eqb byte 32
@@ -88,12 +88,12 @@ line_ahead tag line more =
 
 -- the lines of tagged lines and of what follows them
 lines_with : (tag : List ℕ) (lines : List (List ℕ)) (more : List ℕ) → is_tag tag ≡ true → list_all is_line lines ≡ true →
-    physical_lines (flat_map (λ line. tag ++ 32 ∷ ended line) lines ++ more) ≡ map (with_tag tag) lines ++ physical_lines more
+    physical_lines (flat_map (λ line. tag ++ 32 ∷ with_feed line) lines ++ more) ≡ map (with_tag tag) lines ++ physical_lines more
 lines_with tag [] more ok are = refl
 lines_with tag (line ∷ lines) more ok are =
     let parts = both (is_line line) (list_all is_line lines) are in
-    let others = flat_map (λ line. tag ++ 32 ∷ ended line) lines in
-    ap physical_lines (append_assoc (tag ++ 32 ∷ ended line) others more ∙ line_ahead tag line (others ++ more))
+    let others = flat_map (λ line. tag ++ 32 ∷ with_feed line) lines in
+    ap physical_lines (append_assoc (tag ++ 32 ∷ with_feed line) others more ∙ line_ahead tag line (others ++ more))
     ∙ (line_then (with_tag tag line) (others ++ more) (tagged_is_line tag line ok parts.0)
     ∙ ap (λ ls. with_tag tag line ∷ ls) (lines_with tag lines more ok parts.1))
 
@@ -110,24 +110,24 @@ lines_of_output (t ∷ all) ok =
 
 -- what the lines of one text tell that tag
 abbrev tells : List ℕ → List ℕ → List ℕ
-tells tag line = cond (bytes_eq (tag_of line) tag) (ended (rest_of line)) []
+tells tag line = cond (bytes_eq (tag_of line) tag) (with_feed (rest_of line)) []
 
-tells_one : (tag own line : List ℕ) → is_tag own ≡ true → tells tag (with_tag own line) ≡ cond (bytes_eq own tag) (ended line) []
+tells_one : (tag own line : List ℕ) → is_tag own ≡ true → tells tag (with_tag own line) ≡ cond (bytes_eq own tag) (with_feed line) []
 tells_one tag own line ok =
-    ap (λ o. cond (bytes_eq o tag) (ended (rest_of (with_tag own line))) []) (tag_is own line ok)
-    ∙ ap (λ r. cond (bytes_eq own tag) (ended r) []) (rest_is own line ok)
+    ap (λ o. cond (bytes_eq o tag) (with_feed (rest_of (with_tag own line))) []) (tag_is own line ok)
+    ∙ ap (λ r. cond (bytes_eq own tag) (with_feed r) []) (rest_is own line ok)
 
 no_text : (b : Bool) → ◌≡◌ {A = List ℕ} [] (cond b [] [])
 no_text true = refl
 no_text false = refl
 
 tells_lines : (tag own : List ℕ) (lines : List (List ℕ)) → is_tag own ≡ true →
-    flat_map (tells tag) (map (with_tag own) lines) ≡ cond (bytes_eq own tag) (flat_map ended lines) []
+    flat_map (tells tag) (map (with_tag own) lines) ≡ cond (bytes_eq own tag) (flat_map with_feed lines) []
 tells_lines tag own [] ok = no_text (bytes_eq own tag)
 tells_lines tag own (line ∷ lines) ok =
     ap (λ l. l ++ flat_map (tells tag) (map (with_tag own) lines)) (tells_one tag own line ok)
-    ∙ (ap (λ ls. cond (bytes_eq own tag) (ended line) [] ++ ls) (tells_lines tag own lines ok)
-    ∙ elim (bytes_eq own tag) as (λ b. cond b (ended line) [] ++ cond b (flat_map ended lines) [] ≡ cond b (ended line ++ flat_map ended lines) []) [ true ↦ refl | false ↦ refl ])
+    ∙ (ap (λ ls. cond (bytes_eq own tag) (with_feed line) [] ++ ls) (tells_lines tag own lines ok)
+    ∙ elim (bytes_eq own tag) as (λ b. cond b (with_feed line) [] ++ cond b (flat_map with_feed lines) [] ≡ cond b (with_feed line ++ flat_map with_feed lines) []) [ true ↦ refl | false ↦ refl ])
 
 tells_all : (tag : List ℕ) (all : List Tagged) → have_tags all ≡ true → flat_map (tells tag) (lines_in all) ≡ told_in tag all
 tells_all tag [] ok = refl
@@ -135,7 +135,7 @@ tells_all tag (t ∷ all) ok =
     let parts = both (is_tag t.tag) (have_tags all) ok in
     flat_map-append (tells tag) (map (with_tag t.tag) (physical_lines t.text)) (lines_in all)
     ∙ (ap (λ l. l ++ flat_map (tells tag) (lines_in all)) (tells_lines tag t.tag (physical_lines t.text) parts.0)
-    ∙ ap (λ ls. cond (bytes_eq t.tag tag) (closed t.text) [] ++ ls) (tells_all tag all parts.1))
+    ∙ ap (λ ls. cond (bytes_eq t.tag tag) (with_last_feed t.text) [] ++ ls) (tells_all tag all parts.1))
 
 pub same_tag : (tag : List ℕ) → bytes_eq tag tag ≡ true
 same_tag tag = (bytes_eq-Decides tag tag).1 refl
@@ -143,12 +143,12 @@ same_tag tag = (bytes_eq-Decides tag tag).1 refl
 pub apart : (tag : List ℕ) (all : List Tagged) → have_tags all ≡ true → told_to tag (output_of all) ≡ told_in tag all
 apart tag all ok = ap (flat_map (tells tag)) (lines_of_output all ok) ∙ tells_all tag all ok
 
-pub back : (tag text : List ℕ) → is_tag tag ≡ true → told_to tag (tagged tag text) ≡ closed text
+pub back : (tag text : List ℕ) → is_tag tag ≡ true → told_to tag (tagged_text tag text) ≡ with_last_feed text
 back tag text ok =
     let one : have_tags (record { tag = tag; text = text } ∷ []) ≡ true = ap (λ b. b && true) ok in
-    ap (told_to tag) (sym (append-nil (tagged tag text)))
+    ap (told_to tag) (sym (append-nil (tagged_text tag text)))
     ∙ (apart tag (record { tag = tag; text = text } ∷ []) one
-    ∙ (ap (λ b. cond b (closed text) [] ++ []) (same_tag tag) ∙ append-nil (closed text)))
+    ∙ (ap (λ b. cond b (with_last_feed text) [] ++ []) (same_tag tag) ∙ append-nil (with_last_feed text)))
 
 -- a text of whole lines is as it was
 some_lines : (x : ℕ) (text : List ℕ) → 0 < length (physical_lines (x ∷ text))
@@ -162,16 +162,16 @@ some_lines x text =
     onto_some x [] = omega arith
     onto_some x (line ∷ lines) = omega arith
 
-onto_closed : (x : ℕ) (lines : List (List ℕ)) → 0 < length lines → flat_map ended (onto_first x lines) ≡ x ∷ flat_map ended lines
+onto_closed : (x : ℕ) (lines : List (List ℕ)) → 0 < length lines → flat_map with_feed (onto_first x lines) ≡ x ∷ flat_map with_feed lines
 onto_closed x [] some = absurd (omega arith)
 onto_closed x (line ∷ lines) some = refl
 
-pub same : (text : List ℕ) → is_whole text ≡ true → closed text ≡ text
+pub same : (text : List ℕ) → is_whole text ≡ true → with_last_feed text ≡ text
 same [] ok = refl
 same (x ∷ []) ok =
-    ap (λ b. flat_map ended (cond b ([] ∷ []) (onto_first x []))) ok ∙ ap (λ byte. byte ∷ []) (sym (eqb-true x 10 ok))
+    ap (λ b. flat_map with_feed (cond b ([] ∷ []) (onto_first x []))) ok ∙ ap (λ byte. byte ∷ []) (sym (eqb-true x 10 ok))
 same (x ∷ y ∷ text) ok =
-    elim (eqb x 10) as (λ b. eqb x 10 ≡ b → flat_map ended (cond b ([] ∷ physical_lines (y ∷ text)) (onto_first x (physical_lines (y ∷ text)))) ≡ x ∷ y ∷ text) [
+    elim (eqb x 10) as (λ b. eqb x 10 ≡ b → flat_map with_feed (cond b ([] ∷ physical_lines (y ∷ text)) (onto_first x (physical_lines (y ∷ text)))) ≡ x ∷ y ∷ text) [
       | true ↦ λ e. ap (λ ls. 10 ∷ ls) (same (y ∷ text) ok) ∙ ap (λ byte. byte ∷ y ∷ text) (sym (eqb-true x 10 e))
       | false ↦ λ e. onto_closed x (physical_lines (y ∷ text)) (some_lines y text) ∙ ap (λ ls. x ∷ ls) (same (y ∷ text) ok)
     ] refl
@@ -214,11 +214,11 @@ whole_then [] (x ∷ more) ok = ok
 whole_then (x ∷ []) more ok = whole_then [] more ok
 whole_then (x ∷ y ∷ line) more ok = whole_then (y ∷ line) more ok
 
-whole_lines : (tag : List ℕ) (lines : List (List ℕ)) (more : List ℕ) → is_whole more ≡ true → is_whole (flat_map (λ line. tag ++ 32 ∷ ended line) lines ++ more) ≡ true
+whole_lines : (tag : List ℕ) (lines : List (List ℕ)) (more : List ℕ) → is_whole more ≡ true → is_whole (flat_map (λ line. tag ++ 32 ∷ with_feed line) lines ++ more) ≡ true
 whole_lines tag [] more ok = ok
 whole_lines tag (line ∷ lines) more ok =
-    let others = flat_map (λ line. tag ++ 32 ∷ ended line) lines in
-    ap is_whole (append_assoc (tag ++ 32 ∷ ended line) others more ∙ line_ahead tag line (others ++ more))
+    let others = flat_map (λ line. tag ++ 32 ∷ with_feed line) lines in
+    ap is_whole (append_assoc (tag ++ 32 ∷ with_feed line) others more ∙ line_ahead tag line (others ++ more))
     ∙ whole_then (with_tag tag line) (others ++ more) (whole_lines tag lines more ok)
 
 pub whole : (all : List Tagged) → is_whole (output_of all) ≡ true

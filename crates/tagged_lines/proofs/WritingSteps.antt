@@ -4,21 +4,21 @@ use Rattle.std.specs.List.{flat_map}
 use Rattle.line_text.specs.Lines.{physical_lines}
 use Rattle.line_text.specs.Writing.{TakesAll, TakesPart}
 use Rattle.line_text.proofs.WritingLemmas.{all_none, all_same, all_then, part_first, part_same, part_then}
-use Rattle.tagged_lines.specs.Tags.{ended, tagged}
+use Rattle.tagged_lines.specs.Tags.{with_feed, tagged_text}
 
 -- all but the lines that are left is written
 pub record Written {S : Type 0} (contents : S → Option (List ℕ)) (has_failed : S → Bool) (old now : S) (tag text rest : List ℕ) : Type 0 where
   pub done : List ℕ
   pub all : TakesAll contents has_failed old now done
-  pub left : done ++ tagged tag rest ≡ tagged tag text
+  pub left : done ++ tagged_text tag rest ≡ tagged_text tag text
 
 pub written_none : {S : Type 0} (contents : S → Option (List ℕ)) (has_failed : S → Bool) (sink : S) (tag text : List ℕ) → Written contents has_failed sink sink tag text text
 written_none contents has_failed sink tag text = record { done = []; all = all_none contents has_failed sink; left = refl }
 
 abbrev line_of : List ℕ → List ℕ → List ℕ
-line_of tag line = tag ++ 32 ∷ ended line
+line_of tag line = tag ++ 32 ∷ with_feed line
 
-tagged_first : (tag rest line after : List ℕ) → physical_lines rest ≡ line ∷ physical_lines after → tagged tag rest ≡ line_of tag line ++ tagged tag after
+tagged_first : (tag rest line after : List ℕ) → physical_lines rest ≡ line ∷ physical_lines after → tagged_text tag rest ≡ line_of tag line ++ tagged_text tag after
 tagged_first tag rest line after lines = ap (λ ls. flat_map (line_of tag) ls) lines
 
 pub written_more : {S : Type 0} {contents : S → Option (List ℕ)} {has_failed : S → Bool} {old now next : S} (tag text rest line after : List ℕ) → Written contents has_failed old now tag text rest →
@@ -26,14 +26,14 @@ pub written_more : {S : Type 0} {contents : S → Option (List ℕ)} {has_failed
 written_more tag text rest line after w lines takes = record {
   done = w.done ++ line_of tag line;
   all = all_then w.all takes;
-  left = append_assoc w.done (line_of tag line) (tagged tag after) ∙ (ap (λ t. w.done ++ t) (sym (tagged_first tag rest line after lines)) ∙ w.left);
+  left = append_assoc w.done (line_of tag line) (tagged_text tag after) ∙ (ap (λ t. w.done ++ t) (sym (tagged_first tag rest line after lines)) ∙ w.left);
 }
 
 pub written_part : {S : Type 0} {contents : S → Option (List ℕ)} {has_failed : S → Bool} {old now next : S} (tag text rest line after : List ℕ) → Written contents has_failed old now tag text rest →
-    physical_lines rest ≡ line ∷ physical_lines after → TakesPart contents has_failed now next (line_of tag line) → TakesPart contents has_failed old next (tagged tag text)
+    physical_lines rest ≡ line ∷ physical_lines after → TakesPart contents has_failed now next (line_of tag line) → TakesPart contents has_failed old next (tagged_text tag text)
 written_part tag text rest line after w lines takes =
-    part_same (part_then w.all (part_same (part_first (tagged tag after) takes) (sym (tagged_first tag rest line after lines)))) w.left
+    part_same (part_then w.all (part_same (part_first (tagged_text tag after) takes) (sym (tagged_first tag rest line after lines)))) w.left
 
-pub written_all : {S : Type 0} {contents : S → Option (List ℕ)} {has_failed : S → Bool} {old now : S} (tag text rest : List ℕ) → Written contents has_failed old now tag text rest → length rest ≡ 0 → TakesAll contents has_failed old now (tagged tag text)
+pub written_all : {S : Type 0} {contents : S → Option (List ℕ)} {has_failed : S → Bool} {old now : S} (tag text rest : List ℕ) → Written contents has_failed old now tag text rest → length rest ≡ 0 → TakesAll contents has_failed old now (tagged_text tag text)
 written_all tag text [] w none = all_same w.all (sym (append-nil w.done) ∙ w.left)
 written_all tag text (x ∷ rest) w none = absurd (omega arith)

@@ -17,20 +17,20 @@ abbrev pub is_tag : List ℕ → Bool
 is_tag tag = list_all (λ byte. not (byte == 32) && not (byte == 10)) tag
 
 -- a line with the LF that ends it
-abbrev pub ended : List ℕ → List ℕ
-ended line = line ++ 10 ∷ []
+abbrev pub with_feed : List ℕ → List ℕ
+with_feed line = line ++ 10 ∷ []
 
 -- a text with an LF after its last line too
-abbrev pub closed : List ℕ → List ℕ
-closed text = flat_map ended (physical_lines text)
+abbrev pub with_last_feed : List ℕ → List ℕ
+with_last_feed text = flat_map with_feed (physical_lines text)
 
 -- each line of a text with that tag in front
-abbrev pub tagged : List ℕ → List ℕ → List ℕ
-tagged tag text = flat_map (λ line. tag ++ 32 ∷ ended line) (physical_lines text)
+abbrev pub tagged_text : List ℕ → List ℕ → List ℕ
+tagged_text tag text = flat_map (λ line. tag ++ 32 ∷ with_feed line) (physical_lines text)
 
 -- what the lines with that tag say, each ended by LF
 abbrev pub told_to : List ℕ → List ℕ → List ℕ
-told_to tag bytes = flat_map (λ line. if bytes_eq (tag_of line) tag then ended (rest_of line) else []) (physical_lines bytes)
+told_to tag bytes = flat_map (λ line. if bytes_eq (tag_of line) tag then with_feed (rest_of line) else []) (physical_lines bytes)
 
 -- a text and the tag of whom it is for
 pub record Tagged : Type 0 where
@@ -43,11 +43,11 @@ have_tags all = list_all (λ t. is_tag t.tag) all
 
 -- the texts as they are written, one after another
 abbrev pub output_of : List Tagged → List ℕ
-output_of all = flat_map (λ t. tagged t.tag t.text) all
+output_of all = flat_map (λ t. tagged_text t.tag t.text) all
 
 -- the texts that are for that tag
 abbrev pub told_in : List ℕ → List Tagged → List ℕ
-told_in tag all = flat_map (λ t. if bytes_eq t.tag tag then closed t.text else []) all
+told_in tag all = flat_map (λ t. if bytes_eq t.tag tag then with_last_feed t.text else []) all
 
 -- whether each line of the text is ended by LF
 abbrev pub is_whole : List ℕ → Bool

@@ -1,7 +1,7 @@
 //! The law of tagged lines.
 ghost use Rattle.std.specs.Prelude.{◌≡◌, ℕ, List, true};
 ghost use Rattle.line_text.specs.Lines.{physical_lines};
-ghost use Rattle.tagged_lines.specs.Tags.{Tagged, are_of, closed, have_tags, is_tag, is_whole, output_of, tagged, told_in, told_to};
+ghost use Rattle.tagged_lines.specs.Tags.{Tagged, are_of, with_last_feed, have_tags, is_tag, is_whole, output_of, tagged_text, told_in, told_to};
 
 /// Texts that are written one after another, each with its tag, can be separated again. The lines
 /// of one tag are exactly the texts for that tag, in order, whatever bytes the texts have. Each
@@ -12,9 +12,9 @@ pub fn told_apart()
         told_to tag (output_of all) ≡ told_in tag all }
     // A text comes back with its last line ended by LF.
     ensures back { (tag : List ℕ) (text : List ℕ) → is_tag tag ≡ true →
-        told_to tag (tagged tag text) ≡ closed text }
+        told_to tag (tagged_text tag text) ≡ with_last_feed text }
     // If its last line is ended by LF already, it comes back byte for byte.
-    ensures same { (text : List ℕ) → is_whole text ≡ true → closed text ≡ text }
+    ensures same { (text : List ℕ) → is_whole text ≡ true → with_last_feed text ≡ text }
     // No line is anyone else's.
     ensures lines { (all : List Tagged) → have_tags all ≡ true →
         are_of all (physical_lines (output_of all)) ≡ true }

@@ -4,7 +4,7 @@ use Rattle.std.specs.Prelude.{⊤, nat_le}
 use Rattle.std.specs.List.{flat_map}
 use Rattle.std.proofs.lemmas.Bool.Decides.{nat_tests}
 use Rattle.sessions.specs.Items.{without_cr, ends_text}
-use Rattle.tenancy_script.specs.declared.fault.Fault.TheVariants.{PointAlone, TextTooLong}
+use Rattle.tenancy_script.specs.declared.fault.ScriptFault.TheVariants.{PointAlone, TextTooLong}
 use Rattle.tenancy_script.specs.Faults.{fault_from}
 
 -- a line as it is uploaded

@@ -21,9 +21,9 @@ use Rattle.script_text.specs.declared.operator_line.OperatorLine.TheVariants.{Ad
 use Rattle.script_text.specs.declared.operator_line.OperatorLine.{OperatorLine}
 use Rattle.script_text.specs.Script.{Acts, acts_from, begins_text, form_by, form_in, form_of, is_name, operator_form, operator_line, script_of, session_form, with_act, with_line, without_blanks}
 use Rattle.tenancy_script.specs.declared.script.TenancyScript.{TenancyScript}
-use Rattle.tenancy_script.specs.Printed.{closing, is_ended, place_line, printed, printed_admission, printed_commands, printed_end, printed_upload, session_line}
-use Rattle.tenancy_script.specs.Faults.{text_fault, uploaded}
-use Rattle.tenancy_script.specs.Says.{IsWhole, acts_of, admitted, asked, followed_by, is_within}
+use Rattle.tenancy_script.specs.Printed.{last_feed, is_ended, place_line, printed_script, printed_admission, printed_commands, printed_end, printed_upload, session_line}
+use Rattle.tenancy_script.specs.Faults.{text_fault, uploaded_text}
+use Rattle.tenancy_script.specs.Says.{IsWhole, acts_of, with_admission, session_lines, followed_by, is_within}
 use Rattle.tenancy_script.proofs.FaultLemmas.{AreTold, HaveNoPoint, ended_line, told_from}
 use Rattle.tenancy_script.proofs.FormLemmas.{admission_is, admission_line, admission_plain, placing_is, placing_plain, placing_words, session_is, session_plain}
 use Rattle.tenancy_script.proofs.TextLemmas.{ended-append, is_plain, line_first, lines-append, lines-closing}
@@ -41,11 +41,11 @@ abbrev pub IsAsked : List ℕ → Act (List ℕ) → Type 0
 IsAsked line act = (number : ℕ) (lines : List (List ℕ)) → (acts_from number false (line ∷ lines) ≡ with_act act (acts_from (number + 1) false lines)) × (is_within false (line ∷ lines) ≡ is_within false lines)
 
 line_says : (line more : List ℕ) (act : Act (List ℕ)) (acts : List (Act (List ℕ))) → list_all is_plain line ≡ true → IsAsked line act → Says more acts → Says (line ++ 10 ∷ more) (act ∷ acts)
-line_says line more act acts plain asked h =
+line_says line more act acts plain session_lines h =
     let first : physical_lines (line ++ 10 ∷ more) ≡ line ∷ physical_lines more = line_first line more plain in
     record {
-      said = λ number. ap (acts_from number false) first ∙ (asked number (physical_lines more)).0 ∙ ap (with_act act) (h.said (number + 1));
-      outside = ap (is_within false) first ∙ (asked 0 (physical_lines more)).1 ∙ h.outside;
+      said = λ number. ap (acts_from number false) first ∙ (session_lines number (physical_lines more)).0 ∙ ap (with_act act) (h.said (number + 1));
+      outside = ap (is_within false) first ∙ (session_lines 0 (physical_lines more)).1 ∙ h.outside;
     }
 
 -- a line of the name's session
@@ -79,22 +79,22 @@ within_told (line ∷ lines) more none = ap (λ v. is_within (not v) (lines ++ (
 
 -- an upload has exactly its text
 upload_says : (name text more : List ℕ) (acts : List (Act (List ℕ))) → is_name name ≡ true → AreTold 1048576 (physical_lines text) → Says more acts →
-    Says (session_line name (codes "upload") (text ++ (closing text ++ 46 ∷ 10 ∷ more))) (Session name (Command (UploadText (uploaded text))) ∷ acts)
+    Says (session_line name (codes "upload") (text ++ (last_feed text ++ 46 ∷ 10 ∷ more))) (Session name (Command (UploadText (uploaded_text text))) ∷ acts)
 upload_says name text more acts is told h =
     let line : List ℕ = 64 ∷ name ++ 32 ∷ codes "upload" in
-    let rest : List ℕ = text ++ (closing text ++ 46 ∷ 10 ∷ more) in
+    let rest : List ℕ = text ++ (last_feed text ++ 46 ∷ 10 ∷ more) in
     let lines : List (List ℕ) = physical_lines text ++ (46 ∷ []) ∷ physical_lines more in
     let form : form_of line ≡ session_form name (Begins Upload) = session_is name (codes "upload") is refl in
     let first : physical_lines (line ++ 10 ∷ rest) ≡ line ∷ physical_lines rest = line_first line rest (session_plain name (codes "upload") is refl) in
     let others : physical_lines rest ≡ lines = lines-closing text (46 ∷ 10 ∷ more) in
-    let fits : length (uploaded text) ≤ 1048577 = omega (arith, told.1) in
-    subst (λ t. Says t (Session name (Command (UploadText (uploaded text))) ∷ acts)) (ap (λ t. 64 ∷ t) (append_assoc name (32 ∷ codes "upload") (10 ∷ rest))) record {
+    let fits : length (uploaded_text text) ≤ 1048577 = omega (arith, told.1) in
+    subst (λ t. Says t (Session name (Command (UploadText (uploaded_text text))) ∷ acts)) (ap (λ t. 64 ∷ t) (append_assoc name (32 ∷ codes "upload") (10 ∷ rest))) record {
       said = λ number. ap (acts_from number false) first
           ∙ ap (λ f. with_line number f (physical_lines rest) (acts_from (number + 1) (begins_text f) (physical_lines rest))) form
           ∙ ap (λ ls. with_act (Session name (text_item Upload (text_ahead ls))) (acts_from (number + 1) true ls)) others
           ∙ ap (λ ahead. with_act (Session name (text_item Upload ahead)) (acts_from (number + 1) true lines)) (ahead_told (physical_lines text) (physical_lines more) told.0)
-          ∙ ap (with_act (Session name (text_item Upload (Some (uploaded text))))) (acts_told (physical_lines text) (physical_lines more) acts told.0 h.said (number + 1))
-          ∙ ap (λ t. Ok (Session name (Command (UploadText t)) ∷ acts)) (kept-all (uploaded text) fits);
+          ∙ ap (with_act (Session name (text_item Upload (Some (uploaded_text text))))) (acts_told (physical_lines text) (physical_lines more) acts told.0 h.said (number + 1))
+          ∙ ap (λ t. Ok (Session name (Command (UploadText t)) ∷ acts)) (kept-all (uploaded_text text) fits);
       outside = ap (is_within false) first ∙ ap (λ f. is_within (begins_text f) (physical_lines rest)) form
           ∙ ap (is_within true) others ∙ within_told (physical_lines text) (physical_lines more) told.0 ∙ h.outside;
     }
@@ -126,15 +126,15 @@ commands_say name seed effort is s e =
 
 -- the whole session
 session_is_said : (name text : List ℕ) (seed effort : ℕ) → is_name name ≡ true → AreTold 1048576 (physical_lines text) → seed < 2 ^ 64 → effort < 2 ^ 32 →
-    Says (printed_upload name text ++ printed_commands name seed effort) (map (Session name) (asked (uploaded text) seed effort))
+    Says (printed_upload name text ++ printed_commands name seed effort) (map (Session name) (session_lines (uploaded_text text) seed effort))
 session_is_said name text seed effort is told s e =
     let commands : List ℕ = printed_commands name seed effort in
-    let inner : (text ++ (closing text ++ 46 ∷ 10 ∷ [])) ++ commands ≡ text ++ (closing text ++ 46 ∷ 10 ∷ commands) =
-    append_assoc text (closing text ++ 46 ∷ 10 ∷ []) commands ∙ ap (λ t. text ++ t) (append_assoc (closing text) (46 ∷ 10 ∷ []) commands) in
-    let outer : printed_upload name text ++ commands ≡ session_line name (codes "upload") (text ++ (closing text ++ 46 ∷ 10 ∷ commands)) =
-    ap (λ t. 64 ∷ t) (append_assoc name (codes " upload\n" ++ (text ++ (closing text ++ 46 ∷ 10 ∷ []))) commands)
+    let inner : (text ++ (last_feed text ++ 46 ∷ 10 ∷ [])) ++ commands ≡ text ++ (last_feed text ++ 46 ∷ 10 ∷ commands) =
+    append_assoc text (last_feed text ++ 46 ∷ 10 ∷ []) commands ∙ ap (λ t. text ++ t) (append_assoc (last_feed text) (46 ∷ 10 ∷ []) commands) in
+    let outer : printed_upload name text ++ commands ≡ session_line name (codes "upload") (text ++ (last_feed text ++ 46 ∷ 10 ∷ commands)) =
+    ap (λ t. 64 ∷ t) (append_assoc name (codes " upload\n" ++ (text ++ (last_feed text ++ 46 ∷ 10 ∷ []))) commands)
     ∙ ap (λ t. 64 ∷ (name ++ (codes " upload\n" ++ t))) inner in
-    subst (λ t. Says t (map (Session name) (asked (uploaded text) seed effort))) (sym outer)
+    subst (λ t. Says t (map (Session name) (session_lines (uploaded_text text) seed effort))) (sym outer)
     (upload_says name text commands (map (Session name) (commands_asked seed effort)) is told (commands_say name seed effort is s e))
 
 -- and the admission before it
@@ -143,7 +143,7 @@ admission_asked name width is w number lines =
     let formed = admission_is name width is w in
     (ap (λ f. with_line number f lines (acts_from (number + 1) (begins_text f) lines)) formed, ap (λ f. is_within (begins_text f) lines) formed)
 
-admission_said : (width : Option ℕ) (name more : List ℕ) (acts : List (Act (List ℕ))) → is_name name ≡ true → IfSome width (λ w. w < 2 ^ 32) → Says more acts → Says (printed_admission width name ++ more) (admitted width name acts)
+admission_said : (width : Option ℕ) (name more : List ℕ) (acts : List (Act (List ℕ))) → is_name name ≡ true → IfSome width (λ w. w < 2 ^ 32) → Says more acts → Says (printed_admission width name ++ more) (with_admission width name acts)
 admission_said None name more acts is small h = h
 admission_said (Some width) name more acts is small h =
     let w : width < 2 ^ 32 = small in
@@ -155,10 +155,10 @@ admission_said (Some width) name more acts is small h =
     subst (λ t. Says t (Operator (Admit name width) ∷ acts)) assoc
     (line_says (admission_line name width) more (Operator (Admit name width)) acts (admission_plain name width is w) (admission_asked name width is w) h)
 
-pub printed_says : (script : TenancyScript) → is_name script.name.now ≡ true → text_fault script.text.now ≡ None → IfSome script.width (λ w. w < 2 ^ 32) → script.seed < 2 ^ 64 → script.effort < 2 ^ 32 → Says (printed script) (acts_of script)
+pub printed_says : (script : TenancyScript) → is_name script.name.now ≡ true → text_fault script.text.now ≡ None → IfSome script.width (λ w. w < 2 ^ 32) → script.seed < 2 ^ 64 → script.effort < 2 ^ 32 → Says (printed_script script) (acts_of script)
 printed_says script is none w s e =
     admission_said script.width script.name.now (printed_upload script.name.now script.text.now ++ printed_commands script.name.now script.seed script.effort)
-    (map (Session script.name.now) (asked (uploaded script.text.now) script.seed script.effort)) is w
+    (map (Session script.name.now) (session_lines (uploaded_text script.text.now) script.seed script.effort)) is w
     (session_is_said script.name.now script.text.now script.seed script.effort is (told_from 1 1048576 (physical_lines script.text.now) none) s e)
 
 -- after the lines of a whole script
@@ -210,10 +210,10 @@ form_follows number lines more acts rest (b ∷ name) others =
     let session = session_form name (line_form others) in
     let operator = operator_form (operator_line (words_of others)) in
     let named = cond (is_name name) session (operator_form None) in
-    let asked = cond (bytes_eq (b ∷ name) (codes "op")) operator (operator_form None) in
-    elim (eqb b 35) as (λ v. Good (cond v (form_by [] []) (cond (eqb b 64) named asked))) [
+    let session_lines = cond (bytes_eq (b ∷ name) (codes "op")) operator (operator_form None) in
+    elim (eqb b 35) as (λ v. Good (cond v (form_by [] []) (cond (eqb b 64) named session_lines))) [
       | true ↦ rest false
-      | false ↦ elim (eqb b 64) as (λ v. Good (cond v named asked)) [
+      | false ↦ elim (eqb b 64) as (λ v. Good (cond v named session_lines)) [
         | true ↦ elim (is_name name) as (λ v. Good (cond v session (operator_form None))) [ true ↦ session_follows number lines more acts rest name (line_form others) | false ↦ faulty ]
         | false ↦ elim (bytes_eq (b ∷ name) (codes "op")) as (λ v. Good (cond v operator (operator_form None))) [ true ↦ operator_follows number lines more acts rest (operator_line (words_of others)) | false ↦ faulty ]
       ]
@@ -271,7 +271,7 @@ commands_end : (name : List ℕ) (seed effort : ℕ) → is_ended (printed_comma
 commands_end name seed effort =
     session_ends name (codes "pack") _ (session_ends name (codes "wait") _ (place_ends name (printed_end name) seed effort (end_ends name)))
 
-pub printed_ends : (script : TenancyScript) → is_ended (printed script) ≡ true
+pub printed_ends : (script : TenancyScript) → is_ended (printed_script script) ≡ true
 printed_ends script =
     let name : List ℕ = script.name.now in
     let upload : List ℕ = printed_upload name script.text.now in
@@ -281,6 +281,6 @@ printed_ends script =
 some_behind : (text more : List ℕ) → 0 < length more → 0 < length (text ++ more)
 some_behind text more some = omega (arith, some, length-append text more)
 
-pub printed_some : (script : TenancyScript) → 0 < length (printed script)
+pub printed_some : (script : TenancyScript) → 0 < length (printed_script script)
 printed_some script =
     some_behind (printed_admission script.width script.name.now) (printed_upload script.name.now script.text.now ++ printed_commands script.name.now script.seed script.effort) (some_first 64 _)

@@ -5,7 +5,7 @@ use Rattle.std.specs.List.{list_all, onto_first}
 use Rattle.std.proofs.lemmas.Bool.{and_parts, true≢false, false≢true}
 use Rattle.line_text.specs.Lines.{physical_lines}
 use Rattle.sessions.specs.Items.{without_cr}
-use Rattle.tenancy_script.specs.Printed.{closing, is_ended}
+use Rattle.tenancy_script.specs.Printed.{last_feed, is_ended}
 
 -- neither LF nor CR
 abbrev pub is_plain : ℕ → Bool
@@ -82,15 +82,15 @@ ended-closed [] = refl
 ended-closed (b ∷ []) = refl
 ended-closed (b ∷ c ∷ text) = ended-closed (c ∷ text)
 
-closing-ended : (text : List ℕ) → is_ended text ≡ true → closing text ≡ []
+closing-ended : (text : List ℕ) → is_ended text ≡ true → last_feed text ≡ []
 closing-ended text e = ap (λ v. cond v [] (10 ∷ [])) e
 
-closing-open : (text : List ℕ) → is_ended text ≡ false → closing text ≡ 10 ∷ []
+closing-open : (text : List ℕ) → is_ended text ≡ false → last_feed text ≡ 10 ∷ []
 closing-open text e = ap (λ v. cond v [] (10 ∷ [])) e
 
-pub lines-closing : (text more : List ℕ) → physical_lines (text ++ (closing text ++ more)) ≡ physical_lines text ++ physical_lines more
+pub lines-closing : (text more : List ℕ) → physical_lines (text ++ (last_feed text ++ more)) ≡ physical_lines text ++ physical_lines more
 lines-closing text more =
-    elim (is_ended text) as (λ v. is_ended text ≡ v → physical_lines (text ++ (closing text ++ more)) ≡ physical_lines text ++ physical_lines more) [
+    elim (is_ended text) as (λ v. is_ended text ≡ v → physical_lines (text ++ (last_feed text ++ more)) ≡ physical_lines text ++ physical_lines more) [
       | true ↦ λ e. ap (λ c. physical_lines (text ++ (c ++ more))) (closing-ended text e) ∙ lines-append text more e
       | false ↦ λ e. ap (λ c. physical_lines (text ++ (c ++ more))) (closing-open text e) ∙ ap physical_lines (sym (append_assoc text (10 ∷ []) more))
           ∙ lines-append (text ++ 10 ∷ []) more (ended-closed text) ∙ ap (λ lines. lines ++ physical_lines more) (lines-closed text e)

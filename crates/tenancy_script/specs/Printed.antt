@@ -9,8 +9,8 @@ is_ended (b ∷ []) = b == 10
 is_ended (b ∷ c ∷ text) = is_ended (c ∷ text)
 
 -- the LF that is added to a text whose last line has none
-abbrev pub closing : List ℕ → List ℕ
-closing text = if is_ended text then [] else 10 ∷ []
+abbrev pub last_feed : List ℕ → List ℕ
+last_feed text = if is_ended text then [] else 10 ∷ []
 
 -- the operator's line, if there is a width
 abbrev pub printed_admission : Option ℕ → List ℕ → List ℕ
@@ -23,7 +23,7 @@ session_line name words more = 64 ∷ (name ++ 32 ∷ (words ++ 10 ∷ more))
 
 -- the upload of a text: its lines, up to one that is only `.`
 abbrev pub printed_upload : List ℕ → List ℕ → List ℕ
-printed_upload name text = session_line name (codes "upload") (text ++ (closing text ++ 46 ∷ 10 ∷ []))
+printed_upload name text = session_line name (codes "upload") (text ++ (last_feed text ++ 46 ∷ 10 ∷ []))
 
 -- the lines after the placing: the steps of the jobs, and the files
 abbrev pub printed_end : List ℕ → List ℕ
@@ -40,6 +40,6 @@ abbrev pub printed_commands : List ℕ → ℕ → ℕ → List ℕ
 printed_commands name seed effort = session_line name (codes "pack") (session_line name (codes "wait") (place_line name seed effort (printed_end name)))
 
 -- the script: the operator's line, the upload, and the commands
-abbrev pub printed : TenancyScript → List ℕ
-printed script =
+abbrev pub printed_script : TenancyScript → List ℕ
+printed_script script =
     printed_admission script.width script.name.now ++ (printed_upload script.name.now script.text.now ++ printed_commands script.name.now script.seed script.effort)

@@ -10,12 +10,12 @@ use Rattle.script_text.specs.declared.act.Act.TheVariants.{Operator, Session}
 use Rattle.script_text.specs.declared.operator_line.OperatorLine.TheVariants.{Admit}
 use Rattle.script_text.specs.Script.{Acts, begins_text, form_of}
 use Rattle.tenancy_script.specs.declared.script.TenancyScript.{TenancyScript}
-use Rattle.tenancy_script.specs.declared.script.Wishes.{Wishes}
-use Rattle.tenancy_script.specs.Faults.{uploaded}
+use Rattle.tenancy_script.specs.declared.script.ScriptParameters.{ScriptParameters}
+use Rattle.tenancy_script.specs.Faults.{uploaded_text}
 use Rattle.tenancy_script.specs.Printed.{is_ended}
 
 -- the script is for these wishes and this netlist
-pub record IsOf (wishes : Wishes) (netlist : List ℕ) (script : TenancyScript) : Type 0 where
+pub record IsOf (wishes : ScriptParameters) (netlist : List ℕ) (script : TenancyScript) : Type 0 where
   pub name : script.name.now ≡ wishes.name.now
   pub width : script.width ≡ wishes.width
   pub seed : script.seed ≡ wishes.seed
@@ -23,18 +23,18 @@ pub record IsOf (wishes : Wishes) (netlist : List ℕ) (script : TenancyScript) 
   pub text : script.text.now ≡ netlist
 
 -- the acts of the tenancy's own lines, in order
-abbrev pub asked : List ℕ → ℕ → ℕ → List SessionLine
-asked text seed effort =
+abbrev pub session_lines : List ℕ → ℕ → ℕ → List SessionLine
+session_lines text seed effort =
     Command (Upload text) ∷ Command Pack ∷ Wait ∷ Command (Place seed effort) ∷ Wait ∷ Command Route ∷ Wait ∷ Command Net ∷ Command PlaceFile ∷ Command RouteFile ∷ []
 
 -- the admission comes first, if there is a width
-abbrev pub admitted : Option ℕ → List ℕ → List (Act (List ℕ)) → List (Act (List ℕ))
-admitted (Some width) name acts = Operator (Admit name width) ∷ acts
-admitted None name acts = acts
+abbrev pub with_admission : Option ℕ → List ℕ → List (Act (List ℕ)) → List (Act (List ℕ))
+with_admission (Some width) name acts = Operator (Admit name width) ∷ acts
+with_admission None name acts = acts
 
 -- the acts of a tenancy's script
 abbrev pub acts_of : TenancyScript → List (Act (List ℕ))
-acts_of script = admitted script.width script.name.now (map (Session script.name.now) (asked (uploaded script.text.now) script.seed script.effort))
+acts_of script = with_admission script.width script.name.now (map (Session script.name.now) (session_lines (uploaded_text script.text.now) script.seed script.effort))
 
 -- a script's acts, and these after them; a fault stays a fault
 abbrev pub followed_by : Acts → List (Act (List ℕ)) → Acts

@@ -8,7 +8,7 @@ use std::fmt;
 
 /// Why a tenancy has no script. Lines are counted from 1.
 #[derive(Clone, Copy, PartialEq, Eq)]
-pub enum Fault {
+pub enum ScriptFault {
     /// The name isn't 1 to 32 letters, digits and `_`.
     BadName,
     /// That line is only `.`, which would end the upload.
@@ -17,17 +17,17 @@ pub enum Fault {
     TextTooLong(usize),
 }
 
-impl fmt::Display for Fault {
+impl fmt::Display for ScriptFault {
     fn fmt<W: fmt::Write>(&self, f: &mut fmt::Formatter<W>) -> fmt::Result {
         match self {
-            Fault::BadName => write!(f, "a name is 1 to 32 letters, digits and `_`"),
-            Fault::PointAlone(line) => {
+            ScriptFault::BadName => write!(f, "a name is 1 to 32 letters, digits and `_`"),
+            ScriptFault::PointAlone(line) => {
                 write!(
                     f,
                     "line {line}: a line `.` would end the upload, and the lines after it would be commands"
                 )
             }
-            Fault::TextTooLong(line) => write!(
+            ScriptFault::TextTooLong(line) => write!(
                 f,
                 "line {line}: the text is longer than 1048576 bytes"
             ),
@@ -36,7 +36,7 @@ impl fmt::Display for Fault {
 }
 
 /// The first line of a text that can't be uploaded, with its fault.
-pub(crate) fn text_fault(text: &[u8]) -> Option<Fault>
+pub(crate) fn text_fault(text: &[u8]) -> Option<ScriptFault>
     requires { length text.now < 2 ^ 63 }
     ensures { result ≡ text_fault text.now }
 {
@@ -47,10 +47,10 @@ pub(crate) fn text_fault(text: &[u8]) -> Option<Fault>
         let (line, after) = split_line(rest);
         let line = without_cr(line);
         if is_point(line) {
-            return Some(Fault::PointAlone(number));
+            return Some(ScriptFault::PointAlone(number));
         }
         if line.len() >= room {
-            return Some(Fault::TextTooLong(number));
+            return Some(ScriptFault::TextTooLong(number));
         }
         room -= line.len() + 1;
         number += 1;

@@ -15,5 +15,5 @@ mod making;
 mod printing;
 mod script;
 
-pub use fault::Fault;
-pub use script::{TenancyScript, Wishes};
+pub use fault::ScriptFault;
+pub use script::{ScriptParameters, TenancyScript};

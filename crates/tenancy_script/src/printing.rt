@@ -2,7 +2,7 @@
 ghost use Rattle.std.specs.Prelude.{◌≡◌, ◌++◌, ◌<◌, ◌^◌, ℕ, List};
 ghost use Rattle.line_text.specs.Writing.{Writes};
 ghost use Rattle.script_text.specs.Script.{script_of};
-ghost use Rattle.tenancy_script.specs.Printed.{closing, is_ended, printed, printed_admission, printed_commands, printed_upload};
+ghost use Rattle.tenancy_script.specs.Printed.{last_feed, is_ended, printed_script, printed_admission, printed_commands, printed_upload};
 ghost use Rattle.tenancy_script.specs.Says.{IsWhole, acts_of, followed_by};
 
 use crate::script::TenancyScript;
@@ -14,12 +14,13 @@ impl TenancyScript<'_> {
     /// admission if it has a width, one upload of the text, and the commands. If the sink fails, it
     /// has taken a first part of the script.
     pub fn write<K: Sink>(&self, sink: &mut K) -> Result<(), Failed>
-        ensures written { Writes K.contents K.has_failed sink.old sink.new (printed self.now)
+        ensures written { Writes K.contents K.has_failed sink.old sink.new (printed_script self.now)
             result }
         ensures says { (number : ℕ) (before : List ℕ) → IsWhole before →
-            script_of number (before ++ printed self.now)
+            script_of number (before ++ printed_script self.now)
             ≡ followed_by (script_of number before) (acts_of self.now) }
-        ensures whole { (before : List ℕ) → IsWhole before → IsWhole (before ++ printed self.now) }
+        ensures whole { (before : List ℕ) → IsWhole before → IsWhole (before
+            ++ printed_script self.now) }
     {
         self.laws();
         self.write_admission(sink)?;
@@ -30,9 +31,10 @@ impl TenancyScript<'_> {
     /// The script's acts, after any script.
     fn laws(&self)
         ensures says { (number : ℕ) (before : List ℕ) → IsWhole before →
-            script_of number (before ++ printed self.now)
+            script_of number (before ++ printed_script self.now)
             ≡ followed_by (script_of number before) (acts_of self.now) }
-        ensures whole { (before : List ℕ) → IsWhole before → IsWhole (before ++ printed self.now) }
+        ensures whole { (before : List ℕ) → IsWhole before → IsWhole (before
+            ++ printed_script self.now) }
     {
         match self.width {
             Some(width) => bits(width, self.seed, self.effort),
@@ -72,7 +74,7 @@ impl TenancyScript<'_> {
                 Part::Bytes(self.name),
                 Part::Text(" upload\n"),
                 Part::Bytes(self.text),
-                Part::Text(closing(self.text)),
+                Part::Text(last_feed(self.text)),
                 Part::Text(".\n"),
             ],
         )
@@ -116,8 +118,8 @@ impl TenancyScript<'_> {
 }
 
 /// The LF that is added to a text whose last line has none.
-fn closing(text: &[u8]) -> &'static str
-    ensures { result.now ≡ closing text.now }
+fn last_feed(text: &[u8]) -> &'static str
+    ensures { result.now ≡ last_feed text.now }
 {
     if is_ended(text) { "" } else { "\n" }
 }

@@ -5,7 +5,7 @@ ghost use Rattle.tenancy_script.specs.Faults.{text_fault};
 
 /// The parameters of a tenancy's script.
 #[derive(Clone, Copy)]
-pub struct Wishes<'a> {
+pub struct ScriptParameters<'a> {
     pub name: &'a [u8],
     /// The columns with which it is admitted; `None` if it is admitted already.
     pub width: Option<u32>,

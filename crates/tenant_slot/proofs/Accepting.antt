@@ -18,14 +18,14 @@ use Rattle.tenant_slot.specs.declared.standing.Running.{Running}
 use Rattle.tenant_slot.specs.declared.standing.Standing.{Standing}
 use Rattle.tenant_slot.specs.Answer.{Begins, IsAnswerTo, Outcome}
 use Rattle.tenant_slot.specs.Content.{HasContent, IsNetlist, cut_back, name_at_rest, packing_in, text_of}
-use Rattle.tenant_slot.specs.JobNames.{before, during}
+use Rattle.tenant_slot.specs.JobNames.{state_before, state_during}
 use Rattle.tenant_slot.specs.SingleUser.{sources_from}
-use Rattle.tenant_slot.specs.Standing.{IsChange, IsSlot, accepted_in, name_of, seen}
+use Rattle.tenant_slot.specs.Standing.{IsChange, IsSlot, accepted_in, name_of, slot_state}
 use Rattle.tenant_slot.proofs.Kept.{at_packing}
 use Rattle.tenant_slot.proofs.Putting.{IsSlot-more, standing_of}
 
 -- no job starts in a state in which a job runs
-never_before : (running kind : JobKind) → during running ≡ before kind → ⊥
+never_before : (running kind : JobKind) → state_during running ≡ state_before kind → ⊥
 never_before PackingJob PackingJob is = cc
 never_before PackingJob PlacingJob is = cc
 never_before PackingJob RoutingJob is = cc
@@ -36,7 +36,7 @@ never_before RoutingJob PackingJob is = cc
 never_before RoutingJob PlacingJob is = cc
 never_before RoutingJob RoutingJob is = cc
 
-rest_name : (content : Content) (job : Option Running) (kind : JobKind) → name_of content job ≡ before kind → name_at_rest content ≡ before kind
+rest_name : (content : Content) (job : Option Running) (kind : JobKind) → name_of content job ≡ state_before kind → name_at_rest content ≡ state_before kind
 rest_name content None kind is = is
 rest_name content (Some job) kind is = absurd (never_before job.sources.kind kind is)
 
@@ -80,7 +80,7 @@ module _ (id : ℕ) (arch : Arch) (strip : Strip) (content : Content) (job : Opt
   abbrev its_standing : Standing
   its_standing = standing_of content job kept seed effort generation steps
 
-  accept_change : (change : Option Change) → Begins (seen id arch strip its_standing entries) change → IsChange lut_size change → IsSlot id arch strip (accepted_in its_standing change) (entries + 1)
+  accept_change : (change : Option Change) → Begins (slot_state id arch strip its_standing entries) change → IsChange lut_size change → IsSlot id arch strip (accepted_in its_standing change) (entries + 1)
   accept_change None begins is = IsSlot-more id arch strip its_standing entries slot room
   accept_change (Some (Load netlist)) begins is = record {
     size = slot.size;
@@ -121,7 +121,7 @@ module _ (id : ℕ) (arch : Arch) (strip : Strip) (content : Content) (job : Opt
         kept = slot.kept;
         content = cut_has arch strip kept seed effort begun.sources.seed begun.sources.effort content slot.content;
         job = record {
-          name = cut_name content packing ∙ sym (ap before begins.1);
+          name = cut_name content packing ∙ sym (ap state_before begins.1);
           sources = begins.2.sources ∙ ap (λ text. sources_from arch strip text kept begun.sources.seed begun.sources.effort begun.sources.kind) (sym (cut_text content));
           going = is;
           ready = ready_first begun.ready id (generation + 1) begun.sources begins.2.ready;
@@ -150,7 +150,7 @@ module _ (id : ℕ) (arch : Arch) (strip : Strip) (content : Content) (job : Opt
   }
 
 -- an accepted answer leaves the slot lawful
-pub accept_slot : (id : ℕ) (arch : Arch) (strip : Strip) (standing : Standing) (entries : ℕ) (answer : Outcome) → IsSlot id arch strip standing entries → IsAnswerTo (seen id arch strip standing entries) answer →
+pub accept_slot : (id : ℕ) (arch : Arch) (strip : Strip) (standing : Standing) (entries : ℕ) (answer : Outcome) → IsSlot id arch strip standing entries → IsAnswerTo (slot_state id arch strip standing entries) answer →
     IsChange answer.lut_size answer.change → IsSlot id arch strip (accepted_in standing answer.change) (entries + 1)
 accept_slot id arch strip standing entries answer slot fits is =
     accept_change id arch strip standing.content standing.running standing.kept standing.seed standing.effort standing.generation standing.steps entries answer.lut_size slot fits.lut_size fits.room answer.change fits.begins is

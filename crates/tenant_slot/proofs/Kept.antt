@@ -14,13 +14,13 @@ use Rattle.tenant_slot.specs.declared.content.Netlist.{Netlist}
 use Rattle.tenant_slot.specs.declared.reply.StateName.TheVariants.{Packing as PackingName, Placing as PlacingName, Routing as RoutingName}
 use Rattle.tenant_slot.specs.declared.standing.Running.{Running}
 use Rattle.tenant_slot.specs.Content.{HasContent, IsNetlist, netlist_in, packing_in, text_of}
-use Rattle.tenant_slot.specs.JobNames.{during}
+use Rattle.tenant_slot.specs.JobNames.{state_during}
 use Rattle.tenant_slot.specs.SingleUser.{is_lawful}
 use Rattle.tenant_slot.specs.Standing.{name_of}
 
 -- a command that isn't lawful while a job runs
 resting : (command : Command) → is_lawful PackingName command ≡ false → is_lawful PlacingName command ≡ false → is_lawful RoutingName command ≡ false →
-    (kind : JobKind) → is_lawful (during kind) command ≡ true → ⊥
+    (kind : JobKind) → is_lawful (state_during kind) command ≡ true → ⊥
 resting command packing placing routing PackingJob lawful = cc
 resting command packing placing routing PlacingJob lawful = cc
 resting command packing placing routing RoutingJob lawful = cc

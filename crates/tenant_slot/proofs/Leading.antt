@@ -8,22 +8,22 @@ use Rattle.tenant_slot.specs.declared.reply.Reply.{Reply}
 use Rattle.tenant_slot.specs.declared.reply.Reply.TheVariants.{Accepted, File}
 use Rattle.tenant_slot.specs.declared.reply.StateName.{StateName}
 use Rattle.tenant_slot.specs.declared.reply.StateName.TheVariants.{Empty, Loaded, Placing}
-use Rattle.tenant_slot.specs.SingleUser.{State, at_rest, loaded, pack_unless, place, risen, with_circuit}
+use Rattle.tenant_slot.specs.SingleUser.{State, at_rest, with_netlist, pack_unless, place, next_generation, with_circuit}
 use Rattle.vpr_files.specs.NetFile.{net_text_of}
 
 -- a job begins, a placing with its seed and its effort
 abbrev pub begun : State → StateName → State
-begun state name = record (risen state) { name = name }
+begun state name = record (next_generation state) { name = name }
 
 abbrev pub begun_placing : State → ℕ → ℕ → State
-begun_placing state seed effort = record (risen state) { name = Placing; seed = seed; effort = effort; ending = None }
+begun_placing state seed effort = record (next_generation state) { name = Placing; seed = seed; effort = effort; ending = None }
 
 -- the running job is given up, and everything is withdrawn
 abbrev pub stopped : State → State
-stopped state = record (risen state) { name = at_rest state.name }
+stopped state = record (next_generation state) { name = at_rest state.name }
 
 abbrev pub emptied : State → State
-emptied state = record (risen state) { name = Empty; text = []; kept = []; ending = None }
+emptied state = record (next_generation state) { name = Empty; text = []; kept = []; ending = None }
 
 -- the running job advances by one step
 abbrev pub advanced : State → State
@@ -31,7 +31,7 @@ advanced state = record state { steps = state.steps + 1 }
 
 -- an upload or a change
 abbrev pub load : State → List ℕ → Result Circuit BlifFault → Option State × Reply
-load state text said = with_circuit said (λ circuit. (Some (loaded state text), Accepted Loaded))
+load state text said = with_circuit said (λ circuit. (Some (with_netlist state text), Accepted Loaded))
 
 -- a packing
 abbrev pub pack : State → Result Circuit BlifFault → Option State × Reply

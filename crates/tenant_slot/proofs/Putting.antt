@@ -26,12 +26,12 @@ use Rattle.tenant_slot.specs.declared.content.Netlist.{Netlist}
 use Rattle.tenant_slot.specs.declared.failure.RoutingFailure.{RoutingFailure}
 use Rattle.tenant_slot.specs.declared.standing.Running.{Running}
 use Rattle.tenant_slot.specs.declared.standing.Standing.{Standing}
-use Rattle.tenant_slot.specs.JobNames.{before, during}
+use Rattle.tenant_slot.specs.JobNames.{state_before, state_during}
 use Rattle.tenant_slot.specs.Content.{CanFinish, HasContent, IsMadeOf, name_at_rest, routed_with}
 use Rattle.tenant_slot.specs.Results.{failure_of}
-use Rattle.tenant_slot.specs.SingleUser.{State, advance, after, answer_to, finished, go_on, is_next, routed_unless, running, sources_from, sources_of, step}
+use Rattle.tenant_slot.specs.SingleUser.{State, advance, after_reply, answer_to, state_at_end, go_on, is_next, routed_unless, kind_that_runs, sources_from, sources_of, step}
 use Rattle.tenant_slot.specs.Slot.{IsAdvanceOf, SlotState, after_event, running_sources}
-use Rattle.tenant_slot.specs.Standing.{IsSlot, put_in, put_reply, seen, seen_state}
+use Rattle.tenant_slot.specs.Standing.{IsSlot, put_in, put_reply, slot_state, seen_state}
 use Rattle.strip_place.specs.Keeping.{AreKeptOn}
 use Rattle.tenant_slot.proofs.Runs.{step-room}
 use Rattle.tenant_slot.proofs.Leading.{advanced}
@@ -43,18 +43,18 @@ standing_of content job kept seed effort generation steps = record { content = c
 pub record IsPut (id : ℕ) (arch : Arch) (strip : Strip) (standing : Standing) (entries : ℕ) (done : JobStep) (made : Advance) (counts last : Bool) : Type 0 where
   pub lawful : IsSlot id arch strip (put_in standing (next_step done) counts last) (entries + 1)
   pub told : (step (seen_state arch strip standing entries) (Stepped made)).1 ≡ Some (Step (put_reply counts last))
-  pub after_it : seen id arch strip (put_in standing (next_step done) counts last) (entries + 1) ≡ after_event (seen id arch strip standing entries) (Stepped made)
+  pub after_it : slot_state id arch strip (put_in standing (next_step done) counts last) (entries + 1) ≡ after_event (slot_state id arch strip standing entries) (Stepped made)
   pub begun : counts ≡ true → last ≡ true → CanFinish standing.content (next_step done)
 
 -- the slot after an event with that answer
 abbrev answered_with : SlotState → Option State → SlotState
-answered_with slot change = record slot { state = after slot.state change; here = option_map_or (λ new. Some false) change slot.here }
+answered_with slot change = record slot { state = after_reply slot.state change; here = option_map_or (λ new. Some false) change slot.here }
 
 answered : (slot : SlotState) (event : Event) (change : Option State) (reply : Reply) → slot.state.entries < 65536 → answer_to slot.state event ≡ (change, reply) →
     ((step slot.state event).1 ≡ Some reply) × (answered_with slot change ≡ after_event slot event)
 answered slot event change reply room is =
-    let steps : step slot.state event ≡ (after slot.state change, Some reply) = step-room slot.state event (omega arith) ∙ ap (λ (p : Option State × Reply). (after slot.state p.0, Some p.1)) is in
-    let states : (step slot.state event).0 ≡ after slot.state change = ap (λ (p : State × Option Reply). p.0) steps in
+    let steps : step slot.state event ≡ (after_reply slot.state change, Some reply) = step-room slot.state event (omega arith) ∙ ap (λ (p : Option State × Reply). (after_reply slot.state p.0, Some p.1)) is in
+    let states : (step slot.state event).0 ≡ after_reply slot.state change = ap (λ (p : State × Option Reply). p.0) steps in
     let changes : (answer_to slot.state event).0 ≡ change = ap (λ (p : Option State × Reply). p.0) is in
     (ap (λ (p : State × Option Reply). p.1) steps, rw (states, changes) refl)
 
@@ -73,7 +73,7 @@ IsSlot-more id arch strip standing entries slot room = record {
 stale : (id : ℕ) (arch : Arch) (strip : Strip) (standing : Standing) (entries : ℕ) (done : JobStep) (made : Advance) (last : Bool) →
     IsSlot id arch strip standing entries → entries < 65536 → answer_to (seen_state arch strip standing entries) (Stepped made) ≡ (None, Step Stale) → IsPut id arch strip standing entries done made false last
 stale id arch strip standing entries done made last slot room is =
-    let said = answered (seen id arch strip standing entries) (Stepped made) None (Step Stale) room is in
+    let said = answered (slot_state id arch strip standing entries) (Stepped made) None (Step Stale) room is in
     record { lawful = IsSlot-more id arch strip standing entries slot room; told = said.0; after_it = said.1; begun = λ counts. absurd (cc) }
 
 both_true : (a b : Bool) → (a && b) ≡ true → (a ≡ true) × (b ≡ true)
@@ -103,7 +103,7 @@ pub step_of-same : (a a' : ℕ) (b b' : ℕ) (c c' : ℕ) (d d' : Sources) → a
 step_of-same a a' b b' c c' d d' pa pb pc pd = rw (pa, pb, pc, pd) refl
 
 -- if no job runs, no step counts
-pub at_rest_none : (content : Content) → running (name_at_rest content) ≡ None
+pub at_rest_none : (content : Content) → kind_that_runs (name_at_rest content) ≡ None
 at_rest_none Empty = refl
 at_rest_none (Loaded netlist) = refl
 at_rest_none (Packed netlist packing) = refl
@@ -130,7 +130,7 @@ advanced_put : (id : ℕ) (arch : Arch) (strip : Strip) (content : Content) (job
     IsPut id arch strip (standing_of content (Some job) kept seed effort generation steps) entries done made true false
 advanced_put id arch strip content job kept seed effort generation steps entries done made slot room done_is more is =
     let state : State = seen_state arch strip (standing_of content (Some job) kept seed effort generation steps) entries in
-    let said = answered (seen id arch strip (standing_of content (Some job) kept seed effort generation steps) entries) (Stepped made) (Some (advanced state)) (Step Advanced) room is in
+    let said = answered (slot_state id arch strip (standing_of content (Some job) kept seed effort generation steps) entries) (Stepped made) (Some (advanced state)) (Step Advanced) room is in
     record {
       lawful = record {
         size = slot.size;
@@ -152,32 +152,32 @@ advanced_put id arch strip content job kept seed effort generation steps entries
     }
 
 -- the job that can start from each content
-from_empty : (kind : JobKind) → EmptyName ≡ before kind → ⊥
+from_empty : (kind : JobKind) → EmptyName ≡ state_before kind → ⊥
 from_empty PackingJob is = absurd (cc)
 from_empty PlacingJob is = absurd (cc)
 from_empty RoutingJob is = absurd (cc)
 
-from_loaded : (kind : JobKind) → LoadedName ≡ before kind → kind ≡ PackingJob
+from_loaded : (kind : JobKind) → LoadedName ≡ state_before kind → kind ≡ PackingJob
 from_loaded PackingJob is = refl
 from_loaded PlacingJob is = absurd (cc)
 from_loaded RoutingJob is = absurd (cc)
 
-from_packed : (kind : JobKind) → PackedName ≡ before kind → kind ≡ PlacingJob
+from_packed : (kind : JobKind) → PackedName ≡ state_before kind → kind ≡ PlacingJob
 from_packed PackingJob is = absurd (cc)
 from_packed PlacingJob is = refl
 from_packed RoutingJob is = absurd (cc)
 
-from_placed : (kind : JobKind) → PlacedName ≡ before kind → kind ≡ RoutingJob
+from_placed : (kind : JobKind) → PlacedName ≡ state_before kind → kind ≡ RoutingJob
 from_placed PackingJob is = absurd (cc)
 from_placed PlacingJob is = absurd (cc)
 from_placed RoutingJob is = refl
 
-pub from_routed : (kind : JobKind) → RoutedName ≡ before kind → ⊥
+pub from_routed : (kind : JobKind) → RoutedName ≡ state_before kind → ⊥
 from_routed PackingJob is = absurd (cc)
 from_routed PlacingJob is = absurd (cc)
 from_routed RoutingJob is = absurd (cc)
 
-from_unrouted : (kind : JobKind) → UnroutedName ≡ before kind → ⊥
+from_unrouted : (kind : JobKind) → UnroutedName ≡ state_before kind → ⊥
 from_unrouted PackingJob is = absurd (cc)
 from_unrouted PlacingJob is = absurd (cc)
 from_unrouted RoutingJob is = absurd (cc)
@@ -218,8 +218,8 @@ routed_lawful id arch strip netlist packing placing routing kept seed effort gen
 }
 
 routed_seen : (id : ℕ) (arch : Arch) (strip : Strip) (netlist : Netlist) (packing placing routing : JobState) (job : Running) (kept : KeptPlaces) (seed effort generation steps entries : ℕ) (failure : Option RoutingFailure) →
-    seen id arch strip (standing_of (routed_with netlist packing placing routing failure) None kept seed effort generation 0) (entries + 1)
-    ≡ answered_with (seen id arch strip (standing_of (Placed netlist packing placing) (Some job) kept seed effort generation steps) entries)
+    slot_state id arch strip (standing_of (routed_with netlist packing placing routing failure) None kept seed effort generation 0) (entries + 1)
+    ≡ answered_with (slot_state id arch strip (standing_of (Placed netlist packing placing) (Some job) kept seed effort generation steps) entries)
     (Some (routed_unless (seen_state arch strip (standing_of (Placed netlist packing placing) (Some job) kept seed effort generation steps) entries) failure))
 routed_seen id arch strip netlist packing placing routing job kept seed effort generation steps entries None = refl
 routed_seen id arch strip netlist packing placing routing job kept seed effort generation steps entries (Some failure) = refl
@@ -227,7 +227,7 @@ routed_seen id arch strip netlist packing placing routing job kept seed effort g
 -- the running job is over
 finished_put : (id : ℕ) (arch : Arch) (strip : Strip) (content : Content) (job : Running) (kept : KeptPlaces) (seed effort generation steps entries : ℕ) (done : JobStep) (made : Advance) →
     IsSlot id arch strip (standing_of content (Some job) kept seed effort generation steps) entries → entries < 65536 → done ≡ step_of id generation (steps + 1) job.sources → is_last job.sources (steps + 1) ≡ true →
-    answer_to (seen_state arch strip (standing_of content (Some job) kept seed effort generation steps) entries) (Stepped made) ≡ (Some (finished (seen_state arch strip (standing_of content (Some job) kept seed effort generation steps) entries) job.sources.kind), Step Finished) →
+    answer_to (seen_state arch strip (standing_of content (Some job) kept seed effort generation steps) entries) (Stepped made) ≡ (Some (state_at_end (seen_state arch strip (standing_of content (Some job) kept seed effort generation steps) entries) job.sources.kind), Step Finished) →
     IsPut id arch strip (standing_of content (Some job) kept seed effort generation steps) entries done made true true
 finished_put id arch strip Empty job kept seed effort generation steps entries done made slot room done_is over is = absurd (from_empty job.sources.kind slot.job.name)
 finished_put id arch strip (Routed netlist packing placing routing) job kept seed effort generation steps entries done made slot room done_is over is = absurd (from_routed job.sources.kind slot.job.name)
@@ -235,8 +235,8 @@ finished_put id arch strip (Unrouted netlist packing placing failure) job kept s
 finished_put id arch strip (Loaded netlist) job kept seed effort generation steps entries done made slot room done_is over is =
     let state : State = seen_state arch strip (standing_of (Loaded netlist) (Some job) kept seed effort generation steps) entries in
     let kind : job.sources.kind ≡ PackingJob = from_loaded job.sources.kind slot.job.name in
-    let said = answered (seen id arch strip (standing_of (Loaded netlist) (Some job) kept seed effort generation steps) entries) (Stepped made) (Some (finished state PackingJob)) (Step Finished) room
-    (is ∙ ap (λ (k : JobKind). (Some (finished state k), Step Finished)) kind) in
+    let said = answered (slot_state id arch strip (standing_of (Loaded netlist) (Some job) kept seed effort generation steps) entries) (Stepped made) (Some (state_at_end state PackingJob)) (Step Finished) room
+    (is ∙ ap (λ (k : JobKind). (Some (state_at_end state k), Step Finished)) kind) in
     let whole = made_of id generation steps job done (packing_sources arch strip netlist.text) done_is over (slot.job.sources ∙ ap (sources_from arch strip netlist.text kept seed effort) kind) in
     record {
       lawful = record {
@@ -255,8 +255,8 @@ finished_put id arch strip (Loaded netlist) job kept seed effort generation step
 finished_put id arch strip (Packed netlist packing) job kept seed effort generation steps entries done made slot room done_is over is =
     let state : State = seen_state arch strip (standing_of (Packed netlist packing) (Some job) kept seed effort generation steps) entries in
     let kind : job.sources.kind ≡ PlacingJob = from_packed job.sources.kind slot.job.name in
-    let said = answered (seen id arch strip (standing_of (Packed netlist packing) (Some job) kept seed effort generation steps) entries) (Stepped made) (Some (finished state PlacingJob)) (Step Finished) room
-    (is ∙ ap (λ (k : JobKind). (Some (finished state k), Step Finished)) kind) in
+    let said = answered (slot_state id arch strip (standing_of (Packed netlist packing) (Some job) kept seed effort generation steps) entries) (Stepped made) (Some (state_at_end state PlacingJob)) (Step Finished) room
+    (is ∙ ap (λ (k : JobKind). (Some (state_at_end state k), Step Finished)) kind) in
     let whole = made_of id generation steps job done (placing_sources arch strip netlist.text kept seed effort) done_is over (slot.job.sources ∙ ap (sources_from arch strip netlist.text kept seed effort) kind) in
     record {
       lawful = record {
@@ -277,8 +277,8 @@ finished_put id arch strip (Placed netlist packing placing) job kept seed effort
     let kind : job.sources.kind ≡ RoutingJob = from_placed job.sources.kind slot.job.name in
     let whole = made_of id generation steps job done (routing_sources arch strip netlist.text kept seed effort) done_is over (slot.job.sources ∙ ap (sources_from arch strip netlist.text kept seed effort) kind) in
     let ends : failure_of (end_value (routing_sources arch strip netlist.text kept seed effort)) ≡ failure_of (end_value done.sources) = ap (λ (s : Sources). failure_of (end_value s)) (sym whole.sources) in
-    let said = answered (seen id arch strip (standing_of (Placed netlist packing placing) (Some job) kept seed effort generation steps) entries) (Stepped made) (Some (routed_unless state (failure_of (end_value done.sources)))) (Step Finished) room
-    (is ∙ ap (λ (k : JobKind). (Some (finished state k), Step Finished)) kind ∙ ap (λ (f : Option RoutingFailure). (Some (routed_unless state f), Step Finished)) ends) in
+    let said = answered (slot_state id arch strip (standing_of (Placed netlist packing placing) (Some job) kept seed effort generation steps) entries) (Stepped made) (Some (routed_unless state (failure_of (end_value done.sources)))) (Step Finished) room
+    (is ∙ ap (λ (k : JobKind). (Some (state_at_end state k), Step Finished)) kind ∙ ap (λ (f : Option RoutingFailure). (Some (routed_unless state f), Step Finished)) ends) in
     record {
       lawful = routed_lawful id arch strip netlist packing placing (next_step done) kept seed effort generation entries (failure_of (end_value done.sources)) slot.size slot.kept slot.content whole ends slot.generation_small room;
       told = said.0;
@@ -287,7 +287,7 @@ finished_put id arch strip (Placed netlist packing placing) job kept seed effort
     }
 
 -- while a job of a kind runs, the state has its name
-pub running_during : (kind : JobKind) → running (during kind) ≡ Some kind
+pub running_during : (kind : JobKind) → kind_that_runs (state_during kind) ≡ Some kind
 running_during PackingJob = refl
 running_during PlacingJob = refl
 running_during RoutingJob = refl
@@ -301,7 +301,7 @@ module _ (id : ℕ) (arch : Arch) (strip : Strip) (content : Content) (job : Run
   abbrev its_state : State
   its_state = seen_state arch strip (standing_of content (Some job) kept seed effort generation steps) entries
 
-  its_running : running (during job.sources.kind) ≡ Some job.sources.kind
+  its_running : kind_that_runs (state_during job.sources.kind) ≡ Some job.sources.kind
   its_running = running_during job.sources.kind
 
   its_answer : answer_to its_state (Stepped made) ≡ advance its_state made (Some job.sources.kind)
@@ -321,12 +321,12 @@ module _ (id : ℕ) (arch : Arch) (strip : Strip) (content : Content) (job : Run
   its_end last next ends = sym (ends ∙ ap (λ (d : JobStep). is_last d.sources d.number) (its_step next))
 
   goes : (last : Bool) → is_next its_state made ≡ true → is_last job.sources (steps + 1) ≡ last →
-      answer_to its_state (Stepped made) ≡ (if last then (Some (finished its_state job.sources.kind), Step Finished) else (Some (advanced its_state), Step Advanced))
+      answer_to its_state (Stepped made) ≡ (if last then (Some (state_at_end its_state job.sources.kind), Step Finished) else (Some (advanced its_state), Step Advanced))
   goes last counts ends =
       let there : is_last (sources_of its_state job.sources.kind) (steps + 1) ≡ last = ap (λ (s : Sources). is_last s (steps + 1)) (sym slot.job.sources) ∙ ends in
       its_answer
       ∙ ap (λ (b : Bool). if b then go_on its_state job.sources.kind else (None, Step Stale)) counts
-      ∙ ap (λ (b : Bool). if b then (Some (finished its_state job.sources.kind), Step Finished) else (Some (advanced its_state), Step Advanced)) there
+      ∙ ap (λ (b : Bool). if b then (Some (state_at_end its_state job.sources.kind), Step Finished) else (Some (advanced its_state), Step Advanced)) there
 
   pub some_put : (counts last : Bool) → counts ≡ is_next its_state made → last ≡ is_last done.sources done.number → IsPut id arch strip (standing_of content (Some job) kept seed effort generation steps) entries done made counts last
   some_put false last is ends =
@@ -356,7 +356,7 @@ is_put id arch strip standing entries done made counts last slot room own said i
     either_put id arch strip standing.content standing.running standing.kept standing.seed standing.effort standing.generation standing.steps entries done made counts last slot room own said is ends
 
 -- a put into any slot whose value is as given
-pub put_of : (id : ℕ) (arch : Arch) (strip : Strip) (standing : Standing) (entries : ℕ) (old : SlotState) (done : JobStep) (made : Advance) (counts last : Bool) → seen id arch strip standing entries ≡ old →
+pub put_of : (id : ℕ) (arch : Arch) (strip : Strip) (standing : Standing) (entries : ℕ) (old : SlotState) (done : JobStep) (made : Advance) (counts last : Bool) → slot_state id arch strip standing entries ≡ old →
     IsSlot id arch strip standing entries → old.state.entries < 65536 → done.id ≡ old.id → IsAdvanceOf old.state done made → counts ≡ is_next old.state made → last ≡ is_last done.sources done.number →
     IsPut id arch strip standing entries done made counts last
 put_of id arch strip standing entries old done made counts last is slot room own said next ends =

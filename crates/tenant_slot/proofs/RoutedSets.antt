@@ -15,7 +15,7 @@ use Rattle.tenant_slot.specs.declared.reply.StateName.TheVariants.{Routed as Rou
 use Rattle.tenant_slot.specs.declared.standing.Running.{Running}
 use Rattle.tenant_slot.specs.declared.standing.Standing.{Standing}
 use Rattle.tenant_slot.specs.Content.{HasContent, name_at_rest, text_of}
-use Rattle.tenant_slot.specs.JobNames.{during}
+use Rattle.tenant_slot.specs.JobNames.{state_during}
 use Rattle.tenant_slot.specs.RoutedSet.{held_in, routed_set}
 use Rattle.tenant_slot.specs.SingleUser.{State}
 use Rattle.tenant_slot.specs.Standing.{IsRunning, IsSlot, name_of, seen_state}
@@ -38,7 +38,7 @@ routed_is id arch strip standing entries netlist packing placing routing is slot
     ∙ (ap (λ other. resources_of (routing_sources arch strip (text_of other) standing.kept standing.seed standing.effort)) is ∙ ap resources_of (sym (has.3.sources)))
 
 -- while a job runs
-none_during : (kind : JobKind) (state : State) → held_in (during kind) state ≡ []
+none_during : (kind : JobKind) (state : State) → held_in (state_during kind) state ≡ []
 none_during PackingJob state = refl
 none_during PlacingJob state = refl
 none_during RoutingJob state = refl

@@ -16,7 +16,7 @@ use Rattle.tenant_slot.specs.declared.standing.Running.{Running}
 use Rattle.tenant_slot.specs.declared.standing.Standing.{Standing}
 use Rattle.tenant_slot.specs.SingleUser.{State, is_next, sources_of}
 use Rattle.tenant_slot.specs.Slot.{GivesBack, IsAdvanceOf, SlotState, is_takeable, next_job, running_sources}
-use Rattle.tenant_slot.specs.Standing.{IsSlot, here_of, ready_of, ready_with, seen, seen_state, without_ready}
+use Rattle.tenant_slot.specs.Standing.{IsSlot, here_of, ready_of, ready_with, slot_state, seen_state, without_ready}
 use Rattle.tenant_slot.proofs.Putting.{at_rest_none, next_of, running_during, some_same, standing_of, step_of, step_of-same}
 
 -- the journal's record of a step depends on its generation, its number and its sources
@@ -49,10 +49,10 @@ written_next slot step generation number is pg pn = record {
 pub record IsTaken (id : ℕ) (arch : Arch) (strip : Strip) (standing : Standing) (entries : ℕ) (ready : JobState) : Type 0 where
   pub going : is_over ready ≡ false
   pub lawful : IsSlot id arch strip (record standing { running = option_map without_ready standing.running }) entries
-  pub takeable : nat_lt entries 65536 ≡ true → is_takeable (seen id arch strip standing entries) ≡ true
-  pub next : next_job (seen id arch strip standing entries) ≡ Some ready.step
+  pub takeable : nat_lt entries 65536 ≡ true → is_takeable (slot_state id arch strip standing entries) ≡ true
+  pub next : next_job (slot_state id arch strip standing entries) ≡ Some ready.step
   pub made : here_of standing.running ≡ Some ready.made
-  pub out : seen id arch strip (record standing { running = option_map without_ready standing.running }) entries ≡ record (seen id arch strip standing entries) { here = None }
+  pub out : slot_state id arch strip (record standing { running = option_map without_ready standing.running }) entries ≡ record (slot_state id arch strip standing entries) { here = None }
 
 all_three : (a b c : Bool) → a ≡ true → b ≡ true → c ≡ false → (a && (b && not c)) ≡ true
 all_three a b c first second third = rw (first, second, third) refl
@@ -60,7 +60,7 @@ all_three a b c first second third = rw (first, second, third) refl
 module _ (id : ℕ) (arch : Arch) (strip : Strip) (content : Content) (job : Running) (kept : KeptPlaces) (seed effort generation steps entries : ℕ)
     (slot : IsSlot id arch strip (standing_of content (Some job) kept seed effort generation steps) entries) where
   abbrev its_slot : SlotState
-  its_slot = seen id arch strip (standing_of content (Some job) kept seed effort generation steps) entries
+  its_slot = slot_state id arch strip (standing_of content (Some job) kept seed effort generation steps) entries
 
   -- the running job's next step
   next_is : next_job its_slot ≡ Some (step_of id generation (steps + 1) job.sources)
@@ -128,7 +128,7 @@ module _ (id : ℕ) (arch : Arch) (strip : Strip) (content : Content) (job : Run
       let yes : is_next its_slot.state made ≡ true = all_three (made.generation == generation) (made.number == steps + 1) made.foreign first second own in
       cc
 
-none_next : (id : ℕ) (arch : Arch) (strip : Strip) (content : Content) (kept : KeptPlaces) (seed effort generation steps entries : ℕ) → next_job (seen id arch strip (standing_of content None kept seed effort generation steps) entries) ≡ None
+none_next : (id : ℕ) (arch : Arch) (strip : Strip) (content : Content) (kept : KeptPlaces) (seed effort generation steps entries : ℕ) → next_job (slot_state id arch strip (standing_of content None kept seed effort generation steps) entries) ≡ None
 none_next id arch strip content kept seed effort generation steps entries =
     let state : State = seen_state arch strip (standing_of content None kept seed effort generation steps) entries in
     ap (λ (k : Option JobKind). option_map (λ (sources : Sources). step_of id generation (steps + 1) sources) (option_map (sources_of state) k)) (at_rest_none content)
@@ -143,18 +143,18 @@ pub is_taken : (id : ℕ) (arch : Arch) (strip : Strip) (standing : Standing) (e
 is_taken id arch strip standing entries ready slot is = either_taken id arch strip standing.content standing.running standing.kept standing.seed standing.effort standing.generation standing.steps entries ready slot is
 
 either_stood : (id : ℕ) (arch : Arch) (strip : Strip) (content : Content) (job : Option Running) (kept : KeptPlaces) (seed effort generation steps entries : ℕ) (back : JobState) →
-    IsSlot id arch strip (standing_of content job kept seed effort generation steps) entries → next_job (seen id arch strip (standing_of content job kept seed effort generation steps) entries) ≡ Some back.step →
+    IsSlot id arch strip (standing_of content job kept seed effort generation steps) entries → next_job (slot_state id arch strip (standing_of content job kept seed effort generation steps) entries) ≡ Some back.step →
     IsSlot id arch strip (standing_of content (option_map (ready_with back) job) kept seed effort generation steps) entries
 either_stood id arch strip content None kept seed effort generation steps entries back slot is = slot
 either_stood id arch strip content (Some job) kept seed effort generation steps entries back slot is = some_stood id arch strip content job kept seed effort generation steps entries slot back is
 
-pub is_stood : (id : ℕ) (arch : Arch) (strip : Strip) (standing : Standing) (entries : ℕ) (back : JobState) → IsSlot id arch strip standing entries → next_job (seen id arch strip standing entries) ≡ Some back.step →
+pub is_stood : (id : ℕ) (arch : Arch) (strip : Strip) (standing : Standing) (entries : ℕ) (back : JobState) → IsSlot id arch strip standing entries → next_job (slot_state id arch strip standing entries) ≡ Some back.step →
     IsSlot id arch strip (record standing { running = option_map (ready_with back) standing.running }) entries
 is_stood id arch strip standing entries back slot is = either_stood id arch strip standing.content standing.running standing.kept standing.seed standing.effort standing.generation standing.steps entries back slot is
 
 either_next : (id : ℕ) (arch : Arch) (strip : Strip) (content : Content) (job : Option Running) (kept : KeptPlaces) (seed effort generation steps entries : ℕ) (step : JobStep) (made : Advance) →
     IsSlot id arch strip (standing_of content job kept seed effort generation steps) entries → step.id ≡ id → IsAdvanceOf (seen_state arch strip (standing_of content job kept seed effort generation steps) entries) step made →
-    is_next (seen_state arch strip (standing_of content job kept seed effort generation steps) entries) made ≡ true → next_job (seen id arch strip (standing_of content job kept seed effort generation steps) entries) ≡ Some step
+    is_next (seen_state arch strip (standing_of content job kept seed effort generation steps) entries) made ≡ true → next_job (slot_state id arch strip (standing_of content job kept seed effort generation steps) entries) ≡ Some step
 either_next id arch strip content None kept seed effort generation steps entries step made slot own said is =
     let state : State = seen_state arch strip (standing_of content None kept seed effort generation steps) entries in
     let some : running_sources state ≡ Some step.sources = said.foreign.0 (next_of state made is).own in
@@ -163,38 +163,38 @@ either_next id arch strip content None kept seed effort generation steps entries
 either_next id arch strip content (Some job) kept seed effort generation steps entries step made slot own said is = some_next id arch strip content job kept seed effort generation steps entries slot step made own said is
 
 pub is_back : (id : ℕ) (arch : Arch) (strip : Strip) (standing : Standing) (entries : ℕ) (step : JobStep) (made : Advance) → IsSlot id arch strip standing entries → step.id ≡ id →
-    IsAdvanceOf (seen_state arch strip standing entries) step made → is_next (seen_state arch strip standing entries) made ≡ true → next_job (seen id arch strip standing entries) ≡ Some step
+    IsAdvanceOf (seen_state arch strip standing entries) step made → is_next (seen_state arch strip standing entries) made ≡ true → next_job (slot_state id arch strip standing entries) ≡ Some step
 is_back id arch strip standing entries step made slot own said is =
     either_next id arch strip standing.content standing.running standing.kept standing.seed standing.effort standing.generation standing.steps entries step made slot own said is
 
 either_other : (id : ℕ) (arch : Arch) (strip : Strip) (content : Content) (job : Option Running) (kept : KeptPlaces) (seed effort generation steps entries : ℕ) (step : JobStep) (made : Advance) →
     IsSlot id arch strip (standing_of content job kept seed effort generation steps) entries → IsAdvanceOf (seen_state arch strip (standing_of content job kept seed effort generation steps) entries) step made →
-    is_next (seen_state arch strip (standing_of content job kept seed effort generation steps) entries) made ≡ false → next_job (seen id arch strip (standing_of content job kept seed effort generation steps) entries) ≡ Some step → ⊥
+    is_next (seen_state arch strip (standing_of content job kept seed effort generation steps) entries) made ≡ false → next_job (slot_state id arch strip (standing_of content job kept seed effort generation steps) entries) ≡ Some step → ⊥
 either_other id arch strip content None kept seed effort generation steps entries step made slot said not_next is =
-    let none : next_job (seen id arch strip (standing_of content None kept seed effort generation steps) entries) ≡ None = none_next id arch strip content kept seed effort generation steps entries in
+    let none : next_job (slot_state id arch strip (standing_of content None kept seed effort generation steps) entries) ≡ None = none_next id arch strip content kept seed effort generation steps entries in
     cc
 either_other id arch strip content (Some job) kept seed effort generation steps entries step made slot said not_next is = some_other id arch strip content job kept seed effort generation steps entries slot step made said not_next is
 
 pub is_not_back : (id : ℕ) (arch : Arch) (strip : Strip) (standing : Standing) (entries : ℕ) (step : JobStep) (made : Advance) → IsSlot id arch strip standing entries →
-    IsAdvanceOf (seen_state arch strip standing entries) step made → is_next (seen_state arch strip standing entries) made ≡ false → next_job (seen id arch strip standing entries) ≡ Some step → ⊥
+    IsAdvanceOf (seen_state arch strip standing entries) step made → is_next (seen_state arch strip standing entries) made ≡ false → next_job (slot_state id arch strip standing entries) ≡ Some step → ⊥
 is_not_back id arch strip standing entries step made slot said not_next is =
     either_other id arch strip standing.content standing.running standing.kept standing.seed standing.effort standing.generation standing.steps entries step made slot said not_next is
 
 -- the value of a slot whose running job's next step is here again
 stood_seen : (id : ℕ) (arch : Arch) (strip : Strip) (content : Content) (job : Option Running) (kept : KeptPlaces) (seed effort generation steps entries : ℕ) (back : JobState) →
-    next_job (seen id arch strip (standing_of content job kept seed effort generation steps) entries) ≡ Some back.step →
-    seen id arch strip (standing_of content (option_map (ready_with back) job) kept seed effort generation steps) entries ≡ record (seen id arch strip (standing_of content job kept seed effort generation steps) entries) { here = Some back.made }
+    next_job (slot_state id arch strip (standing_of content job kept seed effort generation steps) entries) ≡ Some back.step →
+    slot_state id arch strip (standing_of content (option_map (ready_with back) job) kept seed effort generation steps) entries ≡ record (slot_state id arch strip (standing_of content job kept seed effort generation steps) entries) { here = Some back.made }
 stood_seen id arch strip content None kept seed effort generation steps entries back is =
-    let none : next_job (seen id arch strip (standing_of content None kept seed effort generation steps) entries) ≡ None = none_next id arch strip content kept seed effort generation steps entries in
+    let none : next_job (slot_state id arch strip (standing_of content None kept seed effort generation steps) entries) ≡ None = none_next id arch strip content kept seed effort generation steps entries in
     absurd (cc)
 stood_seen id arch strip content (Some job) kept seed effort generation steps entries back is = refl
 
 gives_back : (old : SlotState) (back : JobState) → next_job old ≡ Some back.step → GivesBack old back (record old { here = Some back.made })
 gives_back old back is = record { only_here = refl; ready = λ next. refl; dropped = λ other. absurd (other is) }
 
-pub is_given_back : (id : ℕ) (arch : Arch) (strip : Strip) (standing : Standing) (entries : ℕ) (old : SlotState) (back : JobState) → seen id arch strip standing entries ≡ old → next_job (seen id arch strip standing entries) ≡ Some back.step →
-    GivesBack old back (seen id arch strip (record standing { running = option_map (ready_with back) standing.running }) entries)
+pub is_given_back : (id : ℕ) (arch : Arch) (strip : Strip) (standing : Standing) (entries : ℕ) (old : SlotState) (back : JobState) → slot_state id arch strip standing entries ≡ old → next_job (slot_state id arch strip standing entries) ≡ Some back.step →
+    GivesBack old back (slot_state id arch strip (record standing { running = option_map (ready_with back) standing.running }) entries)
 is_given_back id arch strip standing entries old back seen_so is =
-    let here : seen id arch strip (record standing { running = option_map (ready_with back) standing.running }) entries ≡ record old { here = Some back.made } =
+    let here : slot_state id arch strip (record standing { running = option_map (ready_with back) standing.running }) entries ≡ record old { here = Some back.made } =
     stood_seen id arch strip standing.content standing.running standing.kept standing.seed standing.effort standing.generation standing.steps entries back is ∙ ap (λ (s : SlotState). record s { here = Some back.made }) seen_so in
     subst (λ (s : SlotState). GivesBack old back s) (sym here) (gives_back old back (subst (λ (s : SlotState). next_job s ≡ Some back.step) seen_so is))

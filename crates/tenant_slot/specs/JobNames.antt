@@ -5,13 +5,13 @@ use Rattle.tenant_slot.specs.declared.reply.StateName.{StateName}
 use Rattle.tenant_slot.specs.declared.reply.StateName.TheVariants.{Loaded, Packing, Packed, Placing, Placed, Routing}
 
 -- the state that a job of that kind starts from
-abbrev pub before : JobKind → StateName
-before PackingJob = Loaded
-before PlacingJob = Packed
-before RoutingJob = Placed
+abbrev pub state_before : JobKind → StateName
+state_before PackingJob = Loaded
+state_before PlacingJob = Packed
+state_before RoutingJob = Placed
 
 -- the state that it runs in
-abbrev pub during : JobKind → StateName
-during PackingJob = Packing
-during PlacingJob = Placing
-during RoutingJob = Routing
+abbrev pub state_during : JobKind → StateName
+state_during PackingJob = Packing
+state_during PlacingJob = Placing
+state_during RoutingJob = Routing

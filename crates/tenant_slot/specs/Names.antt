@@ -6,8 +6,8 @@ use Rattle.tenant_slot.specs.declared.reply.FileKind.{FileKind}
 use Rattle.tenant_slot.specs.declared.reply.FileKind.TheVariants.{Net, Place, Route}
 use Rattle.tenant_slot.specs.declared.reply.Refusal.{Refusal}
 use Rattle.tenant_slot.specs.declared.reply.Refusal.TheVariants.{WrongState, BadBlif, CannotPack, DoesNotFit, BadEffort}
-use Rattle.tenant_slot.specs.declared.not_served.NotServed.{NotServed}
-use Rattle.tenant_slot.specs.declared.not_served.NotServed.TheVariants.{NoMemory, JournalFull}
+use Rattle.tenant_slot.specs.declared.not_served.NotAnswered.{NotAnswered}
+use Rattle.tenant_slot.specs.declared.not_served.NotAnswered.TheVariants.{NoMemory, JournalFull}
 
 abbrev pub state_text : StateName → List ℕ
 state_text Empty = codes "Empty"
@@ -39,10 +39,10 @@ refusal_text (CannotPack ble) = codes "CannotPack"
 refusal_text (DoesNotFit misfit) = codes "DoesNotFit"
 refusal_text BadEffort = codes "BadEffort"
 
-abbrev pub not_served_number : NotServed → ℕ
+abbrev pub not_served_number : NotAnswered → ℕ
 not_served_number NoMemory = 1
 not_served_number JournalFull = 2
 
-abbrev pub not_served_text : NotServed → List ℕ
+abbrev pub not_served_text : NotAnswered → List ℕ
 not_served_text NoMemory = codes "NoMemory"
 not_served_text JournalFull = codes "JournalFull"

@@ -19,20 +19,20 @@ use Rattle.kept_places.specs.Kept.{KeptPlaces}
 use Rattle.tenant_slot.specs.Answer.{Outcome}
 
 -- the answer that changes nothing, and the one that changes something
-abbrev pub told : ℕ → Reply → Outcome
-told lut_size reply = record { lut_size = lut_size; change = None; reply = reply }
+abbrev pub without_change : ℕ → Reply → Outcome
+without_change lut_size reply = record { lut_size = lut_size; change = None; reply = reply }
 
-abbrev pub changing : ℕ → Change → Reply → Outcome
-changing lut_size change reply = record { lut_size = lut_size; change = Some change; reply = reply }
+abbrev pub with_change : ℕ → Change → Reply → Outcome
+with_change lut_size change reply = record { lut_size = lut_size; change = Some change; reply = reply }
 
 -- a netlist is loaded: as the first, or in place of another, of which these places are kept
-abbrev pub loading : Netlist → Option KeptPlaces → Change
-loading netlist None = Load netlist
-loading netlist (Some kept) = Replace netlist kept
+abbrev pub load_change : Netlist → Option KeptPlaces → Change
+load_change netlist None = Load netlist
+load_change netlist (Some kept) = Replace netlist kept
 
 abbrev pub load_outcome : ℕ → List ℕ → Option KeptPlaces → Result Circuit BlifFault → Outcome
-load_outcome lut_size text kept (Ok circuit) = changing lut_size (loading (record { text = text; circuit = circuit }) kept) (Accepted Loaded)
-load_outcome lut_size text kept (Err fault) = told lut_size (Refused (BadBlif fault))
+load_outcome lut_size text kept (Ok circuit) = with_change lut_size (load_change (record { text = text; circuit = circuit }) kept) (Accepted Loaded)
+load_outcome lut_size text kept (Err fault) = without_change lut_size (Refused (BadBlif fault))
 
 -- a job that begins
 abbrev pub job_begun : ℕ → ℕ → Sources → Running
@@ -40,23 +40,23 @@ job_begun id generation sources = record { sources = sources; ready = Some (firs
 
 -- a packing begins; but with a BLE given, the least that fits into no cluster alone, it is refused
 abbrev pub pack_outcome : ℕ → Running → Option ℕ → Outcome
-pack_outcome lut_size job None = changing lut_size (Begin job) (Accepted Packing)
-pack_outcome lut_size job (Some ble) = told lut_size (Refused (CannotPack ble))
+pack_outcome lut_size job None = with_change lut_size (Begin job) (Accepted Packing)
+pack_outcome lut_size job (Some ble) = without_change lut_size (Refused (CannotPack ble))
 
 -- a placing begins; but it is refused if its effort is too great, or if the strip has too few of
 -- the given places
 abbrev pub place_unless : ℕ → Running → Option Misfit → Outcome
-place_unless lut_size job None = changing lut_size (Place job) (Accepted Placing)
-place_unless lut_size job (Some misfit) = told lut_size (Refused (DoesNotFit misfit))
+place_unless lut_size job None = with_change lut_size (Place job) (Accepted Placing)
+place_unless lut_size job (Some misfit) = without_change lut_size (Refused (DoesNotFit misfit))
 
 abbrev pub place_outcome : ℕ → Running → Bool → Option Misfit → Outcome
-place_outcome lut_size job true misfit = told lut_size (Refused BadEffort)
+place_outcome lut_size job true misfit = without_change lut_size (Refused BadEffort)
 place_outcome lut_size job false misfit = place_unless lut_size job misfit
 
 -- a routing begins
 abbrev pub route_outcome : ℕ → Running → Outcome
-route_outcome lut_size job = changing lut_size (Begin job) (Accepted Routing)
+route_outcome lut_size job = with_change lut_size (Begin job) (Accepted Routing)
 
 -- the reply has a file
 abbrev pub file_outcome : ℕ → FileKind → List ℕ → Outcome
-file_outcome lut_size kind text = told lut_size (File kind text)
+file_outcome lut_size kind text = without_change lut_size (File kind text)

@@ -1,6 +1,8 @@
 -- The service for a single user: what each event of one tenancy does, and its reply, on a device of
 -- the strip's size.
 use Rattle.std.specs.Prelude.{ℕ, ◌+◌, List, [], ◌∷◌, Result, Ok, Err, Bool, true, false, not, ◌&&◌, Option, Some, None, is_some, option_and_then, nat_lt, ◌==◌, if◌then◌else◌}
+use Rattle.tenant_slot.specs.declared.slot.TheConstants.{MAX_ENTRIES}
+use Rattle.strip_place.specs.declared.placing.TheConstants.{MAX_EFFORT}
 use Rattle.arch_file.specs.declared.arch.Arch.{Arch}
 use Rattle.blif.specs.CircuitOf.{circuit_of}
 use Rattle.blif.specs.declared.circuit.Circuit.{Circuit}
@@ -55,11 +57,11 @@ abbrev pub start : Arch → Strip → State
 start arch strip = record { arch = arch; strip = strip; name = Empty; text = []; kept = []; seed = 0; effort = 0; ending = None; generation = 0; steps = 0; entries = 0 }
 
 -- the kind of the job that runs in a state of that name, if one does
-abbrev pub running : StateName → Option JobKind
-running Packing = Some PackingJob
-running Placing = Some PlacingJob
-running Routing = Some RoutingJob
-running name = None
+abbrev pub kind_that_runs : StateName → Option JobKind
+kind_that_runs Packing = Some PackingJob
+kind_that_runs Placing = Some PlacingJob
+kind_that_runs Routing = Some RoutingJob
+kind_that_runs name = None
 
 -- the name of the state that a job began in, and returns to if it is given up; a placing returns to
 -- the packing
@@ -73,7 +75,7 @@ at_rest name = name
 -- lawful: those of a placing that has ended and wasn't given up
 abbrev pub is_lawful : StateName → Command → Bool
 is_lawful name Status = true
-is_lawful name Cancel = is_some (running name)
+is_lawful name Cancel = is_some (kind_that_runs name)
 is_lawful Empty (Upload text) = true
 is_lawful Empty command = false
 is_lawful name (Change text) = true
@@ -96,12 +98,12 @@ is_lawful name command = false
 
 -- an event that gives up something requested before begins a new generation. Here and below, what
 -- isn't mentioned stays
-abbrev pub risen : State → State
-risen state = record state { generation = state.generation + 1; steps = 0 }
+abbrev pub next_generation : State → State
+next_generation state = record state { generation = state.generation + 1; steps = 0 }
 
 -- a netlist is loaded
-abbrev pub loaded : State → List ℕ → State
-loaded state text = record state { name = Loaded; text = text; ending = None }
+abbrev pub with_netlist : State → List ℕ → State
+with_netlist state text = record state { name = Loaded; text = text; ending = None }
 
 -- a routing ends with routes, or with that failure
 abbrev pub routed_unless : State → Option RoutingFailure → State
@@ -118,14 +120,14 @@ abbrev pub sources_of : State → JobKind → Sources
 sources_of state kind = sources_from state.arch state.strip state.text state.kept state.seed state.effort kind
 
 -- a change keeps the current places; in a state without places, the places kept before stay
-abbrev pub keeping : State → State
-keeping state = record state { kept = if is_lawful state.name PlaceFile then kept_at_end (end_value (sources_of state PlacingJob)) else state.kept }
+abbrev pub with_kept_places : State → State
+with_kept_places state = record state { kept = if is_lawful state.name PlaceFile then kept_at_end (end_value (sources_of state PlacingJob)) else state.kept }
 
 -- a job of that kind has made its last step
-abbrev pub finished : State → JobKind → State
-finished state PackingJob = record state { name = Packed; steps = 0 }
-finished state PlacingJob = record state { name = Placed; steps = 0 }
-finished state RoutingJob = routed_unless state (failure_of (end_value (sources_of state RoutingJob)))
+abbrev pub state_at_end : State → JobKind → State
+state_at_end state PackingJob = record state { name = Packed; steps = 0 }
+state_at_end state PlacingJob = record state { name = Placed; steps = 0 }
+state_at_end state RoutingJob = routed_unless state (failure_of (end_value (sources_of state RoutingJob)))
 
 -- the circuit of the state's text
 abbrev pub circuit_in : State → Result Circuit BlifFault
@@ -138,7 +140,7 @@ with_circuit (Err fault) leads = (None, Refused (BadBlif fault))
 
 -- a packing begins; but with a BLE given, the least that fits into no cluster alone, it is refused
 abbrev pub pack_unless : State → Option ℕ → Option State × Reply
-pack_unless state None = (Some (record (risen state) { name = Packing }), Accepted Packing)
+pack_unless state None = (Some (record (next_generation state) { name = Packing }), Accepted Packing)
 pack_unless state (Some ble) = (None, Refused (CannotPack ble))
 
 -- the places of which a strip has too few
@@ -150,24 +152,24 @@ misfit_of (TooManyPads have need) = Some (Pads have need)
 -- a placing begins; but it is refused if the strip has too few of the given places. Old places and
 -- routes are given up, as they belong to the old seed and effort
 abbrev pub place_unless : State → ℕ → ℕ → Option Misfit → Option State × Reply
-place_unless state seed effort None = (Some (record (risen state) { name = Placing; seed = seed; effort = effort; ending = None }), Accepted Placing)
+place_unless state seed effort None = (Some (record (next_generation state) { name = Placing; seed = seed; effort = effort; ending = None }), Accepted Placing)
 place_unless state seed effort (Some misfit) = (None, Refused (DoesNotFit misfit))
 
 -- the placing of a circuit's packing; an effort above 100 is refused first
 abbrev pub place : State → ℕ → ℕ → Circuit → Option State × Reply
-place state seed effort circuit = if nat_lt 100 effort then (None, Refused BadEffort) else place_unless state seed effort (misfit_of (fit_of state.strip (packed_of circuit state.arch)))
+place state seed effort circuit = if nat_lt MAX_EFFORT effort then (None, Refused BadEffort) else place_unless state seed effort (misfit_of (fit_of state.strip (packed_of circuit state.arch)))
 
 -- a lawful command: the new state, if it changes, and the reply. `cancel` gives up the running job;
 -- `withdraw` gives up everything, so that no place is kept. The files are those of the last placing
 -- and of its routing
 abbrev pub serve : State → Command → Option State × Reply
-serve state (Upload text) = with_circuit (circuit_of text state.arch.lut_size) (λ circuit. (Some (loaded state text), Accepted Loaded))
-serve state (Change text) = with_circuit (circuit_of text state.arch.lut_size) (λ circuit. (Some (loaded (keeping (risen state)) text), Accepted Loaded))
+serve state (Upload text) = with_circuit (circuit_of text state.arch.lut_size) (λ circuit. (Some (with_netlist state text), Accepted Loaded))
+serve state (Change text) = with_circuit (circuit_of text state.arch.lut_size) (λ circuit. (Some (with_netlist (with_kept_places (next_generation state)) text), Accepted Loaded))
 serve state Pack = with_circuit (circuit_in state) (λ circuit. pack_unless state (unfit_of circuit state.arch))
 serve state (Place seed effort) = with_circuit (circuit_in state) (place state seed effort)
-serve state Route = (Some (record (risen state) { name = Routing }), Accepted Routing)
-serve state Cancel = (Some (record (risen state) { name = at_rest state.name }), Accepted (at_rest state.name))
-serve state Withdraw = (Some (record (risen state) { name = Empty; text = []; kept = []; ending = None }), Accepted Empty)
+serve state Route = (Some (record (next_generation state) { name = Routing }), Accepted Routing)
+serve state Cancel = (Some (record (next_generation state) { name = at_rest state.name }), Accepted (at_rest state.name))
+serve state Withdraw = (Some (record (next_generation state) { name = Empty; text = []; kept = []; ending = None }), Accepted Empty)
 serve state Status = (None, InState (record { state = state.name; steps = state.steps; ending = option_and_then (ending_told (circuit_in state) state.arch) state.ending }))
 serve state Net = with_circuit (circuit_in state) (λ circuit. (None, File NetFile (net_text_of (packed_of circuit state.arch))))
 serve state PlaceFile = (None, File PlacesFile (place_file_of (end_value (sources_of state PlacingJob))))
@@ -180,7 +182,7 @@ is_next state advance = advance.generation == state.generation && (advance.numbe
 
 -- the running job makes its next step
 abbrev pub go_on : State → JobKind → Option State × Reply
-go_on state kind = if is_last (sources_of state kind) (state.steps + 1) then (Some (finished state kind), Step Finished) else (Some (record state { steps = state.steps + 1 }), Step Advanced)
+go_on state kind = if is_last (sources_of state kind) (state.steps + 1) then (Some (state_at_end state kind), Step Finished) else (Some (record state { steps = state.steps + 1 }), Step Advanced)
 
 -- a step that was made, while a job of that kind runs
 abbrev pub advance : State → Advance → Option JobKind → Option State × Reply
@@ -190,17 +192,17 @@ advance state made (Some kind) = if is_next state made then go_on state kind els
 -- an event: the new state, if it changes, and the reply
 abbrev pub answer_to : State → Event → Option State × Reply
 answer_to state (Asked command) = if is_lawful state.name command then serve state command else (None, Refused (WrongState state.name))
-answer_to state (Stepped made) = advance state made (running state.name)
+answer_to state (Stepped made) = advance state made (kind_that_runs state.name)
 
 -- the state after the reply is given: one more entry
-abbrev pub after : State → Option State → State
-after state None = record state { entries = state.entries + 1 }
-after state (Some new) = record new { entries = state.entries + 1 }
+abbrev pub after_reply : State → Option State → State
+after_reply state None = record state { entries = state.entries + 1 }
+after_reply state (Some new) = record new { entries = state.entries + 1 }
 
 -- one event: the state after it and its reply. With 65,536 entries the journal is full: nothing
 -- changes and there is no reply
 abbrev pub step : State → Event → State × Option Reply
-step state event = if state.entries == 65536 then (state, None) else (after state (answer_to state event).0, Some (answer_to state event).1)
+step state event = if state.entries == MAX_ENTRIES then (state, None) else (after_reply state (answer_to state event).0, Some (answer_to state event).1)
 
 -- the state after events
 abbrev pub state_after : State → List Event → State

@@ -1,6 +1,7 @@
 -- A slot: one tenancy by its id, and its running job, which may be out.
 use Rattle.std.specs.Prelude.{ℕ, ◌≡◌, ◌+◌, ◌<◌, ◌↔◌, Result, Ok, Err, Option, Some, None, option_map, is_some, Bool, true, false, ◌&&◌, nat_lt, ⊤}
 use Rattle.std.specs.Option.{option_map_or}
+use Rattle.tenant_slot.specs.declared.slot.TheConstants.{MAX_ENTRIES}
 use Rattle.job_state.specs.declared.step.JobStep.{JobStep}
 use Rattle.job_state.specs.declared.sources.Sources.{Sources}
 use Rattle.job_state.specs.Job.{JobState}
@@ -13,9 +14,9 @@ use Rattle.tenant_slot.specs.declared.origin.Origin.TheVariants.{Running, Unknow
 use Rattle.tenant_slot.specs.declared.reply.Reply.{Reply}
 use Rattle.tenant_slot.specs.declared.reply.Reply.TheVariants.{Step}
 use Rattle.tenant_slot.specs.declared.reply.StepReply.{StepReply}
-use Rattle.tenant_slot.specs.declared.not_served.NotServed.{NotServed}
-use Rattle.tenant_slot.specs.declared.not_served.NotServed.TheVariants.{NoMemory, JournalFull}
-use Rattle.tenant_slot.specs.SingleUser.{State, answer_to, running, sources_of, step}
+use Rattle.tenant_slot.specs.declared.not_served.NotAnswered.{NotAnswered}
+use Rattle.tenant_slot.specs.declared.not_served.NotAnswered.TheVariants.{NoMemory, JournalFull}
+use Rattle.tenant_slot.specs.SingleUser.{State, answer_to, kind_that_runs, sources_of, step}
 
 -- a tenancy with its id, and whether the running job's next step is here: `None` if it is out,
 -- otherwise whether it was made already
@@ -31,14 +32,14 @@ after_event slot event = record slot { state = (step slot.state event).0; here =
 
 -- the possible replies of a command, with the slots before and after it: if memory runs out or the
 -- journal is full, nothing changes
-abbrev pub Serves : SlotState → Command → Result Reply NotServed → SlotState → Type 0
+abbrev pub Serves : SlotState → Command → Result Reply NotAnswered → SlotState → Type 0
 Serves old command (Ok reply) new = ((step old.state (Asked command)).1 ≡ Some reply) × (new ≡ after_event old (Asked command))
-Serves old command (Err JournalFull) new = (old.state.entries ≡ 65536) × (new ≡ old)
-Serves old command (Err NoMemory) new = (old.state.entries < 65536) × (new ≡ old)
+Serves old command (Err JournalFull) new = (old.state.entries ≡ MAX_ENTRIES) × (new ≡ old)
+Serves old command (Err NoMemory) new = (old.state.entries < MAX_ENTRIES) × (new ≡ old)
 
 -- what the running job is computed from, if one runs
 abbrev pub running_sources : State → Option Sources
-running_sources state = option_map (sources_of state) (running state.name)
+running_sources state = option_map (sources_of state) (kind_that_runs state.name)
 
 -- the running job's next step
 abbrev pub next_job : SlotState → Option JobStep
@@ -47,7 +48,7 @@ next_job slot = option_map (λ sources. record { id = slot.id; generation = slot
 -- there is a step to take: a job runs, its next step is here, and the journal has space for an
 -- entry
 abbrev pub is_takeable : SlotState → Bool
-is_takeable slot = is_some (running slot.state.name) && (is_some slot.here && nat_lt slot.state.entries 65536)
+is_takeable slot = is_some (kind_that_runs slot.state.name) && (is_some slot.here && nat_lt slot.state.entries MAX_ENTRIES)
 
 -- the possible results of a take. If there is a step to take, it is the running job's next one,
 -- made exactly if it came back made, and it is out afterwards; otherwise `None`, and nothing
@@ -71,7 +72,7 @@ IsOrigin slot done Unknown = ⊤
 -- a step of this tenancy can be put if the journal has space for its entry
 pub record CanPut (slot : SlotState) (done : JobStep) : Type 0 where
   pub id : done.id ≡ slot.id
-  pub room : slot.state.entries < 65536
+  pub room : slot.state.entries < MAX_ENTRIES
 
 -- the possible results of a put
 pub record Puts (old : SlotState) (done : JobStep) (made : Advance) (reply : StepReply) (new : SlotState) : Type 0 where

@@ -1,4 +1,5 @@
 -- Private: what a slot keeps between commands, its value, and the invariant between the two.
+use Rattle.tenant_slot.specs.declared.slot.TheConstants.{MAX_ENTRIES}
 use Rattle.strip_place.specs.Keeping.{AreKeptOn}
 use Rattle.std.specs.Prelude.{ℕ, ◌≡◌, ◌+◌, ◌≤◌, [], ⊤, Bool, true, false, is_some, Option, Some, None, option_map, IfSome}
 use Rattle.arch_file.specs.declared.arch.Arch.{Arch}
@@ -19,11 +20,11 @@ use Rattle.tenant_slot.specs.declared.standing.Change.TheVariants.{Load, Replace
 use Rattle.tenant_slot.specs.Content.{HasContent, IsNetlist, cut_back, failure_in, finished_with, name_at_rest, text_of}
 use Rattle.tenant_slot.specs.SingleUser.{State, sources_from}
 use Rattle.tenant_slot.specs.Slot.{SlotState}
-use Rattle.tenant_slot.specs.JobNames.{before, during}
+use Rattle.tenant_slot.specs.JobNames.{state_before, state_during}
 
 abbrev pub name_of : Content → Option Running → StateName
 name_of content None = name_at_rest content
-name_of content (Some job) = during job.sources.kind
+name_of content (Some job) = state_during job.sources.kind
 
 -- what is here of the running job's next step: `None` if it is out, otherwise whether it was made
 -- already
@@ -47,13 +48,13 @@ seen_state arch strip standing entries = record {
   entries = entries;
 }
 
-abbrev pub seen : ℕ → Arch → Strip → Standing → ℕ → SlotState
-seen id arch strip standing entries = record { id = id; state = seen_state arch strip standing entries; here = here_of standing.running }
+abbrev pub slot_state : ℕ → Arch → Strip → Standing → ℕ → SlotState
+slot_state id arch strip standing entries = record { id = id; state = seen_state arch strip standing entries; here = here_of standing.running }
 
 -- the running job is computed from what the slot keeps; if its next step is here, it is the right
 -- one
 pub record IsRunning (id : ℕ) (arch : Arch) (strip : Strip) (standing : Standing) (job : Running) : Type 0 where
-  pub name : name_at_rest standing.content ≡ before job.sources.kind
+  pub name : name_at_rest standing.content ≡ state_before job.sources.kind
   pub sources : job.sources ≡ sources_from arch strip (text_of standing.content) standing.kept standing.seed standing.effort job.sources.kind
   pub going : is_last job.sources standing.steps ≡ false
   pub ready : IfSome job.ready (λ ready. ready.step ≡ record { id = id; generation = standing.generation; number = standing.steps + 1; sources = job.sources })
@@ -65,7 +66,7 @@ pub record IsSlot (id : ℕ) (arch : Arch) (strip : Strip) (standing : Standing)
   pub job : IfSome standing.running (IsRunning id arch strip standing)
   pub generation_small : standing.generation ≤ entries
   pub steps_small : standing.steps ≤ entries
-  pub entries_small : entries ≤ 65536
+  pub entries_small : entries ≤ MAX_ENTRIES
 
 -- what is kept after an accepted command
 abbrev pub accepted_in : Standing → Option Change → Standing

@@ -1,5 +1,6 @@
 //! A reply before it is given.
 ghost use Rattle.std.specs.Prelude.{◌≡◌, ℕ, List, length, nat_lt, Err, IfErr, IfOk, None, Some};
+ghost use Rattle.strip_place.specs.declared.placing.TheConstants.{MAX_EFFORT};
 ghost use Rattle.blif.specs.CircuitOf.{circuit_of};
 ghost use Rattle.cluster.specs.Blocks.{block_nets};
 ghost use Rattle.line_text.specs.TextErrors.{Gives};
@@ -11,13 +12,13 @@ ghost use Rattle.vpr_files.specs.NetFile.{net_text_of};
 ghost use Rattle.vpr_files.specs.PlaceFile.{place_text_of};
 ghost use Rattle.vpr_files.specs.RouteFile.{route_text_of};
 ghost use Rattle.tenant_slot.specs.Content.{IsMadeOf, IsNetlist, IsPacked};
-ghost use Rattle.tenant_slot.specs.Outcomes.{file_outcome, job_begun, load_outcome, loading, pack_outcome, place_outcome, route_outcome};
+ghost use Rattle.tenant_slot.specs.Outcomes.{file_outcome, job_begun, load_outcome, load_change, pack_outcome, place_outcome, route_outcome};
 ghost use Rattle.tenant_slot.specs.SingleUser.{misfit_of};
 ghost use Rattle.tenant_slot.specs.Standing.{IsChange};
 
 use crate::beginning::Beginning;
 use crate::content::Netlist;
-use crate::not_served::NotServed;
+use crate::not_served::NotAnswered;
 use crate::reply::{FileKind, Misfit, Refusal, Reply, StateName};
 use crate::standing::Change;
 use blif::{BlifError, SharedCircuit, read_blif};
@@ -28,21 +29,18 @@ use line_text::{MemorySink, Sink, Text};
 use pathfinder::Routes;
 use std::alloc::Global;
 use std::marker::Model;
-use strip_place::{Kept, Placing};
+use strip_place::{Kept, MAX_EFFORT, Placing};
 use vpr_files::{net_text, place_text, route_text};
-
-/// The greatest effort of a placing.
-pub const MAX_EFFORT: u32 = 100;
 
 /// A reply that isn't given yet, with what it changes. If it is dropped, nothing happens.
 #[derive(Drop)]
-pub struct Answer {
+pub struct PreparedReply {
     pub(crate) lut_size: u32,
     pub(crate) change: Option<Change>,
     pub(crate) reply: Reply,
 }
 
-impl Model for Answer {
+impl Model for PreparedReply {
     ghost use Rattle.tenant_slot.specs.Answer.{Outcome};
     ghost use Rattle.tenant_slot.specs.Standing.{IsChange};
 
@@ -53,7 +51,7 @@ impl Model for Answer {
     ghost invariant = { λ a. IsChange a.lut_size a.change };
 }
 
-impl Answer {
+impl PreparedReply {
     /// The reply that will be given.
     pub fn reply(&self) -> &Reply
         ensures { result.now ≡ self.now.reply }
@@ -61,21 +59,21 @@ impl Answer {
         &self.reply
     }
 
-    pub(crate) fn unchanged(lut_size: u32, reply: Reply) -> Self
+    pub(crate) fn without_change(lut_size: u32, reply: Reply) -> Self
         ensures { result ≡ record { lut_size = lut_size; change = None; reply = reply } }
     {
-        Answer {
+        PreparedReply {
             lut_size,
             change: None,
             reply,
         }
     }
 
-    pub(crate) fn changing(lut_size: u32, change: Change, reply: Reply) -> Self
+    pub(crate) fn with_change(lut_size: u32, change: Change, reply: Reply) -> Self
         requires { IsChange lut_size (Some change) }
         ensures { result ≡ record { lut_size = lut_size; change = Some change; reply = reply } }
     {
-        Answer {
+        PreparedReply {
             lut_size,
             change: Some(change),
             reply,
@@ -89,51 +87,51 @@ impl Answer {
         lut_size: u32,
         text: &SharedText,
         kept: Option<Kept>,
-    ) -> Result<Self, NotServed>
+    ) -> Result<Self, NotAnswered>
         ensures ok { IfOk result (λ a. a
             ≡ load_outcome lut_size text.now kept (circuit_of text.now lut_size)) }
-        ensures err { IfErr result (λ e. e ≡ NotServed.NoMemory) }
+        ensures err { IfErr result (λ e. e ≡ NotAnswered.NoMemory) }
     {
         match netlist_of(alloc, lut_size, text) {
-            Ok(netlist) => Ok(Answer {
+            Ok(netlist) => Ok(PreparedReply {
                 lut_size,
-                change: Some(loading(netlist, kept)),
+                change: Some(load_change(netlist, kept)),
                 reply: Reply::Accepted(StateName::Loaded),
             }),
             Err(BlifError::Fault(fault)) => {
                 drop(kept);
                 let reply = Reply::Refused(Refusal::BadBlif(fault));
-                Ok(Answer::unchanged(lut_size, reply))
+                Ok(PreparedReply::without_change(lut_size, reply))
             }
             Err(BlifError::NoMemory) => {
                 drop(kept);
-                Err(NotServed::NoMemory)
+                Err(NotAnswered::NoMemory)
             }
         }
     }
 
     /// The answer to the packing of a netlist.
-    pub(crate) fn pack(job: &Beginning<'_>) -> Result<Self, NotServed>
+    pub(crate) fn pack(job: &Beginning<'_>) -> Result<Self, NotAnswered>
         requires { IsNetlist job.now.arch.now.lut_size job.now.netlist.now }
         ensures ok { IfOk result (λ a. a
             ≡ pack_outcome job.now.arch.now.lut_size
             (job_begun job.now.id job.now.generation
             (packing_sources job.now.arch.now job.now.strip job.now.netlist.now.text))
             (unfit_of job.now.netlist.now.circuit job.now.arch.now)) }
-        ensures err { IfErr result (λ e. e ≡ NotServed.NoMemory) }
+        ensures err { IfErr result (λ e. e ≡ NotAnswered.NoMemory) }
     {
         let arch = job.arch.arch();
         let lut_size = arch.lut_size;
         match check(job.alloc, job.netlist.circuit.circuit(), arch) {
             Ok(()) => {
                 let reply = Reply::Accepted(StateName::Packing);
-                Ok(Answer::changing(lut_size, Change::Begin(job.packing()?), reply))
+                Ok(PreparedReply::with_change(lut_size, Change::Begin(job.packing()?), reply))
             }
-            Err(PackError::Fault(PackFault::CannotFit(ble))) => Ok(Answer::unchanged(
+            Err(PackError::Fault(PackFault::CannotFit(ble))) => Ok(PreparedReply::without_change(
                 lut_size,
                 Reply::Refused(Refusal::CannotPack(ble)),
             )),
-            Err(PackError::NoMemory) => Err(NotServed::NoMemory),
+            Err(PackError::NoMemory) => Err(NotAnswered::NoMemory),
         }
     }
 
@@ -143,32 +141,32 @@ impl Answer {
         packing: &Parked,
         seed: u64,
         effort: u32,
-    ) -> Result<Self, NotServed>
+    ) -> Result<Self, NotAnswered>
         requires { IsPacked job.now.arch.now job.now.strip job.now.netlist.now job.now.kept.now
             packing.now }
         ensures ok { IfOk result (λ a. a
             ≡ place_outcome job.now.arch.now.lut_size
             (job_begun job.now.id job.now.generation
             (placing_sources job.now.arch.now job.now.strip job.now.netlist.now.text
-            job.now.kept.now seed effort)) (nat_lt 100 effort)
+            job.now.kept.now seed effort)) (nat_lt MAX_EFFORT effort)
             (misfit_of (fit_of job.now.strip
             (packed_of job.now.netlist.now.circuit job.now.arch.now)))) }
-        ensures err { IfErr result (λ e. e ≡ NotServed.NoMemory) }
+        ensures err { IfErr result (λ e. e ≡ NotAnswered.NoMemory) }
     {
         let lut_size = job.arch.arch().lut_size;
         if MAX_EFFORT < effort {
             let reply = Reply::Refused(Refusal::BadEffort);
-            return Ok(Answer::unchanged(lut_size, reply));
+            return Ok(PreparedReply::without_change(lut_size, reply));
         }
         match misfit(fit_of(job.strip, packing.packed())) {
             Some(misfit) => {
                 let reply = Reply::Refused(Refusal::DoesNotFit(misfit));
-                Ok(Answer::unchanged(lut_size, reply))
+                Ok(PreparedReply::without_change(lut_size, reply))
             }
             None => {
                 let change = Change::Place(job.placing(packing, seed, effort)?);
                 let reply = Reply::Accepted(StateName::Placing);
-                Ok(Answer::changing(lut_size, change, reply))
+                Ok(PreparedReply::with_change(lut_size, change, reply))
             }
         }
     }
@@ -179,7 +177,7 @@ impl Answer {
         placing: &Parked,
         seed: u64,
         effort: u32,
-    ) -> Result<Self, NotServed>
+    ) -> Result<Self, NotAnswered>
         requires { IsMadeOf (placing_sources job.now.arch.now job.now.strip job.now.netlist.now.text
             job.now.kept.now seed effort) placing.now }
         ensures ok { IfOk result (λ a. a
@@ -187,25 +185,25 @@ impl Answer {
             (job_begun job.now.id job.now.generation
             (routing_sources job.now.arch.now job.now.strip job.now.netlist.now.text
             job.now.kept.now seed effort))) }
-        ensures err { IfErr result (λ e. e ≡ NotServed.NoMemory) }
+        ensures err { IfErr result (λ e. e ≡ NotAnswered.NoMemory) }
     {
         let lut_size = job.arch.arch().lut_size;
         let change = Change::Begin(job.routing(placing, seed, effort)?);
         let reply = Reply::Accepted(StateName::Routing);
-        Ok(Answer::changing(lut_size, change, reply))
+        Ok(PreparedReply::with_change(lut_size, change, reply))
     }
 
     /// The answer with the `.net` file of a packed netlist.
-    pub(crate) fn net(alloc: Global, lut_size: u32, packed: &Packed) -> Result<Self, NotServed>
+    pub(crate) fn net(alloc: Global, lut_size: u32, packed: &Packed) -> Result<Self, NotAnswered>
         ensures ok { IfOk result (λ a. a
             ≡ file_outcome lut_size FileKind.Net (net_text_of packed.now)) }
-        ensures err { IfErr result (λ e. e ≡ NotServed.NoMemory) }
+        ensures err { IfErr result (λ e. e ≡ NotAnswered.NoMemory) }
     {
         let mut sink = MemorySink::new(alloc);
         if net_text(packed, &mut sink).is_err() {
-            return Err(NotServed::NoMemory);
+            return Err(NotAnswered::NoMemory);
         }
-        Answer::file(alloc, lut_size, FileKind::Net, sink)
+        PreparedReply::file(alloc, lut_size, FileKind::Net, sink)
     }
 
     /// The answer with the `.place` file of a placed netlist.
@@ -213,17 +211,17 @@ impl Answer {
         alloc: Global,
         lut_size: u32,
         placing: &Placing,
-    ) -> Result<Self, NotServed>
+    ) -> Result<Self, NotAnswered>
         ensures ok { IfOk result (λ a. a
             ≡ file_outcome lut_size FileKind.Place
             (place_text_of placing.now.strip placing.now.packed (places_by_block placing.now))) }
-        ensures err { IfErr result (λ e. e ≡ NotServed.NoMemory) }
+        ensures err { IfErr result (λ e. e ≡ NotAnswered.NoMemory) }
     {
         let mut sink = MemorySink::new(alloc);
         if place_text(placing, &mut sink).is_err() {
-            return Err(NotServed::NoMemory);
+            return Err(NotAnswered::NoMemory);
         }
-        Answer::file(alloc, lut_size, FileKind::Place, sink)
+        PreparedReply::file(alloc, lut_size, FileKind::Place, sink)
     }
 
     /// The answer with the `.route` file of a routed netlist.
@@ -232,19 +230,19 @@ impl Answer {
         lut_size: u32,
         placing: &Placing,
         routes: &Routes,
-    ) -> Result<Self, NotServed>
+    ) -> Result<Self, NotAnswered>
         requires { length routes.now ≡ length (block_nets placing.now.packed) }
         ensures ok { IfOk result (λ a. a
             ≡ file_outcome lut_size FileKind.Route
             (route_text_of placing.now.strip placing.now.packed (places_by_block placing.now)
             routes.now)) }
-        ensures err { IfErr result (λ e. e ≡ NotServed.NoMemory) }
+        ensures err { IfErr result (λ e. e ≡ NotAnswered.NoMemory) }
     {
         let mut sink = MemorySink::new(alloc);
         if route_text(placing, routes, &mut sink).is_err() {
-            return Err(NotServed::NoMemory);
+            return Err(NotAnswered::NoMemory);
         }
-        Answer::file(alloc, lut_size, FileKind::Route, sink)
+        PreparedReply::file(alloc, lut_size, FileKind::Route, sink)
     }
 
     /// The answer with a file that is written already.
@@ -253,14 +251,14 @@ impl Answer {
         lut_size: u32,
         kind: FileKind,
         sink: MemorySink,
-    ) -> Result<Self, NotServed>
+    ) -> Result<Self, NotAnswered>
         ensures ok { (bytes : List ℕ) → ⟦<MemorySink as Sink>⟧.contents sink ≡ Some bytes →
             IfOk result (λ a. a ≡ file_outcome lut_size kind bytes) }
-        ensures err { IfErr result (λ e. e ≡ NotServed.NoMemory) }
+        ensures err { IfErr result (λ e. e ≡ NotAnswered.NoMemory) }
     {
         match SharedText::new(alloc, Text::new(sink.into_bytes())) {
-            Ok(text) => Ok(Answer::unchanged(lut_size, Reply::File { kind, text })),
-            Err(_) => Err(NotServed::NoMemory),
+            Ok(text) => Ok(PreparedReply::without_change(lut_size, Reply::File { kind, text })),
+            Err(_) => Err(NotAnswered::NoMemory),
         }
     }
 }
@@ -279,8 +277,8 @@ fn netlist_of(alloc: Global, lut_size: u32, text: &SharedText) -> Result<Netlist
 
 /// What a netlist changes that is loaded: as the first if `kept` is `None`, otherwise in place of
 /// another, of which these places are kept.
-fn loading(netlist: Netlist, kept: Option<Kept>) -> Change
-    ensures { result ≡ loading netlist kept }
+fn load_change(netlist: Netlist, kept: Option<Kept>) -> Change
+    ensures { result ≡ load_change netlist kept }
 {
     match kept {
         None => Change::Load(netlist),

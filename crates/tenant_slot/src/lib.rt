@@ -10,8 +10,8 @@
 //!   nothing if the step is known to be the next one.
 //! - `SingleUser` in `specs/` is the definition: `State`, `step` and its fold `run`. `Slot` there
 //!   says what each call does.
-//! - An `Answer` is computed first and accepted later, so that everything that takes memory comes
-//!   before any change.
+//! - An `PreparedReply` is computed first and accepted later, so that everything that takes memory
+//! comes   before any change.
 #![tactic(auto)]
 
 mod answer;
@@ -28,12 +28,12 @@ mod reply;
 mod slot;
 mod standing;
 
-pub use answer::{Answer, MAX_EFFORT};
+pub use answer::PreparedReply;
 pub use command::Command;
 pub use event::{Advance, Event};
 pub use failure::RoutingFailure;
 pub use job_state::SharedText;
-pub use not_served::NotServed;
+pub use not_served::NotAnswered;
 pub use origin::Origin;
 pub use reply::{Ending, FileKind, Misfit, Refusal, Reply, StateName, Status, StepReply};
 pub use slot::{MAX_ENTRIES, Slot};

@@ -1,18 +1,18 @@
 //! Why a command has no reply.
 ghost use Rattle.std.specs.Prelude.{◌≡◌};
-ghost use Rattle.tenant_slot.specs.declared.not_served.NotServed.TheVariants.{NoMemory};
+ghost use Rattle.tenant_slot.specs.declared.not_served.NotAnswered.TheVariants.{NoMemory};
 
 use std::alloc::AllocError;
 
 /// Why a command has no reply and is no entry of the journal. Nothing changed.
 #[derive(Clone, Copy, PartialEq, Eq)]
-pub enum NotServed {
+pub enum NotAnswered {
     NoMemory,
     /// The journal has [`crate::MAX_ENTRIES`] entries.
     JournalFull,
 }
 
-impl NotServed {
+impl NotAnswered {
     ghost use Rattle.tenant_slot.specs.Names.{not_served_number, not_served_text};
 
     /// The refusal's number in replies.
@@ -20,8 +20,8 @@ impl NotServed {
         ensures { result ≡ not_served_number self }
     {
         match self {
-            NotServed::NoMemory => 1,
-            NotServed::JournalFull => 2,
+            NotAnswered::NoMemory => 1,
+            NotAnswered::JournalFull => 2,
         }
     }
 
@@ -30,16 +30,16 @@ impl NotServed {
         ensures { result.now ≡ not_served_text self }
     {
         match self {
-            NotServed::NoMemory => "NoMemory",
-            NotServed::JournalFull => "JournalFull",
+            NotAnswered::NoMemory => "NoMemory",
+            NotAnswered::JournalFull => "JournalFull",
         }
     }
 }
 
-impl From<AllocError> for NotServed {
+impl From<AllocError> for NotAnswered {
     ghost from_gives = { λ _ e. e ≡ NoMemory };
 
-    fn from(_e: AllocError) -> NotServed {
-        NotServed::NoMemory
+    fn from(_e: AllocError) -> NotAnswered {
+        NotAnswered::NoMemory
     }
 }

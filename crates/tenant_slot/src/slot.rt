@@ -5,16 +5,16 @@ ghost use Rattle.rr_graph.specs.declared.resource.Resource.{Resource};
 ghost use Rattle.rr_graph.specs.Resources.{IsEarlier, has, is_there};
 ghost use Rattle.tenant_slot.specs.RoutedSet.{routed_set};
 ghost use Rattle.tenant_slot.specs.SingleUser.{is_next, start};
-ghost use Rattle.tenant_slot.specs.Answer.{Answers, IsAnswerTo, accepted};
+ghost use Rattle.tenant_slot.specs.Answer.{Answers, IsAnswerTo, slot_after};
 ghost use Rattle.tenant_slot.specs.Slot.{CanPut, GivesBack, IsAdvanceOf, IsOrigin, Puts, Serves, Takes, is_takeable};
 
 mod commands;
 
-use crate::answer::Answer;
+use crate::answer::PreparedReply;
 use crate::command::Command;
 use crate::content::Content;
 use crate::event::Advance;
-use crate::not_served::NotServed;
+use crate::not_served::NotAnswered;
 use crate::origin::Origin;
 use crate::reply::{Refusal, Reply, StateName, StepReply};
 use crate::standing::Standing;
@@ -43,11 +43,11 @@ pub struct Slot {
 
 impl Model for Slot {
     ghost use Rattle.tenant_slot.specs.Slot.{SlotState};
-    ghost use Rattle.tenant_slot.specs.Standing.{IsSlot, seen};
+    ghost use Rattle.tenant_slot.specs.Standing.{IsSlot, slot_state};
 
     ghost Value = { SlotState };
 
-    ghost view = { λ s. seen s.id s.arch s.strip s.standing s.entries };
+    ghost view = { λ s. slot_state s.id s.arch s.strip s.standing s.entries };
 
     ghost invariant = { λ s. IsSlot s.id s.arch s.strip s.standing s.entries };
 }
@@ -99,26 +99,26 @@ impl Slot {
     }
 
     /// Computes the answer to a command. Nothing changes until the answer is accepted, so
-    /// everything that takes memory comes first. Fails with [`NotServed`] if memory runs out or the
-    /// journal is full.
-    pub fn answer(&self, command: &Command) -> Result<Answer, NotServed>
+    /// everything that takes memory comes first. Fails with [`NotAnswered`] if memory runs out or
+    /// the journal is full.
+    pub fn answer(&self, command: &Command) -> Result<PreparedReply, NotAnswered>
         ensures { Answers self.now command.now result }
     {
         if self.entries == MAX_ENTRIES {
-            return Err(NotServed::JournalFull);
+            return Err(NotAnswered::JournalFull);
         }
         let lut_size = self.arch.arch().lut_size;
         let state = self.state();
         if !state.admits(command) {
             let refusal = Refusal::WrongState(state);
-            return Ok(Answer::unchanged(lut_size, Reply::Refused(refusal)));
+            return Ok(PreparedReply::without_change(lut_size, Reply::Refused(refusal)));
         }
         self.serve(command)
     }
 
     /// What the circuit occupies of its strip, in node order: in the state Routed the pins and
     /// wires of its routes and the pads of its blocks, each once; in the other states nothing.
-    pub fn routed(&self) -> &[Resource]
+    pub fn routed_resources(&self) -> &[Resource]
         ensures order { AllPairs IsEarlier result.now }
         ensures exact { (r : Resource) → has result.now r ≡ has (routed_set self.now.state) r }
         ensures there { All (λ r. is_there self.now.state.arch self.now.state.strip r ≡ true)
@@ -131,20 +131,20 @@ impl Slot {
     }
 
     /// Makes the answer's change, counts its entry and returns its reply. Takes no memory.
-    pub fn accept(&mut self, answer: Answer) -> Reply
+    pub fn accept(&mut self, answer: PreparedReply) -> Reply
         requires { IsAnswerTo self.old answer }
         ensures reply { result ≡ answer.reply }
-        ensures slot { self.new ≡ accepted self.old answer }
+        ensures slot { self.new ≡ slot_after self.old answer }
     {
-        let Answer { change, reply, .. } = answer;
+        let PreparedReply { change, reply, .. } = answer;
         self.entries += 1;
         self.standing.accept(change);
         reply
     }
 
-    /// Serves one command, exactly as the service for a single user does. Fails with [`NotServed`]
-    /// if memory runs out or the journal is full; then nothing changes.
-    pub fn command(&mut self, command: &Command) -> Result<Reply, NotServed>
+    /// Serves one command, exactly as the service for a single user does. Fails with
+    /// [`NotAnswered`] if memory runs out or the journal is full; then nothing changes.
+    pub fn command(&mut self, command: &Command) -> Result<Reply, NotAnswered>
         ensures { Serves self.old command.now result self.new }
     {
         let answer = self.answer(command)?;
@@ -181,7 +181,7 @@ impl Slot {
         requires origin { IsOrigin self.old done origin }
         ensures { Puts self.old done result.0 result.1 self.new }
     {
-        let made = self.written(&done, origin);
+        let made = self.recorded_advance(&done, origin);
         let counts = self.is_next(made);
         let last = done.is_last();
         self.entries += 1;
@@ -190,7 +190,7 @@ impl Slot {
     }
 
     /// How a step that was made is recorded in the journal.
-    fn written(&self, done: &Done, origin: Origin) -> Advance
+    fn recorded_advance(&self, done: &Done, origin: Origin) -> Advance
         requires { IsOrigin self.now done.now origin }
         ensures { IsAdvanceOf self.now.state done.now result }
     {

@@ -1,7 +1,8 @@
 //! What a slot keeps between commands, so that it isn't computed again, and how it changes.
 ghost use Rattle.std.specs.Prelude.{◌≡◌, ◌+◌, ◌<◌, ◌↔◌, IsTrue, None, Some, option_map, true};
+ghost use Rattle.tenant_slot.specs.declared.slot.TheConstants.{MAX_ENTRIES};
 ghost use Rattle.tenant_slot.specs.Content.{CanFinish, cut_back, finished_with};
-ghost use Rattle.tenant_slot.specs.JobNames.{during};
+ghost use Rattle.tenant_slot.specs.JobNames.{state_during};
 ghost use Rattle.tenant_slot.specs.Standing.{RunsOn, accepted_in, is_ready, name_of, put_in, put_reply, ready_of, ready_with, without_ready};
 
 use crate::content::{Content, Netlist};
@@ -51,7 +52,7 @@ pub(crate) enum Change {
 
 /// The name of the state in which a job of that kind runs.
 fn name_during(kind: JobKind) -> StateName
-    ensures { result ≡ during kind }
+    ensures { result ≡ state_during kind }
 {
     match kind {
         JobKind::Packing => StateName::Packing,
@@ -72,7 +73,7 @@ impl Standing {
 
     /// Makes the change of an accepted command.
     pub(crate) fn accept(&mut self, change: Option<Change>)
-        requires { self.old.generation < 65536 }
+        requires { self.old.generation < MAX_ENTRIES }
         ensures { self.new ≡ accepted_in self.old change }
     {
         match change {
@@ -112,7 +113,7 @@ impl Standing {
 
     /// Begins a new generation.
     fn rise(&mut self)
-        requires { self.old.generation < 65536 }
+        requires { self.old.generation < MAX_ENTRIES }
         ensures { self.new ≡ record self.old { generation = self.old.generation + 1; steps = 0 } }
     {
         self.generation += 1;
@@ -207,7 +208,7 @@ impl Standing {
     /// counts, the running job advances, or is over if the step was its last.
     pub(crate) fn put(&mut self, job: Parked, counts: bool, last: bool) -> StepReply
         requires begun { counts ≡ true → last ≡ true → CanFinish self.old.content job }
-        requires few { self.old.steps < 65536 }
+        requires few { self.old.steps < MAX_ENTRIES }
         ensures standing { self.new ≡ put_in self.old job counts last }
         ensures reply { result ≡ put_reply counts last }
     {

@@ -13,8 +13,8 @@ use Rattle.service_core.specs.Receipt.{Noted, Receipted}
 use Rattle.transcripts.specs.declared.item.Item.{Item}
 use Rattle.service_core.specs.declared.not_served.NoteCause.TheVariants.{JournalFull}
 use Rattle.sessions.specs.declared.refusal.SessionRefusal.{SessionRefusal}
-use Rattle.transcripts.specs.declared.item.Place.{Place}
-use Rattle.transcripts.specs.declared.item.Place.TheVariants.{Receipt, Note, Refused}
+use Rattle.transcripts.specs.declared.item.ItemAnswer.{ItemAnswer}
+use Rattle.transcripts.specs.declared.item.ItemAnswer.TheVariants.{Receipt, Note, Refused}
 use Rattle.transcripts.specs.Transcripts.{AreOfLive, receipt_in, receipts_of}
 
 -- the number of receipts of an item
@@ -32,19 +32,19 @@ receipts-more old new item r is more =
     omega (arith, ap length all, length-append (receipts_of old) (receipts_of (item ∷ [])), one item r is)
 
 -- one more item of a live tenancy's session
-abbrev pub IsOfLive : Place → Type 0
+abbrev pub IsOfLive : ItemAnswer → Type 0
 IsOfLive place = (n : Noted) → place ≡ Note n → n.cause ≡ JournalFull
 
 pub of_live-more : (old new : List Item) (item : Item) → new ≡ old ++ item ∷ [] → IsOfLive item.place → AreOfLive old → AreOfLive new
 of_live-more old new item more is was = rw more (All-push (λ (i : Item). IsOfLive i.place) old item was is)
 
-pub receipt_of_live : (place : Place) (r : Receipted) → place ≡ Receipt r → IsOfLive place
+pub receipt_of_live : (place : ItemAnswer) (r : Receipted) → place ≡ Receipt r → IsOfLive place
 receipt_of_live place r is = λ n never. cc
 
 pub refusal_of_live : (refusal : SessionRefusal) → IsOfLive (Refused refusal)
 refusal_of_live refusal = λ n never. cc
 
-pub full_of_live : (place : Place) (note : Noted) → place ≡ Note note → note.cause ≡ JournalFull → IsOfLive place
+pub full_of_live : (place : ItemAnswer) (note : Noted) → place ≡ Note note → note.cause ≡ JournalFull → IsOfLive place
 full_of_live place note is full = λ n other. let same : note ≡ n = cc in sym (ap (λ (x : Noted). x.cause) same) ∙ full
 
 never_gone : (live : Option History) → live ≡ None → is_some live ≡ true → ⊥

@@ -11,9 +11,9 @@ use Rattle.service_core.specs.declared.not_served.NotServed.TheVariants.{Journal
 use Rattle.shared_core.specs.CoreCalls.{MarksEntry}
 use Rattle.shared_core.specs.CoreState.{CoreState}
 use Rattle.transcripts.specs.declared.item.Item.{Item}
-use Rattle.transcripts.specs.declared.item.Place.{Place}
-use Rattle.transcripts.specs.declared.item.Place.TheVariants.{Receipt, Note, Refused}
-use Rattle.transcripts.specs.declared.item.End.{End}
+use Rattle.transcripts.specs.declared.item.ItemAnswer.{ItemAnswer}
+use Rattle.transcripts.specs.declared.item.ItemAnswer.TheVariants.{Receipt, Note, Refused}
+use Rattle.transcripts.specs.declared.item.SessionEnd.{SessionEnd}
 
 -- whose session it is, the answers to its items in order, how many items after the last of these
 -- ran out of memory, and how it ended
@@ -21,10 +21,10 @@ pub record TranscriptState : Type 0 where
   pub id : ℕ
   pub items : List Item
   pub no_memory : ℕ
-  pub end : Option End
+  pub end : Option SessionEnd
 
 -- with one more item
-abbrev pub with_place : TranscriptState → Place → TranscriptState
+abbrev pub with_place : TranscriptState → ItemAnswer → TranscriptState
 with_place t place = record t { items = t.items ++ record { place = place; no_memory_before = t.no_memory } ∷ []; no_memory = 0 }
 
 -- with one more item that ran out of memory; the count stops at its greatest value
@@ -32,12 +32,12 @@ abbrev pub with_no_memory : TranscriptState → TranscriptState
 with_no_memory t = record t { no_memory = min (t.no_memory + 1) (2 ^ 64 - 1) }
 
 -- an item with this answer; None if it ran out of memory
-abbrev pub noted : TranscriptState → Option Place → TranscriptState
-noted t (Some place) = with_place t place
-noted t None = with_no_memory t
+abbrev pub transcript_with : TranscriptState → Option ItemAnswer → TranscriptState
+transcript_with t (Some place) = with_place t place
+transcript_with t None = with_no_memory t
 
 -- the receipt that an item has
-abbrev pub receipt_in : Place → Option Receipted
+abbrev pub receipt_in : ItemAnswer → Option Receipted
 receipt_in (Receipt r) = Some r
 receipt_in (Note n) = None
 receipt_in (Refused r) = None
@@ -62,7 +62,7 @@ answer_of_note CauseNoSuchTenancy note = NoSuchTenancy note
 
 -- the core's answer to a command of the tenancy's lease: a receipt is of an entry that is marked at
 -- its place
-abbrev pub IsPlaceOf : CoreState → ℕ → Command → Place → CoreState → Type 0
+abbrev pub IsPlaceOf : CoreState → ℕ → Command → ItemAnswer → CoreState → Type 0
 IsPlaceOf before id command (Receipt r) after = IsServed before.service id command (Ok r) after.service × MarksEntry before id (Ok r) after
 IsPlaceOf before id command (Note n) after = IsServed before.service id command (Err (answer_of_note n.cause n)) after.service × (after ≡ before)
 IsPlaceOf before id command (Refused r) after = ⊥
@@ -70,5 +70,5 @@ IsPlaceOf before id command (Refused r) after = ⊥
 -- a command was entered: the transcript has the core's answer, or memory ran out, and nothing else
 -- changed
 abbrev pub Enters : TranscriptState → CoreState → Command → Bool → CoreState → TranscriptState → Type 0
-Enters old before command true after new = (place : Place) × IsPlaceOf before old.id command place after × (new ≡ with_place old place)
+Enters old before command true after new = (place : ItemAnswer) × IsPlaceOf before old.id command place after × (new ≡ with_place old place)
 Enters old before command false after new = (after ≡ before) × (new ≡ with_no_memory old)

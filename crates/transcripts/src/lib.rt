@@ -7,5 +7,5 @@
 mod item;
 mod transcript;
 
-pub use item::{End, Item, Place};
+pub use item::{Item, ItemAnswer, SessionEnd};
 pub use transcript::Transcript;

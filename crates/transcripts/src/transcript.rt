@@ -1,9 +1,9 @@
 //! The answers to a session's items.
 ghost use Rattle.std.specs.Prelude.{◌≡◌, ◌<◌, ◌++◌, ◌∷◌, [], None, Some, MatchBool, length, true, vec_len, vec_capacity};
-ghost use Rattle.transcripts.specs.declared.item.Place.TheVariants.{Refused};
+ghost use Rattle.transcripts.specs.declared.item.ItemAnswer.TheVariants.{Refused};
 ghost use Rattle.transcripts.specs.Transcripts.{AreOfLive, Enters, receipts_of, with_no_memory, with_place};
 
-use crate::item::{End, Item, Place};
+use crate::item::{Item, ItemAnswer, SessionEnd};
 use service_core::NotServed;
 use sessions::SessionRefusal;
 use shared_core::{Begun, Core, Lease};
@@ -20,7 +20,7 @@ pub struct Transcript<C: Begun> {
     lease: Lease<C>,
     items: Vec<Item>,
     no_memory: u64,
-    end: Option<End>,
+    end: Option<SessionEnd>,
 }
 
 impl<C: Begun> Model for Transcript<C> {
@@ -71,7 +71,7 @@ impl<C: Begun> Transcript<C> {
 
     /// How the session ended. While the tenancies stay none of its items has the answer that the
     /// tenancy isn't live.
-    pub fn end(&self) -> Option<End>
+    pub fn end(&self) -> Option<SessionEnd>
         ensures end { result ≡ self.now.end }
         ensures live { C.stay ≡ true → AreOfLive self.now.items }
     {
@@ -90,7 +90,7 @@ impl<C: Begun> Transcript<C> {
         append(
             &mut self.items,
             &mut self.no_memory,
-            Place::Refused(refusal),
+            ItemAnswer::Refused(refusal),
         );
         true
     }
@@ -103,7 +103,7 @@ impl<C: Begun> Transcript<C> {
     }
 
     /// Notes how the session ended.
-    pub fn finish(&mut self, end: End)
+    pub fn finish(&mut self, end: SessionEnd)
         ensures { self.new ≡ record self.old { end = Some end } }
     {
         self.end = Some(end);
@@ -136,9 +136,9 @@ impl<C: Begun> Transcript<C> {
             return false;
         }
         let place = match core.lease_command(&mut self.lease, command) {
-            Ok(receipt) => Place::Receipt(receipt),
-            Err(NotServed::JournalFull(note)) => Place::Note(note),
-            Err(NotServed::NoSuchTenancy(note)) => Place::Note(note),
+            Ok(receipt) => ItemAnswer::Receipt(receipt),
+            Err(NotServed::JournalFull(note)) => ItemAnswer::Note(note),
+            Err(NotServed::NoSuchTenancy(note)) => ItemAnswer::Note(note),
             Err(NotServed::NoMemory) => {
                 self.count_no_memory();
                 return false;
@@ -150,7 +150,7 @@ impl<C: Begun> Transcript<C> {
 }
 
 /// Appends an item with this answer, after those that ran out of memory.
-fn append(items: &mut Vec<Item>, no_memory: &mut u64, place: Place)
+fn append(items: &mut Vec<Item>, no_memory: &mut u64, place: ItemAnswer)
     requires { vec_len items.old < vec_capacity items.old }
     ensures items { items.new.items ≡ items.old.items
         ++ record { place = place; no_memory_before = no_memory.old } ∷ [] }

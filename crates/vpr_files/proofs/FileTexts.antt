@@ -12,7 +12,7 @@ use Rattle.grid.specs.declared.Strip.{Strip}
 use Rattle.grid.specs.declared.place.Place.{Place}
 use Rattle.rr_graph.specs.declared.node.Node.{Node}
 use Rattle.block_places.specs.Placed.{block_at, place_of}
-use Rattle.vpr_files.specs.TextLines.{line_of, spaced, text_of}
+use Rattle.vpr_files.specs.TextLines.{line_of, word_after_space, text_of}
 use Rattle.vpr_files.specs.PlaceFile.{placed_line}
 use Rattle.vpr_files.specs.NodeText.{kind_word, node_text_of, number_word}
 use Rattle.vpr_files.specs.RouteFile.{connected_line}
@@ -93,14 +93,14 @@ connected_text before net name number x y e =
 -- a node, part by part
 node_parts : (start kind x y between label number : List ℕ) → start ≡ kind ++ codes " (" → between ≡ codes ") " ++ label ++ codes " "
     → start ++ (x ++ (codes "," ++ (y ++ (between ++ (number ++ [])))))
-    ≡ kind ++ spaced (codes "(" ++ x ++ codes "," ++ y ++ codes ")") ++ spaced label ++ spaced number
+    ≡ kind ++ word_after_space (codes "(" ++ x ++ codes "," ++ y ++ codes ")") ++ word_after_space label ++ word_after_space number
 node_parts start kind x y between label number e f =
     ap (λ s. s ++ (x ++ (codes "," ++ (y ++ (between ++ (number ++ [])))))) e
     ∙ append_assoc kind (codes " (") (x ++ (codes "," ++ (y ++ (between ++ (number ++ [])))))
     ∙ ap (λ b. kind ++ (codes " (" ++ (x ++ (codes "," ++ (y ++ (b ++ (number ++ []))))))) f
     ∙ ap (λ t. kind ++ (codes " (" ++ (x ++ (codes "," ++ (y ++ (codes ") " ++ t)))))) (append_assoc label (codes " ") (number ++ []) ∙ ap (λ n. label ++ (codes " " ++ n)) (append-nil number))
-    ∙ sym (three kind (spaced (codes "(" ++ x ++ codes "," ++ y ++ codes ")")) (spaced label) (spaced number)
-    ∙ ap (λ t. kind ++ 32 ∷ t) (position_tail x y (spaced label ++ spaced number)))
+    ∙ sym (three kind (word_after_space (codes "(" ++ x ++ codes "," ++ y ++ codes ")")) (word_after_space label) (word_after_space number)
+    ∙ ap (λ t. kind ++ 32 ∷ t) (position_tail x y (word_after_space label ++ word_after_space number)))
 
 -- the first line of a net, with its end, and an empty line
 first_text : (number name end : List ℕ) → codes "Net " ++ (number ++ (codes " (" ++ (name ++ (end ++ codes "\n\n")))) ≡ text_of ((codes "Net" ∷ number ∷ (codes "(" ++ name ++ end) ∷ []) ∷ [] ∷ [])

@@ -8,43 +8,43 @@ use Rattle.cluster.specs.declared.block.Block.TheVariants.{InputPad, OutputPad, 
 use Rattle.cluster.specs.Bles.{LogicElement}
 use Rattle.cluster.specs.Clusters.{PackedCircuit}
 use Rattle.cluster.specs.Blocks.{block_name, elements_in, net_name, pins_of}
-use Rattle.vpr_files.specs.TextLines.{line_of, spaced, text_of}
+use Rattle.vpr_files.specs.TextLines.{line_of, word_after_space, text_of}
 use Rattle.vpr_files.specs.NetFile.{block_lines, element_line, input_word, or_open, pin_with}
 
 -- the words of the inputs of a BLE, each with a space before it
 abbrev pub inputs_text : PackedCircuit → ℕ → List ℕ → List ℕ
-inputs_text packed cluster inputs = flat_map (λ place. spaced (or_open (input_word packed cluster) (slice_get inputs place))) (range_with_len 0 packed.arch.lut_size)
+inputs_text packed cluster inputs = flat_map (λ place. word_after_space (or_open (input_word packed cluster) (slice_get inputs place))) (range_with_len 0 packed.arch.lut_size)
 
 -- the beginning of a BLE's line
 abbrev pub element_head : List ℕ → List ℕ
 element_head name = codes "subblock: " ++ (name ++ [])
 
-two_words : (output clock : List ℕ) → (spaced output ++ (spaced clock ++ [])) ++ 10 ∷ [] ≡ spaced output ++ (spaced clock ++ 10 ∷ [])
+two_words : (output clock : List ℕ) → (word_after_space output ++ (word_after_space clock ++ [])) ++ 10 ∷ [] ≡ word_after_space output ++ (word_after_space clock ++ 10 ∷ [])
 two_words output clock = ap (λ t. 32 ∷ t) (append_assoc output (32 ∷ (clock ++ [])) (10 ∷ []) ∙ ap (λ t. output ++ 32 ∷ t) (append_assoc clock [] (10 ∷ [])))
 
 -- the end of a line with words and two more
 words_tail : (name : List ℕ) (words : List (List ℕ)) (output clock : List ℕ)
-    → (name ++ []) ++ (flat_map spaced words ++ (spaced output ++ (spaced clock ++ 10 ∷ []))) ≡ (name ++ flat_map spaced (words ++ output ∷ clock ∷ [])) ++ 10 ∷ []
+    → (name ++ []) ++ (flat_map word_after_space words ++ (word_after_space output ++ (word_after_space clock ++ 10 ∷ []))) ≡ (name ++ flat_map word_after_space (words ++ output ∷ clock ∷ [])) ++ 10 ∷ []
 words_tail name words output clock =
-    ap (λ n. n ++ (flat_map spaced words ++ (spaced output ++ (spaced clock ++ 10 ∷ [])))) (append-nil name)
-    ∙ sym (append_assoc name (flat_map spaced (words ++ output ∷ clock ∷ [])) (10 ∷ [])
-    ∙ ap (λ t. name ++ t) (ap (λ t. t ++ 10 ∷ []) (flat_map-append spaced words (output ∷ clock ∷ []))
-    ∙ append_assoc (flat_map spaced words) (spaced output ++ (spaced clock ++ [])) (10 ∷ [])
-    ∙ ap (λ t. flat_map spaced words ++ t) (two_words output clock)))
+    ap (λ n. n ++ (flat_map word_after_space words ++ (word_after_space output ++ (word_after_space clock ++ 10 ∷ [])))) (append-nil name)
+    ∙ sym (append_assoc name (flat_map word_after_space (words ++ output ∷ clock ∷ [])) (10 ∷ [])
+    ∙ ap (λ t. name ++ t) (ap (λ t. t ++ 10 ∷ []) (flat_map-append word_after_space words (output ∷ clock ∷ []))
+    ∙ append_assoc (flat_map word_after_space words) (word_after_space output ++ (word_after_space clock ++ [])) (10 ∷ [])
+    ∙ ap (λ t. flat_map word_after_space words ++ t) (two_words output clock)))
 
 -- the line of a BLE
 element_parts : (packed : PackedCircuit) (cluster : ℕ) (element : LogicElement)
     → element_head (net_name packed.circuit element.output)
     ++ (inputs_text packed cluster element.inputs
-    ++ (spaced (or_open decimal (pin_with packed cluster Output element.output))
-    ++ (spaced (or_open decimal (option_and_then (pin_with packed cluster Clock) element.clock)) ++ 10 ∷ [])))
+    ++ (word_after_space (or_open decimal (pin_with packed cluster Output element.output))
+    ++ (word_after_space (or_open decimal (option_and_then (pin_with packed cluster Clock) element.clock)) ++ 10 ∷ [])))
     ≡ line_of (element_line packed cluster element)
 element_parts packed cluster element =
     let word = λ (place : ℕ). or_open (input_word packed cluster) (slice_get element.inputs place) in
     let output = or_open decimal (pin_with packed cluster Output element.output) in
     let clock = or_open decimal (option_and_then (pin_with packed cluster Clock) element.clock) in
     let name = net_name packed.circuit element.output in
-    ap (λ inputs. element_head name ++ (inputs ++ (spaced output ++ (spaced clock ++ 10 ∷ [])))) (sym (flat_map-map spaced word (range_with_len 0 packed.arch.lut_size)))
+    ap (λ inputs. element_head name ++ (inputs ++ (word_after_space output ++ (word_after_space clock ++ 10 ∷ [])))) (sym (flat_map-map word_after_space word (range_with_len 0 packed.arch.lut_size)))
     ∙ ap (λ rest. codes "subblock: " ++ rest) (words_tail name (map word (range_with_len 0 packed.arch.lut_size)) output clock)
 
 -- the line of a BLE, from the parts that are written
@@ -52,17 +52,17 @@ pub element_text : (packed : PackedCircuit) (cluster : ℕ) (element : LogicElem
     → name ≡ net_name packed.circuit element.output
     → output ≡ pin_with packed cluster Output element.output
     → clock ≡ option_and_then (pin_with packed cluster Clock) element.clock
-    → element_head name ++ (inputs_text packed cluster element.inputs ++ (spaced (or_open decimal output) ++ (spaced (or_open decimal clock) ++ 10 ∷ [])))
+    → element_head name ++ (inputs_text packed cluster element.inputs ++ (word_after_space (or_open decimal output) ++ (word_after_space (or_open decimal clock) ++ 10 ∷ [])))
     ≡ line_of (element_line packed cluster element)
 element_text packed cluster element name output clock named at clocked =
-    ap (λ n. element_head n ++ (inputs_text packed cluster element.inputs ++ (spaced (or_open decimal output) ++ (spaced (or_open decimal clock) ++ 10 ∷ [])))) named
-    ∙ ap (λ o. element_head (net_name packed.circuit element.output) ++ (inputs_text packed cluster element.inputs ++ (spaced (or_open decimal o) ++ (spaced (or_open decimal clock) ++ 10 ∷ [])))) at
-    ∙ ap (λ k. element_head (net_name packed.circuit element.output) ++ (inputs_text packed cluster element.inputs ++ (spaced (or_open decimal (pin_with packed cluster Output element.output)) ++ (spaced (or_open decimal k) ++ 10 ∷ [])))) clocked
+    ap (λ n. element_head n ++ (inputs_text packed cluster element.inputs ++ (word_after_space (or_open decimal output) ++ (word_after_space (or_open decimal clock) ++ 10 ∷ [])))) named
+    ∙ ap (λ o. element_head (net_name packed.circuit element.output) ++ (inputs_text packed cluster element.inputs ++ (word_after_space (or_open decimal o) ++ (word_after_space (or_open decimal clock) ++ 10 ∷ [])))) at
+    ∙ ap (λ k. element_head (net_name packed.circuit element.output) ++ (inputs_text packed cluster element.inputs ++ (word_after_space (or_open decimal (pin_with packed cluster Output element.output)) ++ (word_after_space (or_open decimal k) ++ 10 ∷ [])))) clocked
     ∙ element_parts packed cluster element
 
 -- the words of the pins of a cluster, each with a space before it
 abbrev pub pins_text : PackedCircuit → ℕ → List ℕ
-pins_text packed cluster = flat_map spaced (map (or_open (net_name packed.circuit)) (pins_of packed cluster))
+pins_text packed cluster = flat_map word_after_space (map (or_open (net_name packed.circuit)) (pins_of packed cluster))
 
 -- the lines of a cluster's BLEs
 abbrev pub elements_text : PackedCircuit → ℕ → List ℕ

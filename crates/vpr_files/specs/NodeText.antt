@@ -3,7 +3,7 @@ use Rattle.std.specs.Prelude.{ℕ, Bool, true, false, ◌||◌, ◌==◌, nat_lt
 use Rattle.rr_graph.specs.declared.node.Node.{Node}
 use Rattle.rr_graph.specs.declared.node.NodeKind.{NodeKind}
 use Rattle.rr_graph.specs.declared.node.NodeKind.TheVariants.{Source, Sink, Opin, Ipin, ChanX, ChanY}
-use Rattle.vpr_files.specs.TextLines.{spaced}
+use Rattle.vpr_files.specs.TextLines.{word_after_space}
 
 abbrev pub kind_word : NodeKind → List ℕ
 kind_word Source = codes "SOURCE"
@@ -31,4 +31,4 @@ position_text x y = codes "(" ++ decimal x ++ codes "," ++ decimal y ++ codes ")
 -- Pads are in row 0 and above the last row
 unfoldable pub node_text_of : ℕ → Node → List ℕ
 node_text_of rows node =
-    kind_word node.kind ++ spaced (position_text node.x node.y) ++ spaced (number_word node.kind ((node.y == 0) || nat_lt rows node.y)) ++ spaced (decimal node.n)
+    kind_word node.kind ++ word_after_space (position_text node.x node.y) ++ word_after_space (number_word node.kind ((node.y == 0) || nat_lt rows node.y)) ++ word_after_space (decimal node.n)

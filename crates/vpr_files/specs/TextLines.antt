@@ -3,13 +3,13 @@ use Rattle.std.specs.Prelude.{ℕ, List, [], ◌∷◌, ◌++◌}
 use Rattle.std.specs.List.{flat_map}
 
 -- a word with a space before it
-abbrev pub spaced : List ℕ → List ℕ
-spaced word = 32 ∷ word
+abbrev pub word_after_space : List ℕ → List ℕ
+word_after_space word = 32 ∷ word
 
 -- a line: its words, separated by single spaces and ended by LF
 abbrev pub line_of : List (List ℕ) → List ℕ
 line_of [] = 10 ∷ []
-line_of (word ∷ words) = word ++ (flat_map spaced words ++ 10 ∷ [])
+line_of (word ∷ words) = word ++ (flat_map word_after_space words ++ 10 ∷ [])
 
 -- a text: its lines in order
 abbrev pub text_of : List (List (List ℕ)) → List ℕ

@@ -6,7 +6,7 @@ ghost use Rattle.cluster.specs.declared.block.Block.TheVariants.{Cluster};
 ghost use Rattle.cluster.specs.Blocks.{block_name, blocks_of, elements_in, net_name, pins_of};
 ghost use Rattle.vpr_files.specs.BlockClusters.{HasCluster};
 ghost use Rattle.vpr_files.specs.NetFile.{block_lines, element_line, net_text_of, or_open};
-ghost use Rattle.vpr_files.specs.TextLines.{spaced, text_of};
+ghost use Rattle.vpr_files.specs.TextLines.{word_after_space, text_of};
 ghost use Rattle.vpr_files.specs.FileParts.{global_lines};
 ghost use Rattle.line_text.specs.Writing.{Writes};
 
@@ -14,7 +14,7 @@ use crate::pin_words::write_element;
 use crate::writing::{end_line, write_word};
 use blif::Circuit;
 use cluster::{Block, Packed};
-use line_text::{Failed, Sink, write_parts};
+use line_text::{Failed, Sink, write_slices};
 
 /// Writes the `.net` file of a packed circuit. If the sink fails, it has taken a beginning of the
 /// file.
@@ -42,7 +42,7 @@ fn write_globals<W: Sink>(packed: &Packed, sink: &mut W) -> Result<(), Failed>
     for number in 0..packed.net_count() {
         let net = packed.net(number);
         if net.global {
-            write_parts(
+            write_slices(
                 sink,
                 &[b".global ", net_name(packed.circuit(), net.net), b"\n"],
             )?;
@@ -71,11 +71,11 @@ fn write_block<W: Sink>(packed: &Packed, block: Block, sink: &mut W) -> Result<(
     match block {
         Block::InputPad(net) => {
             let name = net_name(circuit, net);
-            write_parts(sink, &[b".input ", name, b"\npinlist: ", name, b"\n\n"])
+            write_slices(sink, &[b".input ", name, b"\npinlist: ", name, b"\n\n"])
         }
         Block::OutputPad(net) => {
             let name = net_name(circuit, net);
-            write_parts(
+            write_slices(
                 sink,
                 &[b".output out:", name, b"\npinlist: ", name, b"\n\n"],
             )
@@ -89,7 +89,7 @@ fn write_cluster<W: Sink>(packed: &Packed, cluster: usize, sink: &mut W) -> Resu
     ensures { Writes W.contents W.has_failed sink.old sink.new
         (text_of (block_lines packed.now (Cluster cluster))) result }
 {
-    write_parts(
+    write_slices(
         sink,
         &[b".clb ", cluster_name(packed, cluster), b"\npinlist:"],
     )?;
@@ -103,7 +103,8 @@ fn write_cluster<W: Sink>(packed: &Packed, cluster: usize, sink: &mut W) -> Resu
 fn write_pins<W: Sink>(packed: &Packed, cluster: usize, sink: &mut W) -> Result<(), Failed>
     requires { cluster < length packed.now.clusters }
     ensures { Writes W.contents W.has_failed sink.old sink.new
-        (flat_map spaced (map (or_open (net_name packed.now.circuit)) (pins_of packed.now cluster)))
+        (flat_map word_after_space (map (or_open (net_name packed.now.circuit)) (pins_of
+        packed.now cluster)))
         result }
 {
     for pin in 0..packed.arch().pins.as_slice().len() {

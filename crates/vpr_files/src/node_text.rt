@@ -4,7 +4,7 @@ ghost use Rattle.vpr_files.specs.NodeText.{kind_word, node_text_of, number_word}
 ghost use Rattle.line_text.specs.Writing.{Writes};
 
 use itoa::Buffer;
-use line_text::{Failed, Sink, write_parts};
+use line_text::{Failed, Sink, write_slices};
 use rr_graph::{Node, NodeKind};
 
 /// Writes a node of a strip or device with this number of rows: its kind, its column and row, and
@@ -17,7 +17,7 @@ pub fn write_node<W: Sink>(node: Node, rows: u32, sink: &mut W) -> Result<(), Fa
     let mut x = Buffer::new();
     let mut y = Buffer::new();
     let mut number = Buffer::new();
-    write_parts(
+    write_slices(
         sink,
         &[
             kind_start(node.kind),

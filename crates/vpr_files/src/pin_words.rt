@@ -2,7 +2,7 @@
 ghost use Rattle.std.specs.Prelude.{◌≡◌, ◌<◌, decimal, length, option_and_then, slice_get, Some};
 ghost use Rattle.arch_file.specs.declared.arch.PinClass.TheVariants.{Clock};
 ghost use Rattle.std.specs.List.{flat_map, range_with_len};
-ghost use Rattle.vpr_files.specs.TextLines.{spaced, line_of};
+ghost use Rattle.vpr_files.specs.TextLines.{word_after_space, line_of};
 ghost use Rattle.vpr_files.specs.NetFile.{driver_place, element_line, input_word, or_open, pin_with};
 ghost use Rattle.line_text.specs.Writing.{Writes};
 
@@ -10,7 +10,7 @@ use crate::net_file::net_name;
 use crate::writing::{end_line, write_number, write_word};
 use arch_file::PinClass;
 use cluster::{Ble, Packed};
-use line_text::{Failed, Sink, write_parts};
+use line_text::{Failed, Sink, write_slices};
 
 /// The number of the pin of this class that carries the net, if there is one.
 fn pin_with(packed: &Packed, cluster: usize, class: PinClass, net: u32) -> Option<usize>
@@ -41,7 +41,8 @@ fn driver_place(packed: &Packed, cluster: usize, net: u32) -> Option<usize>
 
 /// Writes the number of a pin, or `open`.
 fn write_pin<W: Sink>(sink: &mut W, pin: Option<usize>) -> Result<(), Failed>
-    ensures { Writes W.contents W.has_failed sink.old sink.new (spaced (or_open decimal pin))
+    ensures { Writes W.contents W.has_failed sink.old sink.new (word_after_space (or_open decimal
+        pin))
         result }
 {
     match pin {
@@ -59,7 +60,7 @@ fn write_input<W: Sink>(
 ) -> Result<(), Failed>
     requires { cluster < length packed.now.clusters }
     ensures { Writes W.contents W.has_failed sink.old sink.new
-        (spaced (or_open (input_word packed.now cluster) input)) result }
+        (word_after_space (or_open (input_word packed.now cluster) input)) result }
 {
     let Some(net) = input else {
         return write_word(sink, b"open");
@@ -86,7 +87,7 @@ fn write_inputs<W: Sink>(
 ) -> Result<(), Failed>
     requires { cluster < length packed.now.clusters }
     ensures { Writes W.contents W.has_failed sink.old sink.new
-        (flat_map (λ place. spaced
+        (flat_map (λ place. word_after_space
         (or_open (input_word packed.now cluster) (slice_get inputs.now place)))
         (range_with_len 0 packed.now.arch.lut_size)) result }
 {
@@ -112,7 +113,7 @@ pub(crate) fn write_element<W: Sink>(
           clock = ble.entry.clock;
         }))) result }
 {
-    write_parts(
+    write_slices(
         sink,
         &[b"subblock: ", net_name(packed.circuit(), ble.output)],
     )?;

@@ -11,7 +11,7 @@ use crate::block_names::block_name;
 use cluster::Packed;
 use grid::{Place, Strip};
 use itoa::Buffer;
-use line_text::{Failed, Sink, write_parts};
+use line_text::{Failed, Sink, write_slices};
 use strip_place::Placing;
 
 /// Writes the `.place` file of a placed circuit. If the sink fails, it has taken a beginning of the
@@ -35,7 +35,7 @@ fn write_headings<W: Sink>(strip: Strip, packed: &Packed, sink: &mut W) -> Resul
 {
     let mut width = Buffer::new();
     let mut rows = Buffer::new();
-    write_parts(
+    write_slices(
         sink,
         &[
             b"Netlist file: ",
@@ -76,7 +76,7 @@ fn write_place<W: Sink>(
     let mut y = Buffer::new();
     let mut subblock = Buffer::new();
     let mut number = Buffer::new();
-    write_parts(
+    write_slices(
         sink,
         &[
             name.before,

@@ -15,7 +15,7 @@ use crate::writing::end_line;
 use cluster::{Packed, laws_of_packing};
 use grid::{Place, Strip};
 use itoa::Buffer;
-use line_text::{Failed, Sink, write_parts};
+use line_text::{Failed, Sink, write_slices};
 use pathfinder::Routes;
 use rr_graph::Node;
 use strip_place::Placing;
@@ -46,7 +46,7 @@ fn write_headings<W: Sink>(strip: Strip, sink: &mut W) -> Result<(), Failed>
 {
     let mut width = Buffer::new();
     let mut rows = Buffer::new();
-    write_parts(
+    write_slices(
         sink,
         &[
             b"Array size: ",
@@ -104,7 +104,7 @@ fn write_net_heading<W: Sink>(
     let mut buffer = Buffer::new();
     let digits = buffer.format(number).as_bytes();
     if global {
-        write_parts(
+        write_slices(
             sink,
             &[
                 b"Net ",
@@ -115,7 +115,7 @@ fn write_net_heading<W: Sink>(
             ],
         )
     } else {
-        write_parts(sink, &[b"Net ", digits, b" (", name, b")\n\n"])
+        write_slices(sink, &[b"Net ", digits, b" (", name, b")\n\n"])
     }
 }
 
@@ -187,7 +187,7 @@ fn write_block<W: Sink>(
     let mut number = Buffer::new();
     let mut x = Buffer::new();
     let mut y = Buffer::new();
-    write_parts(
+    write_slices(
         sink,
         &[
             b"Block ",

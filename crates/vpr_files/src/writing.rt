@@ -1,16 +1,16 @@
 //! Words and numbers, written to a sink.
 ghost use Rattle.std.specs.Prelude.{◌++◌, ◌∷◌, [], decimal};
-ghost use Rattle.vpr_files.specs.TextLines.{spaced};
+ghost use Rattle.vpr_files.specs.TextLines.{word_after_space};
 ghost use Rattle.line_text.specs.Writing.{Writes};
 
 use itoa::Buffer;
-use line_text::{Failed, Sink, write_parts};
+use line_text::{Failed, Sink, write_slices};
 
 /// Writes a space and a word.
 pub(crate) fn write_word<W: Sink>(sink: &mut W, word: &[u8]) -> Result<(), Failed>
-    ensures { Writes W.contents W.has_failed sink.old sink.new (spaced word.now) result }
+    ensures { Writes W.contents W.has_failed sink.old sink.new (word_after_space word.now) result }
 {
-    write_parts(sink, &[b" ", word])
+    write_slices(sink, &[b" ", word])
 }
 
 /// Writes these bytes and a number.
@@ -23,11 +23,11 @@ pub(crate) fn write_number<W: Sink>(
         result }
 {
     let mut buffer = Buffer::new();
-    write_parts(sink, &[before, buffer.format(number).as_bytes()])
+    write_slices(sink, &[before, buffer.format(number).as_bytes()])
 }
 
 pub(crate) fn end_line<W: Sink>(sink: &mut W) -> Result<(), Failed>
     ensures { Writes W.contents W.has_failed sink.old sink.new (10 ∷ []) result }
 {
-    write_parts(sink, &[b"\n"])
+    write_slices(sink, &[b"\n"])
 }

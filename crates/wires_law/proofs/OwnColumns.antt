@@ -31,7 +31,7 @@ use Rattle.strip_place.specs.Anneal.{places_by_block}
 use Rattle.block_places.specs.Placed.{block_at, place_of}
 use Rattle.pathfinder.specs.Negotiation.{Tree, Standing, More, Done, GaveUp as GivenUp, NoPath as WithoutPath, Routed as RoutedTrees, routed_after}
 use Rattle.pathfinder.specs.PlacedNets.{wiring_of}
-use Rattle.pathfinder.specs.Routings.{told_by_node}
+use Rattle.pathfinder.specs.Routings.{routes_by_node}
 use Rattle.pathfinder.specs.Wiring.{Net}
 use Rattle.job_state.specs.declared.sources.Sources.{Sources}
 use Rattle.kept_places.specs.Kept.{KeptPlaces}
@@ -110,13 +110,13 @@ module _ (strip : Strip) where
   on_tree_own arch [] = All-nil IsOwn
   on_tree_own arch (path ∷ tree) = All-append IsOwn (on_path (map (graph_of (record { arch = arch; strip = strip })).node path)) (on_tree (map (λ path. map (graph_of (record { arch = arch; strip = strip })).node path) tree)) (on_path_own arch path) (on_tree_own arch tree)
 
-  on_trees_own : (arch : Arch) (trees : List Tree) → All IsOwn (on_trees (told_by_node (graph_of (record { arch = arch; strip = strip })) trees))
+  on_trees_own : (arch : Arch) (trees : List Tree) → All IsOwn (on_trees (routes_by_node (graph_of (record { arch = arch; strip = strip })) trees))
   on_trees_own arch [] = All-nil IsOwn
-  on_trees_own arch (tree ∷ trees) = All-append IsOwn (on_tree (map (λ path. map (graph_of (record { arch = arch; strip = strip })).node path) tree)) (on_trees (told_by_node (graph_of (record { arch = arch; strip = strip })) trees)) (on_tree_own arch tree) (on_trees_own arch trees)
+  on_trees_own arch (tree ∷ trees) = All-append IsOwn (on_tree (map (λ path. map (graph_of (record { arch = arch; strip = strip })).node path) tree)) (on_trees (routes_by_node (graph_of (record { arch = arch; strip = strip })) trees)) (on_tree_own arch tree) (on_trees_own arch trees)
 
   standing_own : (arch : Arch) (pads : List Resource) (nets : List Net) (steps : ℕ) (routed : RoutedTrees) (standing : Standing) → All IsOwn pads → All IsOwn (held_at_end (Ok (routing_stands (record { arch = arch; strip = strip }) pads nets steps routed standing)))
   standing_own arch pads nets steps routed More all = All-nil IsOwn
-  standing_own arch pads nets steps routed Done all = All-append IsOwn (on_trees (told_by_node (graph_of (record { arch = arch; strip = strip })) routed.trees)) pads (on_trees_own arch routed.trees) all
+  standing_own arch pads nets steps routed Done all = All-append IsOwn (on_trees (routes_by_node (graph_of (record { arch = arch; strip = strip })) routed.trees)) pads (on_trees_own arch routed.trees) all
   standing_own arch pads nets steps routed GivenUp all = All-nil IsOwn
   standing_own arch pads nets steps routed (WithoutPath net) all = All-nil IsOwn
 

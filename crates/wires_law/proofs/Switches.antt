@@ -23,7 +23,7 @@ use Rattle.service_core.specs.Headline.{AreParted}
 use Rattle.service_core.specs.History.{History, state_of}
 use Rattle.service_core.specs.Owners.{IsOwner}
 use Rattle.service_core.specs.Run.{Call, Run}
-use Rattle.service_core.specs.Service.{ServiceState, empty, live_of}
+use Rattle.service_core.specs.Service.{ServiceState, empty_service, live_of}
 use Rattle.service_core.proofs.Holdings.{has-moved, moved_left}
 use Rattle.service_core.proofs.Owning.{in_window}
 use Rattle.service_core.proofs.Parted.{are_parted}
@@ -97,7 +97,7 @@ owner_seen arch device dev state id node r parted is owns there = by_kind (resou
     by_kind (Some held) kind some = by_live held kind (same_Some _ _ some) (live_of state.histories id) refl owns
 
 -- so no pair leads from one to the other
-pub untouched : (device : Device) (calls : List Call) (state : ServiceState) → Run (empty device) calls state → AreUntouched device state
+pub untouched : (device : Device) (calls : List Call) (state : ServiceState) → Run (empty_service device) calls state → AreUntouched device state
 untouched device calls state run = λ a b mine its id other is_a is_b owns other_owns differ.
     let whole : Strip = device_strip device.arch device.columns device.rows in
     let parted : AreParted device state = are_parted device calls state run in

@@ -9,7 +9,7 @@ use Rattle.sessions.specs.Items.{without_cr}
 use Rattle.session_threads.specs.Inputs.{is_one_line}
 use Rattle.session_threads.proofs.ItemLemmas.{line_then}
 use Rattle.script_text.specs.Script.{without_blanks}
-use Rattle.script_text.specs.Threaded.{behind_word, ended}
+use Rattle.script_text.specs.Threaded.{after_first_word, with_feed}
 
 -- a line without the CR at its end
 without_cr-none : without_cr [] ≡ []
@@ -98,7 +98,7 @@ blanks_cr (b ∷ c ∷ xs) = ap without_blanks (without_cr-more b c xs) ∙ (bla
     by_test rest false = sym (without_cr-more b c xs)
 
 -- what is after a line's first word is the same without the CR
-pub behind_cr : (line : List ℕ) → after_first is_blank (without_blanks (without_cr line)) ≡ without_cr (behind_word line)
+pub behind_cr : (line : List ℕ) → after_first is_blank (without_blanks (without_cr line)) ≡ without_cr (after_first_word line)
 behind_cr line = ap (after_first is_blank) (blanks_cr line) ∙ after_cr (without_blanks line)
 
 -- lines of a text have no LF
@@ -107,7 +107,7 @@ one_drop zero xs is = is
 one_drop (suc n) [] is = refl
 one_drop (suc n) (x ∷ xs) is = one_drop n xs (and_parts (not (x == 10)) (is_one_line xs) is).1
 
-pub one_behind : (line : List ℕ) → is_one_line line ≡ true → is_one_line (behind_word line) ≡ true
+pub one_behind : (line : List ℕ) → is_one_line line ≡ true → is_one_line (after_first_word line) ≡ true
 one_behind line is =
     let words : List ℕ = without_blanks line in
     one_drop (position_or_len is_blank words + 1) words (one_drop (position_or_len (λ b. not (is_blank b)) line) line is)
@@ -127,8 +127,8 @@ are_lines (b ∷ rest) = by_test (are_lines rest) (b == 10) refl
     by_test all false e = onto_lines b (physical_lines rest) e all
 
 -- a text that is put together of lines has these lines
-pub put_together : (lines : List (List ℕ)) → list_all is_one_line lines ≡ true → physical_lines (flat_map ended lines) ≡ lines
+pub put_together : (lines : List (List ℕ)) → list_all is_one_line lines ≡ true → physical_lines (flat_map with_feed lines) ≡ lines
 put_together [] all = refl
 put_together (line ∷ lines) all =
     let parts = and_parts (is_one_line line) (list_all is_one_line lines) all in
-    line_then line (flat_map ended lines) parts.0 ∙ ap (λ ls. line ∷ ls) (put_together lines parts.1)
+    line_then line (flat_map with_feed lines) parts.0 ∙ ap (λ ls. line ∷ ls) (put_together lines parts.1)

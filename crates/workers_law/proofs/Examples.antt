@@ -11,7 +11,7 @@ use Rattle.tenant_slot.specs.SingleUser.{start}
 use Rattle.sessions.specs.declared.line.SessionLine.TheVariants.{Command, Wait, Refused}
 use Rattle.sessions.specs.declared.refusal.SessionRefusal.TheVariants.{UnknownCommand}
 use Rattle.sessions.specs.SessionText.{reply_text}
-use Rattle.workers_law.specs.Waited.{ended, waited_text, waits_for_each}
+use Rattle.workers_law.specs.Waited.{after_last_step, waited_text, waits_for_each}
 
 -- a line that is refused by itself may come between
 each_waits : waits_for_each false (Command Pack ∷ Refused UnknownCommand ∷ Wait ∷ Command Status ∷ Command Route ∷ Wait ∷ []) ≡ true
@@ -24,7 +24,7 @@ last_is_free : waits_for_each false (Command Pack ∷ Wait ∷ Command Route ∷
 last_is_free = refl
 
 -- a packing ends
-packed : (arch : Arch) (strip : Strip) → ended (record (start arch strip) { name = Packing; generation = 1; steps = 3 }) ≡ record (start arch strip) { name = Packed; generation = 1 }
+packed : (arch : Arch) (strip : Strip) → after_last_step (record (start arch strip) { name = Packing; generation = 1; steps = 3 }) ≡ record (start arch strip) { name = Packed; generation = 1 }
 packed arch strip = refl
 
 -- the texts of sessions that have no netlist

@@ -18,7 +18,7 @@ use Rattle.tenant_slot.specs.declared.reply.Reply.{Reply}
 use Rattle.tenant_slot.specs.declared.reply.Reply.TheVariants.{Step}
 use Rattle.tenant_slot.specs.declared.reply.StepReply.{StepReply}
 use Rattle.tenant_slot.specs.declared.reply.StepReply.TheVariants.{Advanced, Finished, Stale}
-use Rattle.tenant_slot.specs.SingleUser.{State, advance, after, answer_to, finished, go_on, is_next, running, sources_of, start, step}
+use Rattle.tenant_slot.specs.SingleUser.{State, advance, after_reply, answer_to, state_at_end, go_on, is_next, kind_that_runs, sources_of, start, step}
 use Rattle.tenant_slot.specs.Slot.{GivesBack, is_takeable, next_job}
 use Rattle.service_core.specs.declared.entry.Entry.{Entry}
 use Rattle.service_core.specs.declared.op_refusal.OpRefusal.TheVariants.{NoMemory as OpNoMemory, NoRoom, TooManyStrips, BadWidth, NoSuchTenancy as NotThere, IdsSpent}
@@ -29,8 +29,8 @@ use Rattle.service_core.specs.History.{History, slot_of, state_of, with_entry, w
 use Rattle.service_core.specs.Run.{Call, Happens, IsGivenBackTo, IsStepOf, Run, step_entry}
 use Rattle.service_core.specs.Run.Call.{Admit, Evict, Move, Tenant, Take, Put, GiveBack, Owners}
 use Rattle.service_core.specs.Receipt.{Receipted}
-use Rattle.service_core.specs.Service.{IsAloneOn, ServiceState, history_of, live_of, modified}
-use Rattle.service_core.specs.Tenancy.{closed, if_live}
+use Rattle.service_core.specs.Service.{IsAloneOn, ServiceState, history_of, live_of, with_changed}
+use Rattle.service_core.specs.Tenancy.{closed_history, if_live}
 use Rattle.service_core.proofs.Histories.{state_after-push}
 use Rattle.service_core.proofs.Keeps.{if_live_some}
 use Rattle.service_core.proofs.Effects.{Kept}
@@ -47,7 +47,7 @@ abbrev pub is_out : Bool → Option Bool → Bool
 is_out runs here = runs && not (is_some here)
 
 abbrev pub HasHere : History → Type 0
-HasHere h = is_out (is_some (running (state_of h).name)) h.here ≡ false
+HasHere h = is_out (is_some (kind_that_runs (state_of h).name)) h.here ≡ false
 
 abbrev pub IsHere : ServiceState → ℕ → Type 0
 IsHere s id = IsSomeAnd (live_of s.histories id) HasHere
@@ -56,21 +56,21 @@ pub same_here : (old new : ServiceState) (id : ℕ) → new ≡ old → IsHere o
 same_here old new id same is = let P : ServiceState → Type 0 = λ s. IsHere s id in subst P (sym same) is
 
 -- a change of another tenancy
-other_changed : (old new : ServiceState) (t id : ℕ) (change : History → History) → t ≢ id → new.histories ≡ modified old.histories t change → IsHere old id → IsHere new id
+other_changed : (old new : ServiceState) (t id : ℕ) (change : History → History) → t ≢ id → new.histories ≡ with_changed old.histories t change → IsHere old id → IsHere new id
 other_changed old new t id change apart made is =
     let no : eqb id t ≡ false = grind (arith, nat_tests) in
-    let same : history_of (modified old.histories t change) id ≡ history_of old.histories id = history_of-modified old.histories t id change ∙ ap (λ b. if b then option_map change (history_of old.histories id) else history_of old.histories id) no in
+    let same : history_of (with_changed old.histories t change) id ≡ history_of old.histories id = history_of-modified old.histories t id change ∙ ap (λ b. if b then option_map change (history_of old.histories id) else history_of old.histories id) no in
     let live : live_of new.histories id ≡ live_of old.histories id = ap (λ hs. live_of hs id) made ∙ ap if_live same in
     subst (λ o. IsSomeAnd o HasHere) (sym live) is
 
 -- a change after which it is here
-own_changed : (old new : ServiceState) (id : ℕ) (change : History → History) → ((h : History) → (change h).live ≡ h.live) → ((h : History) → live_of old.histories id ≡ Some h → HasHere h → HasHere (change h)) → new.histories ≡ modified old.histories id change → IsHere old id → IsHere new id
+own_changed : (old new : ServiceState) (id : ℕ) (change : History → History) → ((h : History) → (change h).live ≡ h.live) → ((h : History) → live_of old.histories id ≡ Some h → HasHere h → HasHere (change h)) → new.histories ≡ with_changed old.histories id change → IsHere old id → IsHere new id
 own_changed old new id change lives keeps made is =
     let was = some_and HasHere (live_of old.histories id) is in
     let now : live_of new.histories id ≡ Some (change was.0) = ap (λ hs. live_of hs id) made ∙ live_of-changed old.histories id change was.0 lives was.1 in
     subst (λ o. IsSomeAnd o HasHere) (sym now) (keeps was.0 was.1 was.2)
 
-any_changed : (old new : ServiceState) (t id : ℕ) (change : History → History) → ((h : History) → (change h).live ≡ h.live) → ((h : History) → live_of old.histories t ≡ Some h → HasHere h → HasHere (change h)) → new.histories ≡ modified old.histories t change → IsHere old id → IsHere new id
+any_changed : (old new : ServiceState) (t id : ℕ) (change : History → History) → ((h : History) → (change h).live ≡ h.live) → ((h : History) → live_of old.histories t ≡ Some h → HasHere h → HasHere (change h)) → new.histories ≡ with_changed old.histories t change → IsHere old id → IsHere new id
 any_changed old new t id change lives keeps made is = by_test (eqb t id) refl
   where
     by_test : (b : Bool) → eqb t id ≡ b → IsHere new id
@@ -88,14 +88,14 @@ never_out true here is = ap not is
 never_out false here is = refl
 
 abbrev StepIf : State → Event → Bool → State × Option Reply
-StepIf s event full = if full then (s, None) else (after s (answer_to s event).0, Some (answer_to s event).1)
+StepIf s event full = if full then (s, None) else (after_reply s (answer_to s event).0, Some (answer_to s event).1)
 
 same_name : (s : State) (event : Event) → (answer_to s event).0 ≡ None → (step s event).0.name ≡ s.name
 same_name s event none = by_test (eqb s.entries 65536)
   where
     by_test : (b : Bool) → (StepIf s event b).0.name ≡ s.name
     by_test true = refl
-    by_test false = ap (λ change. (after s change).name) none
+    by_test false = ap (λ change. (after_reply s change).name) none
 
 entry_here : (e : Entry) (h : History) → HasHere h → HasHere (with_entry e h)
 entry_here e h is = by_change (answer_to (state_of h) e.event).0 refl
@@ -107,20 +107,20 @@ entry_here e h is = by_change (answer_to (state_of h) e.event).0 refl
     by_change None none =
         let name : (state_of (with_entry e h)).name ≡ (state_of h).name = ap (λ (s : State). s.name) next ∙ same_name (state_of h) e.event none in
         let here : (with_entry e h).here ≡ h.here = ap (λ (change : Option State). option_map_or (λ new. Some false) change h.here) none in
-        ap (λ n. is_out (is_some (running n)) (with_entry e h).here) name ∙ (ap (is_out (is_some (running (state_of h).name))) here ∙ is)
+        ap (λ n. is_out (is_some (kind_that_runs n)) (with_entry e h).here) name ∙ (ap (is_out (is_some (kind_that_runs (state_of h).name))) here ∙ is)
     by_change (Some new) some =
         let here : is_some (with_entry e h).here ≡ true = ap (λ (change : Option State). is_some (option_map_or (λ new. Some false) change h.here)) some in
-        never_out (is_some (running (state_of (with_entry e h)).name)) (with_entry e h).here here
+        never_out (is_some (kind_that_runs (state_of (with_entry e h)).name)) (with_entry e h).here here
 
 -- a job that is given back is here
 back_here : (h : History) (job : JobState) (here : Option Bool) → GivesBack (slot_of h) job (slot_of (with_here here h)) → HasHere h → HasHere (with_here here h)
 back_here h job here gives is = by_test (is_some here) refl
   where
     by_test : (b : Bool) → is_some here ≡ b → HasHere (with_here here h)
-    by_test true e = never_out (is_some (running (state_of h).name)) here e
+    by_test true e = never_out (is_some (kind_that_runs (state_of h).name)) here e
     by_test false e =
         let not_ready : next_job (slot_of h) ≡ Some job.step → ⊥ = λ next. (let made : here ≡ Some job.made = gives.ready next in let yes : is_some here ≡ true = ap is_some made in cc) in
-        ap (is_out (is_some (running (state_of h).name))) (gives.dropped not_ready) ∙ is
+        ap (is_out (is_some (kind_that_runs (state_of h).name))) (gives.dropped not_ready) ∙ is
 
 given_here : (o : Option History) (old new : ServiceState) (job : JobState) (id : ℕ) → live_of old.histories job.step.id ≡ o → IsGivenBackTo o old job new → IsHere old id → IsHere new id
 given_here None old new job id live is was = same_here old new id is was
@@ -148,7 +148,7 @@ asked_with command reply = record { event = Asked command; reply = reply }
 pub others_here : (old : ServiceState) (call : Call) (new : ServiceState) (id : ℕ) → IsOthers id call → TakesNone id call → Happens old call new → IsHere old id → IsHere new id
 others_here old (Admit width (Ok given)) new id others takes is was = push_here old new _ id (ap (λ (s : ServiceState). s.histories) is.3) was
 others_here old (Admit width (Err refusal)) new id others takes is was = same_here old new id is.1 was
-others_here old (Evict t (Ok nothing)) new id others takes is was = other_changed old new t id closed others (ap (λ (s : ServiceState). s.histories) is.1) was
+others_here old (Evict t (Ok nothing)) new id others takes is was = other_changed old new t id closed_history others (ap (λ (s : ServiceState). s.histories) is.1) was
 others_here old (Evict t (Err refusal)) new id others takes is was = same_here old new id is.2 was
 others_here old (Move t offset (Ok nothing)) new id others takes is was = subst (λ hs. IsSomeAnd (live_of hs id) HasHere) (sym (ap (λ (s : ServiceState). s.histories) is.2)) was
 others_here old (Move t offset (Err NotThere)) new id others takes is was = same_here old new id is.1 was
@@ -176,7 +176,7 @@ others_here old (Owners list) new id others takes is was = same_here old new id 
 
 -- a step of the running job that was just taken is the next one
 abbrev GoIf : State → JobKind → Bool → Option State × Reply
-GoIf s kind last = if last then (Some (finished s kind), Step Finished) else (Some (record s { steps = s.steps + 1 }), Step Advanced)
+GoIf s kind last = if last then (Some (state_at_end s kind), Step Finished) else (Some (record s { steps = s.steps + 1 }), Step Advanced)
 
 abbrev NextIf : State → JobKind → Bool → Option State × Reply
 NextIf s kind next = if next then go_on s kind else (None, Step Stale)
@@ -207,9 +207,9 @@ step_here : (h : History) (done : JobStep) (foreign : Bool) (reply : StepReply) 
 step_here h done foreign reply next is =
     let s : State = state_of h in
     let made : Advance = record { generation = done.generation; number = done.number; foreign = foreign } in
-    let sources = next_sources s h.id done (running s.name) next in
-    let after : History = with_entry (step_entry done foreign reply) (with_here None h) in
-    never_out (is_some (running (state_of after).name)) after.here (advance_here s h.id made done (running s.name) next refl refl (is.flag.foreign.1 sources.0))
+    let sources = next_sources s h.id done (kind_that_runs s.name) next in
+    let after_reply : History = with_entry (step_entry done foreign reply) (with_here None h) in
+    never_out (is_some (kind_that_runs (state_of after_reply).name)) after_reply.here (advance_here s h.id made done (kind_that_runs s.name) next refl refl (is.flag.foreign.1 sources.0))
 
 abbrev IsTakenOf : ℕ → JobState → History → Type 0
 IsTakenOf id job h = (h.id ≡ id) × (is_takeable (slot_of h) ≡ true) × (next_job (slot_of h) ≡ Some job.step) × (h.here ≡ Some job.made)
@@ -219,22 +219,22 @@ recorded_here old mid new id job foreign reply takes puts =
     let was = some_and (IsTakenOf id job) (live_of old.histories id) takes.0 in
     let h : History = was.0 in
     let s : State = state_of h in
-    let own : job.step.id ≡ id = (next_sources s h.id job.step (running s.name) was.2.2).1 ∙ was.2.0 in
+    let own : job.step.id ≡ id = (next_sources s h.id job.step (kind_that_runs s.name) was.2.2).1 ∙ was.2.0 in
     let out : live_of mid.histories id ≡ Some (with_here None h) = ap (λ (s : ServiceState). live_of s.histories id) takes.1 ∙ live_of-changed old.histories id (with_here None) h (λ g. refl) was.1 in
     let put = some_and (λ g. IsStepOf g job.step foreign reply) (live_of mid.histories job.step.id) puts.0 in
     let same : put.0 ≡ with_here None h = (let one : live_of mid.histories id ≡ Some put.0 = ap (λ x. live_of mid.histories x) (sym own) ∙ put.1 in cc) in
     let is : IsStepOf (with_here None h) job.step foreign reply = subst (λ g. IsStepOf g job.step foreign reply) same put.2 in
     let e : Entry = step_entry job.step foreign reply in
-    let after : live_of new.histories id ≡ Some (with_entry e (with_here None h)) =
-    ap (λ (s : ServiceState). live_of s.histories id) puts.1 ∙ (ap (λ x. live_of (modified mid.histories x (with_entry e)) id) own ∙ live_of-changed mid.histories id (with_entry e) (with_here None h) (λ x. refl) out) in
-    subst (λ o. IsSomeAnd o HasHere) (sym after) (step_here h job.step foreign reply was.2.2 is)
+    let after_reply : live_of new.histories id ≡ Some (with_entry e (with_here None h)) =
+    ap (λ (s : ServiceState). live_of s.histories id) puts.1 ∙ (ap (λ x. live_of (with_changed mid.histories x (with_entry e)) id) own ∙ live_of-changed mid.histories id (with_entry e) (with_here None h) (λ x. refl) out) in
+    subst (λ o. IsSomeAnd o HasHere) (sym after_reply) (step_here h job.step foreign reply was.2.2 is)
 
 -- a put right after the take finds its tenancy, with room in its journal
 taken_live : (old mid : ServiceState) (id : ℕ) (job : JobState) → IsTaken old id (Some job) mid → (h : History) × (live_of old.histories id ≡ Some h) × (is_takeable (slot_of h) ≡ true) × (live_of mid.histories job.step.id ≡ Some (with_here None h))
 taken_live old mid id job takes =
     let was = some_and (IsTakenOf id job) (live_of old.histories id) takes.0 in
     let h : History = was.0 in
-    let own : job.step.id ≡ id = (next_sources (state_of h) h.id job.step (running (state_of h).name) was.2.2).1 ∙ was.2.0 in
+    let own : job.step.id ≡ id = (next_sources (state_of h) h.id job.step (kind_that_runs (state_of h).name) was.2.2).1 ∙ was.2.0 in
     let out : live_of mid.histories id ≡ Some (with_here None h) = ap (λ (s : ServiceState). live_of s.histories id) takes.1 ∙ live_of-changed old.histories id (with_here None) h (λ g. refl) was.1 in
     (h, was.1, was.2.1, ap (live_of mid.histories) own ∙ out)
 
@@ -252,7 +252,7 @@ never_full old mid new id job foreign kept takes puts =
     let h : History = t.0 in
     let alone : IsAloneOn old.device h = All-history_of (IsAloneOn old.device) old.histories id h (if_live_some (history_of old.histories id) h t.1) kept.alone in
     let count : (state_of h).entries ≡ length h.entries = alone.replayed.count in
-    let room : (state_of h).entries < 65536 = has_room (is_some (running (state_of h).name)) (is_some h.here) (state_of h).entries t.2 in
+    let room : (state_of h).entries < 65536 = has_room (is_some (kind_that_runs (state_of h).name)) (is_some h.here) (state_of h).entries t.2 in
     let full : IsSomeAnd (Some (with_here None h)) (λ g. length g.entries ≡ 65536) = subst (λ o. IsSomeAnd o (λ g. length g.entries ≡ 65536)) t.3 puts.0 in
     omega (arith, count, room, full)
 

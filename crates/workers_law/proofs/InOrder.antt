@@ -12,7 +12,7 @@ use Rattle.tenant_slot.specs.declared.event.Event.{Event}
 use Rattle.tenant_slot.specs.declared.event.Event.TheVariants.{Command as Asked, Advance as Stepped}
 use Rattle.tenant_slot.specs.declared.reply.Reply.{Reply}
 use Rattle.tenant_slot.specs.declared.reply.Reply.TheVariants.{Step}
-use Rattle.tenant_slot.specs.SingleUser.{State, answer_to, running, start, state_after, step}
+use Rattle.tenant_slot.specs.SingleUser.{State, answer_to, kind_that_runs, start, state_after, step}
 use Rattle.service_core.specs.declared.device.Device.{Device}
 use Rattle.service_core.specs.declared.not_served.NotServed.{NotServed}
 use Rattle.service_core.specs.declared.not_served.NotServed.TheVariants.{NoMemory, JournalFull, NoSuchTenancy}
@@ -21,7 +21,7 @@ use Rattle.service_core.specs.OwnEvents.{own_events, own_exchange, own_exchanges
 use Rattle.service_core.specs.Receipt.{Receipted}
 use Rattle.service_core.specs.Run.{Call, Run}
 use Rattle.service_core.specs.Run.Call.{Admit, Evict, Move, Tenant, Take, Put, GiveBack, Owners}
-use Rattle.service_core.specs.Service.{ServiceState, empty, live_width, strip_on}
+use Rattle.service_core.specs.Service.{ServiceState, empty_service, live_width, strip_on}
 use Rattle.service_core.proofs.Effects.{Kept, run_keeps}
 use Rattle.service_core.proofs.Keeps.{IsService-empty}
 use Rattle.sessions.specs.declared.line.SessionLine.{SessionLine}
@@ -33,9 +33,9 @@ use Rattle.sessions.specs.declared.told.Answer.TheVariants.{Served}
 use Rattle.sessions.specs.SessionAnswer.{AsksCommand, EndsWait}
 use Rattle.sessions.specs.SessionText.{answer_text, reply_text, session_refusal_text}
 use Rattle.sessions.specs.Steps.{MadeStep, MakesStep, Waits}
-use Rattle.sessions.specs.WholeSession.{IsOthers, Turn, Turns, Item, Meanwhile, written}
+use Rattle.sessions.specs.WholeSession.{IsOthers, Turn, Turns, Item, Meanwhile, text_of_turns}
 use Rattle.sessions.proofs.StepLemmas.{Run-append}
-use Rattle.workers_law.specs.Waited.{after_command, begins_job, ended, waited_text, waits_for_each}
+use Rattle.workers_law.specs.Waited.{after_command, begins_job, after_last_step, waited_text, waits_for_each}
 use Rattle.workers_law.specs.Workers.{AreReplied, OwnTurns, items_in}
 use Rattle.workers_law.proofs.Replied.{AreAllReplied, IsReplied, are_replied, first_here}
 use Rattle.workers_law.proofs.Ahead.{NoneAsked, NotAsked, step_none}
@@ -137,22 +137,22 @@ abbrev receipt_of : TenantCommand → Receipted → Receipted
 receipt_of command r = record r { command = command }
 
 pub turns_text : (id : ℕ) (turns : List Turn) (s t : State) (begun : Bool) (old new : ServiceState) → Turns id old turns new → AreAllReplied turns → waits_for_each begun (items_in turns) ≡ true → Agree begun s t →
-    Shows s (own_exchanges id (calls_in turns)) → written turns ≡ waited_text t (items_in turns)
+    Shows s (own_exchanges id (calls_in turns)) → text_of_turns turns ≡ waited_text t (items_in turns)
 turns_text id [] s t begun old new is replied waits agree shows = refl
 turns_text id (Meanwhile call ∷ turns) s t begun old new is replied waits agree shows =
     let goes = meanwhile id begun call s t (own_exchanges id (calls_in turns)) is.1 agree shows in
     turns_text id turns goes.0 t begun is.0 new is.3 replied waits goes.1 goes.2
 turns_text id (Item Blank calls answer ∷ turns) s t begun old new is replied waits agree shows =
-    ap (λ a. answer_text a ++ written turns) is.1.1 ∙ turns_text id turns s t begun is.0 new is.3 replied.1 waits agree (no_calls id s calls (calls_in turns) is.1.0 shows)
+    ap (λ a. answer_text a ++ text_of_turns turns) is.1.1 ∙ turns_text id turns s t begun is.0 new is.3 replied.1 waits agree (no_calls id s calls (calls_in turns) is.1.0 shows)
 turns_text id (Item (Refused f) calls answer ∷ turns) s t begun old new is replied waits agree shows =
-    ap (λ a. answer_text a ++ written turns) is.1.1 ∙ ap (λ text. session_refusal_text f ++ text) (turns_text id turns s t begun is.0 new is.3 replied.1 waits agree (no_calls id s calls (calls_in turns) is.1.0 shows))
+    ap (λ a. answer_text a ++ text_of_turns turns) is.1.1 ∙ ap (λ text. session_refusal_text f ++ text) (turns_text id turns s t begun is.0 new is.3 replied.1 waits agree (no_calls id s calls (calls_in turns) is.1.0 shows))
 turns_text id (Item (Command command) calls answer ∷ turns) s t begun old new is replied waits agree shows =
     let goes = both_hold begun (waits_for_each (begins_job command) (items_in turns)) waits in
     let free : Agree false s t = subst (λ b. Agree b s t) goes.0 agree in
     let rest : Exchanges = own_exchanges id (calls_in turns) in
     let line = asked_line id (Command command) command calls answer s rest (λ e never. never) is.1 replied.0 (split_shows id s calls (calls_in turns) shows) in
     let one = answered s t command (receipt_of command line.0) refl (free_alike s t free) (free.rest refl).1 line.2 in
-    ap (λ a. answer_text a ++ written turns) line.1 ∙ (ap (λ text. text ++ written turns) one.text ∙ ap (λ text. reply_text (answer_to t (Asked command)).1 ++ text)
+    ap (λ a. answer_text a ++ text_of_turns turns) line.1 ∙ (ap (λ text. text ++ text_of_turns turns) one.text ∙ ap (λ text. reply_text (answer_to t (Asked command)).1 ++ text)
     (turns_text id turns (step s (Asked command)).0 (after_command t command) (begins_job command) is.0 new is.3 replied.1 goes.1 one.agree line.3))
 turns_text id (Item Wait calls answer ∷ turns) s t begun old new is replied waits agree shows =
     let asks = is.1 in
@@ -166,12 +166,12 @@ turns_text id (Item Wait calls answer ∷ turns) s t begun old new is replied wa
     let later : Shows s1 (own_exchanges id asks.2 ++ rest) = shows_rest s (own_exchanges id steps) (own_exchanges id asks.2 ++ rest) whole in
     let agree1 : Agree begun s1 t = agree_steps begun s t (own_exchanges id steps) (none_asked_steps id steps (wait_none id steps asks.0 asks.3)) agree in
     let line = asked_line id Wait Status asks.2 answer s1 rest (λ e never. never) (status_line id asks.0 asks.2 answer asks.4 replied.0) replied.0 later in
-    let rests : running s1.name ≡ None = status_rests s1 line.0.reply line.2 line.4 in
-    let alike : AreAlike s1 (ended t) = subst (λ x. AreAlike x (ended t)) (ended-rests s1 rests) agree1.alike in
-    let over : running (ended t).name ≡ None = ap running (sym (alike-name s1 (ended t) alike)) ∙ rests in
-    let one = answered s1 (ended t) Status (receipt_of Status line.0) refl alike over line.2 in
-    ap (λ a. answer_text a ++ written turns) line.1 ∙ (ap (λ text. text ++ written turns) one.text ∙ ap (λ text. reply_text (answer_to (ended t) (Asked Status)).1 ++ text)
-    (turns_text id turns (step s1 (Asked Status)).0 (after_command (ended t) Status) false is.0 new is.3 replied.1 waits one.agree line.3))
+    let rests : kind_that_runs s1.name ≡ None = status_rests s1 line.0.reply line.2 line.4 in
+    let alike : AreAlike s1 (after_last_step t) = subst (λ x. AreAlike x (after_last_step t)) (ended-rests s1 rests) agree1.alike in
+    let over : kind_that_runs (after_last_step t).name ≡ None = ap kind_that_runs (sym (alike-name s1 (after_last_step t) alike)) ∙ rests in
+    let one = answered s1 (after_last_step t) Status (receipt_of Status line.0) refl alike over line.2 in
+    ap (λ a. answer_text a ++ text_of_turns turns) line.1 ∙ (ap (λ text. text ++ text_of_turns turns) one.text ∙ ap (λ text. reply_text (answer_to (after_last_step t) (Asked Status)).1 ++ text)
+    (turns_text id turns (step s1 (Asked Status)).0 (after_command (after_last_step t) Status) false is.0 new is.3 replied.1 waits one.agree line.3))
 
 -- the whole session
 plain : (id : ℕ) (old : ServiceState) (turns : List Turn) (new : ServiceState) → OwnTurns id old turns new → Turns id old turns new
@@ -179,12 +179,12 @@ plain id old [] new is = is
 plain id old (Item line calls answer ∷ turns) new is = (is.0, is.1, is.2, plain id is.0 turns new is.4)
 plain id old (Meanwhile call ∷ turns) new is = (is.0, is.1, is.2, plain id is.0 turns new is.3)
 
-pub same_text : (device : Device) (before : List Call) (old new : ServiceState) (id width : ℕ) (turns : List Turn) → Run (empty device) before old → own_events id before ≡ [] → live_width old.histories id ≡ Some width → OwnTurns id old turns new →
-    waits_for_each false (items_in turns) ≡ true → AreReplied id turns → written turns ≡ waited_text (start device.arch (strip_on device width)) (items_in turns)
+pub same_text : (device : Device) (before : List Call) (old new : ServiceState) (id width : ℕ) (turns : List Turn) → Run (empty_service device) before old → own_events id before ≡ [] → live_width old.histories id ≡ Some width → OwnTurns id old turns new →
+    waits_for_each false (items_in turns) ≡ true → AreReplied id turns → text_of_turns turns ≡ waited_text (start device.arch (strip_on device width)) (items_in turns)
 same_text device before old new id width turns first nothing live own waits fair =
     let is : Turns id old turns new = plain id old turns new own in
     let begin : State = start device.arch (strip_on device width) in
-    let kept : Kept old = run_keeps (empty device) before old first (IsService-empty device) in
+    let kept : Kept old = run_keeps (empty_service device) before old first (IsService-empty device) in
     let replied : AreAllReplied turns = are_replied id old turns new own kept (first_here device before old id width first nothing live) fair in
     let shows : Shows (state_after begin (own_events id before)) (own_exchanges id (calls_in turns)) = shows_after device before (calls_in turns) old new id width first (turns_run id old turns new is) live in
     turns_text id turns begin begin false old new is replied waits (record { alike = refl; rest = λ free. (refl, refl) }) (subst (λ events. Shows (state_after begin events) (own_exchanges id (calls_in turns))) nothing shows)

@@ -7,7 +7,7 @@ use Rattle.tenant_slot.specs.declared.command.Command.{Command as TenantCommand}
 use Rattle.tenant_slot.specs.declared.command.Command.TheVariants.{Status}
 use Rattle.tenant_slot.specs.declared.event.Event.{Event}
 use Rattle.tenant_slot.specs.declared.event.Event.TheVariants.{Command as Asked}
-use Rattle.tenant_slot.specs.SingleUser.{State, running, run}
+use Rattle.tenant_slot.specs.SingleUser.{State, kind_that_runs, run}
 use Rattle.tenant_slot.specs.Slot.{is_takeable}
 use Rattle.tenant_slot.proofs.Runs.{step-served}
 use Rattle.service_core.specs.declared.device.Device.{Device}
@@ -26,7 +26,7 @@ use Rattle.service_core.specs.OwnEvents.{own_events, own_replies}
 use Rattle.service_core.specs.Receipt.{Receipted}
 use Rattle.service_core.specs.Run.{Call, Happens, IsReceipt, Run}
 use Rattle.service_core.specs.Run.Call.{Admit, Evict, Move, Tenant, Take, Put, GiveBack, Owners}
-use Rattle.service_core.specs.Service.{IsAloneOn, ServiceState, empty, history_of, live_of, live_width, strip_on}
+use Rattle.service_core.specs.Service.{IsAloneOn, ServiceState, empty_service, history_of, live_of, live_width, strip_on}
 use Rattle.service_core.proofs.Alone.{each_alone}
 use Rattle.service_core.proofs.Effects.{Kept, kept_after, run_keeps}
 use Rattle.service_core.proofs.Keeps.{if_live_some}
@@ -63,22 +63,22 @@ AreAllReplied (Item line calls answer ∷ turns) = IsReplied line answer × AreA
 AreAllReplied (Meanwhile call ∷ turns) = AreAllReplied turns
 
 -- no job runs of a tenancy to which nothing happened
-idle_start : (device : Device) (before : List Call) (old : ServiceState) (id : ℕ) (h : History) → Run (empty device) before old → own_events id before ≡ [] → live_of old.histories id ≡ Some h → running (state_of h).name ≡ None
+idle_start : (device : Device) (before : List Call) (old : ServiceState) (id : ℕ) (h : History) → Run (empty_service device) before old → own_events id before ≡ [] → live_of old.histories id ≡ Some h → kind_that_runs (state_of h).name ≡ None
 idle_start device before old id h first nothing live =
     let was : history_of old.histories id ≡ Some h = if_live_some (history_of old.histories id) h live in
     let all : EachIsAlone device before old = each_alone device before old first in
     let P : Option History → Type 0 = λ o. IfSome o (λ x. (state_of x, own_replies id before) ≡ run device.arch (strip_on device x.strip.width) (own_events id before)) in
     let own : (state_of h, own_replies id before) ≡ run device.arch (strip_on device h.strip.width) (own_events id before) = subst P was (all id) in
-    ap (λ (p : State × List (Option Reply)). running p.0.name) own ∙ ap (λ (events : List Event). running (run device.arch (strip_on device h.strip.width) events).0.name) nothing
+    ap (λ (p : State × List (Option Reply)). kind_that_runs p.0.name) own ∙ ap (λ (events : List Event). kind_that_runs (run device.arch (strip_on device h.strip.width) events).0.name) nothing
 
 live_one : (o : Option History) (width : ℕ) → option_map (λ (h : History). h.strip.width) o ≡ Some width → (h : History) × (o ≡ Some h)
 live_one None width is = cc
 live_one (Some h) width is = (h, refl)
 
-pub first_here : (device : Device) (before : List Call) (old : ServiceState) (id width : ℕ) → Run (empty device) before old → own_events id before ≡ [] → live_width old.histories id ≡ Some width → IsHere old id
+pub first_here : (device : Device) (before : List Call) (old : ServiceState) (id width : ℕ) → Run (empty_service device) before old → own_events id before ≡ [] → live_width old.histories id ≡ Some width → IsHere old id
 first_here device before old id width first nothing live =
     let is = live_one (live_of old.histories id) width live in
-    let rests : running (state_of is.0).name ≡ None = idle_start device before old id is.0 first nothing is.1 in
+    let rests : kind_that_runs (state_of is.0).name ≡ None = idle_start device before old id is.0 first nothing is.1 in
     subst (λ o. IsSomeAnd o HasHere) (sym is.1) (ap (λ o. is_out (is_some o) is.0.here) rests)
 
 -- a command that is answered
@@ -138,8 +138,8 @@ status_replied old new id r kept here none is =
     let few : length h.entries ≤ 65536 = alone.replayed.few in
     let space : (state_of h).entries ≢ 65536 = (step-served (state_of h) (Asked Status) r.reply said.3).1 in
     let room : nat_lt (state_of h).entries 65536 ≡ true = grind (arith, nat_tests, count, few, space) in
-    let rests : is_some (running (state_of h).name) ≡ false = runs_not (is_some (running (state_of h).name)) (is_some h.here) (nat_lt (state_of h).entries 65536) room stuck at.2 in
-    rests_status (state_of h) r.reply said.3 (none_of (running (state_of h).name) rests)
+    let rests : is_some (kind_that_runs (state_of h).name) ≡ false = runs_not (is_some (kind_that_runs (state_of h).name)) (is_some h.here) (nat_lt (state_of h).entries 65536) room stuck at.2 in
+    rests_status (state_of h) r.reply said.3 (none_of (kind_that_runs (state_of h).name) rests)
 
 -- how a wait ends
 abbrev Ended : ServiceState → ℕ → Answer → Type 0

@@ -20,7 +20,7 @@ use Rattle.script_text.specs.declared.act.Act.{Act}
 use Rattle.script_text.specs.declared.act.Act.TheVariants.{Operator, Session}
 use Rattle.script_text.specs.declared.operator_line.OperatorLine.{OperatorLine}
 use Rattle.script_text.specs.Script.{Acts, acts_from, begins_text, form_by, form_in, form_of, is_name, operator_form, operator_line, session_form, with_act, with_line, without_blanks}
-use Rattle.script_text.specs.Threaded.{Heard, Parts, Said, Threaded, Within, behind_word, ended, heard, hears_form, is_by_hand, nothing_said, threaded_from, with_input, with_operator, with_said}
+use Rattle.script_text.specs.Threaded.{Heard, Parts, Said, Threaded, Within, after_first_word, with_feed, heard_so_far, hears_form, is_by_hand, nothing_said, threaded_from, with_input, with_operator, with_said}
 use Rattle.script_text.specs.Threaded.Within.{Head, Script, Upload}
 use Rattle.workers_law.specs.SameScript.{IsReadTheSame, IsSameScript, input_of, items_by, lines_ahead, operator_lines}
 use Rattle.workers_law.proofs.Endings.{are_lines, behind_cr, one_behind, put_together}
@@ -30,7 +30,7 @@ abbrev first_word : List ℕ → List ℕ
 first_word line = before_first is_blank (without_blanks (without_cr line))
 
 abbrev after_word : List ℕ → List ℕ
-after_word line = without_cr (behind_word line)
+after_word line = without_cr (after_first_word line)
 
 form_is : (line : List ℕ) → form_of line ≡ form_by (first_word line) (after_word line)
 unfolding form_in
@@ -46,7 +46,7 @@ next_of name (LineAsks item) = Script
 next_of name (LineBegins kind) = Upload name
 
 abbrev said_if : Bool → Bool → LineForm → List ℕ → List ℕ → List ℕ → (Within → List (List ℕ)) → List (List ℕ)
-said_if comment session form name other line more = if comment then more Script else if session then added (bytes_eq name other) (behind_word line) (more (next_of other form)) else more Script
+said_if comment session form name other line more = if comment then more Script else if session then added (bytes_eq name other) (after_first_word line) (more (next_of other form)) else more Script
 
 abbrev said_first : List ℕ → List ℕ → List ℕ → (Within → List (List ℕ)) → List (List ℕ)
 said_first [] name line more = more Script
@@ -135,22 +135,22 @@ record Reads (number : ℕ) (within : Within) (old : Parts) (lines : List (List 
   are : acts_from number (is_text within) lines ≡ Ok acts
   ahead : new.ahead ≡ old.ahead ++ ahead_if (is_empty old.sessions) acts
   rest : new.ahead ++ new.rest ≡ (old.ahead ++ old.rest) ++ operator_lines acts
-  inputs : (name : List ℕ) → input_of name new.sessions ≡ input_of name old.sessions ++ flat_map ended (said_lines name within lines)
+  inputs : (name : List ℕ) → input_of name new.sessions ≡ input_of name old.sessions ++ flat_map with_feed (said_lines name within lines)
   items : (name : List ℕ) → items_by name acts ≡ items_from (is_text_of name within) (said_lines name within lines)
 
 abbrev NoRest : Parts → Type 0
 NoRest parts = is_empty parts.sessions ≡ true → parts.rest ≡ []
 
 -- bytes that belong to a name
-ended_if : (t : Bool) (line : List ℕ) (more : List (List ℕ)) → flat_map ended (added t line more) ≡ bytes_if t (ended line) ++ flat_map ended more
+ended_if : (t : Bool) (line : List ℕ) (more : List (List ℕ)) → flat_map with_feed (added t line more) ≡ bytes_if t (with_feed line) ++ flat_map with_feed more
 ended_if true line more = refl
 ended_if false line more = refl
 
-said_inputs : (old : List Said) (name other line : List ℕ) (more : List (List ℕ)) (input : List ℕ) → input ≡ input_of name (with_input old other (ended line)) ++ flat_map ended more →
-    input ≡ input_of name old ++ flat_map ended (added (bytes_eq name other) line more)
+said_inputs : (old : List Said) (name other line : List ℕ) (more : List (List ℕ)) (input : List ℕ) → input ≡ input_of name (with_input old other (with_feed line)) ++ flat_map with_feed more →
+    input ≡ input_of name old ++ flat_map with_feed (added (bytes_eq name other) line more)
 said_inputs old name other line more input is =
     let t : Bool = bytes_eq name other in
-    is ∙ (ap (λ x. x ++ flat_map ended more) (more_input old name other (ended line)) ∙ (append_assoc (input_of name old) (bytes_if t (ended line)) (flat_map ended more) ∙ ap (λ x. input_of name old ++ x) (sym (ended_if t line more))))
+    is ∙ (ap (λ x. x ++ flat_map with_feed more) (more_input old name other (with_feed line)) ∙ (append_assoc (input_of name old) (bytes_if t (with_feed line)) (flat_map with_feed more) ∙ ap (λ x. input_of name old ++ x) (sym (ended_if t line more))))
 
 -- the text of a name is the same among its own lines
 text_if : (name other line : List ℕ) (lines : List (List ℕ)) (t : Bool) → text_ahead (said_lines name (Upload other) lines) ≡ text_ahead lines →
@@ -223,19 +223,19 @@ record Step (old new : Parts) (read : Acts) (said : List ℕ → List (List ℕ)
   are : read ≡ Ok acts
   ahead : new.ahead ≡ old.ahead ++ ahead_if (is_empty old.sessions) acts
   rest : new.ahead ++ new.rest ≡ (old.ahead ++ old.rest) ++ operator_lines acts
-  inputs : (name : List ℕ) → input_of name new.sessions ≡ input_of name old.sessions ++ flat_map ended (said name)
+  inputs : (name : List ℕ) → input_of name new.sessions ≡ input_of name old.sessions ++ flat_map with_feed (said name)
   items : (name : List ℕ) → items_by name acts ≡ items_from false (said name)
 
 abbrev Later : ℕ → List (List ℕ) → Parts → Type 0
-Later number lines new = (within : Within) (mid : Parts) → IsFine within mid → threaded_from (number + 1) (heard mid within) lines ≡ Ok new → Reads (number + 1) within mid lines new
+Later number lines new = (within : Within) (mid : Parts) → IsFine within mid → threaded_from (number + 1) (heard_so_far mid within) lines ≡ Ok new → Reads (number + 1) within mid lines new
 
-skipped : (number : ℕ) (old : Parts) (lines : List (List ℕ)) (new : Parts) → NoRest old → Later number lines new → threaded_from (number + 1) (heard old Script) lines ≡ Ok new → Step old new (acts_from (number + 1) false lines) (λ name. said_lines name Script lines)
+skipped : (number : ℕ) (old : Parts) (lines : List (List ℕ)) (new : Parts) → NoRest old → Later number lines new → threaded_from (number + 1) (heard_so_far old Script) lines ≡ Ok new → Step old new (acts_from (number + 1) false lines) (λ name. said_lines name Script lines)
 skipped number old lines new fine later goes =
     let r = later Script old fine goes in
     record { acts = r.acts; are = r.are; ahead = r.ahead; rest = r.rest; inputs = r.inputs; items = r.items }
 
 operator_step : (number : ℕ) (old : Parts) (lines : List (List ℕ)) (new : Parts) (asked : OperatorLine (List ℕ)) → NoRest old → Later number lines new → (t : Bool) → is_empty old.sessions ≡ t →
-    threaded_from (number + 1) (heard (if t then record old { ahead = old.ahead ++ asked ∷ [] } else record old { rest = old.rest ++ asked ∷ [] }) Script) lines ≡ Ok new → Step old new (with_act (Operator asked) (acts_from (number + 1) false lines)) (λ name. said_lines name Script lines)
+    threaded_from (number + 1) (heard_so_far (if t then record old { ahead = old.ahead ++ asked ∷ [] } else record old { rest = old.rest ++ asked ∷ [] }) Script) lines ≡ Ok new → Step old new (with_act (Operator asked) (acts_from (number + 1) false lines)) (λ name. said_lines name Script lines)
 operator_step number old lines new asked fine later true none goes =
     let mid : Parts = record old { ahead = old.ahead ++ asked ∷ [] } in
     let r = later Script mid (λ empty. fine empty) goes in
@@ -261,28 +261,28 @@ operator_step number old lines new asked fine later false some goes =
       items = r.items;
     }
 
-hand_step : (number : ℕ) (old : Parts) (lines : List (List ℕ)) (new : Parts) (asked : OperatorLine (List ℕ)) → NoRest old → Later number lines new → (t : Bool) → Hears number (if t then None else Some (heard (with_operator old asked) Script)) lines ≡ Ok new →
+hand_step : (number : ℕ) (old : Parts) (lines : List (List ℕ)) (new : Parts) (asked : OperatorLine (List ℕ)) → NoRest old → Later number lines new → (t : Bool) → Hears number (if t then None else Some (heard_so_far (with_operator old asked) Script)) lines ≡ Ok new →
     Step old new (with_act (Operator asked) (acts_from (number + 1) false lines)) (λ name. said_lines name Script lines)
 hand_step number old lines new asked fine later true never = cc
 hand_step number old lines new asked fine later false goes = operator_step number old lines new asked fine later (is_empty old.sessions) refl goes
 
 session_step : (number : ℕ) (old : Parts) (line : List ℕ) (lines : List (List ℕ)) (new : Parts) (other : List ℕ) → NoRest old → Later number lines new → (form : LineForm) → line_form (after_word line) ≡ form →
-    Hears number (hears_form old (session_form other form) line) lines ≡ Ok new → Step old new (with_line number (session_form other form) lines (acts_from (number + 1) (begins_text (session_form other form)) lines)) (λ name. added (bytes_eq name other) (behind_word line) (said_lines name (next_of other form) lines))
+    Hears number (hears_form old (session_form other form) line) lines ≡ Ok new → Step old new (with_line number (session_form other form) lines (acts_from (number + 1) (begins_text (session_form other form)) lines)) (λ name. added (bytes_eq name other) (after_first_word line) (said_lines name (next_of other form) lines))
 session_step number old line lines new other fine later (LineAsks item) e goes =
-    let mid : Parts = with_said old other (ended (behind_word line)) in
-    let some : is_empty mid.sessions ≡ false = never_empty old.sessions other (ended (behind_word line)) in
+    let mid : Parts = with_said old other (with_feed (after_first_word line)) in
+    let some : is_empty mid.sessions ≡ false = never_empty old.sessions other (with_feed (after_first_word line)) in
     let r = later Script mid (no_rest mid some) goes in
     record {
       acts = Session other item ∷ r.acts;
       are = ap (with_act (Session other item)) r.are;
       ahead = r.ahead ∙ (ap (λ b. old.ahead ++ ahead_if b r.acts) some ∙ ap (λ x. old.ahead ++ x) (sym (none_ahead (is_empty old.sessions) other item r.acts)));
       rest = r.rest;
-      inputs = λ name. said_inputs old.sessions name other (behind_word line) (said_lines name Script lines) (input_of name new.sessions) (r.inputs name);
-      items = λ name. asked_items (bytes_eq name other) item (behind_word line) (said_lines name Script lines) (items_by name r.acts) e (r.items name);
+      inputs = λ name. said_inputs old.sessions name other (after_first_word line) (said_lines name Script lines) (input_of name new.sessions) (r.inputs name);
+      items = λ name. asked_items (bytes_eq name other) item (after_first_word line) (said_lines name Script lines) (items_by name r.acts) e (r.items name);
     }
 session_step number old line lines new other fine later (LineBegins kind) e goes =
-    let mid : Parts = with_said old other (ended (behind_word line)) in
-    let some : is_empty mid.sessions ≡ false = never_empty old.sessions other (ended (behind_word line)) in
+    let mid : Parts = with_said old other (with_feed (after_first_word line)) in
+    let some : is_empty mid.sessions ≡ false = never_empty old.sessions other (with_feed (after_first_word line)) in
     let r = later (Upload other) mid some goes in
     let item : SessionLine = text_item kind (text_ahead lines) in
     record {
@@ -290,8 +290,8 @@ session_step number old line lines new other fine later (LineBegins kind) e goes
       are = ap (with_act (Session other item)) r.are;
       ahead = r.ahead ∙ (ap (λ b. old.ahead ++ ahead_if b r.acts) some ∙ ap (λ x. old.ahead ++ x) (sym (none_ahead (is_empty old.sessions) other item r.acts)));
       rest = r.rest;
-      inputs = λ name. said_inputs old.sessions name other (behind_word line) (said_lines name (Upload other) lines) (input_of name new.sessions) (r.inputs name);
-      items = λ name. begun_items (bytes_eq name other) kind (text_ahead lines) (behind_word line) (said_lines name (Upload other) lines) (items_by name r.acts) e (λ own. same_text name other own lines) (r.items name);
+      inputs = λ name. said_inputs old.sessions name other (after_first_word line) (said_lines name (Upload other) lines) (input_of name new.sessions) (r.inputs name);
+      items = λ name. begun_items (bytes_eq name other) kind (text_ahead lines) (after_first_word line) (said_lines name (Upload other) lines) (items_by name r.acts) e (λ own. same_text name other own lines) (r.items name);
     }
 
 asked_step : (number : ℕ) (old : Parts) (line : List ℕ) (lines : List (List ℕ)) (new : Parts) → NoRest old → Later number lines new → (asked : Option (OperatorLine (List ℕ))) → Hears number (hears_form old (operator_form asked) line) lines ≡ Ok new →
@@ -314,26 +314,26 @@ by_first number old line lines new fine later [] goes = skipped number old lines
 by_first number old line lines new fine later (b ∷ other) goes =
     by_tests number old line lines new other fine later (b == 35) (b == 64) (is_name other) (bytes_eq (b ∷ other) (codes "op")) (line_form (after_word line)) (operator_line (words_of (after_word line))) refl goes
 
-head_line : (number : ℕ) (old : Parts) (line : List ℕ) (lines : List (List ℕ)) (new : Parts) (t : Bool) → ends_text line ≡ t → ((within : Within) → IsFine within old × (threaded_from (number + 1) (heard old within) lines ≡ Ok new) → Reads (number + 1) within old lines new) → NoRest old →
-    threaded_from (number + 1) (heard old (if ends_text line then Script else Head)) lines ≡ Ok new → Reads number Head old (line ∷ lines) new
+head_line : (number : ℕ) (old : Parts) (line : List ℕ) (lines : List (List ℕ)) (new : Parts) (t : Bool) → ends_text line ≡ t → ((within : Within) → IsFine within old × (threaded_from (number + 1) (heard_so_far old within) lines ≡ Ok new) → Reads (number + 1) within old lines new) → NoRest old →
+    threaded_from (number + 1) (heard_so_far old (if ends_text line then Script else Head)) lines ≡ Ok new → Reads number Head old (line ∷ lines) new
 head_line number old line lines new true e later fine goes =
-    let r = later Script (fine, ap (λ b. threaded_from (number + 1) (heard old (if b then Script else Head)) lines) (sym e) ∙ goes) in
+    let r = later Script (fine, ap (λ b. threaded_from (number + 1) (heard_so_far old (if b then Script else Head)) lines) (sym e) ∙ goes) in
     record {
       acts = r.acts;
       are = ap (λ b. acts_from (number + 1) (not b) lines) e ∙ r.are;
       ahead = r.ahead;
       rest = r.rest;
-      inputs = λ name. r.inputs name ∙ ap (λ b. input_of name old.sessions ++ flat_map ended (said_lines name (within_text b Head) lines)) (sym e);
+      inputs = λ name. r.inputs name ∙ ap (λ b. input_of name old.sessions ++ flat_map with_feed (said_lines name (within_text b Head) lines)) (sym e);
       items = λ name. r.items name ∙ ap (λ b. items_from false (said_lines name (within_text b Head) lines)) (sym e);
     }
 head_line number old line lines new false e later fine goes =
-    let r = later Head (fine, ap (λ b. threaded_from (number + 1) (heard old (if b then Script else Head)) lines) (sym e) ∙ goes) in
+    let r = later Head (fine, ap (λ b. threaded_from (number + 1) (heard_so_far old (if b then Script else Head)) lines) (sym e) ∙ goes) in
     record {
       acts = r.acts;
       are = ap (λ b. acts_from (number + 1) (not b) lines) e ∙ r.are;
       ahead = r.ahead;
       rest = r.rest;
-      inputs = λ name. r.inputs name ∙ ap (λ b. input_of name old.sessions ++ flat_map ended (said_lines name (within_text b Head) lines)) (sym e);
+      inputs = λ name. r.inputs name ∙ ap (λ b. input_of name old.sessions ++ flat_map with_feed (said_lines name (within_text b Head) lines)) (sym e);
       items = λ name. r.items name ∙ ap (λ b. items_from false (said_lines name (within_text b Head) lines)) (sym e);
     }
 
@@ -341,15 +341,15 @@ is_read : (number : ℕ) (other line : List ℕ) (lines : List (List ℕ)) (t : 
 is_read number other line lines true e = sym (ap (λ b. acts_from (number + 1) (not b) lines) e)
 is_read number other line lines false e = sym (ap (λ b. acts_from (number + 1) (not b) lines) e)
 
-from_mid : (number : ℕ) (other : List ℕ) (old : Parts) (line : List ℕ) (lines : List (List ℕ)) (new : Parts) → is_empty old.sessions ≡ false → (t : Bool) → ends_text line ≡ t → Reads (number + 1) (within_text t (Upload other)) (with_said old other (ended line)) lines new →
+from_mid : (number : ℕ) (other : List ℕ) (old : Parts) (line : List ℕ) (lines : List (List ℕ)) (new : Parts) → is_empty old.sessions ≡ false → (t : Bool) → ends_text line ≡ t → Reads (number + 1) (within_text t (Upload other)) (with_said old other (with_feed line)) lines new →
     Reads number (Upload other) old (line ∷ lines) new
 from_mid number other old line lines new fine t e r = record {
   acts = r.acts;
   are = sym (is_read number other line lines t e) ∙ r.are;
-  ahead = r.ahead ∙ ap (λ b. old.ahead ++ ahead_if b r.acts) (never_empty old.sessions other (ended line) ∙ sym fine);
+  ahead = r.ahead ∙ ap (λ b. old.ahead ++ ahead_if b r.acts) (never_empty old.sessions other (with_feed line) ∙ sym fine);
   rest = r.rest;
   inputs = λ name. said_inputs old.sessions name other line (said_lines name (within_text (ends_text line) (Upload other)) lines) (input_of name new.sessions)
-      (r.inputs name ∙ ap (λ b. input_of name (with_input old.sessions other (ended line)) ++ flat_map ended (said_lines name (within_text b (Upload other)) lines)) (sym e));
+      (r.inputs name ∙ ap (λ b. input_of name (with_input old.sessions other (with_feed line)) ++ flat_map with_feed (said_lines name (within_text b (Upload other)) lines)) (sym e));
   items = λ name.
       let more : List (List ℕ) = said_lines name (within_text (ends_text line) (Upload other)) lines in
       text_items (bytes_eq name other) t line more (items_by name r.acts) e
@@ -357,16 +357,16 @@ from_mid number other old line lines new fine t e r = record {
 }
 
 text_line : (number : ℕ) (other : List ℕ) (old : Parts) (line : List ℕ) (lines : List (List ℕ)) (new : Parts) → is_empty old.sessions ≡ false → (t : Bool) → ends_text line ≡ t →
-    ((within : Within) → IsFine within (with_said old other (ended line)) → threaded_from (number + 1) (heard (with_said old other (ended line)) within) lines ≡ Ok new → Reads (number + 1) within (with_said old other (ended line)) lines new) →
-    threaded_from (number + 1) (heard (with_said old other (ended line)) (if ends_text line then Script else Upload other)) lines ≡ Ok new → Reads number (Upload other) old (line ∷ lines) new
+    ((within : Within) → IsFine within (with_said old other (with_feed line)) → threaded_from (number + 1) (heard_so_far (with_said old other (with_feed line)) within) lines ≡ Ok new → Reads (number + 1) within (with_said old other (with_feed line)) lines new) →
+    threaded_from (number + 1) (heard_so_far (with_said old other (with_feed line)) (if ends_text line then Script else Upload other)) lines ≡ Ok new → Reads number (Upload other) old (line ∷ lines) new
 text_line number other old line lines new fine true e later goes =
-    let mid : Parts = with_said old other (ended line) in
-    from_mid number other old line lines new fine true e (later Script (no_rest mid (never_empty old.sessions other (ended line))) (ap (λ b. threaded_from (number + 1) (heard mid (if b then Script else Upload other)) lines) (sym e) ∙ goes))
+    let mid : Parts = with_said old other (with_feed line) in
+    from_mid number other old line lines new fine true e (later Script (no_rest mid (never_empty old.sessions other (with_feed line))) (ap (λ b. threaded_from (number + 1) (heard_so_far mid (if b then Script else Upload other)) lines) (sym e) ∙ goes))
 text_line number other old line lines new fine false e later goes =
-    let mid : Parts = with_said old other (ended line) in
-    from_mid number other old line lines new fine false e (later (Upload other) (never_empty old.sessions other (ended line)) (ap (λ b. threaded_from (number + 1) (heard mid (if b then Script else Upload other)) lines) (sym e) ∙ goes))
+    let mid : Parts = with_said old other (with_feed line) in
+    from_mid number other old line lines new fine false e (later (Upload other) (never_empty old.sessions other (with_feed line)) (ap (λ b. threaded_from (number + 1) (heard_so_far mid (if b then Script else Upload other)) lines) (sym e) ∙ goes))
 
-reads : (number : ℕ) (within : Within) (old : Parts) (lines : List (List ℕ)) (new : Parts) → IsFine within old → threaded_from number (heard old within) lines ≡ Ok new → Reads number within old lines new
+reads : (number : ℕ) (within : Within) (old : Parts) (lines : List (List ℕ)) (new : Parts) → IsFine within old → threaded_from number (heard_so_far old within) lines ≡ Ok new → Reads number within old lines new
 reads number within old [] new fine is = let same : old ≡ new = cc in subst (Reads number within old []) same (record {
   acts = [];
   are = refl;
@@ -376,7 +376,7 @@ reads number within old [] new fine is = let same : old ≡ new = cc in subst (R
   items = λ name. refl;
 })
 reads number Head old (line ∷ lines) new fine is = head_line number old line lines new (ends_text line) refl (λ within goes. reads (number + 1) within old lines new goes.0 goes.1) fine is
-reads number (Upload other) old (line ∷ lines) new fine is = text_line number other old line lines new fine (ends_text line) refl (λ within well goes. reads (number + 1) within (with_said old other (ended line)) lines new well goes) is
+reads number (Upload other) old (line ∷ lines) new fine is = text_line number other old line lines new fine (ends_text line) refl (λ within well goes. reads (number + 1) within (with_said old other (with_feed line)) lines new well goes) is
 reads number Script old (line ∷ lines) new fine is =
     let goes : Hears number (hears_form old (form_by (first_word line) (after_word line)) line) lines ≡ Ok new = ap (λ f. Hears number (hears_form old f line) lines) (sym (form_is line)) ∙ is in
     let step = by_first number old line lines new fine (λ within mid well more. reads (number + 1) within mid lines new well more) (first_word line) goes in
@@ -396,7 +396,7 @@ added_one false line more one rest = rest
 
 if_one : (comment session : Bool) (form : LineForm) (name other line : List ℕ) (more : Within → List (List ℕ)) → is_one_line line ≡ true → ((next : Within) → list_all is_one_line (more next) ≡ true) → list_all is_one_line (said_if comment session form name other line more) ≡ true
 if_one true session form name other line more one rest = rest Script
-if_one false true form name other line more one rest = added_one (bytes_eq name other) (behind_word line) (more (next_of other form)) (one_behind line one) (rest (next_of other form))
+if_one false true form name other line more one rest = added_one (bytes_eq name other) (after_first_word line) (more (next_of other form)) (one_behind line one) (rest (next_of other form))
 if_one false false form name other line more one rest = rest Script
 
 first_one : (first name line : List ℕ) (more : Within → List (List ℕ)) → is_one_line line ≡ true → ((next : Within) → list_all is_one_line (more next) ≡ true) → list_all is_one_line (said_first first name line more) ≡ true

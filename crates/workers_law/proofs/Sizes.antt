@@ -5,8 +5,8 @@ use Rattle.std.proofs.lemmas.Bool.Decides.{nat_tests}
 use Rattle.grid.specs.declared.Strip.{Strip}
 use Rattle.service_core.specs.History.{History, with_entry, with_here}
 use Rattle.service_core.specs.Run.{Call, Run}
-use Rattle.service_core.specs.Service.{ServiceState, admitted, history_of, modified}
-use Rattle.service_core.specs.Tenancy.{closed}
+use Rattle.service_core.specs.Service.{ServiceState, admitted_history, history_of, with_changed}
+use Rattle.service_core.specs.Tenancy.{closed_history}
 use Rattle.service_core.proofs.Effects.{Admitted, Effect, Entered, Evicted, Moved, Nothing, Turned, effect}
 use Rattle.service_core.proofs.Lists.{history_of-modified, history_of-past, history_of-push}
 
@@ -21,7 +21,7 @@ changed : (strip : Strip) (change : History → History) → ((h : History) → 
 changed strip change keeps None is = is
 changed strip change keeps (Some h) is = keeps h ∙ is
 
-modified_sized : (strip : Strip) (hs : List History) (t id : ℕ) (change : History → History) → ((h : History) → (change h).strip ≡ h.strip) → HasStrip strip (history_of hs id) → HasStrip strip (history_of (modified hs t change) id)
+modified_sized : (strip : Strip) (hs : List History) (t id : ℕ) (change : History → History) → ((h : History) → (change h).strip ≡ h.strip) → HasStrip strip (history_of hs id) → HasStrip strip (history_of (with_changed hs t change) id)
 modified_sized strip hs t id change keeps is = rw (history_of-modified hs t id change) (by_test (eqb id t))
   where
     by_test : (b : Bool) → HasStrip strip (if b then option_map change (history_of hs id) else history_of hs id)
@@ -40,8 +40,8 @@ pushed_sized strip hs h id is = rw (history_of-push hs h id) (by_id (eqb id (len
 
 sized : (strip : Strip) (old new : ServiceState) (id : ℕ) → Effect old new → IsSized strip old id → IsSized strip new id
 sized strip old new id (Nothing same) is = rw same is
-sized strip old new id (Admitted width offset can fits made) is = rw made (pushed_sized strip old.histories (admitted old.device (length old.histories + 1) width) id is)
-sized strip old new id (Evicted t made) is = rw made (modified_sized strip old.histories t id closed (λ h. refl) is)
+sized strip old new id (Admitted width offset can fits made) is = rw made (pushed_sized strip old.histories (admitted_history old.device (length old.histories + 1) width) id is)
+sized strip old new id (Evicted t made) is = rw made (modified_sized strip old.histories t id closed_history (λ h. refl) is)
 sized strip old new id (Moved t offset parted made) is = rw made is
 sized strip old new id (Entered t e h next made) is = rw made (modified_sized strip old.histories t id (with_entry e) (λ h. refl) is)
 sized strip old new id (Turned t here made) is = rw made (modified_sized strip old.histories t id (with_here here) (λ h. refl) is)

@@ -23,10 +23,10 @@ use Rattle.tenant_slot.specs.declared.reply.StateName.{StateName}
 use Rattle.tenant_slot.specs.declared.reply.StateName.TheVariants.{Empty, Loaded, Packing, Packed, Placing, Placed, Routing, Routed, Unrouted}
 use Rattle.tenant_slot.specs.declared.reply.StepReply.TheVariants.{Advanced, Finished, Stale}
 use Rattle.tenant_slot.specs.Results.{failure_of}
-use Rattle.tenant_slot.specs.SingleUser.{State, advance, after, answer_to, at_rest, circuit_in, finished, is_lawful, is_next, misfit_of, pack_unless, place, place_unless, routed_unless, running, serve, sources_of, step, with_circuit}
+use Rattle.tenant_slot.specs.SingleUser.{State, advance, after_reply, answer_to, at_rest, circuit_in, state_at_end, is_lawful, is_next, misfit_of, pack_unless, place, place_unless, routed_unless, kind_that_runs, serve, sources_of, step, with_circuit}
 use Rattle.tenant_slot.proofs.Runs.{step-room, step-served}
 use Rattle.session_threads.specs.Told.{IsAtRest}
-use Rattle.workers_law.specs.Waited.{after_command, begins_job, ended}
+use Rattle.workers_law.specs.Waited.{after_command, begins_job, after_last_step}
 
 -- a state with that number of entries, and an answer in it
 abbrev pub counting : State → ℕ → State
@@ -86,7 +86,7 @@ routed-counts : (t : State) (n : ℕ) (o : Option RoutingFailure) → routed_unl
 routed-counts t n None = refl
 routed-counts t n (Some failure) = refl
 
-finished-counts : (t : State) (n : ℕ) (kind : JobKind) → finished (counting t n) kind ≡ counting (finished t kind) n
+finished-counts : (t : State) (n : ℕ) (kind : JobKind) → state_at_end (counting t n) kind ≡ counting (state_at_end t kind) n
 finished-counts t n PackingJob = refl
 finished-counts t n PlacingJob = refl
 finished-counts t n RoutingJob = routed-counts t n (failure_of (end_value (sources_of t RoutingJob)))
@@ -95,32 +95,32 @@ routed-stepped : (t : State) (k : ℕ) (o : Option RoutingFailure) → routed_un
 routed-stepped t k None = refl
 routed-stepped t k (Some failure) = refl
 
-finished-stepped : (t : State) (k : ℕ) (kind : JobKind) → finished (record t { steps = k }) kind ≡ finished t kind
+finished-stepped : (t : State) (k : ℕ) (kind : JobKind) → state_at_end (record t { steps = k }) kind ≡ state_at_end t kind
 finished-stepped t k PackingJob = refl
 finished-stepped t k PlacingJob = refl
 finished-stepped t k RoutingJob = routed-stepped t k (failure_of (end_value (sources_of t RoutingJob)))
 
-routed-rests : (t : State) (o : Option RoutingFailure) → running (routed_unless t o).name ≡ None
+routed-rests : (t : State) (o : Option RoutingFailure) → kind_that_runs (routed_unless t o).name ≡ None
 routed-rests t None = refl
 routed-rests t (Some failure) = refl
 
-finished-rests : (t : State) (kind : JobKind) → running (finished t kind).name ≡ None
+finished-rests : (t : State) (kind : JobKind) → kind_that_runs (state_at_end t kind).name ≡ None
 finished-rests t PackingJob = refl
 finished-rests t PlacingJob = refl
 finished-rests t RoutingJob = routed-rests t (failure_of (end_value (sources_of t RoutingJob)))
 
 -- the state after the last step
 abbrev ended_by : State → Option JobKind → State
-ended_by t o = option_map_or (finished t) o t
+ended_by t o = option_map_or (state_at_end t) o t
 
 ended_by-counts : (t : State) (n : ℕ) (o : Option JobKind) → ended_by (counting t n) o ≡ counting (ended_by t o) n
 ended_by-counts t n None = refl
 ended_by-counts t n (Some kind) = finished-counts t n kind
 
-pub ended-counts : (t : State) (n : ℕ) → ended (counting t n) ≡ counting (ended t) n
-ended-counts t n = ended_by-counts t n (running t.name)
+pub ended-counts : (t : State) (n : ℕ) → after_last_step (counting t n) ≡ counting (after_last_step t) n
+ended-counts t n = ended_by-counts t n (kind_that_runs t.name)
 
-pub ended-rests : (t : State) → running t.name ≡ None → ended t ≡ t
+pub ended-rests : (t : State) → kind_that_runs t.name ≡ None → after_last_step t ≡ t
 ended-rests t rests = ap (ended_by t) rests
 
 -- two states are alike but for their entries
@@ -136,11 +136,11 @@ alike-trans s t u one other = one ∙ ap (λ (x : State). counting x s.entries) 
 pub alike-name : (s t : State) → AreAlike s t → s.name ≡ t.name
 alike-name s t is = ap (λ (x : State). x.name) is
 
-pub alike-ended : (s t : State) → AreAlike s t → AreAlike (ended s) (ended t)
-alike-ended s t is = alike-by (ended s) (ended t) s.entries (ap ended is ∙ ended-counts t s.entries)
+pub alike-ended : (s t : State) → AreAlike s t → AreAlike (after_last_step s) (after_last_step t)
+alike-ended s t is = alike-by (after_last_step s) (after_last_step t) s.entries (ap after_last_step is ∙ ended-counts t s.entries)
 
 -- a command
-changed-counts : (s t : State) (n : ℕ) (o : Option State) → s ≡ counting t n → (after s (option_map (λ u. counting u n) o)) ≡ counting (unwrap_or o t) (s.entries + 1)
+changed-counts : (s t : State) (n : ℕ) (o : Option State) → s ≡ counting t n → (after_reply s (option_map (λ u. counting u n) o)) ≡ counting (unwrap_or o t) (s.entries + 1)
 changed-counts s t n None is = ap (λ (x : State). counting x (s.entries + 1)) is
 changed-counts s t n (Some u) is = refl
 
@@ -153,50 +153,50 @@ asked_alike s t command reply is told =
     let answers : answer_to s (Asked command) ≡ lifted s.entries (answer_to t (Asked command)) = ap (λ (x : State). answer_to x (Asked command)) is ∙ asked-counts t s.entries command in
     let same : Some reply ≡ Some (answer_to t (Asked command)).1 = sym told ∙ (ap (λ (p : State × Option Reply). p.1) both ∙ ap (λ (a : Answer). Some a.1) answers) in
     let left : (step s (Asked command)).0 ≡ counting (after_command t command) (s.entries + 1) =
-    ap (λ (p : State × Option Reply). p.0) both ∙ (ap (λ (a : Answer). after s a.0) answers ∙ changed-counts s t s.entries (answer_to t (Asked command)).0 is) in
+    ap (λ (p : State × Option Reply). p.0) both ∙ (ap (λ (a : Answer). after_reply s a.0) answers ∙ changed-counts s t s.entries (answer_to t (Asked command)).0 is) in
     (cc, alike-by (step s (Asked command)).0 (after_command t command) (s.entries + 1) left)
 
 -- a step that was made
 abbrev StepAnswer : State → JobKind → Bool → Bool → Answer
-StepAnswer s kind next last = if next then (if last then (Some (finished s kind), Step Finished) else (Some (record s { steps = s.steps + 1 }), Step Advanced)) else (None, Step Stale)
+StepAnswer s kind next last = if next then (if last then (Some (state_at_end s kind), Step Finished) else (Some (record s { steps = s.steps + 1 }), Step Advanced)) else (None, Step Stale)
 
-kind-stepped : (s : State) (kind : JobKind) (next last : Bool) → running s.name ≡ Some kind → AreAlike (ended (after s (StepAnswer s kind next last).0)) (ended s)
-kind-stepped s kind false last is = alike-ended (after s None) s (alike-by (after s None) s (s.entries + 1) refl)
+kind-stepped : (s : State) (kind : JobKind) (next last : Bool) → kind_that_runs s.name ≡ Some kind → AreAlike (after_last_step (after_reply s (StepAnswer s kind next last).0)) (after_last_step s)
+kind-stepped s kind false last is = alike-ended (after_reply s None) s (alike-by (after_reply s None) s (s.entries + 1) refl)
 kind-stepped s kind true true is =
-    let f : State = finished s kind in
+    let f : State = state_at_end s kind in
     let n : ℕ = s.entries + 1 in
-    let whole : ended s ≡ f = ap (ended_by s) is in
-    alike-by (ended (counting f n)) (ended s) n (ended-counts f n ∙ ap (λ (x : State). counting x n) (ended-rests f (finished-rests s kind) ∙ sym whole))
+    let whole : after_last_step s ≡ f = ap (ended_by s) is in
+    alike-by (after_last_step (counting f n)) (after_last_step s) n (ended-counts f n ∙ ap (λ (x : State). counting x n) (ended-rests f (finished-rests s kind) ∙ sym whole))
 kind-stepped s kind true false is =
     let g : State = record s { steps = s.steps + 1 } in
     let n : ℕ = s.entries + 1 in
-    let whole : ended s ≡ finished s kind = ap (ended_by s) is in
-    let more : ended g ≡ finished s kind = ap (ended_by g) is ∙ finished-stepped s (s.steps + 1) kind in
-    alike-by (ended (counting g n)) (ended s) n (ended-counts g n ∙ ap (λ (x : State). counting x n) (more ∙ sym whole))
+    let whole : after_last_step s ≡ state_at_end s kind = ap (ended_by s) is in
+    let more : after_last_step g ≡ state_at_end s kind = ap (ended_by g) is ∙ finished-stepped s (s.steps + 1) kind in
+    alike-by (after_last_step (counting g n)) (after_last_step s) n (ended-counts g n ∙ ap (λ (x : State). counting x n) (more ∙ sym whole))
 
-advance-alike : (s : State) (made : Advance) (o : Option JobKind) → running s.name ≡ o → AreAlike (ended (after s (advance s made o).0)) (ended s)
-advance-alike s made None is = alike-ended (after s None) s (alike-by (after s None) s (s.entries + 1) refl)
+advance-alike : (s : State) (made : Advance) (o : Option JobKind) → kind_that_runs s.name ≡ o → AreAlike (after_last_step (after_reply s (advance s made o).0)) (after_last_step s)
+advance-alike s made None is = alike-ended (after_reply s None) s (alike-by (after_reply s None) s (s.entries + 1) refl)
 advance-alike s made (Some kind) is = kind-stepped s kind (is_next s made) (is_last (sources_of s kind) (s.steps + 1)) is
 
 abbrev StepIf : State → Advance → Bool → State × Option Reply
-StepIf s made full = if full then (s, None) else (after s (answer_to s (Stepped made)).0, Some (answer_to s (Stepped made)).1)
+StepIf s made full = if full then (s, None) else (after_reply s (answer_to s (Stepped made)).0, Some (answer_to s (Stepped made)).1)
 
-pub stepped_alike : (s : State) (made : Advance) → AreAlike (ended (step s (Stepped made)).0) (ended s)
+pub stepped_alike : (s : State) (made : Advance) → AreAlike (after_last_step (step s (Stepped made)).0) (after_last_step s)
 stepped_alike s made = by_test (eqb s.entries 65536)
   where
-    by_test : (b : Bool) → AreAlike (ended (StepIf s made b).0) (ended s)
+    by_test : (b : Bool) → AreAlike (after_last_step (StepIf s made b).0) (after_last_step s)
     by_test true = refl
-    by_test false = advance-alike s made (running s.name) refl
+    by_test false = advance-alike s made (kind_that_runs s.name) refl
 
-pub stepped_rests : (s : State) (made : Advance) → running s.name ≡ None → running (step s (Stepped made)).0.name ≡ None
+pub stepped_rests : (s : State) (made : Advance) → kind_that_runs s.name ≡ None → kind_that_runs (step s (Stepped made)).0.name ≡ None
 stepped_rests s made rests = by_test (eqb s.entries 65536)
   where
-    by_test : (b : Bool) → running (StepIf s made b).0.name ≡ None
+    by_test : (b : Bool) → kind_that_runs (StepIf s made b).0.name ≡ None
     by_test true = rests
-    by_test false = ap (λ o. running (after s (advance s made o).0).name) rests ∙ rests
+    by_test false = ap (λ o. kind_that_runs (after_reply s (advance s made o).0).name) rests ∙ rests
 
 -- a command that begins no job leaves none running
-at_rest-rests : (name : StateName) → running (at_rest name) ≡ None
+at_rest-rests : (name : StateName) → kind_that_runs (at_rest name) ≡ None
 at_rest-rests Empty = refl
 at_rest-rests Loaded = refl
 at_rest-rests Packing = refl
@@ -208,13 +208,13 @@ at_rest-rests Routed = refl
 at_rest-rests Unrouted = refl
 
 abbrev Rests : State → Option State → Type 0
-Rests t o = running (unwrap_or o t).name ≡ None
+Rests t o = kind_that_runs (unwrap_or o t).name ≡ None
 
-circuit-rests : (t : State) (r : Result Circuit BlifFault) (leads : Circuit → Answer) → running t.name ≡ None → ((c : Circuit) → Rests t (leads c).0) → Rests t (with_circuit r leads).0
+circuit-rests : (t : State) (r : Result Circuit BlifFault) (leads : Circuit → Answer) → kind_that_runs t.name ≡ None → ((c : Circuit) → Rests t (leads c).0) → Rests t (with_circuit r leads).0
 circuit-rests t (Ok circuit) leads rests each = each circuit
 circuit-rests t (Err fault) leads rests each = rests
 
-serve-rests : (t : State) (command : Command) → running t.name ≡ None → begins_job command ≡ false → Rests t (serve t command).0
+serve-rests : (t : State) (command : Command) → kind_that_runs t.name ≡ None → begins_job command ≡ false → Rests t (serve t command).0
 serve-rests t (Upload text) rests none = circuit-rests t (circuit_of text t.arch.lut_size) _ rests (λ circuit. refl)
 serve-rests t (Change text) rests none = circuit-rests t (circuit_of text t.arch.lut_size) _ rests (λ circuit. refl)
 serve-rests t Pack rests none = cc
@@ -230,7 +230,7 @@ serve-rests t RouteFile rests none = rests
 abbrev ServeIf : State → Command → Bool → Answer
 ServeIf t command lawful = if lawful then serve t command else (None, Refused (WrongState t.name))
 
-pub command_rests : (t : State) (command : Command) → running t.name ≡ None → begins_job command ≡ false → running (after_command t command).name ≡ None
+pub command_rests : (t : State) (command : Command) → kind_that_runs t.name ≡ None → begins_job command ≡ false → kind_that_runs (after_command t command).name ≡ None
 command_rests t command rests none = by_test (is_lawful t.name command)
   where
     by_test : (b : Bool) → Rests t (ServeIf t command b).0
@@ -257,8 +257,8 @@ status_reply s reply told =
     let same : Some reply ≡ Some (serve s Status).1 = sym told ∙ (ap (λ (p : State × Option Reply). p.1) both ∙ ap (λ (a : Answer). Some a.1) served) in
     cc
 
-pub status_rests : (s : State) (reply : Reply) → (step s (Asked Status)).1 ≡ Some reply → IsAtRest reply → running s.name ≡ None
+pub status_rests : (s : State) (reply : Reply) → (step s (Asked Status)).1 ≡ Some reply → IsAtRest reply → kind_that_runs s.name ≡ None
 status_rests s reply told rests = subst IsAtRest (status_reply s reply told) rests
 
-pub rests_status : (s : State) (reply : Reply) → (step s (Asked Status)).1 ≡ Some reply → running s.name ≡ None → IsAtRest reply
+pub rests_status : (s : State) (reply : Reply) → (step s (Asked Status)).1 ≡ Some reply → kind_that_runs s.name ≡ None → IsAtRest reply
 rests_status s reply told rests = subst IsAtRest (sym (status_reply s reply told)) rests

@@ -10,7 +10,7 @@ use Rattle.tenant_slot.specs.declared.event.Event.{Event}
 use Rattle.tenant_slot.specs.declared.event.Event.TheVariants.{Command as Asked, Advance as Stepped}
 use Rattle.tenant_slot.specs.declared.reply.Reply.{Reply}
 use Rattle.tenant_slot.specs.declared.reply.Reply.TheVariants.{Step}
-use Rattle.tenant_slot.specs.SingleUser.{State, answer_to, replies_to, running, state_after, step}
+use Rattle.tenant_slot.specs.SingleUser.{State, answer_to, replies_to, kind_that_runs, state_after, step}
 use Rattle.service_core.specs.declared.put_reply.PutReply.TheVariants.{Recorded, Full, Gone}
 use Rattle.service_core.specs.declared.not_served.NoteCause.TheVariants.{JournalFull}
 use Rattle.service_core.specs.History.{History}
@@ -21,14 +21,14 @@ use Rattle.service_core.specs.Run.Call.{Admit, Evict, Move, Tenant, Take, Put, G
 use Rattle.service_core.specs.Service.{ServiceState, live_of}
 use Rattle.sessions.specs.declared.line.SessionLine.{SessionLine}
 use Rattle.sessions.specs.declared.line.SessionLine.TheVariants.{Blank, Command, Wait, Refused}
-use Rattle.sessions.specs.SessionText.{reply_text}
+use Rattle.sessions.specs.SessionText.{note_text, reply_text}
 use Rattle.shared_core.specs.Reaching.{own_receipts}
 use Rattle.shared_core.proofs.Reaching.{IsOfThreads}
-use Rattle.transcripts.specs.declared.item.Place.{Place}
-use Rattle.transcripts.specs.declared.item.Place.TheVariants.{Receipt, Note, Refused as RefusedPlace}
-use Rattle.session_threads.specs.Told.{IsTold, note_text, place_text, told_text, told_texts}
+use Rattle.transcripts.specs.declared.item.ItemAnswer.{ItemAnswer}
+use Rattle.transcripts.specs.declared.item.ItemAnswer.TheVariants.{Receipt, Note, Refused as RefusedPlace}
+use Rattle.session_threads.specs.Told.{IsTold, place_text, told_text, told_texts}
 use Rattle.script_threads.specs.Turns.{receipts_told}
-use Rattle.workers_law.specs.Waited.{IsReply, after_command, begins_job, ended, waited_text, waits_for_each}
+use Rattle.workers_law.specs.Waited.{IsReply, after_command, begins_job, after_last_step, waited_text, waits_for_each}
 use Rattle.workers_law.proofs.Ahead.{NoneAsked, NotAsked}
 use Rattle.workers_law.proofs.States.{AreAlike, alike-ended, alike-name, alike-trans, asked_alike, command_rests, ended-rests, status_rests, stepped_alike, stepped_rests}
 
@@ -59,12 +59,12 @@ shows_rest s (x ∷ xs) ys is = shows_rest (step s x.0).0 xs ys is.1
 -- the tenancy's state, and the one that the definition has; `begun` says whether a command that may
 -- begin a job came, and no `wait` since
 pub record Agree (begun : Bool) (s t : State) : Type 0 where
-  pub alike : AreAlike (ended s) (ended t)
-  pub rest : begun ≡ false → (running s.name ≡ None) × (running t.name ≡ None)
+  pub alike : AreAlike (after_last_step s) (after_last_step t)
+  pub rest : begun ≡ false → (kind_that_runs s.name ≡ None) × (kind_that_runs t.name ≡ None)
 
 pub agree_stepped : (begun : Bool) (s t : State) (made : Advance) → Agree begun s t → Agree begun (step s (Stepped made)).0 t
 agree_stepped begun s t made agree = record {
-  alike = alike-trans (ended (step s (Stepped made)).0) (ended s) (ended t) (stepped_alike s made) agree.alike;
+  alike = alike-trans (after_last_step (step s (Stepped made)).0) (after_last_step s) (after_last_step t) (stepped_alike s made) agree.alike;
   rest = λ free. (stepped_rests s made (agree.rest free).0, (agree.rest free).1);
 }
 
@@ -184,29 +184,29 @@ next_receipt id begun (GiveBack job ∷ calls) s t r rs fair shows is agree = ne
 next_receipt id begun (Owners list ∷ calls) s t r rs fair shows is agree = absurd (All-head IsFair (Owners list) calls fair)
 
 -- an answer of the core, or a refusal of the line itself
-abbrev IsGiven : Option Place → Type 0
+abbrev IsGiven : Option ItemAnswer → Type 0
 IsGiven None = ⊥
 IsGiven (Some (Receipt r)) = ⊤
 IsGiven (Some (Note n)) = ⊥
 IsGiven (Some (RefusedPlace refusal)) = ⊤
 
-abbrev pub AreGiven : List (Option Place) → Type 0
+abbrev pub AreGiven : List (Option ItemAnswer) → Type 0
 AreGiven [] = ⊤
 AreGiven (x ∷ told) = IsGiven x × AreGiven told
 
-abbrev pub TellsOnlyFull : Option Place → Type 0
+abbrev pub TellsOnlyFull : Option ItemAnswer → Type 0
 TellsOnlyFull x = (n : Noted) → x ≡ Some (Note n) → n.cause ≡ JournalFull
 
-given_one : (x : Option Place) → TellsOnlyFull x → IsReply (told_text x) → IsGiven x
+given_one : (x : Option ItemAnswer) → TellsOnlyFull x → IsReply (told_text x) → IsGiven x
 given_one None full reply = reply.0 refl
 given_one (Some (Receipt r)) full reply = tt
 given_one (Some (Note n)) full reply = reply.1 (ap note_text (full n refl))
 given_one (Some (RefusedPlace refusal)) full reply = tt
 
-pub are_given : (told : List (Option Place)) → All TellsOnlyFull told → All (λ (x : Option Place). IsReply (told_text x)) told → AreGiven told
+pub are_given : (told : List (Option ItemAnswer)) → All TellsOnlyFull told → All (λ (x : Option ItemAnswer). IsReply (told_text x)) told → AreGiven told
 are_given [] full replies = tt
 are_given (x ∷ told) full replies =
-    (given_one x (All-head TellsOnlyFull x told full) (All-head (λ (x : Option Place). IsReply (told_text x)) x told replies), are_given told (All-tail TellsOnlyFull x told full) (All-tail (λ (x : Option Place). IsReply (told_text x)) x told replies))
+    (given_one x (All-head TellsOnlyFull x told full) (All-head (λ (x : Option ItemAnswer). IsReply (told_text x)) x told replies), are_given told (All-tail TellsOnlyFull x told full) (All-tail (λ (x : Option ItemAnswer). IsReply (told_text x)) x told replies))
 
 -- the answer to a command while no job runs
 pub both_hold : (b other : Bool) → (not b && other) ≡ true → (b ≡ false) × (other ≡ true)
@@ -218,25 +218,25 @@ pub record Answered (s t : State) (command : TenantCommand) (r : Receipted) : Ty
   pub text : reply_text r.reply ≡ reply_text (answer_to t (Asked command)).1
   pub agree : Agree (begins_job command) (step s (Asked r.command)).0 (after_command t command)
 
-pub answered : (s t : State) (command : TenantCommand) (r : Receipted) → r.command ≡ command → AreAlike s t → running t.name ≡ None → (step s (Asked r.command)).1 ≡ Some r.reply → Answered s t command r
+pub answered : (s t : State) (command : TenantCommand) (r : Receipted) → r.command ≡ command → AreAlike s t → kind_that_runs t.name ≡ None → (step s (Asked r.command)).1 ≡ Some r.reply → Answered s t command r
 answered s t command r same alike rests told =
     let both = asked_alike s t command r.reply alike (ap (λ c. (step s (Asked c)).1) (sym same) ∙ told) in
     let left : AreAlike (step s (Asked command)).0 (after_command t command) = both.1 in
     let agree : Agree (begins_job command) (step s (Asked command)).0 (after_command t command) = record {
       alike = alike-ended (step s (Asked command)).0 (after_command t command) left;
       rest = λ none.
-          let rest : running (after_command t command).name ≡ None = command_rests t command rests none in
-          (ap running (alike-name (step s (Asked command)).0 (after_command t command) left) ∙ rest, rest);
+          let rest : kind_that_runs (after_command t command).name ≡ None = command_rests t command rests none in
+          (ap kind_that_runs (alike-name (step s (Asked command)).0 (after_command t command) left) ∙ rest, rest);
     } in
     record { text = ap reply_text both.0; agree = subst (λ c. Agree (begins_job command) (step s (Asked c)).0 (after_command t command)) (sym same) agree }
 
 pub free_alike : (s t : State) → Agree false s t → AreAlike s t
 free_alike s t agree =
     let rest = agree.rest refl in
-    subst (λ x. AreAlike x t) (ended-rests s rest.0) (subst (λ x. AreAlike (ended s) x) (ended-rests t rest.1) agree.alike)
+    subst (λ x. AreAlike x t) (ended-rests s rest.0) (subst (λ x. AreAlike (after_last_step s) x) (ended-rests t rest.1) agree.alike)
 
 -- the whole text
-pub whole_text : (id : ℕ) (items : List SessionLine) (told : List (Option Place)) (calls : List Call) (s t : State) (begun : Bool) → AllZip (IsTold id) items told → AreGiven told → waits_for_each begun items ≡ true → Agree begun s t →
+pub whole_text : (id : ℕ) (items : List SessionLine) (told : List (Option ItemAnswer)) (calls : List Call) (s t : State) (begun : Bool) → AllZip (IsTold id) items told → AreGiven told → waits_for_each begun items ≡ true → Agree begun s t →
     All IsFair calls → Shows s (own_exchanges id calls) → own_receipts id calls ≡ receipts_told told → told_texts told ≡ waited_text t items
 whole_text id [] [] calls s t begun zip given waits agree fair shows is = refl
 whole_text id [] (x ∷ told) calls s t begun zip given waits agree fair shows is = absurd zip
@@ -260,9 +260,9 @@ whole_text id (Wait ∷ items) (Some (RefusedPlace f) ∷ told) calls s t begun 
 whole_text id (Wait ∷ items) (Some (Receipt r) ∷ told) calls s t begun zip given waits agree fair shows is =
     let next = next_receipt id begun calls s t r (receipts_told told) fair shows is agree in
     let status : r.command ≡ Status = zip.0.0.1 in
-    let rests : running next.s.name ≡ None = status_rests next.s r.reply (ap (λ c. (step next.s (Asked c)).1) (sym status) ∙ next.told) zip.0.1 in
-    let alike : AreAlike next.s (ended t) = subst (λ x. AreAlike x (ended t)) (ended-rests next.s rests) next.agree.alike in
-    let over : running (ended t).name ≡ None = ap running (sym (alike-name next.s (ended t) alike)) ∙ rests in
-    let one = answered next.s (ended t) Status r status alike over next.told in
-    ap (λ text. text ++ told_texts told) one.text ∙ ap (λ text. reply_text (answer_to (ended t) (Asked Status)).1 ++ text)
-    (whole_text id items told next.calls (step next.s (Asked r.command)).0 (after_command (ended t) Status) false zip.1 given.1 waits one.agree next.fair next.shows next.rest)
+    let rests : kind_that_runs next.s.name ≡ None = status_rests next.s r.reply (ap (λ c. (step next.s (Asked c)).1) (sym status) ∙ next.told) zip.0.1 in
+    let alike : AreAlike next.s (after_last_step t) = subst (λ x. AreAlike x (after_last_step t)) (ended-rests next.s rests) next.agree.alike in
+    let over : kind_that_runs (after_last_step t).name ≡ None = ap kind_that_runs (sym (alike-name next.s (after_last_step t) alike)) ∙ rests in
+    let one = answered next.s (after_last_step t) Status r status alike over next.told in
+    ap (λ text. text ++ told_texts told) one.text ∙ ap (λ text. reply_text (answer_to (after_last_step t) (Asked Status)).1 ++ text)
+    (whole_text id items told next.calls (step next.s (Asked r.command)).0 (after_command (after_last_step t) Status) false zip.1 given.1 waits one.agree next.fair next.shows next.rest)

@@ -13,7 +13,7 @@ use Rattle.service_core.specs.Headline.{EachIsAlone}
 use Rattle.service_core.specs.History.{History, state_of}
 use Rattle.service_core.specs.OwnEvents.{own_events, own_exchange, own_exchanges, own_replies}
 use Rattle.service_core.specs.Run.{Call, Run}
-use Rattle.service_core.specs.Service.{ServiceState, empty, history_of, live_of, live_width, strip_on}
+use Rattle.service_core.specs.Service.{ServiceState, empty_service, history_of, live_of, live_width, strip_on}
 use Rattle.service_core.proofs.Alone.{each_alone}
 use Rattle.service_core.proofs.Effects.{Kept, run_keeps}
 use Rattle.service_core.proofs.Keeps.{IsService-empty, if_live_some}
@@ -23,12 +23,13 @@ use Rattle.sessions.proofs.Counted.{some_and}
 use Rattle.sessions.proofs.StepLemmas.{Run-append}
 use Rattle.service_core.specs.declared.not_served.NoteCause.TheVariants.{JournalFull}
 use Rattle.service_core.specs.Receipt.{Noted}
-use Rattle.transcripts.specs.declared.item.Place.{Place}
-use Rattle.transcripts.specs.declared.item.Place.TheVariants.{Note}
+use Rattle.transcripts.specs.declared.item.ItemAnswer.{ItemAnswer}
+use Rattle.transcripts.specs.declared.item.ItemAnswer.TheVariants.{Note}
 use Rattle.session_threads.specs.Told.{told_text, told_texts}
 use Rattle.script_text.specs.Threaded.{Parts as Script}
 use Rattle.script_threads.specs.Lines.{with_give_backs}
-use Rattle.script_threads.specs.Served.{Conversation, IsAnswered, IsServedFrom, Told, told_in}
+use Rattle.script_text.specs.Replies.{Section}
+use Rattle.script_threads.specs.Served.{Conversation, IsAnswered, IsServedFrom, told_in}
 use Rattle.script_threads.specs.Sessions.{evicted_text}
 use Rattle.script_threads.proofs.OneRunLemmas.{serves_run}
 use Rattle.script_threads.proofs.TurnLemmas.{IsTurn, full_from, served_told, without_refused}
@@ -47,7 +48,7 @@ live_with (Some h) width is = (h, refl, cc)
 abbrev replied : Event × Option Reply → Option Reply
 replied x = x.1
 
-pub shows_after : (device : Device) (before calls : List Call) (mid new : ServiceState) (id width : ℕ) → Run (empty device) before mid → Run mid calls new → live_width mid.histories id ≡ Some width →
+pub shows_after : (device : Device) (before calls : List Call) (mid new : ServiceState) (id width : ℕ) → Run (empty_service device) before mid → Run mid calls new → live_width mid.histories id ≡ Some width →
     Shows (state_after (start device.arch (strip_on device width)) (own_events id before)) (own_exchanges id calls)
 shows_after device before calls mid new id width first later live =
     let g = live_with (live_of mid.histories id) width live in
@@ -56,7 +57,7 @@ shows_after device before calls mid new id width first later live =
     let goes = some_and (λ x. x.strip ≡ g.0.strip) (history_of new.histories id) (run_sized g.0.strip mid calls new id later (subst Q (sym was) refl)) in
     let h : History = goes.0 in
     let size : h.strip.width ≡ width = ap (λ (s : Strip). s.width) goes.2 ∙ g.2 in
-    let all : EachIsAlone device (before ++ calls) new = each_alone device (before ++ calls) new (Run-append (empty device) before mid calls new first later) in
+    let all : EachIsAlone device (before ++ calls) new = each_alone device (before ++ calls) new (Run-append (empty_service device) before mid calls new first later) in
     let P : Option History → Type 0 = λ o. IfSome o (λ x. (state_of x, own_replies id (before ++ calls)) ≡ run device.arch (strip_on device x.strip.width) (own_events id (before ++ calls))) in
     let own : (state_of h, own_replies id (before ++ calls)) ≡ run device.arch (strip_on device h.strip.width) (own_events id (before ++ calls)) = subst P goes.1 (all id) in
     let begin : State = start device.arch (strip_on device width) in
@@ -72,20 +73,20 @@ at_start device before id width none =
     agree_steps false begin begin (own_exchanges id before) (none_asked_steps id before none) (record { alike = refl; rest = λ free. (refl, refl) })
 
 -- what is said of each note
-only_full : (told : List (Option Place)) → ((before after : List (Option Place)) (n : Noted) → told ≡ before ++ Some (Note n) ∷ after → n.cause ≡ JournalFull) → All TellsOnlyFull told
+only_full : (told : List (Option ItemAnswer)) → ((before after : List (Option ItemAnswer)) (n : Noted) → told ≡ before ++ Some (Note n) ∷ after → n.cause ≡ JournalFull) → All TellsOnlyFull told
 only_full [] each = All-nil TellsOnlyFull
 only_full (x ∷ told) each =
     All-cons TellsOnlyFull x told (λ n same. each [] told n (ap (λ y. y ∷ told) same)) (only_full told (λ before after n same. each (x ∷ before) after n (ap (λ ys. x ∷ ys) same)))
 
 -- one session
-one_text : (device : Device) (before calls : List Call) (mid new : ServiceState) (width : ℕ) (c : Conversation) (o : Option (List (Option Place))) → IfSome o (IsAnswered calls c) → IfSome o (All (λ t. IsReply (told_text t))) → is_some o ≡ true →
-    waits_for_each false (items_of c.said.input) ≡ true → Run (empty device) before mid → NoneAsked before → Run mid calls new → live_width mid.histories c.id ≡ Some width → All IsTurn calls →
+one_text : (device : Device) (before calls : List Call) (mid new : ServiceState) (width : ℕ) (c : Conversation) (o : Option (List (Option ItemAnswer))) → IfSome o (IsAnswered calls c) → IfSome o (All (λ t. IsReply (told_text t))) → is_some o ≡ true →
+    waits_for_each false (items_of c.said.input) ≡ true → Run (empty_service device) before mid → NoneAsked before → Run mid calls new → live_width mid.histories c.id ≡ Some width → All IsTurn calls →
     option_map_or told_texts o (evicted_text c.said.input) ≡ waited_text (start device.arch (strip_on device width)) (items_of c.said.input)
 one_text device before calls mid new width c None answered replies live waits first none later size kinds = cc
 one_text device before calls mid new width c (Some told) answered replies live waits first none later size kinds =
     let begin : State = start device.arch (strip_on device width) in
     let serving = without_refused mid calls new kinds later in
-    let kept : Kept mid = run_keeps (empty device) before mid first (IsService-empty device) in
+    let kept : Kept mid = run_keeps (empty_service device) before mid first (IsService-empty device) in
     let full : All TellsOnlyFull told = only_full told (λ before after n same. (full_from mid calls new c told kept kinds later answered before after n same).0) in
     whole_text c.id (items_of c.said.input) told serving.served (state_after begin (own_events c.id before)) begin false answered.each (are_given told full replies) waits (at_start device before c.id width none)
     (fair_calls mid serving.served new serving.kinds serving.run) (shows_after device before serving.served mid new c.id width first serving.run size) (serving.receipts c.id ∙ served_told calls c told answered)
@@ -94,7 +95,7 @@ live_some : (o : Option History) (width : ℕ) → option_map (λ (h : History).
 live_some None width is = cc
 live_some (Some h) width is = refl
 
-pub same_with : (device : Device) (script : Script) (sections : List Told) (text : List ℕ) (is : IsServedFrom (own_graph device) (empty device) script sections text) →
+pub same_with : (device : Device) (script : Script) (sections : List Section) (text : List ℕ) (is : IsServedFrom (own_graph device) (empty_service device) script sections text) →
     All (λ (c : Conversation). (width : ℕ) → live_width is.service.histories c.id ≡ Some width → Waits c → (told_in c).text ≡ waited_text (start device.arch (strip_on device width)) (items_of c.said.input)) is.ran.conversations
 same_with device script sections text is = λ k d within width size waits.
     let c : Conversation = get_or is.ran.conversations k d in

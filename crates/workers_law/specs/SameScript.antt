@@ -8,7 +8,7 @@ use Rattle.script_text.specs.declared.act.Act.{Act}
 use Rattle.script_text.specs.declared.act.Act.TheVariants.{Operator, Session}
 use Rattle.script_text.specs.declared.operator_line.OperatorLine.{OperatorLine}
 use Rattle.script_text.specs.Script.{acts_from}
-use Rattle.script_text.specs.Threaded.{Parts, Said, heard, nothing_said, threaded_from}
+use Rattle.script_text.specs.Threaded.{Parts, Said, heard_so_far, nothing_said, threaded_from}
 use Rattle.script_text.specs.Threaded.Within.{Head, Script}
 
 -- the operator's lines, and those of them before the first session's line
@@ -42,5 +42,5 @@ pub record IsSameScript (parts : Parts) (acts : List (Act (List ℕ))) : Type 0 
 -- A script that is read for threads is also read in order, and says the same. `head` says whether
 -- it begins within the text of an architecture.
 abbrev pub IsReadTheSame : Type 0
-IsReadTheSame = (number : ℕ) (text : List ℕ) (head : Bool) (parts : Parts) → threaded_from number (heard nothing_said (if head then Head else Script)) (physical_lines text) ≡ Ok parts →
+IsReadTheSame = (number : ℕ) (text : List ℕ) (head : Bool) (parts : Parts) → threaded_from number (heard_so_far nothing_said (if head then Head else Script)) (physical_lines text) ≡ Ok parts →
     (acts : List (Act (List ℕ))) × (acts_from number head (physical_lines text) ≡ Ok acts) × IsSameScript parts acts

@@ -4,7 +4,7 @@ use Rattle.std.specs.Option.{option_map_or}
 use Rattle.tenant_slot.specs.declared.command.Command.{Command as TenantCommand}
 use Rattle.tenant_slot.specs.declared.command.Command.TheVariants.{Pack, Place, Route, Status}
 use Rattle.tenant_slot.specs.declared.event.Event.TheVariants.{Command as Asked}
-use Rattle.tenant_slot.specs.SingleUser.{State, answer_to, finished, running}
+use Rattle.tenant_slot.specs.SingleUser.{State, answer_to, state_at_end, kind_that_runs}
 use Rattle.sessions.specs.declared.line.SessionLine.{SessionLine}
 use Rattle.sessions.specs.declared.line.SessionLine.TheVariants.{Blank, Command, Wait, Refused}
 use Rattle.sessions.specs.SessionText.{journal_full_text, no_memory_text, reply_text, session_refusal_text}
@@ -25,8 +25,8 @@ waits_for_each begun (Wait ∷ items) = waits_for_each false items
 waits_for_each begun (item ∷ items) = waits_for_each begun items
 
 -- the state after the last step of the job that runs, if one runs
-abbrev pub ended : State → State
-ended state = option_map_or (finished state) (running state.name) state
+abbrev pub after_last_step : State → State
+after_last_step state = option_map_or (state_at_end state) (kind_that_runs state.name) state
 
 -- the state after a command, in a journal that isn't full
 abbrev pub after_command : State → TenantCommand → State
@@ -39,7 +39,7 @@ waited_text state [] = []
 waited_text state (Blank ∷ items) = waited_text state items
 waited_text state (Refused refusal ∷ items) = session_refusal_text refusal ++ waited_text state items
 waited_text state (Command command ∷ items) = reply_text (answer_to state (Asked command)).1 ++ waited_text (after_command state command) items
-waited_text state (Wait ∷ items) = reply_text (answer_to (ended state) (Asked Status)).1 ++ waited_text (after_command (ended state) Status) items
+waited_text state (Wait ∷ items) = reply_text (answer_to (after_last_step state) (Asked Status)).1 ++ waited_text (after_command (after_last_step state) Status) items
 
 -- an answer says neither that memory ran out nor that the journal is full
 abbrev pub IsReply : List ℕ → Type 0

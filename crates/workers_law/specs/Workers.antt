@@ -5,15 +5,15 @@ use Rattle.service_core.specs.declared.device.Device.{Device}
 use Rattle.service_core.specs.OwnEvents.{own_events}
 use Rattle.service_core.specs.Run.{Call, Happens, Run}
 use Rattle.service_core.specs.Run.Call.{Take}
-use Rattle.service_core.specs.Service.{ServiceState, empty, live_width, strip_on}
+use Rattle.service_core.specs.Service.{ServiceState, empty_service, live_width, strip_on}
 use Rattle.sessions.specs.declared.line.SessionLine.{SessionLine}
 use Rattle.sessions.specs.Items.{items_of}
 use Rattle.sessions.specs.SessionAnswer.{Asks, LeavesNone}
 use Rattle.sessions.specs.SessionText.{answer_text}
-use Rattle.sessions.specs.WholeSession.{Turn, IsOthers, Item, Meanwhile, written}
+use Rattle.sessions.specs.WholeSession.{Turn, IsOthers, Item, Meanwhile, text_of_turns}
 use Rattle.session_threads.specs.Told.{told_text}
 use Rattle.script_text.specs.Threaded.{Parts as Script}
-use Rattle.script_threads.specs.declared.answered.Answered.{Answered}
+use Rattle.script_text.specs.declared.replies.RunReplies.{RunReplies}
 use Rattle.script_threads.specs.Served.{Conversation, IsServedOnThreads, told_in}
 use Rattle.workers_law.specs.Waited.{IsReply, waits_for_each, waited_text}
 
@@ -26,7 +26,7 @@ pub record Waits (c : Conversation) : Type 0 where
 -- With any number of workers, the text of such a session is one function of its input, on a device
 -- of the size of its strip.
 abbrev pub HasWaitedText : Type 0
-HasWaitedText = (device : Device) (script : Script) (answered : Answered) (is : IsServedOnThreads device script answered) →
+HasWaitedText = (device : Device) (script : Script) (answered : RunReplies) (is : IsServedOnThreads device script answered) →
     All (λ c. (width : ℕ) → live_width is.service.histories c.id ≡ Some width → Waits c → (told_in c).text ≡ waited_text (start device.arch (strip_on device width)) (items_of c.said.input)) is.ran.conversations
 
 -- the items of a session without workers
@@ -59,5 +59,5 @@ AreReplied id (Meanwhile call ∷ turns) = TakesNone id call × AreReplied id tu
 -- session.
 abbrev pub HasSameText : Type 0
 HasSameText = (device : Device) (before : List Call) (old new : ServiceState) (id width : ℕ) (turns : List Turn) →
-    Run (empty device) before old → own_events id before ≡ [] → live_width old.histories id ≡ Some width → OwnTurns id old turns new → waits_for_each false (items_in turns) ≡ true → AreReplied id turns →
-    written turns ≡ waited_text (start device.arch (strip_on device width)) (items_in turns)
+    Run (empty_service device) before old → own_events id before ≡ [] → live_width old.histories id ≡ Some width → OwnTurns id old turns new → waits_for_each false (items_in turns) ≡ true → AreReplied id turns →
+    text_of_turns turns ≡ waited_text (start device.arch (strip_on device width)) (items_in turns)

@@ -6,7 +6,7 @@ use crate::roads::Roads;
 use crate::search::Label;
 
 /// The bound, or the greatest that a label can hold if that is less.
-fn capped(bound: u64) -> u16
+fn bound_in_label(bound: u64) -> u16
     ensures { result ≤ bound }
 {
     if bound < u16::MAX as u64 {
@@ -37,7 +37,7 @@ pub(super) fn ahead_of<R: Roads>(
         return Some(label.ahead);
     }
     match roads.at_least(node, goal) {
-        Some(bound) => Some(capped(bound)),
+        Some(bound) => Some(bound_in_label(bound)),
         None => None,
     }
 }

@@ -3,14 +3,14 @@ ghost use Rattle.std.specs.Prelude.{◌≡◌, option_and_then, IfOk};
 ghost use Rattle.strip_place.specs.Keeping.{AreKeptOn};
 ghost use Rattle.tenant_slot.specs.Answer.{Answers, IsAsked};
 ghost use Rattle.tenant_slot.specs.Results.{ending_told};
-ghost use Rattle.tenant_slot.specs.SingleUser.{circuit_in, keeping};
+ghost use Rattle.tenant_slot.specs.SingleUser.{circuit_in, with_kept_places};
 
-use crate::answer::Answer;
+use crate::answer::PreparedReply;
 use crate::beginning::Beginning;
 use crate::command::Command;
 use crate::content::Content;
 use crate::ending::told_ending;
-use crate::not_served::NotServed;
+use crate::not_served::NotAnswered;
 use crate::reply::{Ending, Reply, StateName, Status};
 use crate::slot::Slot;
 use crate::standing::Change;
@@ -20,24 +20,24 @@ use strip_place::Kept;
 
 impl Slot {
     /// The answer to a lawful command.
-    pub(super) fn serve(&self, command: &Command) -> Result<Answer, NotServed>
+    pub(super) fn serve(&self, command: &Command) -> Result<PreparedReply, NotAnswered>
         requires { IsAsked self.now command.now }
         ensures { Answers self.now command.now result }
     {
         let lut_size = self.arch.arch().lut_size;
         match command {
-            Command::Upload(text) => Answer::load(self.alloc, lut_size, text, None),
+            Command::Upload(text) => PreparedReply::load(self.alloc, lut_size, text, None),
             Command::Change(text) => self.change(text),
             Command::Pack => self.pack(),
             Command::Place { seed, effort } => self.place(*seed, *effort),
             Command::Route => self.route(),
             Command::Cancel => {
                 let reply = Reply::Accepted(self.standing.content.name());
-                Ok(Answer::changing(lut_size, Change::Stop, reply))
+                Ok(PreparedReply::with_change(lut_size, Change::Stop, reply))
             }
             Command::Withdraw => {
                 let reply = Reply::Accepted(StateName::Empty);
-                Ok(Answer::changing(lut_size, Change::Empty, reply))
+                Ok(PreparedReply::with_change(lut_size, Change::Empty, reply))
             }
             Command::Status => self.status(),
             Command::Net => self.net(),
@@ -46,30 +46,30 @@ impl Slot {
         }
     }
 
-    fn change(&self, text: &SharedText) -> Result<Answer, NotServed>
+    fn change(&self, text: &SharedText) -> Result<PreparedReply, NotAnswered>
         requires { IsAsked self.now (Command.Change text.now) }
         ensures { Answers self.now (Command.Change text.now) result }
     {
         let lut_size = self.arch.arch().lut_size;
         let kept = self.kept_next()?;
-        Answer::load(self.alloc, lut_size, text, Some(kept))
+        PreparedReply::load(self.alloc, lut_size, text, Some(kept))
     }
 
     /// The places that a change keeps: the current ones, or, if there are none, those that were
     /// kept before.
     fn kept_next(&self) -> Result<Kept, AllocError>
-        ensures exact { IfOk result (λ kept. kept ≡ (keeping self.now.state).kept) }
+        ensures exact { IfOk result (λ kept. kept ≡ (with_kept_places self.now.state).kept) }
         ensures lawful { IfOk result (λ kept. AreKeptOn self.now.state.strip kept) }
     {
         match &self.standing.content {
-            Content::Placed(_, _, placing) => placing.placing().kept(self.alloc),
-            Content::Routed(_, _, placing, _) => placing.placing().kept(self.alloc),
-            Content::Unrouted(_, _, placing, _) => placing.placing().kept(self.alloc),
+            Content::Placed(_, _, placing) => placing.placing().to_kept_places(self.alloc),
+            Content::Routed(_, _, placing, _) => placing.placing().to_kept_places(self.alloc),
+            Content::Unrouted(_, _, placing, _) => placing.placing().to_kept_places(self.alloc),
             Content::Empty | Content::Loaded(_) | Content::Packed(..) => self.standing.kept.clone(),
         }
     }
 
-    fn pack(&self) -> Result<Answer, NotServed>
+    fn pack(&self) -> Result<PreparedReply, NotAnswered>
         requires { IsAsked self.now Command.Pack }
         ensures { Answers self.now Command.Pack result }
     {
@@ -82,10 +82,10 @@ impl Slot {
             netlist: self.standing.content.netlist(),
             kept: &self.standing.kept,
         };
-        Answer::pack(&job)
+        PreparedReply::pack(&job)
     }
 
-    fn place(&self, seed: u64, effort: u32) -> Result<Answer, NotServed>
+    fn place(&self, seed: u64, effort: u32) -> Result<PreparedReply, NotAnswered>
         requires { IsAsked self.now (Command.Place seed effort) }
         ensures { Answers self.now (Command.Place seed effort) result }
     {
@@ -99,10 +99,10 @@ impl Slot {
             kept: &self.standing.kept,
         };
         let packing = self.standing.content.packing();
-        Answer::place(&job, packing, seed, effort)
+        PreparedReply::place(&job, packing, seed, effort)
     }
 
-    fn route(&self) -> Result<Answer, NotServed>
+    fn route(&self) -> Result<PreparedReply, NotAnswered>
         requires { IsAsked self.now Command.Route }
         ensures { Answers self.now Command.Route result }
     {
@@ -117,10 +117,10 @@ impl Slot {
         };
         let placing = self.standing.content.placing();
         let (seed, effort) = (self.standing.seed, self.standing.effort);
-        Answer::route(&job, placing, seed, effort)
+        PreparedReply::route(&job, placing, seed, effort)
     }
 
-    fn status(&self) -> Result<Answer, NotServed>
+    fn status(&self) -> Result<PreparedReply, NotAnswered>
         requires { IsAsked self.now Command.Status }
         ensures { Answers self.now Command.Status result }
     {
@@ -133,7 +133,7 @@ impl Slot {
             steps,
             ending,
         });
-        Ok(Answer::unchanged(lut_size, reply))
+        Ok(PreparedReply::without_change(lut_size, reply))
     }
 
     /// How a routing without routes ended.
@@ -152,25 +152,25 @@ impl Slot {
         }
     }
 
-    fn net(&self) -> Result<Answer, NotServed>
+    fn net(&self) -> Result<PreparedReply, NotAnswered>
         requires { IsAsked self.now Command.Net }
         ensures { Answers self.now Command.Net result }
     {
         let lut_size = self.arch.arch().lut_size;
         let packing = self.standing.content.packing();
-        Answer::net(self.alloc, lut_size, packing.packed())
+        PreparedReply::net(self.alloc, lut_size, packing.packed())
     }
 
-    fn place_file(&self) -> Result<Answer, NotServed>
+    fn place_file(&self) -> Result<PreparedReply, NotAnswered>
         requires { IsAsked self.now Command.PlaceFile }
         ensures { Answers self.now Command.PlaceFile result }
     {
         let lut_size = self.arch.arch().lut_size;
         let placing = self.standing.content.placing();
-        Answer::place_file(self.alloc, lut_size, placing.placing())
+        PreparedReply::place_file(self.alloc, lut_size, placing.placing())
     }
 
-    fn route_file(&self) -> Result<Answer, NotServed>
+    fn route_file(&self) -> Result<PreparedReply, NotAnswered>
         requires { IsAsked self.now Command.RouteFile }
         ensures { Answers self.now Command.RouteFile result }
     {
@@ -178,7 +178,7 @@ impl Slot {
         match &self.standing.content {
             Content::Routed(_, _, placing, routing) => match routing.routing_end() {
                 RoutingEnd::Routed(routes) => {
-                    Answer::route_file(self.alloc, lut_size, placing.placing(), routes)
+                    PreparedReply::route_file(self.alloc, lut_size, placing.placing(), routes)
                 }
                 RoutingEnd::GaveUp | RoutingEnd::NoPath(_) => unreachable!(),
             },

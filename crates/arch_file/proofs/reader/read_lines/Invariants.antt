@@ -1,5 +1,5 @@
 use Rattle.std.proofs.Common.{◌≡◌, ◌≤◌, [], drop, length, take}
-use Rattle.arch_file.specs.ArchFaults.{faults_behind}
+use Rattle.arch_file.specs.ArchFaults.{faults_after}
 use Rattle.arch_file.specs.Draft.{FollowsLines}
 use Rattle.arch_file.proofs.reader.read_lines.Given as goal
 
@@ -7,5 +7,5 @@ abbrev pub invariant-loop-place : goal.invariant-loop-place
 invariant-loop-place l = record {
   within : l.place ≤ length l.lines;
   follows : FollowsLines l.draft (take l.place l.lines);
-  rest : faults_behind (take l.place l.lines) (drop l.place l.lines) ≡ faults_behind [] l.lines;
+  rest : faults_after (take l.place l.lines) (drop l.place l.lines) ≡ faults_after [] l.lines;
 }

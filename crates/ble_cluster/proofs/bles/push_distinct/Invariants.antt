@@ -1,7 +1,7 @@
 use Rattle.std.proofs.Common.{◌≡◌, ◌++◌, take}
-use Rattle.ble_cluster.specs.Nets.{distinct}
+use Rattle.ble_cluster.specs.Nets.{distinct_nets}
 use Rattle.ble_cluster.proofs.bles.push_distinct.Given as goal
 
 -- the distinct nets so far are appended to the old inputs
 abbrev pub invariant-loop-net : goal.invariant-loop-net
-invariant-loop-net l = l.inputs.items ≡ l.fn.inputs.items ++ distinct (take l.net-index l.nets)
+invariant-loop-net l = l.inputs.items ≡ l.fn.inputs.items ++ distinct_nets (take l.net-index l.nets)

@@ -1,16 +1,16 @@
 use Rattle.std.proofs.Common.{arith, ◌≡◌, ◌&&◌, not, map, filter, None, Some, ◌∙◌}
 use Rattle.std.proofs.lemmas.Grind.{common_steps}
 use Rattle.blif.specs.declared.fault.BlifFaultKind.TheVariants.{TwoDrivers}
-use Rattle.blif.specs.Names.{first, has_name, texts}
+use Rattle.blif.specs.Names.{first_of, has_name, texts}
 use Rattle.blif.proofs.PlacedNames.{first_clock}
 use Rattle.blif.proofs.checker.clock.Goals as goal
 
 pub returns-then-contains-clause-least : goal.returns-then-contains-clause-least
 returns-then-contains-clause-least c =
-    let plain : Some (TwoDrivers c.in_ok-from_slice.field-0) ≡ first (map TwoDrivers (filter (λ name. not (has_name c.args.declared.now name) && has_name c.args.drivers.now name) (texts c.args.names.now))) = grind (arith, common_steps) in
+    let plain : Some (TwoDrivers c.in_ok-from_slice.field-0) ≡ first_of (map TwoDrivers (filter (λ name. not (has_name c.args.declared.now name) && has_name c.args.drivers.now name) (texts c.args.names.now))) = grind (arith, common_steps) in
     plain ∙ first_clock c.args.declared.now c.args.drivers.now (texts c.args.names.now)
 
 pub returns-clause-least : goal.returns-clause-least
 returns-clause-least c =
-    let plain : None ≡ first (map TwoDrivers (filter (λ name. not (has_name c.args.declared.now name) && has_name c.args.drivers.now name) (texts c.args.names.now))) = grind (arith, common_steps) in
+    let plain : None ≡ first_of (map TwoDrivers (filter (λ name. not (has_name c.args.declared.now name) && has_name c.args.drivers.now name) (texts c.args.names.now))) = grind (arith, common_steps) in
     plain ∙ first_clock c.args.declared.now c.args.drivers.now (texts c.args.names.now)

@@ -1,5 +1,5 @@
 use Rattle.std.proofs.Common.{◌≡◌, ◌++◌, drop}
-use Rattle.blif.specs.Numbering.{numbered}
+use Rattle.blif.specs.Numbering.{numbers_of}
 use Rattle.blif.specs.Names.{texts, with_names}
 use Rattle.blif.proofs.names.number_all.Given as goal
 
@@ -8,5 +8,5 @@ use Rattle.blif.proofs.names.number_all.Given as goal
 abbrev pub invariant-loop-name : goal.invariant-loop-name
 invariant-loop-name l = record {
   nets : with_names l.nets (texts (drop l.name-index l.names)) ≡ with_names l.fn.nets (texts l.names);
-  numbers : l.numbers ++ numbered l.nets (texts (drop l.name-index l.names)) ≡ l.fn.numbers ++ numbered l.fn.nets (texts l.names);
+  numbers : l.numbers ++ numbers_of l.nets (texts (drop l.name-index l.names)) ≡ l.fn.numbers ++ numbers_of l.fn.nets (texts l.names);
 }

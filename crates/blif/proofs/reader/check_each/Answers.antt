@@ -2,7 +2,7 @@ use Rattle.std.proofs.Common.{◌<◌, ◌≤◌, [], length, take, sym, refl, a
 use Rattle.std.proofs.lemmas.List.{take_all, drop_all}
 use Rattle.line_text.specs.Lines.{JoinedLine}
 use Rattle.std.specs.List.{flat_map}
-use Rattle.blif.specs.Numbering.{numbered}
+use Rattle.blif.specs.Numbering.{numbers_of}
 use Rattle.blif.specs.FirstFaults.{first_fault}
 use Rattle.blif.specs.Sights.{names_of, sights_of}
 use Rattle.blif.specs.CircuitOf.{line_faults}
@@ -43,5 +43,5 @@ returns c =
           ∙ ap (λ rest. first_fault (line_faults c.args.lut_size c.args.checker.now.declared (take c.loop-place.place c.args.lines.now) rest)) (drop_all c.loop-place.place c.args.lines.now past),
       c.loop-place.invariant.sights ∙ ap (sights_of c.args.checker.now.declared) (take_all c.loop-place.place c.args.lines.now past),
       c.loop-place.invariant.few,
-      c.loop-place.invariant.numbers ∙ ap (λ ls. numbered [] (flat_map names_of ls)) (take_all c.loop-place.place c.args.lines.now past),
+      c.loop-place.invariant.numbers ∙ ap (λ ls. numbers_of [] (flat_map names_of ls)) (take_all c.loop-place.place c.args.lines.now past),
     )

@@ -1,8 +1,8 @@
 use Rattle.std.proofs.Common.{◌≡◌, length, take}
-use Rattle.ble_cluster.specs.Nets.{distinct}
+use Rattle.ble_cluster.specs.Nets.{distinct_nets}
 use Rattle.cluster.specs.NetUses.{controls_of}
 use Rattle.cluster.proofs.net_uses.add_controls.Given as goal
 
 abbrev pub invariant-loop-latch : goal.invariant-loop-latch
 invariant-loop-latch l =
-    l.globals ≡ record { count = length l.circuit.nets; nets = distinct (controls_of (take l.latch-index l.circuit.latches)) }
+    l.globals ≡ record { count = length l.circuit.nets; nets = distinct_nets (controls_of (take l.latch-index l.circuit.latches)) }

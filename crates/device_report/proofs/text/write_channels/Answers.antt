@@ -1,6 +1,6 @@
 use Rattle.std.proofs.lemmas.Option.{slice_get-get_or}
 use Rattle.line_text.proofs.WritingLemmas.{all_loop, part_loop, writes_part}
-use Rattle.device_report.specs.declared.channels.Direction.TheVariants.{Across}
+use Rattle.device_report.specs.declared.channels.ChannelDirection.TheVariants.{Across}
 use Rattle.device_report.specs.declared.channels.ChannelUse.{ChannelUse}
 use Rattle.device_report.specs.Text.{channel_line}
 use Rattle.device_report.proofs.text.write_channels.Goals as goal

@@ -1,8 +1,8 @@
 use Rattle.std.proofs.Common.{◌≡◌, ◌++◌, take}
 use Rattle.std.specs.List.{flat_map}
 use Rattle.std.specs.Option.{option_to_list}
-use Rattle.implements.specs.Layouts.{fed}
+use Rattle.implements.specs.Layouts.{input_net}
 use Rattle.layout_check.proofs.elements.add_inputs.Given as goal
 
 abbrev pub invariant-loop-feed : goal.invariant-loop-feed
-invariant-loop-feed l = l.inputs.items ≡ l.initial.inputs.items ++ flat_map (λ feed. option_to_list (fed l.arch l.block feed)) (take l.feed-index l.feeds)
+invariant-loop-feed l = l.inputs.items ≡ l.initial.inputs.items ++ flat_map (λ feed. option_to_list (input_net l.arch l.block feed)) (take l.feed-index l.feeds)

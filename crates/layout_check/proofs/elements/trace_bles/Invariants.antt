@@ -1,7 +1,7 @@
 use Rattle.std.proofs.Common.{◌≡◌, ◌++◌, map, take}
 use Rattle.std.specs.List.{flat_map}
-use Rattle.implements.specs.Layouts.{traced}
+use Rattle.implements.specs.Layouts.{traced_ble}
 use Rattle.layout_check.proofs.elements.trace_bles.Given as goal
 
 abbrev pub invariant-loop-block : goal.invariant-loop-block
-invariant-loop-block l = l.elements.items ≡ l.initial.elements.items ++ flat_map (λ block. map (traced l.arch block) block.bles) (take l.block-index l.blocks)
+invariant-loop-block l = l.elements.items ≡ l.initial.elements.items ++ flat_map (λ block. map (traced_ble l.arch block) block.bles) (take l.block-index l.blocks)

@@ -30,7 +30,7 @@ returns-then-not-listed-clause-exact c =
     let global = c.is_global-global.ensures ∙ ap (is_global c.args.circuit.now) c.net.ensures in
     let no : c.in_ok-listed.listed ≡ false = search rules in
     let refused = rw no at c.in_ok-listed.ensures in
-    (only.0, only.1, λ is. refused (c.listed.ensures ∙ is ∙ sym (listed_same c.args.circuit.now c.args.graph.now.arch c.args.layout.now c.in-Some.driver c.args.laid.now.net c.is_global-global.result c.list-readers.result.now global readers)))
+    (only.0, only.1, λ is. refused (c.listed_blocks.ensures ∙ is ∙ sym (listed_same c.args.circuit.now c.args.graph.now.arch c.args.layout.now c.in-Some.driver c.args.laid.now.net c.is_global-global.result c.list-readers.result.now global readers)))
 
 pub source_of-source-requires : goal.source_of-source-requires
 source_of-source-requires c =
@@ -73,4 +73,4 @@ returns-in-None-clause-exact c =
     (c.as_slice.ensures.value ∙ c.in_ok-sinks.ensures
     ∙ sinks_same c.args.circuit.now c.args.graph.now.arch c.args.layout.now c.args.laid.now.net c.is_global-global.result c.list-readers.result.now c.blocks-blocks.result.now global readers c.blocks-blocks.ensures)
     (subst (λ (ps : List (List Node)). IsRouted c.args.graph.now.arch c.args.graph.now.strip c.source_of-source.result c.as_slice.result.now ps) c.paths.ensures tree)
-    (sym c.listed.ensures ∙ listed ∙ listed_same c.args.circuit.now c.args.graph.now.arch c.args.layout.now c.in-Some.driver c.args.laid.now.net c.is_global-global.result c.list-readers.result.now global readers)
+    (sym c.listed_blocks.ensures ∙ listed ∙ listed_same c.args.circuit.now c.args.graph.now.arch c.args.layout.now c.in-Some.driver c.args.laid.now.net c.is_global-global.result c.list-readers.result.now global readers)

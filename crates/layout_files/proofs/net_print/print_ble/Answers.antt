@@ -1,6 +1,6 @@
 use Rattle.std.proofs.Common.{◌∙◌, ◌++◌, ◌∷◌, [], ℕ, List, ap, codes, decimal, slice_get}
 use Rattle.std.specs.List.{flat_map, range_with_len}
-use Rattle.vpr_files.specs.TextLines.{line_of, spaced}
+use Rattle.vpr_files.specs.TextLines.{line_of, word_after_space}
 use Rattle.layout_text.specs.LayoutText.{ble_line, feed_or_open}
 use Rattle.vpr_files.specs.NetFile.{or_open}
 use Rattle.cluster.specs.Blocks.{net_name}
@@ -16,9 +16,9 @@ returns c =
     let left = c.print_pin.new.print.bytes in
     let clocked = c.print_pin-2.new.print.bytes in
     let name : List ℕ = codes "subblock: " ++ (c.net_name.result.now ++ []) in
-    let inputs : List ℕ = flat_map (λ place. spaced (feed_or_open (slice_get c.inputs.result.now place))) (range_with_len 0 c.args.arch.now.lut_size) in
-    let output : List ℕ = spaced (or_open decimal c.output.result) in
-    let clock : List ℕ = spaced (or_open decimal c.clock.result) in
+    let inputs : List ℕ = flat_map (λ place. word_after_space (feed_or_open (slice_get c.inputs.result.now place))) (range_with_len 0 c.args.arch.now.lut_size) in
+    let output : List ℕ = word_after_space (or_open decimal c.output.result) in
+    let clock : List ℕ = word_after_space (or_open decimal c.clock.result) in
     finish start clocked c.print-2.new.self.bytes (name ++ inputs ++ output ++ clock) (10 ∷ []) (line_of (ble_line c.args.circuit.now c.args.arch.now c.args.ble.now)) c.print-2.result
     (printed_then start left clocked (name ++ inputs ++ output) clock (printed_then start fed left (name ++ inputs) output (printed_then start named fed name inputs c.in_ok-print.ensures c.in_ok-print_inputs.ensures) c.in_ok-print_pin.ensures) c.in_ok-print_pin-2.ensures)
     (ble_text c.args.circuit.now c.args.arch.now c.args.ble.now c.net_name.result.now c.inputs.result.now c.output.result c.clock.result

@@ -8,8 +8,8 @@ use Rattle.longest_path.specs.Settled.{IsSettled}
 use Rattle.longest_path.proofs.Ending.{no_loop}
 use Rattle.longest_path.proofs.longest.has_loop.Goals as goal
 
-pub settled-requires-clause-starts : goal.settled-requires-clause-starts
-settled-requires-clause-starts c =
+pub longest_ways-requires-clause-starts : goal.longest_ways-requires-clause-starts
+longest_ways-requires-clause-starts c =
     let count : length c.loop-net.starts.items ≡ c.loop-net.net = c.loop-net.invariant.count in
     let all : c.loop-net.net ≡ c.len-nets.result = omega arith in
     subst (λ (nets : List ℕ). All (λ net. net < c.len-nets.result) nets) (sym c.deref.ensures.value)

@@ -11,8 +11,8 @@ use Rattle.longest_path.specs.Settled.{IsSettled}
 use Rattle.longest_path.proofs.Ending.{ends_within, if_longest, starts_within}
 use Rattle.longest_path.proofs.longest.longest_path.Goals as goal
 
-pub settled-requires-clause-starts : goal.settled-requires-clause-starts
-settled-requires-clause-starts c =
+pub longest_ways-requires-clause-starts : goal.longest_ways-requires-clause-starts
+longest_ways-requires-clause-starts c =
     subst (λ n. All (λ net. net < n) c.deref.result.now) (sym c.len-nets.ensures)
     (subst (λ (nets : List ℕ). All (λ net. net < length c.args.circuit.now.nets) nets) (sym (c.deref.ensures.value ∙ c.in_ok-starts.ensures)) (starts_within c.args.circuit.now c.requires))
 

@@ -2,7 +2,7 @@ use Rattle.std.proofs.Common.{ℕ, ◌≡◌, ◌+◌, ◌<◌, ◌≤◌, List,
 use Rattle.std.specs.List.{slice_get}
 use Rattle.blif.specs.LookupTables.{LookupTable}
 use Rattle.longest_path.specs.declared.reach.Reach.{Reach}
-use Rattle.longest_path.specs.Reaches.{AreUnreached, IsFarthest, far, steps_to}
+use Rattle.longest_path.specs.Reaches.{AreUnreached, IsFarthest, reach_of, steps_to}
 use Rattle.longest_path.proofs.Raising.{table_within, looped, kept, more, farther, far_of, raises, reached_within}
 use Rattle.longest_path.proofs.pass.pass.Goals as goal
 use Rattle.longest_path.proofs.pass.pass.Goals.{in-Some+else-best-nets+then-best-index, in-Some+else-best-nets+else-best-index, in_default}
@@ -13,7 +13,7 @@ returns-then-best-nets c starts found =
     let net : ℕ = c.in-Some.net in
     let table : LookupTable = record { line = c.table-table.result.line; inputs = c.table-table.result.inputs.now; output = c.table-table.result.output } in
     let farthest : IsFarthest now table.inputs net = subst (λ (r : List Reach). IsFarthest r table.inputs net) c.deref.ensures.value c.in-Some.ensures in
-    let is : far now net ≡ c.index-best.result.now = far_of now net c.index-best.result.now (reached_within now net farthest.reached) c.index-best.ensures in
+    let is : reach_of now net ≡ c.index-best.result.now = far_of now net c.index-best.result.now (reached_within now net farthest.reached) c.index-best.ensures in
     looped c.args.tables.now starts c.loop-place.place net table c.index-best.result.now c.args.reach.items now c.requires.within c.table-table.ensures is farthest (omega arith) (c.loop-place.invariant.passed starts found)
 
 pub index-requires : goal.index-requires
@@ -40,13 +40,13 @@ loop-place-preserved c =
     let here : slice_get tables place ≡ Some table = c.table-table.ensures in
     let long : length now ≡ length old = c.loop-place.invariant.long in
     let is_within : table.output < length now = (let h : table.output < length old = (table_within tables (length old) place table c.requires.within here).output in omega arith) in
-    elim c.match-farthest.branch [
+    elim c.match-farthest_net.branch [
       | in-Some+else-best-nets+then-best-index w ↦
           let net : ℕ = w.in-Some.net in
           let best : Reach = w.index-best.result.now in
           let farthest : IsFarthest now table.inputs net = subst (λ (r : List Reach). IsFarthest r table.inputs net) c.deref.ensures.value w.in-Some.ensures in
-          let is : far now net ≡ best = far_of now net best (reached_within now net farthest.reached) w.index-best.ensures in
-          let above : steps_to now table.output ≤ best.steps = (let e : far now table.output ≡ w.index.result.now = far_of now table.output w.index.result.now is_within w.index.ensures in let e2 : steps_to now table.output ≡ w.index.result.now.steps = ap (λ (r : Reach). r.steps) e in omega arith) in
+          let is : reach_of now net ≡ best = far_of now net best (reached_within now net farthest.reached) w.index-best.ensures in
+          let above : steps_to now table.output ≤ best.steps = (let e : reach_of now table.output ≡ w.index.result.now = far_of now table.output w.index.result.now is_within w.index.ensures in let e2 : steps_to now table.output ≡ w.index.result.now.steps = ap (λ (r : Reach). r.steps) e in omega arith) in
           let few : best.steps ≤ length now = omega arith in
           rw (w.reach-is, w.is_raised-is) (record {
             rises = λ n. (let a : steps_to old n ≤ steps_to now n = c.loop-place.invariant.rises n in let b = raises now table.output best n is_within above in omega arith);
@@ -59,9 +59,9 @@ loop-place-preserved c =
           let net : ℕ = w.in-Some.net in
           let best : Reach = w.index-best.result.now in
           let farthest : IsFarthest now table.inputs net = subst (λ (r : List Reach). IsFarthest r table.inputs net) c.deref.ensures.value w.in-Some.ensures in
-          let is : far now net ≡ best = far_of now net best (reached_within now net farthest.reached) w.index-best.ensures in
+          let is : reach_of now net ≡ best = far_of now net best (reached_within now net farthest.reached) w.index-best.ensures in
           let steps_is : steps_to now net ≡ best.steps = ap (λ (r : Reach). r.steps) is in
-          let below : best.steps < steps_to now table.output = (let e : far now table.output ≡ w.index.result.now = far_of now table.output w.index.result.now is_within w.index.ensures in let e2 : steps_to now table.output ≡ w.index.result.now.steps = ap (λ (r : Reach). r.steps) e in omega arith) in
+          let below : best.steps < steps_to now table.output = (let e : reach_of now table.output ≡ w.index.result.now = far_of now table.output w.index.result.now is_within w.index.ensures in let e2 : steps_to now table.output ≡ w.index.result.now.steps = ap (λ (r : Reach). r.steps) e in omega arith) in
           rw (w.reach-is, w.is_raised-is) (record {
             long = long;
             rises = c.loop-place.invariant.rises;

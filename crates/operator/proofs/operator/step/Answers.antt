@@ -1,5 +1,5 @@
 use Rattle.std.proofs.Common.{ℕ, ◌≡◌, ◌+◌, ◌++◌, arith, rules, subst}
-use Rattle.operator.specs.Held.{held}
+use Rattle.operator.specs.Held.{sink_text}
 use Rattle.operator.specs.OperatorText.{outcome_text}
 use Rattle.operator.specs.Operators.{Steps}
 use Rattle.operator.proofs.OperatorLemmas.{on_err}
@@ -7,13 +7,13 @@ use Rattle.operator.proofs.Stepping.{steps_more, steps_none, tries_more}
 use Rattle.operator.proofs.operator.step.Goals as goal
 
 pub loop-number-init : goal.loop-number-init
-loop-number-init c = steps_none c.args.graph.now c.args.core.now c.args.id (held c.args.reply.now)
+loop-number-init c = steps_none c.args.graph.now c.args.core.now c.args.id (sink_text c.args.reply.now)
 
 pub loop-number-preserved : goal.loop-number-preserved
 loop-number-preserved c =
     let step = c.make_step-outcome.ensures.made in
-    let told : held c.push_outcome.new.reply ≡ held c.loop-number.reply ++ outcome_text c.make_step-outcome.result = search rules in
-    steps_more c.args.graph.now c.args.core.now c.loop-number.core c.make_step-outcome.new.core c.args.id c.loop-number.number (held c.args.reply.now) (held c.loop-number.reply) (held c.push_outcome.new.reply)
+    let told : sink_text c.push_outcome.new.reply ≡ sink_text c.loop-number.reply ++ outcome_text c.make_step-outcome.result = search rules in
+    steps_more c.args.graph.now c.args.core.now c.loop-number.core c.make_step-outcome.new.core c.args.id c.loop-number.number (sink_text c.args.reply.now) (sink_text c.loop-number.reply) (sink_text c.push_outcome.new.reply)
     step.0 c.make_step-outcome.result c.loop-number.invariant step.1 step.2 told c.make_step-outcome.ensures.own
 
 -- the step without a reply is made
@@ -28,6 +28,6 @@ returns-in_err-push_outcome-clause-stands c =
 
 pub returns-clause-told : goal.returns-clause-told
 returns-clause-told c =
-    let P : ℕ → Type 0 = λ n. Steps c.args.graph.now c.args.core.now c.args.id n (held c.args.reply.now) (held c.loop-number.reply) c.loop-number.core in
+    let P : ℕ → Type 0 = λ n. Steps c.args.graph.now c.args.core.now c.args.id n (sink_text c.args.reply.now) (sink_text c.loop-number.reply) c.loop-number.core in
     let all : c.loop-number.number ≡ c.args.count = omega arith in
     subst P all c.loop-number.invariant

@@ -1,7 +1,7 @@
-use Rattle.operator.specs.Held.{held}
+use Rattle.operator.specs.Held.{sink_text}
 use Rattle.operator.specs.Operators.{Steps}
 use Rattle.operator.proofs.operator.step.Given as goal
 
 -- the steps so far
 abbrev pub invariant-loop-number : goal.invariant-loop-number
-invariant-loop-number l = Steps l.graph l.fn.core l.fn.id l.number (held l.fn.reply) (held l.reply) l.core
+invariant-loop-number l = Steps l.graph l.fn.core l.fn.id l.number (sink_text l.fn.reply) (sink_text l.reply) l.core

@@ -1,7 +1,7 @@
 use Rattle.std.proofs.Common.{ap}
 use Rattle.std.specs.List.{flat_map}
 use Rattle.line_text.proofs.WritingLemmas.{part_first, writes_part, writes_same, writes_then}
-use Rattle.page.specs.Shown.{shown}
+use Rattle.page.specs.Shown.{escape_of}
 use Rattle.page.proofs.page.write_kind.Goals as goal
 
 pub returns-in_err-write_parts : goal.returns-in_err-write_parts
@@ -10,4 +10,4 @@ returns-in_err-write_parts g c = writes_part _ c.from_residual.ensures.0 (part_f
 pub returns : goal.returns
 returns g c =
     writes_then c.in_ok-write_parts.ensures _ _ c.write_shown.result
-    (writes_same g.K.Sink.contents g.K.Sink.has_failed _ _ _ _ c.write_shown.result (ap (flat_map shown) c.as_bytes.ensures.value) c.write_shown.ensures)
+    (writes_same g.K.Sink.contents g.K.Sink.has_failed _ _ _ _ c.write_shown.result (ap (flat_map escape_of) c.as_bytes.ensures.value) c.write_shown.ensures)

@@ -14,7 +14,7 @@ terminals_of-requires-clause-net g c =
     let net : BlockNet = record { net = c.net.result.net; driver = c.net.result.driver; readers = c.net.result.readers.now; global = c.net.result.global } in
     let within : c.loop-number.number < length (block_nets packed) = omega (arith, c.loop-number-test.true, c.net_count-number-end.ensures) in
     let is : get_or (block_nets packed) c.loop-number.number net ≡ net = get_or_from_slice_get (block_nets packed) c.loop-number.number net net c.net.ensures in
-    subst (IsBlockNet packed) is ((c.laws_of_packing.ensures packed c.arch-arch.ensures.lawful).nets c.loop-number.number net within)
+    subst (IsBlockNet packed) is ((c.laws_of_packing.ensures packed c.laws.ensures).nets c.loop-number.number net within)
 
 pub loop-number-preserved : goal.loop-number-preserved
 loop-number-preserved g c =

@@ -16,7 +16,7 @@ number_of-requires g c =
     let packed = c.args.packed.now in
     let place = place_of c.args.places.now c.args.block in
     let is : block_at packed c.args.block ≡ c.block.result = get_or_from_slice_get (blocks_of packed) c.args.block c.block.result (Cluster 0) c.block.ensures in
-    let there = block_sink basis c.count-count.ensures.basis c.count-count.ensures.lawful packed c.args.places.now c.requires.placed c.laws_of_places.ensures.within c.args.block c.requires.within in
+    let there = block_sink basis c.laws.ensures.basis c.laws.ensures.lawful packed c.args.places.now c.requires.placed c.laws_of_places.ensures.within c.args.block c.requires.within in
     rw c.sink_at.ensures (subst (λ block. is_node basis.arch basis.strip (sink_at block place) ≡ true) is there)
 
 pub returns : goal.returns

@@ -8,9 +8,9 @@ use Rattle.pathfinder.proofs.rates.rates_of.Goals as goal
 pub new-requires : goal.new-requires
 new-requires g c =
     let basis = g.G.StripGraph.basis c.args.graph.now in
-    let there = c.count-count.ensures.lawful.nodes c.loop-node.node (omega (arith, c.loop-node-test.true, c.requires.long)) in
-    narrow basis c.node-place.result c.capacity_at-capacity.result c.count-count.ensures.basis (subst (λ (node : Node). is_node basis.arch basis.strip node ≡ true) (sym c.node-place.ensures) there)
-    (subst (λ n. n < 2 ^ 8) (sym c.capacity_at-capacity.ensures) (capacity_few basis.arch basis.strip c.node-place.result c.count-count.ensures.basis.arch))
+    let there = c.laws.ensures.lawful.nodes c.loop-node.node (omega (arith, c.loop-node-test.true, c.requires.long)) in
+    narrow basis c.node-place.result c.capacity_at-capacity.result c.laws.ensures.basis (subst (λ (node : Node). is_node basis.arch basis.strip node ≡ true) (sym c.node-place.ensures) there)
+    (subst (λ n. n < 2 ^ 8) (sym c.capacity_at-capacity.ensures) (capacity_few basis.arch basis.strip c.node-place.result c.laws.ensures.basis.arch))
 
 pub loop-node-preserved : goal.loop-node-preserved
 loop-node-preserved g c =

@@ -1,6 +1,6 @@
 use Rattle.std.proofs.Common.{◌≡◌, replicate}
-use Rattle.shared_core.specs.CoreState.{unmarked}
+use Rattle.shared_core.specs.CoreState.{no_marks}
 use Rattle.shared_core.proofs.wrapping.no_marks.Given as goal
 
 abbrev pub invariant-loop-id : goal.invariant-loop-id
-invariant-loop-id l = l.marks.items ≡ replicate l._id unmarked
+invariant-loop-id l = l.marks.items ≡ replicate l._id no_marks

@@ -3,7 +3,7 @@ use Rattle.std.specs.List.{range_with_len}
 use Rattle.std.proofs.lemmas.List.FromFn.{map-range_with_len_more}
 use Rattle.picture_lines.specs.declared.lattice.Direction.TheVariants.{Across}
 use Rattle.strip_files.specs.declared.size.StripSize.{StripSize}
-use Rattle.strip_picture.specs.declared.channels.ChannelUse.{ChannelUse}
+use Rattle.strip_picture.specs.declared.channels.ChannelTracks.{ChannelTracks}
 use Rattle.strip_picture.specs.Channels.{use_of}
 use Rattle.strip_picture.proofs.channels.across_channels.Goals as goal
 
@@ -11,14 +11,14 @@ pub loop-number-preserved : goal.loop-number-preserved
 loop-number-preserved c nodes h =
     let size : StripSize = c.args.size in
     let n : ℕ = c.loop-number.number in
-    let f : ℕ → ChannelUse = λ number. use_of nodes Across (number / (size.rows + 1) + 1) (number % (size.rows + 1)) in
+    let f : ℕ → ChannelTracks = λ number. use_of nodes Across (number / (size.rows + 1) + 1) (number % (size.rows + 1)) in
     c.in_ok-push.ensures.items
-    ∙ (ap (λ (told : List ChannelUse). told ++ c.use_of-channel.result ∷ []) (c.loop-number.invariant nodes h)
+    ∙ (ap (λ (told : List ChannelTracks). told ++ c.use_of-channel.result ∷ []) (c.loop-number.invariant nodes h)
     ∙ (ap (λ one. map f (range_with_len 0 n) ++ one ∷ []) (c.use_of-channel.ensures nodes h) ∙ sym (map-range_with_len_more f 0 n n (zero-add n))))
 
 pub returns : goal.returns
 returns c nodes h =
     let size : StripSize = c.args.size in
-    let f : ℕ → ChannelUse = λ number. use_of nodes Across (number / (size.rows + 1) + 1) (number % (size.rows + 1)) in
+    let f : ℕ → ChannelTracks = λ number. use_of nodes Across (number / (size.rows + 1) + 1) (number % (size.rows + 1)) in
     let all : c.loop-number.number ≡ size.columns * (size.rows + 1) = omega arith in
     c.loop-number.invariant nodes h ∙ ap (λ n. map f (range_with_len 0 n)) all

@@ -1,14 +1,14 @@
 use Rattle.std.proofs.Common.{◌≡◌, ◌∙◌, Bool, ap}
 use Rattle.line_text.proofs.WritingLemmas.{writes_same}
 use Rattle.picture_lines.specs.declared.lattice.Lattice.{Lattice}
-use Rattle.strip_picture.specs.declared.channels.ChannelUse.{ChannelUse}
+use Rattle.strip_picture.specs.declared.channels.ChannelTracks.{ChannelTracks}
 use Rattle.strip_picture.specs.Numbers.{goes_across, goes_up, middle, number_text, text_at}
 use Rattle.strip_picture.proofs.heat.write_number.Goals as goal
 
 pub returns : goal.returns
 returns g c =
     let lattice : Lattice = c.args.lattice in
-    let channel : ChannelUse = c.args.channel in
+    let channel : ChannelTracks = c.args.channel in
     let x : c.middle-x.result ≡ middle lattice channel.x (goes_up channel.direction) = c.middle-x.ensures ∙ ap (λ (behind : Bool). middle lattice channel.x behind) c.goes_up.ensures in
     let y : c.middle-y.result ≡ middle lattice channel.y (goes_across channel.direction) = c.middle-y.ensures ∙ ap (λ (behind : Bool). middle lattice channel.y behind) c.goes_across.ensures in
     let same : text_at c.middle-x.result c.middle-y.result channel.tracks ≡ number_text lattice channel = λ i. text_at (x i) (y i) channel.tracks in

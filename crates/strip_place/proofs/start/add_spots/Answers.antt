@@ -2,7 +2,7 @@ use Rattle.std.proofs.Common.{◌≡◌, ◌+◌, ◌<◌, ◌++◌, ◌∷◌, 
 use Rattle.std.proofs.lemmas.List.{append_assoc, map_more}
 use Rattle.std.proofs.lemmas.Option.{get_or_from_slice_get}
 use Rattle.grid.specs.declared.place.Place.{Place}
-use Rattle.grid.specs.Listed.{listed}
+use Rattle.grid.specs.Listed.{places_in_order}
 use Rattle.grid.specs.PlaceLaws.{IsPlaceIn}
 use Rattle.strip_place.specs.declared.point.Point.{Point}
 use Rattle.strip_place.specs.Boards.{spot_of}
@@ -12,7 +12,7 @@ use Rattle.strip_place.proofs.start.add_spots.Goals as goal
 pub overflow_cast-x : goal.overflow_cast-x
 overflow_cast-x c =
     let places = c.args.places in
-    let all = listed places in
+    let all = places_in_order places in
     let number = c.loop-number.number in
     let place = c.place-x.result in
     let lt : number < length all = omega arith in
@@ -23,7 +23,7 @@ overflow_cast-x c =
 pub overflow_cast-y : goal.overflow_cast-y
 overflow_cast-y c =
     let places = c.args.places in
-    let all = listed places in
+    let all = places_in_order places in
     let number = c.loop-number.number in
     let place = c.place-x.result in
     let lt : number < length all = omega arith in
@@ -33,7 +33,7 @@ overflow_cast-y c =
 
 pub loop-number-preserved : goal.loop-number-preserved
 loop-number-preserved c =
-    let all = listed c.args.places in
+    let all = places_in_order c.args.places in
     let number = c.loop-number.number in
     let place = c.place-x.result in
     let lt : number < length all = omega arith in

@@ -1,7 +1,7 @@
 use Rattle.std.proofs.Common.{◌≡◌, ◌++◌, map, take}
-use Rattle.grid.specs.Listed.{listed}
+use Rattle.grid.specs.Listed.{places_in_order}
 use Rattle.strip_place.specs.Boards.{spot_of}
 use Rattle.strip_place.proofs.start.add_spots.Given as goal
 
 abbrev pub invariant-loop-number : goal.invariant-loop-number
-invariant-loop-number l = l.spots.items ≡ l.initial.spots.items ++ map spot_of (take l.number (listed l.places))
+invariant-loop-number l = l.spots.items ≡ l.initial.spots.items ++ map spot_of (take l.number (places_in_order l.places))

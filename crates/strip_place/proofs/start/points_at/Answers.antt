@@ -1,7 +1,7 @@
 use Rattle.std.proofs.Common.{◌<◌, ◌++◌, ◌∷◌, [], List, length, map, take, get_or, arith, ap, sym, ◌∙◌}
 use Rattle.std.proofs.lemmas.List.{map_push, take_all, take_more}
 use Rattle.strip_place.specs.declared.point.Point.{Point}
-use Rattle.strip_place.specs.Wiring.{nowhere, point_at}
+use Rattle.strip_place.specs.Wiring.{no_point, point_at}
 use Rattle.strip_place.proofs.start.points_at.Goals as goal
 
 pub loop-site-preserved : goal.loop-site-preserved
@@ -17,4 +17,4 @@ pub returns : goal.returns
 returns c =
     let spots = c.args.spots.now in
     let all = take_all c.loop-site.site-index c.args.sites.now (omega arith) in
-    c.in_ok-push-2.ensures.items ∙ ap (λ (front : List Point). front ++ nowhere ∷ []) (c.loop-site.invariant ∙ ap (map (point_at spots)) all)
+    c.in_ok-push-2.ensures.items ∙ ap (λ (front : List Point). front ++ no_point ∷ []) (c.loop-site.invariant ∙ ap (map (point_at spots)) all)

@@ -1,5 +1,5 @@
 use Rattle.std.proofs.Common.{◌+◌, ◌∙◌, Bool, List, None, drop, ap, sym}
-use Rattle.strip_place.specs.Vacancies.{mark_at, marked}
+use Rattle.strip_place.specs.Vacancies.{mark_at, marks_with}
 use Rattle.strip_place.proofs.Marks.{marked_all, marked_more}
 use Rattle.strip_place.proofs.vacancies.mark.Goals as goal
 use Rattle.strip_place.proofs.vacancies.mark.Goals.{in-Some, in_default}
@@ -11,8 +11,8 @@ loop-site-preserved c =
     let rest = drop (index + 1) kept in
     let more = marked_more c.loop-site.marks kept index None c.loop-site-test.true in
     elim c.match-site.branch [
-      | in-Some w ↦ ap (λ (marks : List Bool). marked marks rest) (w.marks-is ∙ sym (ap (mark_at c.loop-site.marks) w.in-Some.is)) ∙ (sym more ∙ c.loop-site.invariant)
-      | in_default w ↦ ap (λ (marks : List Bool). marked marks rest) (w.marks-is ∙ sym (ap (mark_at c.loop-site.marks) w.in_default.is)) ∙ (sym more ∙ c.loop-site.invariant)
+      | in-Some w ↦ ap (λ (marks : List Bool). marks_with marks rest) (w.marks-is ∙ sym (ap (mark_at c.loop-site.marks) w.in-Some.is)) ∙ (sym more ∙ c.loop-site.invariant)
+      | in_default w ↦ ap (λ (marks : List Bool). marks_with marks rest) (w.marks-is ∙ sym (ap (mark_at c.loop-site.marks) w.in_default.is)) ∙ (sym more ∙ c.loop-site.invariant)
     ]
 
 pub returns : goal.returns

@@ -7,14 +7,14 @@ use Rattle.vpr_files.proofs.ClusterLemmas.{by_circuit}
 use Rattle.vpr_files.proofs.Globals.{global_line, global_line_text, global_text, globals_text, some_false, some_more, some_true, told}
 use Rattle.line_text.proofs.WritingLemmas.{all_found, all_loop, all_loop_end, all_none, all_same, part_first, part_loop, part_same, writes_part, writes_same, writes_then}
 use Rattle.vpr_files.proofs.net_file.write_globals.Goals as goal
-use Rattle.vpr_files.proofs.net_file.write_globals.Goals.{then-net+in_ok-write_parts, else-net}
+use Rattle.vpr_files.proofs.net_file.write_globals.Goals.{then-net+in_ok-write_slices, else-net}
 
 -- a net, from its parts
 abbrev net_value : ℕ → ℕ → List ℕ → Bool → BlockNet
 net_value net driver readers global = record { net = net; driver = driver; readers = readers; global = global }
 
-pub returns-in_err-write_parts : goal.returns-in_err-write_parts
-returns-in_err-write_parts g c =
+pub returns-in_err-write_slices : goal.returns-in_err-write_slices
+returns-in_err-write_slices g c =
     let packed = c.args.packed.now in
     let nets = block_nets packed in
     let net = net_value c.net-net.result.net c.net-net.result.driver c.net-net.result.readers.now c.net-net.result.global in
@@ -22,7 +22,7 @@ returns-in_err-write_parts g c =
     (part_same
     (part_first (told (list_any (λ (one : BlockNet). one.global) nets) (10 ∷ []))
     (part_loop (global_text packed.circuit) nets c.loop-number.number net c.net-net.ensures c.loop-number.invariant.0
-    (part_same c.in_err-write_parts.ensures
+    (part_same c.in_err-write_slices.ensures
     (global_line_text packed.circuit c.net_name.result.now net (by_circuit (λ circuit. net_name circuit net.net) c.net_name.result.now c.circuit.result.now c.args.packed.now.circuit c.net_name.ensures c.circuit.ensures.value)
     ∙ ap (λ b. told b (line_of (global_line packed.circuit net))) (sym c.if-net.true)))))
     (globals_text packed))
@@ -36,10 +36,10 @@ loop-number-preserved g c =
     let some = list_any (λ (one : BlockNet). one.global) (take number nets) in
     let more : (some || net.global) ≡ list_any (λ (one : BlockNet). one.global) (take (number + 1) nets) = some_more nets number net c.net-net.ensures in
     elim c.if-net.branch [
-      | then-net+in_ok-write_parts w ↦ (
+      | then-net+in_ok-write_slices w ↦ (
         all_found
             (all_loop (global_text packed.circuit) nets number net c.net-net.ensures c.loop-number.invariant.0
-            (all_same w.in_ok-write_parts.ensures
+            (all_same w.in_ok-write_slices.ensures
             (global_line_text packed.circuit w.net_name.result.now net (by_circuit (λ circuit. net_name circuit net.net) w.net_name.result.now w.circuit.result.now c.args.packed.now.circuit w.net_name.ensures w.circuit.ensures.value)
             ∙ ap (λ b. told b (line_of (global_line packed.circuit net))) (sym w.if-net.true))))
             w.sink-is,

@@ -2,7 +2,7 @@ use Rattle.std.proofs.Common.{◌≡◌, ◌∙◌, ◌≤◌, length, sym, ap, 
 use Rattle.std.proofs.lemmas.List.Folds.{flat_map-map}
 use Rattle.arch_file.specs.declared.arch.Arch.{Arch}
 use Rattle.cluster.specs.Blocks.{net_name, pins_of}
-use Rattle.vpr_files.specs.TextLines.{spaced}
+use Rattle.vpr_files.specs.TextLines.{word_after_space}
 use Rattle.vpr_files.specs.NetFile.{or_open}
 use Rattle.vpr_files.proofs.ClusterLemmas.{by_circuit, pin_count}
 use Rattle.line_text.proofs.WritingLemmas.{all_loop, all_loop_end, all_same, part_loop, part_same, writes_part}
@@ -14,15 +14,15 @@ returns-in_err-write_word g c =
     let pins = pins_of packed c.args.cluster in
     writes_part c.from_residual.result c.from_residual.ensures.0
     (part_same
-    (part_loop (λ carried. spaced (or_open (net_name packed.circuit) carried)) pins c.loop-pin.pin c.pin.result c.pin.ensures c.loop-pin.invariant
-    (part_same c.in_err-write_word.ensures (ap spaced (by_circuit (λ circuit. or_open (net_name circuit) c.pin.result) c.pin_name.result.now c.circuit.result.now c.args.packed.now.circuit c.pin_name.ensures c.circuit.ensures.value))))
-    (sym (flat_map-map spaced (or_open (net_name packed.circuit)) pins)))
+    (part_loop (λ carried. word_after_space (or_open (net_name packed.circuit) carried)) pins c.loop-pin.pin c.pin.result c.pin.ensures c.loop-pin.invariant
+    (part_same c.in_err-write_word.ensures (ap word_after_space (by_circuit (λ circuit. or_open (net_name circuit) c.pin.result) c.pin_name.result.now c.circuit.result.now c.args.packed.now.circuit c.pin_name.ensures c.circuit.ensures.value))))
+    (sym (flat_map-map word_after_space (or_open (net_name packed.circuit)) pins)))
 
 pub loop-pin-preserved : goal.loop-pin-preserved
 loop-pin-preserved g c =
     let packed = c.args.packed.now in
-    all_loop (λ carried. spaced (or_open (net_name packed.circuit) carried)) (pins_of packed c.args.cluster) c.loop-pin.pin c.pin.result c.pin.ensures c.loop-pin.invariant
-    (all_same c.in_ok-write_word.ensures (ap spaced (by_circuit (λ circuit. or_open (net_name circuit) c.pin.result) c.pin_name.result.now c.circuit.result.now c.args.packed.now.circuit c.pin_name.ensures c.circuit.ensures.value)))
+    all_loop (λ carried. word_after_space (or_open (net_name packed.circuit) carried)) (pins_of packed c.args.cluster) c.loop-pin.pin c.pin.result c.pin.ensures c.loop-pin.invariant
+    (all_same c.in_ok-write_word.ensures (ap word_after_space (by_circuit (λ circuit. or_open (net_name circuit) c.pin.result) c.pin_name.result.now c.circuit.result.now c.args.packed.now.circuit c.pin_name.ensures c.circuit.ensures.value)))
 
 pub returns : goal.returns
 returns g c =
@@ -31,4 +31,4 @@ returns g c =
     let count : length pins ≡ length packed.arch.pins = pin_count packed c.args.cluster in
     let same : length c.as_slice-pin-end.result.now ≡ length packed.arch.pins = ap length c.as_slice-pin-end.ensures ∙ ap (λ (a : Arch). length a.pins) c.arch.ensures.value in
     let long : length pins ≤ c.loop-pin.pin = (let h = c.loop-pin-test.false in omega (arith, count, same, h)) in
-    all_same (all_loop_end (λ carried. spaced (or_open (net_name packed.circuit) carried)) pins c.loop-pin.pin long c.loop-pin.invariant) (sym (flat_map-map spaced (or_open (net_name packed.circuit)) pins))
+    all_same (all_loop_end (λ carried. word_after_space (or_open (net_name packed.circuit) carried)) pins c.loop-pin.pin long c.loop-pin.invariant) (sym (flat_map-map word_after_space (or_open (net_name packed.circuit)) pins))

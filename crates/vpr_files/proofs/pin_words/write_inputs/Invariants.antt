@@ -1,10 +1,10 @@
 use Rattle.std.proofs.Common.{take, slice_get}
 use Rattle.std.specs.List.{flat_map, range_with_len}
-use Rattle.vpr_files.specs.TextLines.{spaced}
+use Rattle.vpr_files.specs.TextLines.{word_after_space}
 use Rattle.vpr_files.specs.NetFile.{input_word, or_open}
 use Rattle.line_text.specs.Writing.{TakesAll}
 use Rattle.vpr_files.proofs.pin_words.write_inputs.Given as goal
 
 -- the words of the inputs before this one are written
 abbrev pub invariant-loop-place : goal.invariant-loop-place
-invariant-loop-place g l = TakesAll g.W.Sink.contents g.W.Sink.has_failed l.initial.sink l.sink (flat_map (λ place. spaced (or_open (input_word l.packed l.cluster) (slice_get l.inputs place))) (take l.place (range_with_len 0 l.packed.arch.lut_size)))
+invariant-loop-place g l = TakesAll g.W.Sink.contents g.W.Sink.has_failed l.initial.sink l.sink (flat_map (λ place. word_after_space (or_open (input_word l.packed l.cluster) (slice_get l.inputs place))) (take l.place (range_with_len 0 l.packed.arch.lut_size)))

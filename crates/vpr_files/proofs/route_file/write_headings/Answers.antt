@@ -5,6 +5,6 @@ use Rattle.vpr_files.proofs.route_file.write_headings.Goals as goal
 
 pub returns : goal.returns
 returns g c =
-    writes_same g.W.Sink.contents g.W.Sink.has_failed _ _ _ _ c.write_parts.result
+    writes_same g.W.Sink.contents g.W.Sink.has_failed _ _ _ _ c.write_slices.result
     (route_headings_text c.args.strip c.as_bytes.result.now c.as_bytes-2.result.now (c.as_bytes.ensures.value ∙ c.format.ensures.text) (c.as_bytes-2.ensures.value ∙ c.format-2.ensures.text))
-    c.write_parts.ensures
+    c.write_slices.ensures

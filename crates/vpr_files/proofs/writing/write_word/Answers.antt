@@ -3,4 +3,4 @@ use Rattle.line_text.proofs.WritingLemmas.{writes_same}
 use Rattle.vpr_files.proofs.writing.write_word.Goals as goal
 
 pub returns : goal.returns
-returns g c = writes_same g.W.Sink.contents g.W.Sink.has_failed _ _ _ _ _ (simp append-nil) c.write_parts.ensures
+returns g c = writes_same g.W.Sink.contents g.W.Sink.has_failed _ _ _ _ _ (simp append-nil) c.write_slices.ensures

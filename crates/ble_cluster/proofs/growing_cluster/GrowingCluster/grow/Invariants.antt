@@ -1,5 +1,5 @@
 use Rattle.std.proofs.Common.{◌≡◌}
-use Rattle.ble_cluster.specs.Clusters.{grown}
+use Rattle.ble_cluster.specs.Clusters.{members_after}
 use Rattle.ble_cluster.specs.FirstFree.{IsFirstFree}
 use Rattle.ble_cluster.specs.FreeBles.{free_in}
 use Rattle.ble_cluster.specs.GrowingCluster.{IsGrowingCluster, IsRoomFor}
@@ -9,7 +9,7 @@ use Rattle.ble_cluster.proofs.growing_cluster.GrowingCluster.grow.Given as goal
 abbrev pub invariant-loop-added : goal.invariant-loop-added
 invariant-loop-added l = record {
   growth : IsGrowingCluster l.elements.elements l.elements.nets l.self;
-  members : l.self.members.items ≡ grown l.arch l.elements.elements (free_in l.is_taken) l.fn.self.members.items l.added;
+  members : l.self.members.items ≡ members_after l.arch l.elements.elements (free_in l.is_taken) l.fn.self.members.items l.added;
   room : IsRoomFor l.elements l.self;
   keys : l.by_outside.keys.items ≡ l.fn.by_outside.keys.items;
   free : IsFirstFree l.is_taken l.by_outside;

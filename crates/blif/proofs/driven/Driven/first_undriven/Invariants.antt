@@ -1,9 +1,9 @@
 use Rattle.std.proofs.Common.{◌≡◌, ◌++◌, drop}
-use Rattle.blif.specs.Names.{first, texts}
-use Rattle.blif.specs.Repeats.{undriven}
+use Rattle.blif.specs.Names.{first_of, texts}
+use Rattle.blif.specs.Repeats.{undriven_names}
 use Rattle.blif.proofs.driven.Driven.first_undriven.Given as goal
 
 -- the nets so far are driven
 abbrev pub invariant-loop-place : goal.invariant-loop-place
 invariant-loop-place l =
-    first (undriven (l.self.clocks ++ l.self.drivers) (texts (drop l.place l.names))) ≡ first (undriven (l.self.clocks ++ l.self.drivers) (texts l.names))
+    first_of (undriven_names (l.self.clocks ++ l.self.drivers) (texts (drop l.place l.names))) ≡ first_of (undriven_names (l.self.clocks ++ l.self.drivers) (texts l.names))

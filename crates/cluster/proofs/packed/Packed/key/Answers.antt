@@ -6,13 +6,13 @@ use Rattle.cluster.proofs.Keys.{block_there, key_at}
 use Rattle.cluster.proofs.packed.Packed.key.Goals as goal
 
 pub net_name-requires : goal.net_name-requires
-net_name-requires c = block_there c.args.self.now c.circuit.ensures.lawful c.args.number (InputPad c.in-InputPad.net) c.in-InputPad.ensures
+net_name-requires c = block_there c.args.self.now c.laws.ensures c.args.number (InputPad c.in-InputPad.net) c.in-InputPad.ensures
 
 pub net_name-requires-in-OutputPad : goal.net_name-requires-in-OutputPad
-net_name-requires-in-OutputPad c = block_there c.args.self.now c.circuit.ensures.lawful c.args.number (OutputPad c.in-OutputPad.net) c.in-OutputPad.ensures
+net_name-requires-in-OutputPad c = block_there c.args.self.now c.laws.ensures c.args.number (OutputPad c.in-OutputPad.net) c.in-OutputPad.ensures
 
 pub seed_output-requires : goal.seed_output-requires
-seed_output-requires c = block_there c.args.self.now c.circuit.ensures.lawful c.args.number (Cluster c.in-Cluster.cluster) c.in-Cluster.ensures
+seed_output-requires c = block_there c.args.self.now c.laws.ensures c.args.number (Cluster c.in-Cluster.cluster) c.in-Cluster.ensures
 
 pub returns-in-InputPad : goal.returns-in-InputPad
 returns-in-InputPad c = key_at c.args.self.now c.args.number (InputPad c.in-InputPad.net) c.in-InputPad.ensures ∙ ap (λ (name : List ℕ). let key : BlockKey = record { kind = kind.InputPad; name = name } in let o : Option BlockKey = Some key in o) (sym c.net_name.ensures)

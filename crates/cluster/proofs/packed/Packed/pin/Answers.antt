@@ -3,7 +3,7 @@ use Rattle.arch_file.specs.declared.arch.Arch.{Arch}
 use Rattle.arch_file.specs.declared.arch.Pin.{Pin}
 use Rattle.arch_file.specs.declared.arch.PinClass.TheVariants.{Input, Output, Clock}
 use Rattle.cluster.specs.Clusters.{PackedCircuit}
-use Rattle.cluster.specs.Blocks.{carried}
+use Rattle.cluster.specs.Blocks.{net_on_pin}
 use Rattle.cluster.proofs.PackedLaws.{pin_at, input_entry, clock_entry, length-pin_ranks}
 use Rattle.cluster.proofs.packed.Packed.pin.Goals as goal
 
@@ -31,7 +31,7 @@ returns-in-Output c =
     let pins = c.as_slice.ensures ∙ ap (λ (arch : Arch). arch.pins) c.arch.ensures.value in
     let class = ap (λ (pins : List Pin). (get_or pins c.args.pin none).class) (sym pins) ∙ c.in-Output.is in
     let pin_count = ap (λ (packed : PackedCircuit). length packed.arch.pins) c.self.view_is in
-    let net = c.leaving_output.ensures ∙ ap (λ (packed : PackedCircuit). carried packed c.args.cluster Output c.index-rank.result.now) (sym c.self.view_is) in
+    let net = c.leaving_output.ensures ∙ ap (λ (packed : PackedCircuit). net_on_pin packed c.args.cluster Output c.index-rank.result.now) (sym c.self.view_is) in
     rw (← c.self.view_is) (pin_at packed c.args.cluster c.args.pin c.index-rank.result.now Output c.self.inside.tables.ranks.items none _ (omega (arith, pin_count, c.requires.pin)) class c.self.invariant.kept.ranks c.index-rank.ensures net)
 
 pub returns-in-Clock : goal.returns-in-Clock

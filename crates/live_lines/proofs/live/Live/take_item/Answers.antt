@@ -2,7 +2,7 @@ use Rattle.std.proofs.Common.{◌≡◌, [], refl, ◌∙◌, true, rules}
 use Rattle.std.specs.Prelude.{is_ok}
 use Rattle.sessions.specs.SessionText.{answer_text}
 use Rattle.script_text.specs.declared.act.Act.TheVariants.{Session}
-use Rattle.operator.specs.Held.{held}
+use Rattle.operator.specs.Held.{sink_text}
 use Rattle.live_lines.proofs.ItemLemmas.{held_as, is_told, item_answers, item_writes, lengths_answered}
 use Rattle.live_lines.proofs.live.Live.take_item.Goals as goal
 
@@ -17,8 +17,8 @@ returns-in-Ok-clause-takes g c =
     let self = c.args.self.now in
     let text = answer_text c.answer.result.0 in
     let is : is_ok c.answer.result.1 ≡ true = search rules in
-    let none : held c.new-reply.result ≡ [] = search rules in
-    let whole : held c.answer.new.writer ≡ text = is_told c.answer.result.1 c.new-reply.result c.answer.new.writer text is none c.answer.ensures.written in
+    let none : sink_text c.new-reply.result ≡ [] = search rules in
+    let whole : sink_text c.answer.new.writer ≡ text = is_told c.answer.result.1 c.new-reply.result c.answer.new.writer text is none c.answer.ensures.written in
     let bytes : c.as_bytes.result.now ≡ text = held_as c.answer.new.writer c.as_bytes.result.now c.as_bytes.ensures ∙ whole in
     record {
       telling = record { act = Session c.args.name.now c.args.item; calls = c.answer.ensures.answered.0; text = text };

@@ -1,7 +1,7 @@
 use Rattle.std.proofs.Common.{sym, ap, subst, ◌∙◌}
 use Rattle.operator.proofs.OperatorLemmas.{on_ok}
 use Rattle.script_text.specs.Script.{named_operator}
-use Rattle.live_lines.specs.declared.asked.Asked.{Asked as AskedIn}
+use Rattle.live_lines.specs.declared.asked.LineRequest.{LineRequest as AskedIn}
 use Rattle.live_lines.specs.Live.{HasTag, asks, stage_of, state_of}
 use Rattle.live_lines.specs.Live.Asked.{NoForm, Nothing, Operates, Says}
 use Rattle.live_lines.specs.Said.{texts_of}

@@ -2,7 +2,7 @@ use Rattle.std.proofs.Common.{◌≡◌, ℕ, List, [], refl, ap, subst, ◌∙�
 use Rattle.std.specs.Io.KnownBytes.{Appends}
 use Rattle.script_text.specs.declared.act.Act.TheVariants.{Operator}
 use Rattle.script_text.specs.Script.{named_operator}
-use Rattle.operator.specs.Held.{held}
+use Rattle.operator.specs.Held.{sink_text}
 use Rattle.operator.proofs.OperatorLemmas.{on_ok}
 use Rattle.tagged_lines.specs.Tags.{output_of}
 use Rattle.live_lines.specs.Live.{is_open, operator_told, told_by}
@@ -14,9 +14,9 @@ returns-clause-takes g c =
     let self = c.args.self.now in
     let line = named_operator c.args.line in
     let same : named_operator c.in_ok-line.line ≡ line = search rules in
-    let none : held c.new-reply.result ≡ [] = search rules in
+    let none : sink_text c.new-reply.result ≡ [] = search rules in
     let a = c.in_ok-serve.ensures.told in
-    let served = line_served self.graph.now self.operator c.serve.new.self self.jobs c.serve.new.jobs self.core c.serve.new.core c.in_ok-line.line line (held c.new-reply.result) (held c.serve.new.reply) same none a in
+    let served = line_served self.graph.now self.operator c.serve.new.self self.jobs c.serve.new.jobs self.core c.serve.new.core c.in_ok-line.line line (sink_text c.new-reply.result) (sink_text c.serve.new.reply) same none a in
     let bytes : c.as_bytes.result.now ≡ a.1 = held_as c.serve.new.reply c.as_bytes.result.now c.as_bytes.ensures ∙ served.1 in
     let told : output_of (told_by c.is_open-is_open.result c.as_bytes.result.now) ≡ output_of (operator_told line a.1) =
     ap (λ b. output_of (told_by b c.as_bytes.result.now)) c.is_open-is_open.ensures ∙ ap (λ t. output_of (told_by (is_open line) t)) bytes in

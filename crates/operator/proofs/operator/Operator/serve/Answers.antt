@@ -3,7 +3,7 @@ use Rattle.service_core.specs.Run.Call.{Evict as EvictCall, Move as MoveCall, Ow
 use Rattle.operator.specs.OwnersText.{owners_text}
 use Rattle.operator.specs.OperatorText.{evicted_text, list_text, moved_text, outcome_text, taken_text}
 use Rattle.operator.proofs.OperatorLemmas.{on_err, on_err_more, on_ok, lengths-evicted, lengths-moved, evicts, moves}
-use Rattle.operator.specs.Held.{held}
+use Rattle.operator.specs.Held.{sink_text}
 use Rattle.operator.specs.HeldJobs.{Holds}
 use Rattle.operator.specs.Serving.{tried_calls, tried_text}
 use Rattle.operator.proofs.Stepping.{lengths-run, steady_held, steady_take}
@@ -50,7 +50,7 @@ returns-in_ok-owners-in-Owners-clause-told c =
       OwnersCall owners ∷ [],
       owners_text c.args.core.now.device.rows owners,
       (owners, c.in_ok-owners-in-Owners.ensures.value, refl, refl, refl),
-      appended ∙ ap (λ t. held c.args.reply.now ++ t) told,
+      appended ∙ ap (λ t. sink_text c.args.reply.now ++ t) told,
       c.requires,
     ))
     c.push_owners.ensures)

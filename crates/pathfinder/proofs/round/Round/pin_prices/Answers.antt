@@ -7,7 +7,7 @@ use Rattle.rr_graph.specs.declared.node.Node.{Node}
 use Rattle.rr_graph.specs.Geometry.{sides_at}
 use Rattle.rr_graph.specs.Graph.{graph_of}
 use Rattle.pathfinder.specs.PlacedNets.{wiring_of}
-use Rattle.pathfinder.specs.Tables.{tabled}
+use Rattle.pathfinder.specs.Tables.{tabled_graph}
 use Rattle.pathfinder.specs.Entries.{AreLow}
 use Rattle.pathfinder.proofs.EntryPins.{low_still}
 use Rattle.pathfinder.proofs.round.Round.pin_prices.Goals as goal
@@ -22,7 +22,7 @@ pub loop-number-preserved : goal.loop-number-preserved
 loop-number-preserved g c =
     let round = c.args.self.now in
     let basis = g.G.StripGraph.basis round.graph.now in
-    let cost = (tabled (wiring_of basis) round.iterations round.history.now c.args.held.now).cost in
+    let cost = (tabled_graph (wiring_of basis) round.iterations round.history.now c.args.held.now).cost in
     let here : Node = (graph_of basis).node c.loop-number.number in
     let sides : c.sides_at-sides.result ≡ sides_at basis.arch basis.strip here =
     c.sides_at-sides.ensures ∙ (ap (λ (arch : Arch). sides_at arch c.strip.result c.node-pin.result) c.arch.ensures ∙ (ap (λ (strip : Strip). sides_at basis.arch strip c.node-pin.result) c.strip.ensures ∙ ap (λ (pin : Node). sides_at basis.arch basis.strip pin) c.node-pin.ensures)) in

@@ -31,7 +31,7 @@ returns g c =
     let long : length held ≡ (graph_of basis).count = ap length c.as_slice-held.ensures.value ∙ c.self.invariant.long ∙ over_history in
     let tells : Tells (wiring_of basis) held c.args.self.now.trees =
     λ node l. ap (λ (xs : List ℕ). slice_index xs node) c.as_slice-held.ensures.value ∙ c.self.invariant.tells node (omega (arith, l, over_history)) ∙ ap (λ (s : RoutingState). occupancy s.trees node) seen in
-    overuse_told basis held c.args.self.now.trees (record { nodes = c.overused.result; most = c.node_of.result }) c.most_overused.result tells
-    (c.overused.ensures ∙ ap (count_over (over_in basis held)) long)
+    overuse_told basis held c.args.self.now.trees (record { nodes = c.overused_count.result; most = c.node_of.result }) c.most_overused.result tells
+    (c.overused_count.ensures ∙ ap (count_over (over_in basis held)) long)
     (subst (λ count. IsMost (over_in basis held) count c.most_overused.result) long c.most_overused.ensures)
     c.node_of.ensures

@@ -8,8 +8,8 @@ use Rattle.rr_graph.proofs.Graphs.{there_small}
 use Rattle.rr_graph.proofs.Tracks.{track_index}
 use Rattle.rr_graph.proofs.numbering.Nodes.index.Goals as goal
 
-pub first-requires : goal.first-requires
-first-requires c = omega (arith, (there_small c.args.self.now.numbering c.args.node c.args.self.now.lawful c.requires).0)
+pub nodes_before-requires : goal.nodes_before-requires
+nodes_before-requires c = omega (arith, (there_small c.args.self.now.numbering c.args.node c.args.self.now.lawful c.requires).0)
 
 pub first_from-requires-clause-members : goal.first_from-requires-clause-members
 first_from-requires-clause-members c =
@@ -28,7 +28,7 @@ returns-then-is_wire c =
     let small = there_small nodes node c.args.self.now.lawful c.requires in
     let outer = and_parts (nat_le node.x nodes.strip.width) ((nat_le 1 node.x || is_chan_y node.kind) && is_slot nodes.arch nodes.strip node.kind node.y node.n) c.requires in
     let slot = (and_parts (nat_le 1 node.x || is_chan_y node.kind) (is_slot nodes.arch nodes.strip node.kind node.y node.n) outer.1).1 in
-    track_index nodes node.kind node.y c.first.result node.n c.args.self.now.lawful (omega (arith, small.0)) (omega (arith, small.1)) (sym c.is_wire.ensures ∙ c.if-is_wire.true) slot c.first.ensures
+    track_index nodes node.kind node.y c.nodes_before.result node.n c.args.self.now.lawful (omega (arith, small.0)) (omega (arith, small.1)) (sym c.is_wire.ensures ∙ c.if-is_wire.true) slot c.nodes_before.ensures
 
 pub returns-else-is_wire : goal.returns-else-is_wire
 returns-else-is_wire c =

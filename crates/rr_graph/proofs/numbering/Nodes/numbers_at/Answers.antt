@@ -23,14 +23,14 @@ overflow_sub-result c =
     let nodes = c.args.self.now.numbering in
     let lens : c.len.result ≡ column_count nodes = search rules in
     let has = (and_parts (nat_le c.args.x c.args.width) (nat_le 1 c.args.x || is_chan_y c.args.kind) (sym c.has_column.ensures ∙ c.if-not-has_column.false)).1 in
-    rw lens (room nodes c.args.kind c.args.x c.args.y c.first.result c.args.self.now.lawful has c.first.ensures)
+    rw lens (room nodes c.args.kind c.args.x c.args.y c.nodes_before.result c.args.self.now.lawful has c.nodes_before.ensures)
 
 pub overflow_sub-result-2 : goal.overflow_sub-result-2
 overflow_sub-result-2 c =
     let nodes = c.args.self.now.numbering in
     let lens : c.len.result ≡ column_count nodes = search rules in
     let has = (and_parts (nat_le c.args.x c.args.width) (nat_le 1 c.args.x || is_chan_y c.args.kind) (sym c.has_column.ensures ∙ c.if-not-has_column.false)).1 in
-    rw lens (room nodes c.args.kind c.args.x (c.args.y + 1) c.first-2.result c.args.self.now.lawful has c.first-2.ensures)
+    rw lens (room nodes c.args.kind c.args.x (c.args.y + 1) c.nodes_before-2.result c.args.self.now.lawful has c.nodes_before-2.ensures)
 
 pub returns-clause-sound : goal.returns-clause-sound
 returns-clause-sound c = λ i from to.
@@ -38,11 +38,11 @@ returns-clause-sound c = λ i from to.
     let lens : c.len.result ≡ column_count nodes = search rules in
     let from' = rw lens at from in
     let to' = rw lens at to in
-    indexed nodes c.args.kind c.args.x c.args.y c.first.result c.first-2.result i c.args.self.now.lawful (omega (arith, c.if-y-gt66.false)) c.first.ensures c.first-2.ensures (omega (arith, from')) (omega (arith, to'))
+    indexed nodes c.args.kind c.args.x c.args.y c.nodes_before.result c.nodes_before-2.result i c.args.self.now.lawful (omega (arith, c.if-y-gt66.false)) c.nodes_before.ensures c.nodes_before-2.ensures (omega (arith, from')) (omega (arith, to'))
 
 pub returns-clause-all : goal.returns-clause-all
 returns-clause-all c = λ i within at.
     let nodes = c.args.self.now.numbering in
     let lens : c.len.result ≡ column_count nodes = search rules in
-    let both = found nodes c.args.kind c.args.x c.args.y c.first.result c.first-2.result i c.args.self.now.lawful c.first.ensures c.first-2.ensures at in
+    let both = found nodes c.args.kind c.args.x c.args.y c.nodes_before.result c.nodes_before-2.result i c.args.self.now.lawful c.nodes_before.ensures c.nodes_before-2.ensures at in
     rw lens (omega (arith, both.0), omega (arith, both.1))

@@ -1,5 +1,5 @@
 use Rattle.std.proofs.Common.{rules, refl, ◌≡◌, ◌++◌, ◌∷◌, []}
-use Rattle.shared_core.specs.CoreState.{unmarked}
+use Rattle.shared_core.specs.CoreState.{no_marks}
 use Rattle.shared_core.proofs.Kept.{IsAccount-admitted}
 use Rattle.shared_core.proofs.shared.Core.admit.Goals as goal
 
@@ -11,7 +11,7 @@ returns-then-is_err-clause-admitted g c = rw (← c.self.view_is) ((c.in_default
 
 pub invariant_of-self-2 : goal.invariant_of-self-2
 invariant_of-self-2 g c =
-    let items : c.push.new.self.items ≡ c.self.inside.marks.items ++ unmarked ∷ [] = search rules in
+    let items : c.push.new.self.items ≡ c.self.inside.marks.items ++ no_marks ∷ [] = search rules in
     rw (c.hand.ensures, items) (IsAccount-admitted _ _ _ _ c.args.width (c.in_ok-id.id, c.in_ok-id.offset) _ _ _ _ _ c.requires c.in_ok-id.ensures c.room_for.ensures.parted c.self.invariant)
 
 pub returns-clause-admitted : goal.returns-clause-admitted

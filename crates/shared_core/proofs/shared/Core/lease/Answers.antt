@@ -1,5 +1,5 @@
 use Rattle.std.proofs.Common.{rules, arith, ◌≡◌, ◌-◌, true, false, get_or, set, refl}
-use Rattle.shared_core.specs.CoreState.{Marked, can_lease, given, is_leased, is_live, remarked}
+use Rattle.shared_core.specs.CoreState.{Marked, can_lease, with_lease, is_leased, is_live, with_changed_marks}
 use Rattle.shared_core.proofs.Kept.{IsAccount-leased, leasable, lease_is, live_within, core_is, part_left}
 use Rattle.shared_core.proofs.Marks.{set-remarked}
 use Rattle.shared_core.proofs.shared.Core.lease.Goals as goal
@@ -28,7 +28,7 @@ invariant_of-self g c =
     let count = c.self.invariant.placed.count in
     let old : Marked = c.index_mut.result.now in
     let is : old ≡ get_or c.self.inside.marks.items (c.args.id - 1) old = search rules in
-    rw (c.give.ensures, set-remarked c.self.inside.marks.items c.args.id old given there.0 (omega arith) is) (IsAccount-leased _ _ _ _ _ _ _ _ _ _ _ c.args.id _ _ both.0 both.1 c.split_off-part.ensures.parts_left c.split_off-part.ensures.amount_left c.self.invariant)
+    rw (c.give.ensures, set-remarked c.self.inside.marks.items c.args.id old with_lease there.0 (omega arith) is) (IsAccount-leased _ _ _ _ _ _ _ _ _ _ _ c.args.id _ _ both.0 both.1 c.split_off-part.ensures.parts_left c.split_off-part.ensures.amount_left c.self.invariant)
 
 pub returns : goal.returns
 returns g c =
@@ -38,5 +38,5 @@ returns g c =
     let count = c.self.invariant.placed.count in
     let old : Marked = c.index_mut.result.now in
     let is : old ≡ get_or c.self.inside.marks.items (c.args.id - 1) old = search rules in
-    let items : set c.self.inside.marks.items (c.args.id - 1) c.give.new.self ≡ remarked c.self.inside.marks.items c.args.id given = rw c.give.ensures (set-remarked c.self.inside.marks.items c.args.id old given there.0 (omega arith) is) in
+    let items : set c.self.inside.marks.items (c.args.id - 1) c.give.new.self ≡ with_changed_marks c.self.inside.marks.items c.args.id with_lease = rw c.give.ensures (set-remarked c.self.inside.marks.items c.args.id old with_lease there.0 (omega arith) is) in
     (can, lease_is c.args.id _ _ c.split_off-part.ensures.amount, rw (← c.self.view_is) (core_is _ _ _ _ _ _ _ refl items))

@@ -1,6 +1,6 @@
 use Rattle.std.proofs.Common.{rules, arith, ◌≡◌, ◌-◌, true, false, get_or, set, refl}
 use Rattle.service_core.specs.Service.{AreAlone, live_of}
-use Rattle.shared_core.specs.CoreState.{Marked, has_room_in, remarked, with_place}
+use Rattle.shared_core.specs.CoreState.{Marked, has_room_in, with_changed_marks, with_place}
 use Rattle.shared_core.proofs.Kept.{IsAccount-marked, Unserved, core_is, live_within, room_live, unserved}
 use Rattle.shared_core.proofs.Marks.{set-remarked}
 use Rattle.shared_core.proofs.shared.Core.lease_command.Goals as goal
@@ -55,5 +55,5 @@ returns-clause-rest g c =
     let count = c.self.invariant.placed.count in
     let old : Marked = c.index_mut.result.now in
     let is : old ≡ get_or c.self.inside.marks.items (c.lease.inside.id - 1) old = search rules in
-    let items : set c.self.inside.marks.items (c.lease.inside.id - 1) c.serve.new.self ≡ remarked c.self.inside.marks.items c.lease.inside.id (with_place c.in_ok-receipt.receipt.place) = rw c.in_ok-receipt.ensures.marked (set-remarked c.self.inside.marks.items c.lease.inside.id old (with_place c.in_ok-receipt.receipt.place) there.0 (omega arith) is) in
+    let items : set c.self.inside.marks.items (c.lease.inside.id - 1) c.serve.new.self ≡ with_changed_marks c.self.inside.marks.items c.lease.inside.id (with_place c.in_ok-receipt.receipt.place) = rw c.in_ok-receipt.ensures.marked (set-remarked c.self.inside.marks.items c.lease.inside.id old (with_place c.in_ok-receipt.receipt.place) there.0 (omega arith) is) in
     rw (← c.self.view_is, ← c.lease.view_is) (core_is _ _ _ _ _ _ _ refl items)

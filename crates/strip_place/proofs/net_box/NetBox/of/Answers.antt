@@ -1,6 +1,6 @@
 use Rattle.std.proofs.Common.{◌≡◌, ◌+◌, ◌<◌, ◌≤◌, length, take, get_or, arith, ap, sym, ◌∙◌, subst}
 use Rattle.std.proofs.lemmas.List.{take_all}
-use Rattle.strip_place.specs.Boxes.{at_column, at_row, met}
+use Rattle.strip_place.specs.Boxes.{at_column, at_row, with_block}
 use Rattle.strip_place.specs.Sides.{sides_of}
 use Rattle.strip_place.specs.Wiring.{point_at}
 use Rattle.strip_place.proofs.Ends.{column_more, row_more}
@@ -16,7 +16,7 @@ loop-block-preserved c =
     let lt : i < length net = c.loop-block-test.true in
     let x_small : point.x ≤ 65535 = c.of.ensures.x in
     let y_small : point.y ≤ 65535 = c.of.ensures.y in
-    let found : c.met-found.result ≡ met c.loop-block.found (sides_of point) = c.met-found.ensures ∙ ap (met c.loop-block.found) c.of.ensures.value in
+    let found : c.with_block-found.result ≡ with_block c.loop-block.found (sides_of point) = c.with_block-found.ensures ∙ ap (with_block c.loop-block.found) c.of.ensures.value in
     subst (IsBoxSoFar (at_column points (take (i + 1) net)) (at_row points (take (i + 1) net)) (i + 1)) (sym found)
     (box_more (at_column points (take i net)) (at_column points (take (i + 1) net)) (at_row points (take i net)) (at_row points (take (i + 1) net)) i c.loop-block.found point x_small y_small (λ v. column_more points net i v lt) (λ v. row_more points net i v lt) c.loop-block.invariant)
 

@@ -7,7 +7,7 @@ use Rattle.strip_place.specs.declared.point.Point.{Point}
 use Rattle.strip_place.specs.declared.sides.Sides.{Sides}
 use Rattle.strip_place.specs.Boxes.{AreBothRenewed, boxed_length, length_after, reached_length}
 use Rattle.strip_place.specs.Sides.{sides_of}
-use Rattle.strip_place.specs.Wiring.{IsOnNone, Wiring, length_of, nowhere, point_at, points_after, wiring_after}
+use Rattle.strip_place.specs.Wiring.{IsOnNone, Wiring, length_of, no_point, point_at, points_after, wiring_after}
 use Rattle.strip_place.proofs.Rewiring.{few_first, few_second, grown_is, kept_is, least_first, least_second, points_back, sums_small, touched_back, touched_there, whole_back, wired_after, wired_again, wiring_of}
 use Rattle.strip_place.proofs.wires.Wires.exchange_within.Goals as goal
 
@@ -111,7 +111,7 @@ returns-then-limit-one-clause-fits c =
     let two = c.row-second.result.now in
     let first : get_or w.touching c.args.block [] ≡ one = get_or_from_slice_get w.touching c.args.block one [] c.row-first.ensures in
     let second : get_or w.touching c.args.other [] ≡ two = get_or_from_slice_get w.touching c.args.other two [] c.row-second.ensures in
-    let back : c.index-back.result.now ≡ point_at points c.args.block = get_or_read points c.args.block c.index-back.result.now within c.index-back.ensures nowhere in
+    let back : c.index-back.result.now ≡ point_at points c.args.block = get_or_read points c.args.block c.index-back.result.now within c.index-back.ensures no_point in
     let before : c.weigh-one.result.before + c.weigh-two.result.before ≡ boxed_length w.boxes.items one + boxed_length w.boxes.items two =
     (let a = c.weigh-one.ensures.before ∙ ap (λ (b : List NetBox). boxed_length b one) c.as_slice.ensures.value in let b = c.weigh-two.ensures.before ∙ ap (λ (b : List NetBox). boxed_length b two) c.as_slice-2.ensures.value in omega (arith, a, b)) in
     let from : c.of-from.result ≡ sides_of (point_at points c.args.block) = c.of-from.ensures.value ∙ ap sides_of back in
@@ -141,7 +141,7 @@ renew_both-requires c =
     let two = c.row-second.result.now in
     let first : get_or w.touching c.args.block [] ≡ one = get_or_from_slice_get w.touching c.args.block one [] c.row-first.ensures in
     let second : get_or w.touching c.args.other [] ≡ two = get_or_from_slice_get w.touching c.args.other two [] c.row-second.ensures in
-    let back : c.index-back.result.now ≡ point_at points c.args.block = get_or_read points c.args.block c.index-back.result.now within c.index-back.ensures nowhere in
+    let back : c.index-back.result.now ≡ point_at points c.args.block = get_or_read points c.args.block c.index-back.result.now within c.index-back.ensures no_point in
     let from : c.of-from.result ≡ sides_of (point_at points c.args.block) = c.of-from.ensures.value ∙ ap sides_of back in
     let here_x : (point_at points c.args.block).x ≤ 65535 = subst (λ (p : Point). p.x ≤ 65535) back c.of-from.ensures.x in
     let here_y : (point_at points c.args.block).y ≤ 65535 = subst (λ (p : Point). p.y ≤ 65535) back c.of-from.ensures.y in
@@ -161,7 +161,7 @@ invariant_of-self c =
     let two = c.row-second.result.now in
     let first : get_or w.touching c.args.block [] ≡ one = get_or_from_slice_get w.touching c.args.block one [] c.row-first.ensures in
     let second : get_or w.touching c.args.other [] ≡ two = get_or_from_slice_get w.touching c.args.other two [] c.row-second.ensures in
-    let back : c.index-back.result.now ≡ point_at points c.args.block = get_or_read points c.args.block c.index-back.result.now within c.index-back.ensures nowhere in
+    let back : c.index-back.result.now ≡ point_at points c.args.block = get_or_read points c.args.block c.index-back.result.now within c.index-back.ensures no_point in
     let after = points_after points c.args.block c.args.other c.args.there in
     let raw : AreBothRenewed c.as_slice-3.result.now w.nets one two c.as_mut_slice.result.now c.renew_both.new.boxes c.renew_both.result = c.renew_both.ensures in
     let given : c.as_slice-3.result.now ≡ after = c.as_slice-3.ensures.value ∙ ap (λ (p : Point). set (set points c.args.block c.args.there) c.args.other p) back in
@@ -183,7 +183,7 @@ returns-then-renew_both-limit-clause-fits c =
     let two = c.row-second.result.now in
     let first : get_or w.touching c.args.block [] ≡ one = get_or_from_slice_get w.touching c.args.block one [] c.row-first.ensures in
     let second : get_or w.touching c.args.other [] ≡ two = get_or_from_slice_get w.touching c.args.other two [] c.row-second.ensures in
-    let back : c.index-back.result.now ≡ point_at points c.args.block = get_or_read points c.args.block c.index-back.result.now within c.index-back.ensures nowhere in
+    let back : c.index-back.result.now ≡ point_at points c.args.block = get_or_read points c.args.block c.index-back.result.now within c.index-back.ensures no_point in
     let before : c.weigh-one.result.before + c.weigh-two.result.before ≡ boxed_length w.boxes.items one + boxed_length w.boxes.items two =
     (let a = c.weigh-one.ensures.before ∙ ap (λ (b : List NetBox). boxed_length b one) c.as_slice.ensures.value in let b = c.weigh-two.ensures.before ∙ ap (λ (b : List NetBox). boxed_length b two) c.as_slice-2.ensures.value in omega (arith, a, b)) in
     let after = points_after points c.args.block c.args.other c.args.there in
@@ -206,7 +206,7 @@ renew_both-requires-2 c =
     let two = c.row-second.result.now in
     let first : get_or w.touching c.args.block [] ≡ one = get_or_from_slice_get w.touching c.args.block one [] c.row-first.ensures in
     let second : get_or w.touching c.args.other [] ≡ two = get_or_from_slice_get w.touching c.args.other two [] c.row-second.ensures in
-    let back : c.index-back.result.now ≡ point_at points c.args.block = get_or_read points c.args.block c.index-back.result.now within c.index-back.ensures nowhere in
+    let back : c.index-back.result.now ≡ point_at points c.args.block = get_or_read points c.args.block c.index-back.result.now within c.index-back.ensures no_point in
     let from : c.of-from.result ≡ sides_of (point_at points c.args.block) = c.of-from.ensures.value ∙ ap sides_of back in
     let here_x : (point_at points c.args.block).x ≤ 65535 = subst (λ (p : Point). p.x ≤ 65535) back c.of-from.ensures.x in
     let here_y : (point_at points c.args.block).y ≤ 65535 = subst (λ (p : Point). p.y ≤ 65535) back c.of-from.ensures.y in
@@ -216,7 +216,7 @@ renew_both-requires-2 c =
     let renewed : AreBothRenewed after w.nets one two w.boxes.items c.renew_both.new.boxes c.renew_both.result = rw (given, c.as_mut_slice.ensures.value) at raw in
     let len_is : length w.boxes.items ≡ w.boxes.len = search rules in
     let whole : take w.boxes.len (c.renew_both.new.boxes ++ drop (length c.renew_both.new.boxes) w.boxes.items) ≡ c.renew_both.new.boxes = whole_back w.boxes.len c.renew_both.new.boxes w.boxes.items (renewed.long ∙ len_is) in
-    let stands : c.index-stood.result.now ≡ point_at points c.args.other = get_or_read points c.args.other c.index-stood.result.now inside c.index-stood.ensures nowhere in
+    let stands : c.index-stood.result.now ≡ point_at points c.args.other = get_or_read points c.args.other c.index-stood.result.now inside c.index-stood.ensures no_point in
     let here : set (set (set (set points c.args.block c.args.there) c.args.other c.index-back.result.now) c.args.block c.index-back.result.now) c.args.other c.index-stood.result.now ≡ points = rw (stands, back) (points_back points c.args.block c.args.other c.args.there c.requires.differs) in
     let lent : c.as_mut_slice-2.result.now ≡ c.renew_both.new.boxes = c.as_mut_slice-2.ensures.value ∙ whole in
     rw (c.as_slice-4.ensures.value ∙ here, lent, from, c.of-to.ensures.value) (touched_back w.nets w.touching points w.boxes.items c.args.block c.args.other c.args.there one two c.self.invariant within inside c.requires.differs stood first second here_x here_y c.of-to.ensures.x c.of-to.ensures.y c.renew_both.new.boxes c.renew_both.result renewed)
@@ -234,14 +234,14 @@ invariant_of-self-2 c =
     let two = c.row-second.result.now in
     let first : get_or w.touching c.args.block [] ≡ one = get_or_from_slice_get w.touching c.args.block one [] c.row-first.ensures in
     let second : get_or w.touching c.args.other [] ≡ two = get_or_from_slice_get w.touching c.args.other two [] c.row-second.ensures in
-    let back : c.index-back.result.now ≡ point_at points c.args.block = get_or_read points c.args.block c.index-back.result.now within c.index-back.ensures nowhere in
+    let back : c.index-back.result.now ≡ point_at points c.args.block = get_or_read points c.args.block c.index-back.result.now within c.index-back.ensures no_point in
     let after = points_after points c.args.block c.args.other c.args.there in
     let raw : AreBothRenewed c.as_slice-3.result.now w.nets one two c.as_mut_slice.result.now c.renew_both.new.boxes c.renew_both.result = c.renew_both.ensures in
     let given : c.as_slice-3.result.now ≡ after = c.as_slice-3.ensures.value ∙ ap (λ (p : Point). set (set points c.args.block c.args.there) c.args.other p) back in
     let renewed : AreBothRenewed after w.nets one two w.boxes.items c.renew_both.new.boxes c.renew_both.result = rw (given, c.as_mut_slice.ensures.value) at raw in
     let len_is : length w.boxes.items ≡ w.boxes.len = search rules in
     let whole : take w.boxes.len (c.renew_both.new.boxes ++ drop (length c.renew_both.new.boxes) w.boxes.items) ≡ c.renew_both.new.boxes = whole_back w.boxes.len c.renew_both.new.boxes w.boxes.items (renewed.long ∙ len_is) in
-    let stands : c.index-stood.result.now ≡ point_at points c.args.other = get_or_read points c.args.other c.index-stood.result.now inside c.index-stood.ensures nowhere in
+    let stands : c.index-stood.result.now ≡ point_at points c.args.other = get_or_read points c.args.other c.index-stood.result.now inside c.index-stood.ensures no_point in
     let here : set (set (set (set points c.args.block c.args.there) c.args.other c.index-back.result.now) c.args.block c.index-back.result.now) c.args.other c.index-stood.result.now ≡ points = rw (stands, back) (points_back points c.args.block c.args.other c.args.there c.requires.differs) in
     let again_raw : AreBothRenewed c.as_slice-4.result.now w.nets one two c.as_mut_slice-2.result.now c.renew_both-2.new.boxes c.renew_both-2.result = c.renew_both-2.ensures in
     let lent : c.as_mut_slice-2.result.now ≡ c.renew_both.new.boxes = c.as_mut_slice-2.ensures.value ∙ whole in
@@ -262,7 +262,7 @@ returns-clause-fits c =
     let two = c.row-second.result.now in
     let first : get_or w.touching c.args.block [] ≡ one = get_or_from_slice_get w.touching c.args.block one [] c.row-first.ensures in
     let second : get_or w.touching c.args.other [] ≡ two = get_or_from_slice_get w.touching c.args.other two [] c.row-second.ensures in
-    let back : c.index-back.result.now ≡ point_at points c.args.block = get_or_read points c.args.block c.index-back.result.now within c.index-back.ensures nowhere in
+    let back : c.index-back.result.now ≡ point_at points c.args.block = get_or_read points c.args.block c.index-back.result.now within c.index-back.ensures no_point in
     let before : c.weigh-one.result.before + c.weigh-two.result.before ≡ boxed_length w.boxes.items one + boxed_length w.boxes.items two =
     (let a = c.weigh-one.ensures.before ∙ ap (λ (b : List NetBox). boxed_length b one) c.as_slice.ensures.value in let b = c.weigh-two.ensures.before ∙ ap (λ (b : List NetBox). boxed_length b two) c.as_slice-2.ensures.value in omega (arith, a, b)) in
     let after = points_after points c.args.block c.args.other c.args.there in
@@ -286,7 +286,7 @@ returns-clause-new c =
     let two = c.row-second.result.now in
     let first : get_or w.touching c.args.block [] ≡ one = get_or_from_slice_get w.touching c.args.block one [] c.row-first.ensures in
     let second : get_or w.touching c.args.other [] ≡ two = get_or_from_slice_get w.touching c.args.other two [] c.row-second.ensures in
-    let back : c.index-back.result.now ≡ point_at points c.args.block = get_or_read points c.args.block c.index-back.result.now within c.index-back.ensures nowhere in
-    let stands : c.index-stood.result.now ≡ point_at points c.args.other = get_or_read points c.args.other c.index-stood.result.now inside c.index-stood.ensures nowhere in
+    let back : c.index-back.result.now ≡ point_at points c.args.block = get_or_read points c.args.block c.index-back.result.now within c.index-back.ensures no_point in
+    let stands : c.index-stood.result.now ≡ point_at points c.args.other = get_or_read points c.args.other c.index-stood.result.now inside c.index-stood.ensures no_point in
     let here : set (set (set (set points c.args.block c.args.there) c.args.other c.index-back.result.now) c.args.block c.index-back.result.now) c.args.other c.index-stood.result.now ≡ points = rw (stands, back) (points_back points c.args.block c.args.other c.args.there c.requires.differs) in
     ap (wiring_of w.nets) here ∙ view

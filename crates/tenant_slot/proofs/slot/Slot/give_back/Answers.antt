@@ -1,12 +1,12 @@
 use Rattle.std.proofs.Common.{◌≡◌, Some, true, false, refl, sym, ap, ◌∙◌}
 use Rattle.tenant_slot.specs.Slot.{IsAdvanceOf, SlotState, next_job}
 use Rattle.tenant_slot.specs.SingleUser.{is_next}
-use Rattle.tenant_slot.specs.Standing.{seen, seen_state}
+use Rattle.tenant_slot.specs.Standing.{slot_state, seen_state}
 use Rattle.tenant_slot.proofs.Taking.{is_back, is_given_back, is_not_back, is_stood, written_of}
 use Rattle.tenant_slot.proofs.slot.Slot.give_back.Goals as goal
 
 -- the step is the running job's next one
-next : (c : goal.After-stand_ready) → next_job (seen c.self.inside.id c.self.inside.arch c.self.inside.strip c.self.inside.standing c.self.inside.entries) ≡ Some c.args.back.step
+next : (c : goal.After-stand_ready) → next_job (slot_state c.self.inside.id c.self.inside.arch c.self.inside.strip c.self.inside.standing c.self.inside.entries) ≡ Some c.args.back.step
 next c =
     let said : IsAdvanceOf (seen_state c.self.inside.arch c.self.inside.strip c.self.inside.standing c.self.inside.entries) c.args.back.step c.advance_of-made.result =
     rw (ap (λ (s : SlotState). s.state) c.self.view_is) (written_of c.args.self.now.state c.args.back.step c.args.self.now.id c.generation.result c.number.result c.sources.result.now c.advance_of-made.result c.generation.ensures c.number.ensures c.sources.ensures c.advance_of-made.ensures) in

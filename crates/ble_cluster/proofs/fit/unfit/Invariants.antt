@@ -1,9 +1,0 @@
-use Rattle.std.proofs.Common.{◌≡◌, ◌∷◌, [], ◌-◌, not, length}
-use Rattle.std.specs.List.{find, range_with_len}
-use Rattle.ble_cluster.specs.Bles.{element_at}
-use Rattle.ble_cluster.specs.Clusters.{fits_in_cluster, unfit_among}
-use Rattle.ble_cluster.proofs.fit.unfit.Given as goal
-
--- each BLE so far fits alone
-abbrev pub invariant-loop-number : goal.invariant-loop-number
-invariant-loop-number l = find (λ number. not (fits_in_cluster l.arch (element_at l.bles number ∷ []))) (range_with_len l.number (length l.bles - l.number)) ≡ unfit_among l.arch l.bles

@@ -1,0 +1,6 @@
+use Rattle.std.proofs.Common.{take}
+use Rattle.longest_path.specs.Reaches.{IsBegun}
+use Rattle.longest_path.proofs.reach.starting_reach.Given as goal
+
+abbrev pub invariant-loop-net : goal.invariant-loop-net
+invariant-loop-net l = IsBegun l.fn.nets (take l.net-index l.starts) l.reach.items

@@ -1,0 +1,12 @@
+use Rattle.std.proofs.Common.{◌≡◌, ◌+◌, length}
+use Rattle.longest_path.specs.Reaches.{steps_to}
+use Rattle.longest_path.specs.Tracing.{IsThrough}
+use Rattle.longest_path.proofs.trace.longest_way.Given as goal
+
+-- the way from this net on was traced
+abbrev pub invariant-loop-made : goal.invariant-loop-made
+invariant-loop-made l = record {
+  left : steps_to l.reach l.net + l.made ≡ l.steps + 1;
+  long : length l.numbers.items + 1 ≡ l.made;
+  through : IsThrough l.tables l.net l.numbers.items l.to;
+}

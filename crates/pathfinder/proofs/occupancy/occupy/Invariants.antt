@@ -1,0 +1,7 @@
+use Rattle.std.proofs.Common.{◌≡◌, ◌+◌, ℕ, length, take}
+use Rattle.std.specs.Prelude.{slice_index}
+use Rattle.pathfinder.specs.Tables.{times_in}
+use Rattle.pathfinder.proofs.occupancy.occupy.Given as goal
+
+abbrev pub invariant-loop-node : goal.invariant-loop-node
+invariant-loop-node l = (length l.held ≡ length l.fn.held) × ((node : ℕ) → slice_index l.held node ≡ slice_index l.fn.held node + times_in node (take l.node-index l.nodes))

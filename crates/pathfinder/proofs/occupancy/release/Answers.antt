@@ -1,0 +1,8 @@
+use Rattle.std.proofs.Common.{arith, get_or}
+use Rattle.pathfinder.proofs.Counts.{times-before}
+use Rattle.pathfinder.proofs.occupancy.release.Goals as goal
+
+pub overflow_sub-held : goal.overflow_sub-held
+overflow_sub-held c =
+    let at = get_or c.args.nodes.now c.loop-node.node-index 0 in
+    omega (arith, c.requires.some at, c.loop-node.invariant.1 at, times-before c.args.nodes.now c.loop-node.node-index c.loop-node-test.true)

@@ -1,5 +1,0 @@
-use Rattle.std.proofs.Common.{◌≤◌}
-use Rattle.random_script.proofs.circuit.drawn.Given as goal
-
-abbrev pub invariant-loop-draw : goal.invariant-loop-draw
-invariant-loop-draw l = l.count ≤ l._draw

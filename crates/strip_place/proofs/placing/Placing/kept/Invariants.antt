@@ -1,9 +1,0 @@
-use Rattle.std.proofs.Common.{◌≡◌, take}
-use Rattle.std.specs.List.{zip}
-use Rattle.cluster.specs.Keys.{keys_of}
-use Rattle.kept_places.specs.Table.{entries_of}
-use Rattle.strip_place.specs.Anneal.{places_by_block}
-use Rattle.strip_place.proofs.placing.Placing.kept.Given as goal
-
-abbrev pub invariant-loop-block : goal.invariant-loop-block
-invariant-loop-block l = entries_of l.entries.items ≡ take l.block (zip (keys_of l.self.packed) (places_by_block l.self))

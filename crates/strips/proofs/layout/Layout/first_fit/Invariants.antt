@@ -1,7 +1,0 @@
-use Rattle.std.proofs.Common.{ℕ, ◌<◌}
-use Rattle.strips.specs.Plan.{FitsAt}
-use Rattle.strips.proofs.layout.Layout.first_fit.Given as goal
-
--- it fits at no offset tried so far
-abbrev pub invariant-loop-offset : goal.invariant-loop-offset
-invariant-loop-offset l = (lower : ℕ) → lower < l.offset → FitsAt l.self l.width lower → ⊥
