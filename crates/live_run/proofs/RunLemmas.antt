@@ -11,7 +11,7 @@ use Rattle.line_service.proofs.TalkLemmas.{progress_none}
 use Rattle.live_lines.specs.Live.{LiveState}
 use Rattle.live_input.specs.Serving.{AnswersLine}
 use Rattle.live_run.specs.declared.outcome.Outcome.{Outcome}
-use Rattle.live_run.specs.declared.outcome.Outcome.TheVariants.{Done, ArchUnreadable, ArchRefused, LogUnreadable, LogDiffers, LogInUse, Stopped, TooManyLines, NoMemory}
+use Rattle.live_run.specs.declared.outcome.Outcome.TheVariants.{Done, ArchUnreadable, ArchRefused, LogUnreadable, LogDiffers, LogInUse, Stopped, TooManyLines, NoMemory, NotSettled}
 use Rattle.live_run.specs.Outcomes.{outcome_of}
 use Rattle.live_run.specs.Runs.{ClosesAs, Replays, Resumes, RunsFrom, Talks}
 
@@ -56,6 +56,7 @@ replay_fails past start mid next view LogInUse r = absurd r
 replay_fails past start mid next view (Stopped fault) r = absurd r
 replay_fails past start mid next view TooManyLines r = absurd r
 replay_fails past start mid next view NoMemory r = inl refl
+replay_fails past start mid next view NotSettled r = absurd r
 
 no_log : (start : LiveState) → Resumes start (Some []) start
 no_log start = record { lines = []; text = []; all = refl; answered = (refl, refl) }
@@ -79,4 +80,5 @@ closes start last next before talked after LogDiffers c e = absurd (let n = e.0 
 closes start last next before talked after LogInUse c e = absurd (let n = e.0 in cc)
 closes start last next before talked after (Stopped fault) c e = record { mid = start; resumes = no_log start; end = DoneEnd; last = last; next = next; talked = talked; talks = c; ends = e }
 closes start last next before talked after TooManyLines c e = absurd (let n = e.0 in cc)
+closes start last next before talked after NotSettled c e = absurd (let n = e.0 in cc)
 closes start last next before talked after NoMemory c e = inr (record { mid = start; resumes = no_log start; end = DoneEnd; last = last; next = next; talked = talked; talks = c; ends = e })

@@ -5,7 +5,7 @@ use Rattle.line_service.specs.declared.conversation.ConversationEnd.TheVariants.
 use Rattle.line_text.specs.declared.source.ReadError.{ReadError}
 use Rattle.line_text.specs.declared.source.ReadError.TheVariants.{Failed, NoMemory as NoReadMemory}
 use Rattle.live_run.specs.declared.outcome.Outcome.{Outcome}
-use Rattle.live_run.specs.declared.outcome.Outcome.TheVariants.{Done, ArchUnreadable, ArchRefused, LogUnreadable, LogDiffers, LogInUse, Stopped, TooManyLines, NoMemory}
+use Rattle.live_run.specs.declared.outcome.Outcome.TheVariants.{Done, ArchUnreadable, ArchRefused, LogUnreadable, LogDiffers, LogInUse, Stopped, TooManyLines, NoMemory, NotSettled}
 
 abbrev pub status_of : Outcome → ℕ
 status_of Done = 0
@@ -17,6 +17,7 @@ status_of LogDiffers = 2
 status_of (Stopped fault) = 1
 status_of TooManyLines = 1
 status_of NoMemory = 4
+status_of NotSettled = 5
 
 abbrev pub outcome_of : ConversationEnd → Outcome
 outcome_of DoneEnd = Done

@@ -12,7 +12,7 @@ use Rattle.live_lines.specs.Live.{LiveState}
 use Rattle.live_input.specs.Serving.{AnswersLine, ClosesTexts, begins}
 use Rattle.live_run.specs.declared.options.Options.{Options}
 use Rattle.live_run.specs.declared.outcome.Outcome.{Outcome}
-use Rattle.live_run.specs.declared.outcome.Outcome.TheVariants.{Done, ArchUnreadable, ArchRefused, LogUnreadable, LogDiffers, LogInUse, Stopped, TooManyLines, NoMemory}
+use Rattle.live_run.specs.declared.outcome.Outcome.TheVariants.{Done, ArchUnreadable, ArchRefused, LogUnreadable, LogDiffers, LogInUse, Stopped, TooManyLines, NoMemory, NotSettled}
 use Rattle.live_run.specs.Limits.{device_of}
 use Rattle.live_run.specs.Outcomes.{outcome_of}
 
@@ -57,6 +57,7 @@ RunsFrom start has_log past before after ArchUnreadable = ⊥
 RunsFrom start has_log past before after (ArchRefused fault) = ⊥
 RunsFrom start has_log past before after LogDiffers = ⊥
 RunsFrom start has_log past before after LogInUse = ⊥
+RunsFrom start has_log past before after NotSettled = ⊥
 RunsFrom start has_log past before after LogUnreadable = (has_log ≡ true) × (after ≡ before)
 RunsFrom start has_log past before after NoMemory = (after ≡ before) ⊎ Talks start has_log past before after NoMemory
 RunsFrom start has_log past before after outcome = Talks start has_log past before after outcome

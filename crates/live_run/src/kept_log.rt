@@ -14,7 +14,8 @@ use std::rt::Files;
 const CHUNK: usize = 65_536;
 
 /// A log that is open: what it kept before, and the log for what comes.
-pub(crate) struct KeptLog<F: Read + Write + OpenFile + Drop> {
+#[derive(Drop)]
+pub struct KeptLog<F: Read + Write + OpenFile + Drop> {
     pub past: StdSource<Take<F>>,
     pub log: FileLog<F>,
 }

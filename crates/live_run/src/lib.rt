@@ -16,8 +16,11 @@ mod program;
 mod serving;
 
 pub use beginning::first_line;
+pub use kept_log::KeptLog;
 pub use log_lock::LockLog;
 pub use options::{CommandLine, Options, read_options};
 pub use outcome::Outcome;
-pub use program::{run_program, run_words};
-pub use serving::serve;
+pub use program::{
+    log_at, read_architecture, report_outcome, report_refusal, run_program, run_words,
+};
+pub use serving::{replay, serve};

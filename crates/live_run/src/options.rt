@@ -182,13 +182,15 @@ impl Options {
     }
 }
 
-/// A command line: the options, the path of the architecture's file, and the path of the log if
-/// there is one.
+/// A command line: the options, the path of the architecture's file, the path of the log if there
+/// is one, and the number of workers.
 #[derive(Clone, Copy)]
 pub struct CommandLine<'a> {
     pub options: Options,
     pub arch: &'a str,
     pub log: Option<&'a str>,
+    /// 0 to 16.
+    pub workers: u32,
 }
 
 /// The options that these words give, the first being the program's name. An error is clap's; a
@@ -203,14 +205,16 @@ pub fn read_options<'a, S: AsStr>(alloc: Global, words: &'a [S]) -> Result<Comma
     }
 }
 
+/// The refusal of these words by a program that has no workers.
+pub(crate) fn refuse_workers<S: AsStr>(alloc: Global, words: &[S]) -> Error {
+    refusal(alloc, &PROGRAM, words, WORKERS)
+}
+
 /// The command line that the options give, or why they are refused.
 fn line_of<'a>(given: &Given<'a>) -> Result<CommandLine<'a>, &'static str> {
     let tracks = given.number("tracks")?;
     let columns = given.number("columns")?;
     let rows = given.number("rows")?;
-    if given.number("workers")? != 0 {
-        return Err(WORKERS);
-    }
     let options = Options::new(tracks, columns, rows).ok_or(BEYOND)?;
     let tenant_memory = given.number("tenant-memory")?;
     let options = options.with_tenant_memory(tenant_memory).ok_or(BEYOND)?;
@@ -218,5 +222,6 @@ fn line_of<'a>(given: &Given<'a>) -> Result<CommandLine<'a>, &'static str> {
         options,
         arch: given.text("arch").ok_or(NO_ARCH)?,
         log: given.text("log"),
+        workers: given.number("workers")?,
     })
 }

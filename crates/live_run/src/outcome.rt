@@ -30,6 +30,8 @@ pub enum Outcome {
     LogInUse,
     /// Memory ran out for the program's own tables, or for a reply.
     NoMemory,
+    /// With workers: what the sessions were answered is not what the journals say.
+    NotSettled,
 }
 
 impl Outcome {
@@ -41,6 +43,7 @@ impl Outcome {
             Outcome::Done => 0,
             Outcome::LogDiffers => 2,
             Outcome::NoMemory => 4,
+            Outcome::NotSettled => 5,
             Outcome::ArchUnreadable
             | Outcome::ArchRefused(_)
             | Outcome::LogUnreadable
@@ -58,7 +61,7 @@ impl Outcome {
     }
 
     /// How a service ends whose conversation ended so.
-    pub(crate) fn of(end: ConversationEnd) -> Self
+    pub fn of(end: ConversationEnd) -> Self
         ensures { result ≡ outcome_of end }
     {
         match end {
@@ -85,6 +88,7 @@ impl fmt::Display for Outcome {
             Outcome::Stopped(FailedDevice::Output) => write!(f, "output: failed"),
             Outcome::TooManyLines => write!(f, "input: too many lines"),
             Outcome::NoMemory => write!(f, "memory"),
+            Outcome::NotSettled => write!(f, "settle"),
         }
     }
 }

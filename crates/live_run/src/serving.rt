@@ -92,7 +92,7 @@ fn serve_past<H: Wait + AllocGlobal, P: Source + Drop, D: Dialogue>(
 }
 
 /// Serves the lines of a log, and drops their replies.
-fn replay<H: Wait + AllocGlobal, P: Source + Drop>(
+pub fn replay<H: Wait + AllocGlobal, P: Source + Drop>(
     rt: &H,
     lines: &mut LiveLines<'_>,
     past: P,
