@@ -184,6 +184,7 @@ impl Layout {
                     _ => {}
                 }
             }
+            self.steps[begin..].sort_unstable();
             self.step_spans[class] = Span { first: begin as u32, end: self.steps.len() as u32 };
         }
         Ok(())
@@ -242,6 +243,7 @@ impl Layout {
                 self.arrive.push((self.offset() + target - place) as u32)?;
             }
         }
+        self.arrive[begin..].sort_unstable();
         self.arrive_spans[at] = Span { first: begin as u32, end: self.arrive.len() as u32 };
         Ok(())
     }
@@ -270,6 +272,7 @@ impl Layout {
                         self.depart.push((self.offset() + place - self.column(source.x)) as u32)?;
                     }
                 }
+                self.depart[begin..].sort_unstable();
                 self.depart_spans[at + j * self.tracks + track] =
                     Span { first: begin as u32, end: self.depart.len() as u32 };
             }

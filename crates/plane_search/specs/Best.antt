@@ -5,6 +5,7 @@ use Rattle.std.specs.Cmp.Lexicographic.{slice_cmp}
 use Rattle.std.specs.declared.cmp.Ordering.TheVariants.{Less}
 use Rattle.least_path.specs.Path.{Leads, IsPath, cost_of, path_cmp}
 use Rattle.least_path.specs.LeastPath.{IsLeastPath}
+use Rattle.least_path.specs.LowerBound.{IsLowerBound}
 use Rattle.least_path.specs.declared.path.Path.{Path}
 use Rattle.plane_search.specs.Planes.{Family, IsPlace}
 use Rattle.plane_search.specs.declared.rivals.NextStep.{NextStep}
@@ -66,6 +67,11 @@ IsBeyond (Some most) cost = most < cost
 abbrev pub HasNoneWithin : Family → ℕ → List ℕ → Option ℕ → Type 0
 HasNoneWithin f track starts most = (path : List ℕ) → IsPath (f.plane track) starts f.exit path → IsBeyond most (cost_of (f.plane track) path)
 
+-- each path in the track's plane from these starts costs at least the bound; `None` means that
+-- there is no path
+abbrev pub AreBounded : Family → ℕ → List ℕ → Option ℕ → Type 0
+AreBounded f track starts bound = (start : ℕ) → Contains starts start → IsLowerBound (f.plane track) f.exit start bound
+
 -- ---- rivals of a path
 
 -- no path in the plane that begins at the place is less than the given one
@@ -76,7 +82,7 @@ HoldsNothingFrom f track best place = (rest : List ℕ) → Leads (f.plane track
 abbrev pub HoldsNothingBeyond : Family → ℕ → List ℕ → ℕ → ℕ → Type 0
 HoldsNothingBeyond f track best place most = (rest : List ℕ) → Leads (f.plane track) f.exit place rest → most < sum_by (f.plane track).cost rest → path_cmp f.whole (map (f.number track) (place ∷ rest)) best ≢ Less
 
--- no path in the plane that begins at the place and costs as much as the given one, or more, is less
+-- no path in the plane that begins at the place and costs at least as much as the given one is less
 abbrev pub HoldsNoTie : Family → ℕ → Path → ℕ → Type 0
 HoldsNoTie f track path place = (rest : List ℕ) → Leads (f.plane track) f.exit place rest → path.cost ≤ sum_by (f.plane track).cost rest → path_cmp f.whole (map (f.number track) (place ∷ rest)) path.nodes.items ≢ Less
 

@@ -2,3 +2,4 @@ pub mod Planes
 pub mod Bypass
 pub mod Best
 pub mod Ranking
+pub mod Walk

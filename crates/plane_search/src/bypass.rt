@@ -2,7 +2,7 @@
 //! goal. A search for the least path then ends as soon as no path of the plane is left that is as
 //! cheap.
 ghost use Rattle.std.specs.Prelude.{◌≡◌, ◌<◌, ◌≤◌, ◌^◌};
-ghost use Rattle.plane_search.specs.Bypass.{bypassed};
+ghost use Rattle.plane_search.specs.Bypass.{bypassed_graph};
 
 use crate::planes::Planes;
 use least_path::{Ends, Roads};
@@ -28,7 +28,8 @@ pub(crate) struct Bypassed<'a, P: Planes> {
 }
 
 impl<P: Planes> Roads for Bypassed<'_, P> {
-    ghost graph = { λ b. bypassed ((P.family b.planes.now).plane b.track) b.places (P.family b.planes.now).exit b.over };
+    ghost graph = { λ b. bypassed_graph ((P.family b.planes.now).plane b.track) b.places (P.family
+        b.planes.now).exit b.over };
 
     fn count(&self) -> usize {
         let _tracks = self.planes.tracks();

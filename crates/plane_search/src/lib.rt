@@ -14,10 +14,12 @@
 #![tactic(auto)]
 
 mod bypass;
+mod marks;
 mod planes;
 mod ranking;
 mod rivals;
 mod search;
+mod walk;
 
 pub use planes::Planes;
 pub use ranking::PlaneSearch;

@@ -1,5 +1,6 @@
 //! A graph that consists of planes, as a search uses it.
 ghost use Rattle.std.specs.Prelude.{◌≡◌, ◌+◌, ◌<◌, ℕ, Option, List, Some, map};
+ghost use Rattle.std.specs.List.Sorted.{IsNonDecreasing};
 ghost use Rattle.least_path.specs.Graph.{Graph};
 ghost use Rattle.least_path.specs.Path.{IsPath};
 ghost use Rattle.least_path.specs.LowerBound.{IsLowerBound};
@@ -36,12 +37,13 @@ pub trait Planes {
         requires place { IsPlace (family self.now) track place }
         ensures { result ≡ (family self.now).number track place };
 
-    /// The ends of the edges from a place in its plane: fewer than 2^32.
+    /// The ends of the edges from a place in its plane, in rising order: fewer than 2^32.
     fn ends(&self, track: usize, place: usize) -> Ends<'_>
         requires track { track < (family self.now).tracks }
         requires place { place < (family self.now).places }
-        ensures { map (λ end. end + result.base) result.list.now
-            ≡ ((family self.now).plane track).ends place };
+        ensures value { map (λ end. end + result.base) result.list.now
+            ≡ ((family self.now).plane track).ends place }
+        ensures rising { IsNonDecreasing result.list.now };
 
     /// The cost of entering a place, from 1 to 2^36.
     fn cost(&self, track: usize, place: usize) -> u64

@@ -1,15 +1,20 @@
 //! A search of one plane at a time.
-ghost use Rattle.std.specs.Prelude.{◌≡◌, ◌+◌, ◌<◌, ◌≤◌, ◌^◌, ◌∷◌, ◌++◌, [], true, false, All, Some, None, Ok, IfOk, IfSome, IfNone, OnOk, MatchOption, map, length, if◌then◌else◌};
+ghost use Rattle.std.specs.Prelude.{◌≡◌, ℕ, ◌+◌, ◌<◌, ◌≤◌, ◌^◌, ◌∷◌, ◌++◌, [], true, false, All, Some, None, Ok, IfOk, IfSome, IfNone, OnOk, MatchOption, map, length, if◌then◌else◌};
 ghost use Rattle.std.specs.Bool.{MatchBool};
+ghost use Rattle.std.specs.List.Sorted.{IsNonDecreasing, IsPermutation};
 ghost use Rattle.std.specs.Ordering.{nat_cmp, ordering_then};
 ghost use Rattle.std.specs.Cmp.Lexicographic.{slice_cmp};
 ghost use Rattle.std.specs.declared.cmp.Ordering.TheVariants.{Less};
+ghost use Rattle.least_path.specs.Graph.{Graph};
+ghost use Rattle.least_path.specs.LowerBound.{IsLowerBound};
 ghost use Rattle.plane_search.specs.Planes.{IsPlace};
-ghost use Rattle.plane_search.specs.Best.{IsKnown, Improves, AreAmong, IsLeastIn, IsLeastOn, IsBypassCost, HasNoneWithin};
+ghost use Rattle.plane_search.specs.Best.{IsKnown, Improves, AreAmong, AreBounded, IsLeastIn, IsLeastOn, IsBypassCost, HasNoneWithin};
 
 use crate::bypass::Bypassed;
+use crate::marks::UNMARKED;
 use crate::planes::Planes;
 use crate::rivals::list_rivals;
+use crate::walk::{Aim, Walk};
 use least_path::{Path, Search};
 use std::alloc::{AllocError, Global};
 use std::mem;
@@ -21,7 +26,8 @@ const MOST: u64 = 1 << 36;
 #[derive(Drop)]
 pub(crate) struct TrackSearch {
     search: Search,
-    /// The starts of the search of a plane.
+    walk: Walk,
+    /// The starts of the search of a plane, in rising order.
     starts: Vec<usize>,
     /// The path that was found in it.
     found: Path,
@@ -62,12 +68,48 @@ fn is_less(path: &Path, other: &Path) -> bool
         || path.cost == other.cost && path.nodes.as_slice() < other.nodes.as_slice()
 }
 
+/// Sorts the starts.
+fn sort_starts(starts: &mut Vec<usize>)
+    ensures same { IsPermutation starts.old.items starts.new.items }
+    ensures rising { IsNonDecreasing starts.new.items }
+{
+    starts.sort_unstable();
+}
+
+/// The lower of two bounds; `None` is above all others.
+fn lower(bound: Option<u64>, other: Option<u64>) -> Option<u64>
+    ensures bound { (g : Graph) (goal node : ℕ) → IsLowerBound g goal node bound →
+        IsLowerBound g goal node result }
+    ensures other { (g : Graph) (goal node : ℕ) → IsLowerBound g goal node other →
+        IsLowerBound g goal node result }
+{
+    match (bound, other) {
+        (Some(cost), Some(ahead)) => Some(cost.min(ahead)),
+        (Some(cost), None) => Some(cost),
+        (None, other) => other,
+    }
+}
+
+/// A lower bound of the costs of all paths from the starts; `None` only if there is no path.
+fn least_ahead<P: Planes>(planes: &P, track: usize, starts: &[usize]) -> Option<u64>
+    requires track { track < (P.family planes.now).tracks }
+    requires starts { All (λ start. start < (P.family planes.now).places) starts.now }
+    ensures { AreBounded (P.family planes.now) track starts.now result }
+{
+    let mut least = None;
+    for start in starts {
+        least = lower(least, planes.at_least(track, *start));
+    }
+    least
+}
+
 impl TrackSearch {
     /// A search without memory yet.
     pub(crate) fn new(alloc: Global) -> Self {
         let nodes = Vec::new(alloc);
         TrackSearch {
             search: Search::new(alloc),
+            walk: Walk::new(alloc),
             starts: Vec::new(alloc),
             found: Path { nodes, cost: 0 },
         }
@@ -110,6 +152,7 @@ impl TrackSearch {
     {
         self.starts.clear();
         self.starts.extend_from_slice(planes.entries(track))?;
+        sort_starts(&mut self.starts);
         if self.find_nodes(planes, track, None)? {
             mem::swap(path, &mut self.found);
             Ok(true)
@@ -133,6 +176,7 @@ impl TrackSearch {
         if self.starts.is_empty() {
             return Ok(());
         }
+        sort_starts(&mut self.starts);
         if !self.find_nodes(planes, track, Some(most))? {
             return Ok(());
         }
@@ -142,8 +186,8 @@ impl TrackSearch {
         Ok(())
     }
 
-    /// Finds the least path of a plane from the listed starts, by nodes of the whole graph. If `most` is given and no path
-    /// costs at most that much, returns `false`.
+    /// Finds the least path of a plane from the listed starts, by nodes of the whole graph. If
+    /// `most` is given and no path costs at most that much, returns `false`.
     fn find_nodes<P: Planes>(
         &mut self,
         planes: &P,
@@ -152,6 +196,7 @@ impl TrackSearch {
     ) -> Result<bool, AllocError>
         requires track { track < (P.family planes.now).tracks }
         requires among { AreAmong (P.family planes.now) track self.old.starts.items }
+        requires rising { IsNonDecreasing self.old.starts.items }
         ensures found { result ≡ Ok true → IsLeastIn (P.family planes.now) track
             self.old.starts.items self.new.found }
         ensures none { result ≡ Ok false → HasNoneWithin (P.family planes.now) track
@@ -168,6 +213,68 @@ impl TrackSearch {
     /// Finds the least path of a plane from the listed starts, by places. If `most` is given and no
     /// path costs at most that much, returns `false`.
     fn find<P: Planes>(
+        &mut self,
+        planes: &P,
+        track: usize,
+        most: Option<u64>,
+    ) -> Result<bool, AllocError>
+        requires track { track < (P.family planes.now).tracks }
+        requires among { AreAmong (P.family planes.now) track self.old.starts.items }
+        requires rising { IsNonDecreasing self.old.starts.items }
+        ensures found { result ≡ Ok true → IsLeastOn (P.family planes.now) track
+            self.old.starts.items self.new.found }
+        ensures none { result ≡ Ok false → HasNoneWithin (P.family planes.now) track
+            self.old.starts.items most }
+    {
+        let _tracks = planes.tracks();
+        let Some(least) = least_ahead(planes, track, &self.starts) else {
+            return Ok(false);
+        };
+        if least == 0 || least >= UNMARKED {
+            return self.find_dearer(planes, track, most);
+        }
+        if self.find_at(planes, track, least)? {
+            return Ok(true);
+        }
+        if most == Some(least) {
+            return Ok(false);
+        }
+        self.find_dearer(planes, track, most)
+    }
+
+    /// Finds the least path of a plane from the listed starts, by places, if it has this cost; no
+    /// path may cost less.
+    fn find_at<P: Planes>(
+        &mut self,
+        planes: &P,
+        track: usize,
+        best: u64,
+    ) -> Result<bool, AllocError>
+        requires track { track < (P.family planes.now).tracks }
+        requires among { AreAmong (P.family planes.now) track self.old.starts.items }
+        requires rising { IsNonDecreasing self.old.starts.items }
+        requires bounded { AreBounded (P.family planes.now) track self.old.starts.items
+            (Some best) }
+        requires some { 1 ≤ best }
+        requires few { best < 2 ^ 16 }
+        ensures found { result ≡ Ok true → IsLeastOn (P.family planes.now) track
+            self.old.starts.items self.new.found }
+        ensures none { result ≡ Ok false → HasNoneWithin (P.family planes.now) track
+            self.old.starts.items (Some best) }
+        ensures starts { self.new.starts ≡ self.old.starts }
+    {
+        let _tracks = planes.tracks();
+        let aim = Aim {
+            planes,
+            track,
+            exit: planes.exit(),
+            best,
+        };
+        self.walk.least_into(&aim, &self.starts, &mut self.found)
+    }
+
+    /// Does as `find` does, whatever the bounds of the starts.
+    fn find_dearer<P: Planes>(
         &mut self,
         planes: &P,
         track: usize,

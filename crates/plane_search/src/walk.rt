@@ -1,0 +1,235 @@
+//! A walk through a plane along ways over which a path of a given cost may lead, where no path
+//! costs less. At each place it takes the first edge over which such a path may lead, and at a
+//! place from which none does, it goes back: so the first path that it completes is the least. Each
+//! place is entered once at each cost.
+ghost use Rattle.std.specs.Prelude.{◌≡◌, ℕ, Contains, ◌+◌, ◌<◌, ◌≤◌, ◌^◌, ◌∷◌, ◌++◌, [], true, false, Ok, IfSome, IfNone, OnOk, length};
+ghost use Rattle.std.specs.List.Sorted.{IsNonDecreasing};
+ghost use Rattle.std.proofs.Common.{set};
+ghost use Rattle.least_path.specs.Graph.{AreNodes};
+ghost use Rattle.least_path.specs.Path.{IsPath, cost_of};
+ghost use Rattle.least_path.specs.LeastPath.{IsLeastPath};
+ghost use Rattle.plane_search.specs.Planes.{IsPlace};
+ghost use Rattle.plane_search.specs.Walk.{IsFit, IsUnfit, IsNext, AreUnfit, IsWalking, IsBetween, IsLeastFrom, CostsAtLeast, CostsMore, AreNoCheaper, places_in, stop_at, after_step};
+
+use crate::marks::Marks;
+use crate::planes::Planes;
+use least_path::Path;
+use std::alloc::{AllocError, Global};
+
+/// A place of the way that is being tried.
+#[derive(Clone, Copy)]
+struct Stop {
+    place: usize,
+    /// The cost of the way up to it.
+    cost: u64,
+    /// The number of the edge that is tried next.
+    next_edge: usize,
+}
+
+/// An edge from a stop.
+#[derive(Clone, Copy)]
+struct Step {
+    edge: usize,
+    /// Where it ends.
+    place: usize,
+    /// The cost of the way up to there.
+    cost: u64,
+}
+
+/// A plane, and the cost of the paths that are looked for in it.
+#[derive(Drop)]
+pub(crate) struct Aim<'a, P: Planes> {
+    pub(crate) planes: &'a P,
+    pub(crate) track: usize,
+    pub(crate) exit: usize,
+    pub(crate) best: u64,
+    ghost on: { track < (P.family planes.now).tracks },
+    ghost to: { exit ≡ (P.family planes.now).exit },
+    ghost some: { 1 ≤ best },
+    ghost few: { best < 2 ^ 16 },
+}
+
+/// A walk that reuses its memory from one plane to the next.
+#[derive(Drop)]
+pub(crate) struct Walk {
+    marks: Marks,
+    stops: Vec<Stop>,
+}
+
+/// The cost at which the place may be entered from a stop that was reached at cost `before`, if a
+/// path of the wanted cost may lead over it.
+#[inline(always)]
+fn fitting_cost<P: Planes>(
+    marks: &Marks,
+    aim: &Aim<'_, P>,
+    place: usize,
+    before: u64,
+) -> Option<u64>
+    requires place { place < (P.family aim.now.planes.now).places }
+    requires room { place < length marks.now }
+    requires before { before ≤ aim.now.best }
+    ensures some { IfSome result (λ cost. IsFit ((P.family aim.now.planes.now).plane aim.now.track)
+        aim.now.best marks.now place before cost) }
+    ensures none { IfNone result (IsUnfit ((P.family aim.now.planes.now).plane aim.now.track)
+        (P.family aim.now.planes.now).exit aim.now.best marks.now place
+        (before + ((P.family aim.now.planes.now).plane aim.now.track).cost place)) }
+{
+    let _tracks = aim.planes.tracks();
+    let cost = before + aim.planes.cost(aim.track, place);
+    if aim.best < cost || marks.is_entered(place, cost) {
+        return None;
+    }
+    match aim.planes.at_least(aim.track, place) {
+        Some(ahead) if ahead <= aim.best - cost => Some(cost),
+        _ => None,
+    }
+}
+
+/// The first step from the stop, from its next edge on, over which a path of the wanted cost may
+/// lead.
+#[inline(always)]
+fn next_step<P: Planes>(marks: &Marks, aim: &Aim<'_, P>, stop: Stop) -> Option<Step>
+    requires place { stop.place < (P.family aim.now.planes.now).places }
+    requires room { (P.family aim.now.planes.now).places ≤ length marks.now }
+    requires cost { stop.cost ≤ aim.now.best }
+    ensures some { IfSome result (λ step. IsNext ((P.family aim.now.planes.now).plane aim.now.track)
+        (P.family aim.now.planes.now).exit aim.now.best marks.now stop step) }
+    ensures none { IfNone result (AreUnfit ((P.family aim.now.planes.now).plane aim.now.track)
+        (P.family aim.now.planes.now).exit aim.now.best marks.now stop stop.next_edge
+        (length (((P.family aim.now.planes.now).plane aim.now.track).ends stop.place))) }
+{
+    let _tracks = aim.planes.tracks();
+    let ends = aim.planes.ends(aim.track, stop.place);
+    let mut edge = stop.next_edge;
+    while edge < ends.list.len() {
+        let place = ends.list[edge] as usize + ends.base;
+        if let Some(cost) = fitting_cost(marks, aim, place, stop.cost) {
+            return Some(Step { edge, place, cost });
+        }
+        edge += 1;
+    }
+    None
+}
+
+impl Walk {
+    /// A walk without memory yet.
+    pub(crate) fn new(alloc: Global) -> Self {
+        Walk {
+            marks: Marks::new(alloc),
+            stops: Vec::new(alloc),
+        }
+    }
+
+    /// Replaces `path` by the least path of the plane from `starts`, which rise, if a path has the
+    /// wanted cost, and returns whether there is one. No path may cost less.
+    pub(crate) fn least_into<P: Planes>(
+        &mut self,
+        aim: &Aim<'_, P>,
+        starts: &[usize],
+        path: &mut Path,
+    ) -> Result<bool, AllocError>
+        requires starts { AreNodes ((P.family aim.now.planes.now).plane aim.now.track) starts.now }
+        requires rising { IsNonDecreasing starts.now }
+        requires least { AreNoCheaper ((P.family aim.now.planes.now).plane aim.now.track) (P.family aim.now.planes.now).exit
+            aim.now.best starts.now }
+        ensures found { result ≡ Ok true → IsLeastPath ((P.family aim.now.planes.now).plane aim.now.track)
+            starts.now (P.family aim.now.planes.now).exit path.new.nodes.items }
+        ensures cost { result ≡ Ok true → path.new.cost
+            ≡ cost_of ((P.family aim.now.planes.now).plane aim.now.track) path.new.nodes.items }
+        ensures none { result ≡ Ok false → (start : ℕ) → Contains starts.now start →
+            CostsMore ((P.family aim.now.planes.now).plane aim.now.track) (P.family aim.now.planes.now).exit aim.now.best
+            start 0 }
+    {
+        let _tracks = aim.planes.tracks();
+        self.marks.renew(aim.planes.places())?;
+        for start in starts {
+            if self.walk_from(aim, *start)? {
+                self.write_path(aim.exit, &mut path.nodes)?;
+                path.cost = aim.best;
+                return Ok(true);
+            }
+        }
+        Ok(false)
+    }
+
+    /// Walks on from a start until a path is complete, and returns whether there is one.
+    fn walk_from<P: Planes>(&mut self, aim: &Aim<'_, P>, start: usize) -> Result<bool, AllocError>
+        requires start { start < (P.family aim.now.planes.now).places }
+        requires least { CostsAtLeast ((P.family aim.now.planes.now).plane aim.now.track) (P.family aim.now.planes.now).exit
+            aim.now.best start 0 }
+        requires between { IsBetween ((P.family aim.now.planes.now).plane aim.now.track) (P.family aim.now.planes.now).exit
+            aim.now.best self.old.marks }
+        ensures found { result ≡ Ok true → IsLeastFrom ((P.family aim.now.planes.now).plane aim.now.track)
+            (P.family aim.now.planes.now).exit aim.now.best start
+            (places_in self.new.stops.items ++ (P.family aim.now.planes.now).exit ∷ []) }
+        ensures none { result ≡ Ok false → CostsMore ((P.family aim.now.planes.now).plane aim.now.track)
+            (P.family aim.now.planes.now).exit aim.now.best start 0 }
+        ensures between { result ≡ Ok false → IsBetween ((P.family aim.now.planes.now).plane aim.now.track)
+            (P.family aim.now.planes.now).exit aim.now.best self.new.marks }
+    {
+        let _tracks = aim.planes.tracks();
+        self.begin_at(start)?;
+        while let Some(stop) = self.stops.pop() {
+            if let Some(step) = next_step(&self.marks, aim, stop) {
+                if step.place == aim.exit {
+                    self.stops.push(stop)?;
+                    return Ok(true);
+                }
+                self.go_on(stop, step)?;
+            }
+        }
+        Ok(false)
+    }
+
+    /// Makes the start the only stop.
+    fn begin_at(&mut self, start: usize) -> Result<(), AllocError>
+        requires { start < length self.old.marks }
+        ensures marks { OnOk result (self.new.marks ≡ set self.old.marks start 0) }
+        ensures stops { OnOk result (self.new.stops.items ≡ stop_at start 0 ∷ []) }
+    {
+        self.stops.clear();
+        self.marks.enter(start, 0);
+        self.stops.push(Stop {
+            place: start,
+            cost: 0,
+            next_edge: 0,
+        })?;
+        Ok(())
+    }
+
+    /// Puts the stop back, and after it the one that the step leads to.
+    #[inline(always)]
+    fn go_on(&mut self, stop: Stop, step: Step) -> Result<(), AllocError>
+        requires place { step.place < length self.old.marks }
+        requires cost { step.cost < 2 ^ 16 }
+        requires edge { step.edge + 1 < 2 ^ 64 }
+        ensures marks { OnOk result (self.new.marks ≡ set self.old.marks step.place step.cost) }
+        ensures stops { OnOk result (self.new.stops.items ≡ (self.old.stops.items
+            ++ after_step stop step ∷ []) ++ stop_at step.place step.cost ∷ []) }
+    {
+        self.marks.enter(step.place, step.cost);
+        self.stops.push(Stop {
+            place: stop.place,
+            cost: stop.cost,
+            next_edge: step.edge + 1,
+        })?;
+        self.stops.push(Stop {
+            place: step.place,
+            cost: step.cost,
+            next_edge: 0,
+        })?;
+        Ok(())
+    }
+
+    /// Writes the places of the stops, and the goal.
+    fn write_path(&self, exit: usize, nodes: &mut Vec<usize>) -> Result<(), AllocError>
+        ensures { OnOk result (nodes.new.items ≡ places_in self.now.stops.items ++ exit ∷ []) }
+    {
+        nodes.clear();
+        for stop in self.stops.as_slice() {
+            nodes.push(stop.place)?;
+        }
+        nodes.push(exit)?;
+        Ok(())
+    }
+}
