@@ -26,6 +26,7 @@ pub(crate) struct FabricPlanes<'a> {
     /// The same place by place.
     pub(crate) by_place: &'a [u8],
     pub(crate) lasts: &'a [u32],
+    pub(crate) aheads: &'a [u16],
     pub(crate) bounds: &'a [u32],
     pub(crate) source_column: usize,
     pub(crate) source_class: usize,
@@ -164,6 +165,15 @@ impl FabricPlanes<'_> {
         Some(1)
     }
 
+    #[inline(never)]
+    fn near_at_least(&self, track: usize, place: usize) -> Option<u64> {
+        let point = self.layout.points[place];
+        if point.across == u16::MAX {
+            return self.from_pin(track, place);
+        }
+        Some(self.from_point(track, place, point.across as u64, point.up as u64))
+    }
+
     /// Lists a lower bound of the paths of each track.
     pub(crate) fn list_bounds(&self, bounds: &mut Vec<u32>) -> Result<(), AllocError> {
         bounds.clear();
@@ -248,11 +258,11 @@ impl Planes for FabricPlanes<'_> {
 
     #[inline(always)]
     fn at_least(&self, track: usize, place: usize) -> Option<u64> {
-        let point = self.layout.points[place];
-        if point.across == u16::MAX {
-            return self.from_pin(track, place);
+        let ahead = self.aheads[place];
+        if ahead != 0 {
+            return Some(ahead as u64 + self.lasts[track] as u64);
         }
-        Some(self.from_point(track, place, point.across as u64, point.up as u64))
+        self.near_at_least(track, place)
     }
 
     #[inline(always)]

@@ -34,6 +34,9 @@ pub(crate) struct Layout {
     /// The number of track 0's wire at each place.
     pub(crate) first: Vec<u32>,
     pub(crate) points: Vec<Point>,
+    /// The steps from a wire to a sink's block, by difference of place; 0 near it.
+    pub(crate) aheads: Vec<u16>,
+    pub(crate) origin: usize,
     pub(crate) class: Vec<u8>,
     step_spans: Vec<Span>,
     steps: Vec<u32>,
@@ -63,6 +66,8 @@ impl Layout {
             places: 0,
             first: Vec::new(alloc),
             points: Vec::new(alloc),
+            aheads: Vec::new(alloc),
+            origin: 0,
             class: Vec::new(alloc),
             step_spans: Vec::new(alloc),
             steps: Vec::new(alloc),
@@ -102,10 +107,10 @@ impl Layout {
     }
 
     pub(crate) fn wire(&self, x: u32, kind: NodeKind, y: u32) -> usize {
-        let pins = self.stride - 2 * self.rows;
+        let pins = self.stride - 5 * self.rows;
         let up = match kind {
-            NodeKind::ChanY => self.rows,
-            _ => 0,
+            NodeKind::ChanY => 3 * self.rows,
+            _ => self.rows,
         };
         self.column(x) + pins + up + y as usize
     }
@@ -132,7 +137,7 @@ impl Layout {
         self.tracks = tracks;
         self.rows = rows + 2;
         self.outputs = outputs;
-        self.stride = 2 + inputs + outputs + 2 * (rows + 2);
+        self.stride = 2 + inputs + outputs + 5 * (rows + 2);
         self.places = (width + 3) * self.stride;
         self.first.resize(self.places, u32::MAX)?;
         self.points.resize(self.places, Point { across: u16::MAX, up: 0 })?;
@@ -143,10 +148,42 @@ impl Layout {
                 self.add_place(graph, x, NodeKind::ChanY, y)?;
             }
         }
+        self.fill_aheads(width)?;
         let classes = 6 * (rows + 2) * pads;
         self.arrive_spans.resize(classes * 4 * tracks, UNKNOWN)?;
         self.depart_spans.resize(classes * outputs * tracks, UNKNOWN)?;
         Ok(())
+    }
+
+    fn fill_aheads(&mut self, width: usize) -> Result<(), AllocError> {
+        self.origin = (width + 2) * self.stride + self.rows;
+        self.aheads.clear();
+        self.aheads.resize(self.origin + self.places + self.stride, 0)?;
+        let pins = self.stride - 5 * self.rows;
+        for across in 0..2 * width + 3 {
+            for up in 0..2 * self.rows - 1 {
+                for kind in 0..2 {
+                    let twice_x = 2 * across + kind;
+                    let twice_y = 2 * up + 1 - kind;
+                    let (mid_x, mid_y) = (2 * (width + 1), 2 * (self.rows - 1));
+                    let apart = twice_x.max(mid_x) - twice_x.min(mid_x) + twice_y.max(mid_y) - twice_y.min(mid_y);
+                    if apart > 2 {
+                        let at = self.origin + (across + 2) * self.stride + pins + (1 + 2 * kind) * self.rows + up
+                            - (width + 1) * self.stride - (self.rows - 1);
+                        if at < self.aheads.len() {
+                            self.aheads[at] = ((apart - 1) / 2) as u16;
+                        }
+                    }
+                }
+            }
+        }
+        Ok(())
+    }
+
+    /// The steps to a sink's block, by place.
+    pub(crate) fn aheads_to(&self, x: u32, y: u32) -> &[u16] {
+        let first = self.origin - (x as usize * self.stride + y as usize);
+        &self.aheads[first..first + self.places]
     }
 
     fn place_of(&self, node: Node) -> usize {

@@ -1,10 +1,10 @@
 -- Private: a walk through a graph along ways that may have exactly a given cost.
-use Rattle.std.proofs.Common.{◌≡◌, ◌≢◌, ℕ, ◌+◌, ◌*◌, ◌-◌, ◌^◌, ◌<◌, ◌≤◌, ◌⊎◌, List, [], ◌∷◌, ◌++◌, length, get_or, map}
+use Rattle.std.proofs.Common.{◌≡◌, ◌≢◌, ℕ, ◌+◌, ◌*◌, ◌-◌, ◌^◌, ◌<◌, ◌≤◌, ◌⊎◌, List, [], ◌∷◌, length, get_or, map}
 use Rattle.std.specs.List.{sum_by, All, Contains}
 use Rattle.std.specs.Ordering.{nat_cmp}
 use Rattle.std.specs.Cmp.Lexicographic.{slice_cmp}
 use Rattle.std.specs.declared.cmp.Ordering.TheVariants.{Less}
-use Rattle.least_path.specs.Graph.{Graph, AreNodes, IsLawful}
+use Rattle.least_path.specs.Graph.{Graph}
 use Rattle.least_path.specs.Path.{Leads, IsPath, cost_of}
 use Rattle.plane_search.specs.declared.walk.Stop.{Stop}
 use Rattle.plane_search.specs.declared.walk.Step.{Step}

@@ -1,19 +1,17 @@
 //! A search of one plane at a time.
 ghost use Rattle.std.specs.Prelude.{◌≡◌, ℕ, ◌+◌, ◌<◌, ◌≤◌, ◌^◌, ◌∷◌, ◌++◌, [], true, false, All, Some, None, Ok, IfOk, IfSome, IfNone, OnOk, MatchOption, map, length, if◌then◌else◌};
 ghost use Rattle.std.specs.Bool.{MatchBool};
-ghost use Rattle.std.specs.List.Sorted.{IsNonDecreasing, IsPermutation};
+ghost use Rattle.std.specs.List.Sorted.{IsNonDecreasing};
 ghost use Rattle.std.specs.Ordering.{nat_cmp, ordering_then};
 ghost use Rattle.std.specs.Cmp.Lexicographic.{slice_cmp};
 ghost use Rattle.std.specs.declared.cmp.Ordering.TheVariants.{Less};
-ghost use Rattle.least_path.specs.Graph.{Graph};
-ghost use Rattle.least_path.specs.LowerBound.{IsLowerBound};
 ghost use Rattle.plane_search.specs.Planes.{IsPlace};
 ghost use Rattle.plane_search.specs.Best.{IsKnown, Improves, AreAmong, AreBounded, IsLeastIn, IsLeastOn, IsBypassCost, HasNoneWithin};
 
 use crate::bypass::Bypassed;
 use crate::marks::UNMARKED;
 use crate::planes::Planes;
-use crate::rivals::list_rivals;
+use crate::rivals::{list_rivals, sort_starts};
 use crate::walk::{Aim, Walk};
 use least_path::{Path, Search};
 use std::alloc::{AllocError, Global};
@@ -68,39 +66,14 @@ fn is_less(path: &Path, other: &Path) -> bool
         || path.cost == other.cost && path.nodes.as_slice() < other.nodes.as_slice()
 }
 
-/// Sorts the starts.
-fn sort_starts(starts: &mut Vec<usize>)
-    ensures same { IsPermutation starts.old.items starts.new.items }
-    ensures rising { IsNonDecreasing starts.new.items }
+/// Whether the limit is this cost.
+fn is_limit(most: Option<u64>, cost: u64) -> bool
+    ensures { result ≡ true → most ≡ Some cost }
 {
-    starts.sort_unstable();
-}
-
-/// The lower of two bounds; `None` is above all others.
-fn lower(bound: Option<u64>, other: Option<u64>) -> Option<u64>
-    ensures bound { (g : Graph) (goal node : ℕ) → IsLowerBound g goal node bound →
-        IsLowerBound g goal node result }
-    ensures other { (g : Graph) (goal node : ℕ) → IsLowerBound g goal node other →
-        IsLowerBound g goal node result }
-{
-    match (bound, other) {
-        (Some(cost), Some(ahead)) => Some(cost.min(ahead)),
-        (Some(cost), None) => Some(cost),
-        (None, other) => other,
+    match most {
+        Some(limit) => limit == cost,
+        None => false,
     }
-}
-
-/// A lower bound of the costs of all paths from the starts; `None` only if there is no path.
-fn least_ahead<P: Planes>(planes: &P, track: usize, starts: &[usize]) -> Option<u64>
-    requires track { track < (P.family planes.now).tracks }
-    requires starts { All (λ start. start < (P.family planes.now).places) starts.now }
-    ensures { AreBounded (P.family planes.now) track starts.now result }
-{
-    let mut least = None;
-    for start in starts {
-        least = lower(least, planes.at_least(track, *start));
-    }
-    least
 }
 
 impl TrackSearch {
@@ -176,7 +149,6 @@ impl TrackSearch {
         if self.starts.is_empty() {
             return Ok(());
         }
-        sort_starts(&mut self.starts);
         if !self.find_nodes(planes, track, Some(most))? {
             return Ok(());
         }
@@ -227,16 +199,14 @@ impl TrackSearch {
             self.old.starts.items most }
     {
         let _tracks = planes.tracks();
-        let Some(least) = least_ahead(planes, track, &self.starts) else {
-            return Ok(false);
-        };
+        let least = planes.bound(track);
         if least == 0 || least >= UNMARKED {
             return self.find_dearer(planes, track, most);
         }
         if self.find_at(planes, track, least)? {
             return Ok(true);
         }
-        if most == Some(least) {
+        if is_limit(most, least) {
             return Ok(false);
         }
         self.find_dearer(planes, track, most)

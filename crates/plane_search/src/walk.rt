@@ -56,6 +56,19 @@ pub(crate) struct Walk {
     stops: Vec<Stop>,
 }
 
+/// Whether a path of the wanted cost may begin at the start.
+#[inline(always)]
+fn is_near<P: Planes>(aim: &Aim<'_, P>, start: usize) -> bool
+    requires { start < (P.family aim.now.planes.now).places }
+    ensures { result ≡ false → CostsMore ((P.family aim.now.planes.now).plane aim.now.track)
+        (P.family aim.now.planes.now).exit aim.now.best start 0 }
+{
+    match aim.planes.at_least(aim.track, start) {
+        Some(ahead) => ahead <= aim.best,
+        None => false,
+    }
+}
+
 /// The cost at which the place may be entered from a stop that was reached at cost `before`, if a
 /// path of the wanted cost may lead over it.
 #[inline(always)]
@@ -168,8 +181,11 @@ impl Walk {
             (P.family aim.now.planes.now).exit aim.now.best self.new.marks }
     {
         let _tracks = aim.planes.tracks();
+        if !is_near(aim, start) {
+            return Ok(false);
+        }
         self.begin_at(start)?;
-        while let Some(stop) = self.stops.pop() {
+        while let Some(stop) = self.take_stop() {
             if let Some(step) = next_step(&self.marks, aim, stop) {
                 if step.place == aim.exit {
                     self.stops.push(stop)?;
@@ -195,6 +211,17 @@ impl Walk {
             next_edge: 0,
         })?;
         Ok(())
+    }
+
+    /// Takes the last stop; `None` if there is no stop.
+    #[inline(always)]
+    fn take_stop(&mut self) -> Option<Stop>
+        ensures marks { self.new.marks ≡ self.old.marks }
+        ensures some { IfSome result (λ stop.
+            self.old.stops.items ≡ self.new.stops.items ++ stop ∷ []) }
+        ensures none { IfNone result (self.old.stops.items ≡ []) }
+    {
+        self.stops.pop()
     }
 
     /// Puts the stop back, and after it the one that the step leads to.
