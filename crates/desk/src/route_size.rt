@@ -6,6 +6,7 @@ ghost use Rattle.arch_file.specs.declared.arch.TheConstants.{MAX_IO_RAT};
 use crate::route_wishes::{GivenSize, Size, Wishes, device_size};
 use crate::silence::Silence;
 use arch_file::{ArchError, read_arch};
+use grid::{MAX_COLUMNS, MAX_ROWS};
 use one_user::{Counted, OwnDevice, PackedCounts, Request, least_columns, least_side};
 use std::alloc::Global;
 use tenant_slot::{Misfit, Refusal};
@@ -51,7 +52,7 @@ fn least_size(size: Size, counts: PackedCounts, io_rat: u32) -> Sized
             Some(side) => device_size(side, side),
             None => None,
         },
-        Size::LeastColumns(rows) => match least_columns(counts, io_rat, rows.min(64)) {
+        Size::LeastColumns(rows) => match least_columns(counts, io_rat, rows.min(MAX_ROWS)) {
             Some(columns) => device_size(columns, rows),
             None => None,
         },
@@ -67,8 +68,8 @@ fn misfit_of(size: Size, counts: PackedCounts, io_rat: u32) -> Misfit
     requires { io_rat ≤ MAX_IO_RAT }
 {
     let (columns, rows) = match size {
-        Size::LeastColumns(rows) => (256, rows.min(64)),
-        _ => (64, 64),
+        Size::LeastColumns(rows) => (MAX_COLUMNS, rows.min(MAX_ROWS)),
+        _ => (MAX_ROWS, MAX_ROWS),
     };
     let blocks = (columns * rows) as usize;
     if counts.clusters > blocks {

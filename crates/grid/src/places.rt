@@ -1,5 +1,6 @@
 //! Lists places in order.
 ghost use Rattle.std.specs.Prelude.{◌≡◌, ◌<◌, ◌≤◌, Contains, length, slice_get, Some};
+ghost use Rattle.grid.specs.declared.TheConstants.{MAX_ROWS};
 ghost use Rattle.grid.specs.Sizes.{IsStripSize};
 ghost use Rattle.grid.specs.Places.{column_len, place_in, places_of};
 ghost use Rattle.grid.specs.Listed.{places_in_order};
@@ -51,7 +52,7 @@ impl Places {
     fn column_len(self) -> u32
         ensures count { result ≡ column_len self.strip self.kind }
         ensures some { 0 < result }
-        ensures few { result ≤ 64 }
+        ensures few { result ≤ MAX_ROWS }
     {
         match self.kind {
             Kind::Logic => self.strip.rows,

@@ -29,8 +29,9 @@ fn add_pad(mut pads: Vec<Resource>, block: Block, place: Place) -> Result<Vec<Re
     Ok(pads)
 }
 
-/// The pads of the blocks, by number.
-pub(crate) fn pads_of(alloc: Global, placing: &Placing) -> Result<Vec<Resource>, AllocError>
+/// Lists the pads of a placing's blocks, by the numbers of the blocks. Fails with [`AllocError`] if
+/// memory runs out.
+pub fn pads_of(alloc: Global, placing: &Placing) -> Result<Vec<Resource>, AllocError>
     ensures exact { IfOk result (λ pads.
         pads.items ≡ pads_of placing.now.packed (places_by_block placing.now)) }
     ensures there { IfOk result (λ pads.
@@ -108,8 +109,9 @@ fn each_once(alloc: Global, sorted: &[Resource]) -> Result<Vec<Resource>, AllocE
     Ok(list)
 }
 
-/// The pins and wires of the routes and these pads in node order, each once.
-pub(crate) fn list_of(
+/// Lists the pins and wires of the routes, and these pads, in node order, each once. Fails with
+/// [`AllocError`] if memory runs out.
+pub fn list_resources(
     alloc: Global,
     routes: &Routes,
     pads: &[Resource],

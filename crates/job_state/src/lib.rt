@@ -11,6 +11,8 @@
 //!   others must be spent: by a step, by a call that takes them, or by `park`. A [`Done`] step has
 //!   its [`Progress`]. A finished job has its result. A placing starts from a finished packing, and
 //!   a routing from a finished placing; these are only lent.
+//! - [`list_resources`] and [`pads_of`] list what a routed circuit occupies of its strip, for those
+//!   who route without a job.
 //!
 //! What a job carries is a function of its sources: `job_value` of `specs/JobValue.antt` gives it
 //! after any number of steps. Each type keeps this as an invariant: a job has its value after the
@@ -34,6 +36,7 @@ mod step;
 mod work;
 
 pub use ending::RoutingEnd;
+pub use held::{list_resources, pads_of};
 pub use job::{AnyJob, Back, Done};
 pub use parked::Parked;
 pub use progress::Progress;

@@ -2,7 +2,7 @@
 ghost use Rattle.std.specs.Prelude.{◌≡◌, IfErr, IfOk};
 ghost use Rattle.job_state.specs.RoutedCircuits.{AreThere, ListsAll, held_by};
 
-use crate::held::list_of;
+use crate::held::list_resources;
 use arch_file::SharedArch;
 use grid::Strip;
 use pathfinder::Routes;
@@ -56,7 +56,7 @@ impl Routed {
         ensures ok { IfOk result (λ listed. listed ≡ self) }
         ensures err { IfErr result (λ back. back ≡ self) }
     {
-        match list_of(self.alloc, &self.routes, self.pads.as_slice()) {
+        match list_resources(self.alloc, &self.routes, self.pads.as_slice()) {
             Ok(resources) => Ok(Listed {
                 routed: self,
                 resources,

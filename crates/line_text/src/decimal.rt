@@ -1,6 +1,7 @@
 //! Numbers in decimal digits.
 ghost use Rattle.std.specs.Prelude.{◌≡◌, ◌^◌, ◌&&◌, ◌*◌, ◌+◌, ◌-◌, ◌<◌, ◌≤◌, length, nat_le, nat_lt, IfSome, position, if◌then◌else◌, Some, None};
 ghost use Rattle.std.specs.List.{list_all};
+ghost use Rattle.line_text.specs.declared.decimal.TheConstants.{MAX_WHOLE};
 ghost use Rattle.line_text.specs.Decimal.{decimal_of, fraction_digits, is_digit, is_point, millionths_of, value_of, whole_digits, whole_of, with_digit};
 
 /// The largest number of digits of a whole number.
@@ -84,9 +85,9 @@ fn split_point(bytes: &[u8]) -> (&[u8], &[u8])
 
 /// The whole part of a decimal: any number of digits, at most a million.
 fn whole_part(bytes: &[u8]) -> Option<u64>
-    ensures value { result ≡ (if list_all is_digit bytes.now && nat_le (value_of bytes.now) 1000000
+    ensures value { result ≡ (if list_all is_digit bytes.now && nat_le (value_of bytes.now) MAX_WHOLE
         then Some (value_of bytes.now) else None) }
-    ensures bound { IfSome result (λ n. n ≤ 1000000) }
+    ensures bound { IfSome result (λ n. n ≤ MAX_WHOLE) }
 {
     match digits(bytes) {
         Some(whole) if whole <= MAX_WHOLE => Some(whole),

@@ -4,6 +4,7 @@ ghost use Rattle.arch_file.specs.declared.arch.TheConstants.{MAX_CLUSTER_SIZE, M
 ghost use Rattle.strips.specs.declared.layout.TheConstants.{MAX_STRIPS};
 ghost use Rattle.grid.specs.declared.TheConstants.{MAX_COLUMNS, MAX_ROWS};
 
+use arch_file::MAX_TRACKS;
 use grid::MAX_COLUMNS;
 
 /// The last command of a script's tenants.
@@ -117,7 +118,7 @@ impl Plan {
     /// Rows of the device.
     pub fn rows(&self) -> u32
         ensures value { result ≡ self.now.rows }
-        ensures few { (1 ≤ result) × (result ≤ 64) }
+        ensures few { (1 ≤ result) × (result ≤ MAX_ROWS) }
     {
         self.rows
     }
@@ -125,7 +126,7 @@ impl Plan {
     /// Tracks of each channel. That the number is large enough is only tested.
     pub fn tracks(&self) -> u32
         ensures value { result ≡ self.now.tracks }
-        ensures few { (1 ≤ result) × (result ≤ 64) }
+        ensures few { (1 ≤ result) × (result ≤ MAX_TRACKS) }
     {
         self.tracks
     }
@@ -162,11 +163,11 @@ pub(crate) fn side_of(places: u32, largest: u32) -> u32
 /// The number of tracks for circuits of that kind: more for larger circuits, for more inputs and
 /// for larger clusters.
 fn tracks_for(checked: Checked) -> u32
-    ensures { (1 ≤ result) × (result ≤ 64) }
+    ensures { (1 ≤ result) × (result ≤ MAX_TRACKS) }
 {
     let wishes = checked.wishes;
     let spread = 4 + side_of(wishes.tables, 87) * 3 / 10;
     let clusters = 9 + 5 * (wishes.cluster - 1).min(2) + wishes.cluster;
     let more = spread * (2 + wishes.inputs) * clusters / 60;
-    more.clamp(8, 64)
+    more.clamp(8, MAX_TRACKS)
 }

@@ -6,7 +6,7 @@ use Rattle.rr_graph.specs.Resources.{is_same}
 use Rattle.job_state.specs.RoutedCircuits.{ListsAll}
 use Rattle.job_state.specs.Gathered.{on_trees}
 use Rattle.job_state.proofs.Sorted.{in_order}
-use Rattle.job_state.proofs.held.list_of.Goals as goal
+use Rattle.job_state.proofs.held.list_resources.Goals as goal
 
 pub each_once-requires : goal.each_once-requires
 each_once-requires c = rw c.as_slice.ensures.value (in_order c.sort_unstable.new.self.items c.sort_unstable.ensures.sorted)
