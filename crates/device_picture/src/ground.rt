@@ -44,7 +44,7 @@ pub(crate) fn write_column<K: Sink>(pen: &mut Pen<'_, K>, geometry: Geometry, pa
 
 /// Writes the two pads of that number.
 fn write_pads<K: Sink>(pen: &mut Pen<'_, K>, geometry: Geometry, pad: u32)
-    requires { pad ≤ 8 }
+    requires { pad ≤ MAX_IO_RAT }
 {
     let x = pad * geometry.pad;
     let width = geometry.pad - 1;

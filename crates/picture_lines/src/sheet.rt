@@ -1,6 +1,7 @@
 //! The sheet of a picture: its beginning, groups, the numbers beside columns and rows, and the
 //! squares of a legend.
 ghost use Rattle.std.specs.Prelude.{◌≤◌};
+ghost use Rattle.grid.specs.declared.TheConstants.{MAX_COLUMNS};
 
 use crate::lattice::Lattice;
 use line_text::Sink;
@@ -71,7 +72,7 @@ pub fn write_rows<K: Sink>(
     rows: u32,
     step: u32,
 )
-    requires rows { rows ≤ 256 }
+    requires rows { rows ≤ MAX_COLUMNS }
     requires step { 1 ≤ step }
 {
     pen.write(&[
@@ -94,7 +95,7 @@ pub fn write_numbers<K: Sink>(
     count: u32,
     step: u32,
 )
-    requires count { count ≤ 256 }
+    requires count { count ≤ MAX_COLUMNS }
     requires step { 1 ≤ step }
 {
     for number in 1..=count {

@@ -1,5 +1,6 @@
 //! Random circuits.
 ghost use Rattle.std.specs.Prelude.{◌≤◌, ◌<◌};
+ghost use Rattle.arch_file.specs.declared.arch.TheConstants.{MAX_LUT_SIZE};
 
 use crate::draws::{Source, Square};
 use crate::plan::{Plan, side_of};
@@ -49,7 +50,7 @@ fn write_table<K: Sink>(
     table: u32,
 )
     requires table { table < square.tables }
-    requires most { (1 ≤ most) × (most ≤ 8) }
+    requires most { (1 ≤ most) × (most ≤ MAX_LUT_SIZE) }
 {
     let draws = most - words.next_word() % (most / 2 + 1);
     let (sources, count) = draw_sources(square, words, table, draws);
@@ -68,8 +69,8 @@ fn write_table<K: Sink>(
 /// The distinct sources of `draws` draws, and their number.
 fn draw_sources(square: Square, words: &mut Pcg32, table: u32, draws: u32) -> ([Source; 8], usize)
     requires table { table < square.tables }
-    requires draws { (1 ≤ draws) × (draws ≤ 8) }
-    ensures { result.1 ≤ 8 }
+    requires draws { (1 ≤ draws) × (draws ≤ MAX_LUT_SIZE) }
+    ensures { result.1 ≤ MAX_LUT_SIZE }
 {
     let mut sources = [Source::Input(0); 8];
     let mut count = 0;

@@ -1,5 +1,6 @@
 //! Random draws.
 ghost use Rattle.std.specs.Prelude.{◌+◌, ◌≤◌, ◌<◌};
+ghost use Rattle.random_script.specs.declared.plan.TheConstants.{MAX_TABLES};
 
 use rand_core::utils::NextWord;
 use rand_pcg::Pcg32;
@@ -14,7 +15,7 @@ pub(crate) struct Square {
     pub(crate) side: u32,
     /// The number of the circuit's inputs.
     pub(crate) inputs: u32,
-    ghost tables_some: { (1 ≤ tables) × (tables ≤ 7_500) },
+    ghost tables_some: { (1 ≤ tables) × (tables ≤ MAX_TABLES) },
     ghost side_some: { (1 ≤ side) × (side ≤ 87) },
     ghost inputs_some: { (1 ≤ inputs) × (inputs ≤ 200) },
 }
@@ -63,7 +64,7 @@ impl Square {
 /// A position at a random distance from another: a distance of at least d has probability 1 / (d +
 /// 1), and both directions are equally likely.
 fn random_shift(place: u32, word: u32) -> Option<u32>
-    requires { place ≤ 7_500 }
+    requires { place ≤ MAX_TABLES }
 {
     let distance = 65_536 / (word % 65_536 + 1) - 1;
     if word / 65_536 % 2 == 0 {

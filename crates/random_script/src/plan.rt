@@ -1,11 +1,16 @@
 //! The contents of a script, and the device that it needs.
 ghost use Rattle.std.specs.Prelude.{◌≡◌, ◌+◌, ◌*◌, ◌/◌, ◌≤◌, ◌<◌, IfSome};
-ghost use Rattle.arch_file.specs.declared.arch.TheConstants.{MAX_CLUSTER_SIZE, MAX_TRACKS};
+ghost use Rattle.arch_file.specs.declared.arch.TheConstants.{MAX_CLUSTER_SIZE, MAX_LUT_SIZE, MAX_TRACKS};
 ghost use Rattle.strips.specs.declared.layout.TheConstants.{MAX_STRIPS};
+ghost use Rattle.random_script.specs.declared.plan.TheConstants.{MAX_TABLES};
 ghost use Rattle.grid.specs.declared.TheConstants.{MAX_COLUMNS, MAX_ROWS};
 
-use arch_file::MAX_TRACKS;
-use grid::MAX_COLUMNS;
+use arch_file::{MAX_CLUSTER_SIZE, MAX_LUT_SIZE, MAX_TRACKS};
+use grid::{MAX_COLUMNS, MAX_ROWS};
+use strips::MAX_STRIPS;
+
+/// The largest number of tables of a random circuit.
+pub(crate) const MAX_TABLES: u32 = 7_500;
 
 /// The last command of a script's tenants.
 #[derive(Clone, Copy, PartialEq, PartialOrd)]
@@ -37,9 +42,9 @@ pub struct LoadParameters {
 #[derive(Clone, Copy)]
 struct Checked {
     wishes: LoadParameters,
-    ghost tables_lawful: { (1 ≤ wishes.tables) × (wishes.tables ≤ 7_500) },
+    ghost tables_lawful: { (1 ≤ wishes.tables) × (wishes.tables ≤ MAX_TABLES) },
     ghost tenancies_lawful: { (1 ≤ wishes.tenancies) × (wishes.tenancies ≤ MAX_STRIPS) },
-    ghost inputs_lawful: { (1 ≤ wishes.inputs) × (wishes.inputs ≤ 8) },
+    ghost inputs_lawful: { (1 ≤ wishes.inputs) × (wishes.inputs ≤ MAX_LUT_SIZE) },
     ghost cluster_lawful: { (1 ≤ wishes.cluster) × (wishes.cluster ≤ MAX_CLUSTER_SIZE) },
 }
 
@@ -53,9 +58,9 @@ pub struct Plan {
     pub(crate) rows: u32,
     /// Tracks of each channel.
     pub(crate) tracks: u32,
-    ghost tables_lawful: { (1 ≤ wishes.tables) × (wishes.tables ≤ 7_500) },
+    ghost tables_lawful: { (1 ≤ wishes.tables) × (wishes.tables ≤ MAX_TABLES) },
     ghost tenancies_lawful: { (1 ≤ wishes.tenancies) × (wishes.tenancies ≤ MAX_STRIPS) },
-    ghost inputs_lawful: { (1 ≤ wishes.inputs) × (wishes.inputs ≤ 8) },
+    ghost inputs_lawful: { (1 ≤ wishes.inputs) × (wishes.inputs ≤ MAX_LUT_SIZE) },
     ghost cluster_lawful: { (1 ≤ wishes.cluster) × (wishes.cluster ≤ MAX_CLUSTER_SIZE) },
     ghost rows_lawful: { (1 ≤ rows) × (rows ≤ MAX_ROWS) },
     ghost tracks_lawful: { (1 ≤ tracks) × (tracks ≤ MAX_TRACKS) },
@@ -72,19 +77,21 @@ impl Plan {
     pub fn new(wishes: LoadParameters) -> Option<Self>
         ensures { IfSome result (λ plan. plan.wishes ≡ wishes) }
     {
-        let circuit = (1..=7500).contains(&wishes.tables) && (1..=64).contains(&wishes.tenancies);
-        let device = (1..=8).contains(&wishes.inputs) && (1..=16).contains(&wishes.cluster);
+        let circuit = (1..=MAX_TABLES).contains(&wishes.tables)
+            && (1..=MAX_STRIPS as u32).contains(&wishes.tenancies);
+        let device = (1..=MAX_LUT_SIZE).contains(&wishes.inputs)
+            && (1..=MAX_CLUSTER_SIZE).contains(&wishes.cluster);
         if !circuit || !device {
             return None;
         }
         let clusters = wishes.tables.div_ceil(wishes.cluster);
         let places = clusters + clusters / 4 + 1;
-        let square = side_of(places, 64);
+        let square = side_of(places, MAX_ROWS);
         let checked = Checked { wishes };
         if let Some(plan) = Plan::with_rows(checked, places, square) {
             return Some(plan);
         }
-        Plan::with_rows(checked, places, 64)
+        Plan::with_rows(checked, places, MAX_ROWS)
     }
 
     /// A plan for strips with that number of places for logic blocks in that number of rows, if all
@@ -96,7 +103,7 @@ impl Plan {
     {
         let wishes = checked.wishes;
         let width = places.div_ceil(rows);
-        if width > MAX_COLUMNS || wishes.tenancies * (width + 1) > 257 {
+        if width > MAX_COLUMNS || wishes.tenancies * (width + 1) > MAX_COLUMNS + 1 {
             return None;
         }
         Some(Plan {

@@ -1,6 +1,6 @@
 //! The table of the tracks that the inputs of a logic block meet, and those that each pad meets.
 ghost use Rattle.std.specs.Prelude.{◌≡◌, ◌+◌, ◌*◌, ◌≤◌, ◌<◌, IfOk, length, if◌then◌else◌};
-ghost use Rattle.arch_file.specs.declared.arch.TheConstants.{MAX_IO_RAT, MAX_PINS};
+ghost use Rattle.arch_file.specs.declared.arch.TheConstants.{MAX_IO_RAT, MAX_PINS, MAX_TRACKS};
 ghost use Rattle.arch_file.specs.declared.arch.Arch.{Arch};
 ghost use Rattle.arch_file.specs.Arch.{IsArch};
 ghost use Rattle.rr_graph.specs.Geometry.{is_read, is_block_row};
@@ -10,7 +10,7 @@ ghost use Rattle.rr_graph.specs.Ways.{is_met, AreMet};
 use crate::geometry::{is_block_number, is_block_row};
 use crate::joins::meets_track;
 use crate::node::{Node, NodeKind};
-use arch_file::Arch;
+use arch_file::{Arch, MAX_TRACKS};
 use grid::Strip;
 use std::alloc::{AllocError, Global};
 
@@ -40,16 +40,16 @@ fn met_by(arch: &Arch, row: u32, track: u32) -> bool
     meets_track(arch.fc_pad, arch.tracks, row - 1, track)
 }
 
-/// The table of an architecture, with a row of 64 tracks for logic blocks and one for each pad.
+/// The table of an architecture, with a row of the most tracks for logic blocks and one for each pad.
 pub(crate) fn met_table(alloc: Global, arch: &Arch, pads: u32) -> Result<Vec<bool>, AllocError>
     requires arch { IsArch arch.now }
     requires pads { pads ≤ MAX_IO_RAT }
-    ensures long { IfOk result (λ table. length table.items ≡ 64 * (pads + 1)) }
+    ensures long { IfOk result (λ table. length table.items ≡ MAX_TRACKS * (pads + 1)) }
     ensures met { IfOk result (λ table. IsMetTable arch.now table.items) }
 {
     let mut table = Vec::new(alloc);
-    for k in 0..64 * (pads + 1) {
-        table.push(met_by(arch, k / 64, k % 64))?;
+    for k in 0..MAX_TRACKS * (pads + 1) {
+        table.push(met_by(arch, k / MAX_TRACKS, k % MAX_TRACKS))?;
     }
     Ok(table)
 }
@@ -61,8 +61,8 @@ fn met_in(table: &[bool], arch: &Arch, row: u32, track: u32) -> bool
     requires table { IsMetTable arch.now table.now }
     ensures { result ≡ met_by arch.now row track }
 {
-    if track < 64 {
-        let k = row as usize * 64 + track as usize;
+    if track < MAX_TRACKS {
+        let k = row as usize * MAX_TRACKS as usize + track as usize;
         if k < table.len() {
             return table[k];
         }
@@ -87,8 +87,8 @@ pub(crate) fn is_met(table: &[bool], arch: &Arch, strip: Strip, sink: Node, trac
 /// For each track from the first on, whether an input of the sink's block, or its pad, meets it, as
 /// far as the table goes.
 pub(crate) fn met_row(table: &[bool], strip: Strip, sink: Node) -> &[bool]
-    ensures long { (if is_block_row strip sink.y then 0 else sink.n + 1) * 64 + 64
-        ≤ length table.now → length result.now ≡ 64 }
+    ensures long { (if is_block_row strip sink.y then 0 else sink.n + 1) * MAX_TRACKS + MAX_TRACKS
+        ≤ length table.now → length result.now ≡ MAX_TRACKS }
     ensures met { (arch : Arch) → IsMetTable arch table.now → AreMet arch strip sink result.now }
 {
     let row = if is_block_row(strip, sink.y) {
@@ -96,8 +96,9 @@ pub(crate) fn met_row(table: &[bool], strip: Strip, sink: Node) -> &[bool]
     } else {
         sink.n as usize + 1
     };
-    if row * 64 + 64 <= table.len() {
-        &table[row * 64..row * 64 + 64]
+    let len = MAX_TRACKS as usize;
+    if row * len + len <= table.len() {
+        &table[row * len..row * len + len]
     } else {
         &table[0..0]
     }
