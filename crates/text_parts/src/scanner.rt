@@ -1,7 +1,8 @@
 //! The parts of a line, taken from its front one by one.
-ghost use Rattle.std.specs.Prelude.{◌≡◌, ◌++◌, ◌∷◌, [], ℕ, List, IfSome, Some, if◌then◌else◌, drop, length, eqb, IsTrue, ◌↔◌};
-ghost use Rattle.std.specs.List.{starts_with};
+ghost use Rattle.std.specs.Prelude.{◌≡◌, ◌++◌, ◌∷◌, ◌-◌, [], ℕ, List, IfSome, IfNone, if◌then◌else◌, drop, take, length, nat_le, eqb, position, unwrap_or, IsTrue, ◌↔◌, false};
+ghost use Rattle.std.specs.List.{before_first, starts_with};
 ghost use Rattle.line_text.specs.Decimal.{decimal_of};
+ghost use Rattle.text_parts.specs.PartEnds.{is_no_digit, is_space};
 
 use line_text::decimal_u32;
 use std::marker::Model;
@@ -49,40 +50,62 @@ impl<'t> Scanner<'t> {
         goes_on
     }
 
-    /// Takes this text off the front. `None` if the rest doesn't begin with it.
+    /// Takes this text off the front. `None` if the rest doesn't begin with it; then nothing
+    /// changes.
     pub fn text(&mut self, text: &str) -> Option<()>
-        ensures { IfSome result (λ _. self.old ≡ text.now ++ self.new) }
+        ensures taken { IfSome result (λ _. self.old ≡ text.now ++ self.new) }
+        ensures none { IfNone result (starts_with eqb self.old text.now ≡ false) }
+        ensures kept { IfNone result (self.new ≡ self.old) }
     {
         self.takes(text).then_some(())
     }
 
-    /// Takes a decimal number of 32 bits off the front. `None` if the rest doesn't begin with one.
+    /// Takes the digits off the front, and returns the decimal number of 32 bits that they spell;
+    /// `None` if there is no digit, or the number is larger.
     pub fn number(&mut self) -> Option<u32>
-        ensures { IfSome result (λ number. (digits : List ℕ) × (decimal_of 32 digits ≡ Some number)
-            × (self.old ≡ digits ++ self.new)) }
+        ensures number { result ≡ decimal_of 32 (before_first is_no_digit self.old) }
+        ensures taken { self.old ≡ before_first is_no_digit self.old ++ self.new }
     {
-        let end = self.rest.iter().position(|byte| !byte.is_ascii_digit());
+        let end = self.digits_end();
         decimal_u32(self.split(end))
     }
 
-    /// Takes everything before the next space off the front.
+    /// Takes everything before the next space off the front, and all if there is no space.
     pub fn word(&mut self) -> &'t [u8]
-        ensures { self.old ≡ result.now ++ self.new }
+        ensures word { result.now ≡ before_first is_space self.old }
+        ensures taken { self.old ≡ result.now ++ self.new }
     {
-        let end = self.rest.iter().position(|byte| *byte == b' ');
+        let end = self.word_end();
         self.split(end)
     }
 
     /// Takes everything off the front except the last `count` bytes; everything if fewer are left.
     pub fn all_but(&mut self, count: usize) -> &'t [u8]
-        ensures { self.old ≡ result.now ++ self.new }
+        ensures front { result.now ≡ (if nat_le count (length self.old)
+            then take (length self.old - count) self.old else self.old) }
+        ensures taken { self.old ≡ result.now ++ self.new }
     {
         self.split(self.rest.len().checked_sub(count))
     }
 
+    /// The index of the first byte that is not a digit.
+    fn digits_end(&self) -> Option<usize>
+        ensures { result ≡ position is_no_digit self.now }
+    {
+        self.rest.iter().position(|byte| !byte.is_ascii_digit())
+    }
+
+    /// The index of the first space.
+    fn word_end(&self) -> Option<usize>
+        ensures { result ≡ position is_space self.now }
+    {
+        self.rest.iter().position(|byte| *byte == b' ')
+    }
+
     /// Takes the bytes before this index off the front, or all of them.
     fn split(&mut self, end: Option<usize>) -> &'t [u8]
-        ensures { self.old ≡ result.now ++ self.new }
+        ensures front { result.now ≡ take (unwrap_or end (length self.old)) self.old }
+        ensures taken { self.old ≡ result.now ++ self.new }
     {
         let (front, rest) = self
             .rest
