@@ -194,7 +194,7 @@ fn trial_with<E: Sink>(
             Ok(Trial::Decided(run))
         }
         None => {
-            let least = least_tracks(alloc, plan, request, teller, &mut Silence)?;
+            let least = least_tracks(alloc, plan, request, teller)?;
             Ok(Trial::of_least(least))
         }
     }

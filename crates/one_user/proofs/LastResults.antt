@@ -1,23 +1,22 @@
 -- How the routing of a task ends, by the routing of its placed blocks.
-use Rattle.std.proofs.Common.{ℕ, suc, zero, ◌≡◌, ◌+◌, ◌<◌, ◌≤◌, ◌⊎◌, inl, inr, Bool, true, false, List, Result, Ok, Err, Option, Some, None, refl, sym, ap, subst, ◌∙◌, arith}
+use Rattle.std.proofs.Common.{ℕ, suc, zero, ◌≡◌, ◌+◌, ◌<◌, ◌≤◌, ◌⊎◌, inl, inr, true, false, List, Result, Ok, Option, Some, None, refl, sym, ap, subst, ◌∙◌, arith}
 use Rattle.std.proofs.Math.Nat.{eq-or-lt_of_le}
 use Rattle.blif.specs.CircuitOf.{circuit_of}
 use Rattle.blif.specs.declared.circuit.Circuit.{Circuit}
 use Rattle.blif.specs.declared.fault.BlifFault.{BlifFault}
-use Rattle.job_state.specs.JobValue.{end_value, is_last, is_whole, is_whole_value, job_value, nets_in, pads_in, routing_stands, step_count, value_of, work_of}
-use Rattle.job_state.specs.declared.sources.JobKind.TheVariants.{Routing as RoutingJob}
-use Rattle.job_state.specs.declared.sources.Sources.{Sources}
+use Rattle.job_state.specs.JobValue.{end_value, is_last, is_whole, is_whole_value, job_value, nets_in, pads_in, routing_stands, step_count, value_of}
 use Rattle.job_state.specs.declared.work.Work.{Work}
 use Rattle.job_state.specs.declared.work.Work.TheVariants as work
 use Rattle.job_state.proofs.Iterations.{ends_by_thirty}
 use Rattle.job_state.proofs.StepCounts.{step_count_is}
 use Rattle.pathfinder.specs.Negotiation.{Routed, Standing, More, Done, GaveUp, NoPath, next_routing, routed_after}
 use Rattle.pathfinder.specs.PlacedNets.{wiring_of}
-use Rattle.pathfinder.specs.Routings.{RoutingState}
+use Rattle.pathfinder.specs.Routings.{RoutingState, routes_by_node}
 use Rattle.pathfinder.specs.Wiring.{Net, Wiring}
 use Rattle.pathfinder.specs.declared.routing.IterEnd.{IterEnd}
 use Rattle.pathfinder.specs.declared.routing.IterEnd.TheVariants as end
-use Rattle.rr_graph.specs.Graph.{Basis}
+use Rattle.rr_graph.specs.Graph.{Basis, graph_of}
+use Rattle.rr_graph.specs.declared.node.Node.{Node}
 use Rattle.tenant_slot.specs.Results.{failure_of}
 use Rattle.tenant_slot.specs.declared.failure.RoutingFailure.{RoutingFailure}
 use Rattle.tenant_slot.specs.declared.failure.RoutingFailure.TheVariants.{GaveUp as FailedAll, NoPath as FailedNet}
@@ -138,3 +137,12 @@ module _ (task : Task) (circuit : Circuit) (said : circuit_of task.text task.arc
       ap (λ steps. failure_of (job_value (routing_of task) steps)) (steps_at_end result is)
       ∙ ap failure_of (value_is (is.before.iterations + 1) (standing_by result) (standing_is is.before result is))
       ∙ failure_made (is.before.iterations + 1) result is
+
+  -- the routes are those of the routed circuit that the job has made
+  pub routes_at_end : (routes : List (List (List Node))) → IsRoutingEnd basis nets (end.Done routes) → end_value (routing_of task) ≡ Ok (work.Routed (record { basis = basis; routes = routes; pads = pads_in (routing_of task) circuit }))
+  routes_at_end routes is =
+      let exact : routes ≡ routes_by_node (graph_of basis) (after (is.before.iterations + 1)).trees =
+      is.is_end.exact ∙ ap (λ ns. routes_by_node (graph_of basis) (routed_after (wiring_of basis) ns (is.before.iterations + 1)).trees) is.nets_kept in
+      ap (λ steps. job_value (routing_of task) steps) (steps_at_end (end.Done routes) is)
+      ∙ value_is (is.before.iterations + 1) Done (standing_is is.before (end.Done routes) is)
+      ∙ ap (λ rs. let value : Result Work BlifFault = Ok (work.Routed (record { basis = basis; routes = rs; pads = pads_in (routing_of task) circuit })) in value) (sym exact)

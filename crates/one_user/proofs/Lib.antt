@@ -8,8 +8,11 @@ mod Upward
 mod Coolings
 mod Crowdings
 mod SameNets
+mod SameTexts
+mod PlacingEnds
 mod LastResults
 mod Tries
+mod OtherTracks
 mod Told
 mod LastPass
 mod Placings

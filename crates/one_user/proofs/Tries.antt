@@ -1,49 +1,82 @@
 -- What the routing of a placed netlist says of the outcome.
-use Rattle.std.proofs.Common.{ℕ, ◌≡◌, ◌+◌, List, [], Result, Ok, Option, Some, None, refl, sym, ap, subst, ◌∙◌}
+use Rattle.std.proofs.Common.{ℕ, ◌≡◌, ◌+◌, List, Result, Ok, Option, Some, None, refl, sym, ap, subst, ◌∙◌}
 use Rattle.std.specs.Prelude.{length}
-use Rattle.arch_file.specs.Arch.{arch_of}
-use Rattle.arch_file.specs.declared.arch.Arch.{Arch}
+use Rattle.blif.specs.CircuitOf.{circuit_of}
 use Rattle.blif.specs.declared.circuit.Circuit.{Circuit}
 use Rattle.block_places.specs.Fits.{fit_of}
-use Rattle.block_places.specs.Placed.{ArePlaced}
-use Rattle.cluster.specs.Clusters.{PackedCircuit, packed_of}
-use Rattle.grid.specs.declared.place.Place.{Place}
-use Rattle.job_state.specs.JobValue.{end_value, nets_in, pass_count, placing_at, step_count}
+use Rattle.cluster.specs.Blocks.{block_nets}
+use Rattle.cluster.specs.Clusters.{packed_of, unfit_of}
+use Rattle.job_state.specs.JobValue.{end_value, nets_in, pads_in, pass_count, placing_at, step_count}
+use Rattle.job_state.specs.RoutedCircuits.{RoutedCircuit, held_by, pads_of}
+use Rattle.job_state.specs.RoutedSet.{held_at_end, resources_of}
+use Rattle.job_state.specs.declared.work.Work.{Work}
+use Rattle.job_state.specs.declared.work.Work.TheVariants as work
+use Rattle.blif.specs.declared.fault.BlifFault.{BlifFault}
 use Rattle.pathfinder.specs.Negotiation.{Routed, Tree, routed_after}
 use Rattle.pathfinder.specs.Overuse.{count_over, overuse_at}
-use Rattle.pathfinder.specs.PlacedNets.{nets_to_route, wiring_of}
+use Rattle.pathfinder.specs.PlacedNets.{wiring_of}
 use Rattle.pathfinder.specs.Routings.{RoutingState}
 use Rattle.pathfinder.specs.Wiring.{Net}
 use Rattle.pathfinder.specs.declared.routing.IterEnd.{IterEnd}
 use Rattle.pathfinder.specs.declared.routing.IterEnd.TheVariants as end
 use Rattle.rr_graph.specs.Graph.{Basis, graph_of}
-use Rattle.strip_place.specs.Anneal.{places_by_block}
-use Rattle.strips.specs.Windows.{device_strip}
-use Rattle.tenant_slot.specs.Results.{failure_of}
+use Rattle.rr_graph.specs.Resources.{has}
+use Rattle.rr_graph.specs.declared.node.Node.{Node}
+use Rattle.strip_place.specs.Anneal.{PlacingUnderWay, places_by_block}
+use Rattle.device_report.specs.declared.tenancies.ResourceUse.{ResourceUse}
+use Rattle.tenant_slot.specs.Results.{place_file_of, route_file_of}
 use Rattle.tenant_slot.specs.SingleUser.{misfit_of}
 use Rattle.tenant_slot.specs.declared.failure.RoutingFailure.{RoutingFailure}
 use Rattle.tenant_slot.specs.declared.failure.RoutingFailure.TheVariants.{GaveUp as FailedAll, NoPath as FailedNet}
-use Rattle.tenant_slot.specs.declared.reply.Ending.TheVariants.{GaveUp}
-use Rattle.one_user.specs.Crowding.{AreCrowdedNodes, IsCrowding, IsCrowdingOf, IsGivenUp, last_trees}
-use Rattle.one_user.specs.Outcomes.{Task, by_routing, left_of, outcome_of, placing_of, routing_of}
-use Rattle.one_user.specs.Placing.{IsPlacing}
-use Rattle.one_user.specs.RoutingEnds.{IsRoutes, IsRoutingEnd}
+use Rattle.vpr_files.specs.NetFile.{net_text_of}
+use Rattle.one_user.specs.Crowding.{AreCrowdedNodes, IsCrowdingOf, IsGivenUp, last_trees}
+use Rattle.one_user.specs.Figures.{HasFigures, product}
+use Rattle.one_user.specs.Outcomes.{Task, by_routing, files_of, left_of, outcome_of, placing_of, routing_of}
+use Rattle.one_user.specs.PlacedRuns.{AreFiguresWith, EndsWith, IsRunWith, counts_in, files_with, nets_on_device, routed_with}
+use Rattle.one_user.specs.Placing.{AreAllPasses}
+use Rattle.one_user.specs.RoutingEnds.{IsLastIteration, IsRoutes, IsRoutingEnd}
 use Rattle.one_user.specs.Steps.{IsPlaced}
-use Rattle.one_user.specs.Tracks.{IsPlacedWith, StaysUnrouted, task_for}
+use Rattle.one_user.specs.Tracks.{WasRouted, WasUnrouted}
 use Rattle.one_user.specs.declared.crowding.Crowding.{Crowding}
-use Rattle.one_user.specs.declared.device.Request.{Request}
-use Rattle.one_user.specs.declared.least.DevicePlan.{DevicePlan}
+use Rattle.one_user.specs.declared.figures.Figures.{Figures}
+use Rattle.one_user.specs.declared.figures.PackedCounts.{PackedCounts}
+use Rattle.one_user.specs.declared.outcome.Files.{Files}
 use Rattle.one_user.specs.declared.outcome.FlowOutcome.{FlowOutcome}
-use Rattle.one_user.specs.declared.outcome.FlowOutcome.TheVariants.{Unrouted}
+use Rattle.one_user.specs.declared.outcome.FlowOutcome.TheVariants.{Routed as RoutedOutcome, Unrouted}
+use Rattle.one_user.specs.declared.outcome.Run.{Run}
 use Rattle.one_user.specs.declared.outcome.Unrouted.{Unrouted as Left}
-use Rattle.one_user.specs.declared.placing.PlacedNetlist.{PlacedNetlist}
+use Rattle.one_user.specs.declared.routing_end.LastIteration.{LastIteration}
+use Rattle.one_user.proofs.LastResults.{failure_at_end, failure_by, routes_at_end, steps_at_end}
+use Rattle.one_user.proofs.PlacingEnds.{placing_ended}
 use Rattle.one_user.proofs.Routings.{outcome_is}
-use Rattle.one_user.proofs.SameNets.{same_fit, same_nets, same_task, same_text, same_unfit, with_tracks}
-use Rattle.one_user.proofs.LastResults.{failure_at_end, failure_by, steps_at_end}
 
 -- the basis of a task's graph
 abbrev pub basis_for : Task → Basis
 basis_for task = record { arch = task.arch; strip = task.strip }
+
+-- the placing of a task's circuit, after its last pass
+abbrev pub whole_placing : Task → Circuit → PlacingUnderWay
+whole_placing task circuit = placing_at (placing_of task) circuit (pass_count task.strip)
+
+-- the counts of a task's packed circuit
+abbrev pub counts_for : Task → Circuit → PackedCounts
+counts_for task circuit = record {
+  clusters = length (packed_of circuit task.arch).clusters;
+  pads = length circuit.inputs + length circuit.outputs;
+  nets = length (block_nets (packed_of circuit task.arch));
+}
+
+-- the placing serves for the task: it may be packed for another number of tracks
+pub record Serves (task : Task) (placing : PlacingUnderWay) : Type 0 where
+  pub circuit : Circuit
+  pub said : circuit_of task.text task.arch.lut_size ≡ Ok circuit
+  pub fits : unfit_of circuit task.arch ≡ None
+  pub enough : misfit_of (fit_of task.strip (packed_of circuit task.arch)) ≡ None
+  pub all : AreAllPasses task.strip (pass_count task.strip)
+  pub nets : nets_on_device (basis_for task) placing ≡ nets_in (routing_of task) circuit
+  pub files : (routes : List (List (List Node))) → files_with placing routes ≡ files_with (whole_placing task circuit) routes
+  pub counts : counts_in placing ≡ counts_for task circuit
+  pub pads : pads_of placing.packed (places_by_block placing) ≡ pads_in (routing_of task) circuit
 
 -- the failure of a routing that ended without routes
 without_routes : (result : IterEnd) (basis : Basis) (nets : List Net) → IsRoutingEnd basis nets result → (IsRoutes result → ⊥) → (failure : RoutingFailure) × (failure_by result ≡ Some failure)
@@ -52,74 +85,85 @@ without_routes (end.Done routes) basis nets is not = absurd (not tt)
 without_routes (end.GaveUp routing) basis nets is not = (FailedAll, refl)
 without_routes (end.NoPath net) basis nets is not = (FailedNet net, refl)
 
--- ---- a try with another number of tracks
-
-module _ (plan : DevicePlan) (request : Request) (tracks : ℕ) (arch : Arch) (is : arch_of plan.text.now tracks ≡ Ok arch) (placed : PlacedNetlist) (given : IsPlacedWith plan request placed) where
-  abbrev first : Arch
-  first = given.1
-
-  abbrev before : Task
-  before = task_for plan first request
-
-  abbrev there : Task
-  there = record before { arch = with_tracks first arch }
-
-  same : task_for plan arch request ≡ there
-  same = same_task plan request first arch (same_text given.0 tracks first arch plan.text.now given.2 is)
-
-  pub placed_there : ArePlaced (device_strip arch plan.columns plan.rows) placed.packed placed.places.items
-  placed_there = subst (λ (t : Task). ArePlaced t.strip placed.packed placed.places.items) (sym same) given.3.are_placed
-
-  is_placed : IsPlaced there
-  is_placed = record {
-    circuit = given.3.circuit;
-    said = given.3.said;
-    fits = same_unfit given.3.circuit first arch ∙ given.3.fits;
-    enough = ap misfit_of (same_fit before.strip given.3.circuit first arch) ∙ given.3.enough;
-  }
-
-  nets_are : nets_to_route (basis_for there) placed.packed placed.places.items ≡ nets_in (routing_of there) given.3.circuit
-  nets_are =
-      ap (λ (p : PackedCircuit). nets_to_route (basis_for there) p placed.places.items) given.3.packed
-      ∙ ap (λ (ps : List Place). nets_to_route (basis_for there) (packed_of given.3.circuit first) ps) given.3.places
-      ∙ same_nets before arch given.3.circuit
-
-  pub stays : (result : IterEnd) → IsRoutingEnd (basis_for (task_for plan arch request)) (nets_to_route (basis_for (task_for plan arch request)) placed.packed placed.places.items) result → (IsRoutes result → ⊥) →
-      StaysUnrouted plan request tracks
-  unfolding is_placed
-  stays result ended not =
-      let moved = subst (λ (t : Task). IsRoutingEnd (basis_for t) (nets_to_route (basis_for t) placed.packed placed.places.items) result) same ended in
-      let own = subst (λ nets. IsRoutingEnd (basis_for there) nets result) nets_are moved in
-      let failed = without_routes result (basis_for there) (nets_in (routing_of there) given.3.circuit) own not in
-      let outcome = outcome_is there is_placed (Some failed.0) (failure_at_end there given.3.circuit given.3.said result own ∙ failed.1) in
-      (by_routing there given.3.circuit (Some failed.0), (arch, is, sym outcome ∙ ap outcome_of (sym same)), tt)
-
--- ---- the crowding of a task
-
-own_nets : (task : Task) (circuit : Circuit) →
-    nets_to_route (basis_for task) (packed_of circuit task.arch) (places_by_block (placing_at (placing_of task) circuit (pass_count task.strip))) ≡ nets_in (routing_of task) circuit
-unfolding nets_in
-own_nets task circuit = refl
-
-module _ (task : Task) (placed : PlacedNetlist) (given : IsPlacing task placed) where
-  nets_of : nets_to_route (basis_for task) placed.packed placed.places.items ≡ nets_in (routing_of task) given.circuit
-  nets_of =
-      ap (λ (p : PackedCircuit). nets_to_route (basis_for task) p placed.places.items) given.packed
-      ∙ ap (λ (ps : List Place). nets_to_route (basis_for task) (packed_of given.circuit task.arch) ps) given.places
-      ∙ own_nets task given.circuit
-
-  placed_own : IsPlaced task
-  placed_own = record { circuit = given.circuit; said = given.said; fits = given.fits; enough = given.enough }
+module _ (task : Task) (placing : PlacingUnderWay) (given : Serves task placing) where
+  is_placed : IsPlaced task
+  is_placed = record { circuit = given.circuit; said = given.said; fits = given.fits; enough = given.enough }
 
   abbrev pub Ended : IterEnd → Type 0
-  Ended result = IsRoutingEnd (basis_for task) (nets_to_route (basis_for task) placed.packed placed.places.items) result
+  Ended result = IsRoutingEnd (basis_for task) (nets_on_device (basis_for task) placing) result
 
   own_end : (result : IterEnd) → Ended result → IsRoutingEnd (basis_for task) (nets_in (routing_of task) given.circuit) result
-  own_end result ended = subst (λ nets. IsRoutingEnd (basis_for task) nets result) nets_of ended
+  own_end result ended = subst (λ nets. IsRoutingEnd (basis_for task) nets result) given.nets ended
 
   outcome_by : (result : IterEnd) → Ended result → outcome_of task ≡ by_routing task given.circuit (failure_by result)
-  unfolding placed_own
-  outcome_by result ended = outcome_is task placed_own (failure_by result) (failure_at_end task given.circuit given.said result (own_end result ended))
+  unfolding is_placed
+  outcome_by result ended = outcome_is task is_placed (failure_by result) (failure_at_end task given.circuit given.said result (own_end result ended))
+
+  -- ---- without routes
+
+  pub unrouted : (result : IterEnd) → Ended result → (IsRoutes result → ⊥) → (told : FlowOutcome) × (told ≡ outcome_of task) × WasUnrouted told
+  unrouted result ended not =
+      let failed = without_routes result (basis_for task) (nets_on_device (basis_for task) placing) ended not in
+      (by_routing task given.circuit (Some failed.0), sym (outcome_by result ended ∙ ap (by_routing task given.circuit) failed.1), tt)
+
+  -- ---- with routes
+
+  abbrev placed : Result Work BlifFault
+  placed = Ok (work.Placed (whole_placing task given.circuit))
+
+  routed : List (List (List Node)) → Result Work BlifFault
+  routed routes = Ok (work.Routed (record { basis = basis_for task; routes = routes; pads = pads_in (routing_of task) given.circuit }))
+
+  abbrev made : Result Work BlifFault → Result Work BlifFault → Files
+  made placing routing = record { net = net_text_of (packed_of given.circuit task.arch); places = place_file_of placing; routes = route_file_of placing routing }
+
+  files_are : (routes : List (List (List Node))) → Ended (end.Done routes) → files_of task given.circuit ≡ files_with placing routes
+  unfolding routed
+  files_are routes ended =
+      let own = own_end (end.Done routes) ended in
+      ap (λ p. made p (end_value (routing_of task))) (placing_ended task given.circuit given.said given.all)
+      ∙ ap (made placed) (routes_at_end task given.circuit given.said routes own)
+      ∙ sym (given.files routes)
+
+  held_is : (routes : List (List (List Node))) → Ended (end.Done routes) → held_by (routed_with (basis_for task) placing routes) ≡ resources_of (routing_of task)
+  unfolding resources_of
+  held_is routes ended =
+      let own = own_end (end.Done routes) ended in
+      ap (λ pads. held_by (let r : RoutedCircuit = record { basis = basis_for task; routes = routes; pads = pads } in r)) given.pads
+      ∙ sym (ap held_at_end (routes_at_end task given.circuit given.said routes own))
+
+  number_is : (routes : List (List (List Node))) (number : ℕ) → EndsWith (basis_for task) placing routes number → number ≡ step_count (routing_of task)
+  number_is routes number ends =
+      let last : LastIteration = record { end = end.Done routes; number = number } in
+      let own = subst (λ nets. IsLastIteration (basis_for task) nets last) given.nets ends in
+      own.1 ∙ sym (steps_at_end task given.circuit given.said (end.Done routes) own.0)
+
+  figures_are : (routes : List (List (List Node))) (number : ℕ) → EndsWith (basis_for task) placing routes number → (figures : Figures) → AreFiguresWith (basis_for task) placing routes number figures → HasFigures task figures
+  figures_are routes number ends figures are = (
+    given.circuit,
+    given.said,
+    record {
+      blocks = are.blocks ∙ ap (λ (c : PackedCounts). let share : ResourceUse = record { used = c.clusters; there = product task.strip.width task.strip.rows 1 } in share) given.counts;
+      pads = are.pads ∙ ap (λ (c : PackedCounts). let share : ResourceUse = record { used = c.pads; there = product task.strip.width 2 task.strip.io_rat } in share) given.counts;
+      nets = are.nets ∙ ap (λ (c : PackedCounts). c.nets) given.counts;
+      held = are.held;
+      is_held = record { order = are.lists.in_order; exact = λ r. are.lists.exact r ∙ ap (λ held. has held r) (held_is routes ends.0) };
+      wires_used = are.wires_used;
+      wires_there = are.wires_there;
+      tracks = are.tracks;
+      iterations = are.iterations ∙ number_is routes number ends;
+    },
+  )
+
+  pub routed_by : (routes : List (List (List Node))) (number : ℕ) → EndsWith (basis_for task) placing routes number → (run : Run) → IsRunWith (basis_for task) placing routes number run →
+      (run.outcome ≡ outcome_of task) × WasRouted run.outcome × ((figures : Figures) × (run.figures ≡ Some figures) × HasFigures task figures)
+  routed_by routes number ends run is = (
+    is.outcome ∙ ap RoutedOutcome (sym (files_are routes ends.0)) ∙ sym (outcome_by (end.Done routes) ends.0),
+    subst WasRouted (sym is.outcome) tt,
+    (is.figures, is.told, figures_are routes number ends is.figures is.are_figures),
+  )
+
+  -- ---- the crowding
 
   -- not given up
   not_given : (failure : Option RoutingFailure) → outcome_of task ≡ by_routing task given.circuit failure → (failure ≡ Some FailedAll → ⊥) → IsGivenUp task → ⊥
@@ -137,11 +181,11 @@ module _ (task : Task) (placed : PlacedNetlist) (given : IsPlacing task placed) 
   pub none_told : (result : IterEnd) → Ended result → (IsAllFailed result → ⊥) → IsCrowdingOf task None
   none_told result ended not = not_given (failure_by result) (outcome_by result ended) not
 
-  pub given_up : (routing : RoutingState) → Ended (end.GaveUp routing) → IsGivenUp task
+  given_up : (routing : RoutingState) → Ended (end.GaveUp routing) → IsGivenUp task
   given_up routing ended = (left_of task given.circuit FailedAll, outcome_by (end.GaveUp routing) ended, refl)
 
   -- its trees are those after the last iteration
-  pub trees_are : (routing : RoutingState) → Ended (end.GaveUp routing) → routing.trees ≡ last_trees task given.circuit
+  trees_are : (routing : RoutingState) → Ended (end.GaveUp routing) → routing.trees ≡ last_trees task given.circuit
   trees_are routing ended =
       let own = own_end (end.GaveUp routing) ended in
       let w = wiring_of (basis_for task) in
@@ -149,14 +193,14 @@ module _ (task : Task) (placed : PlacedNetlist) (given : IsPlacing task placed) 
       ∙ ap (λ nets. (routed_after w nets routing.iterations).trees) (own.is_end.nets ∙ own.nets_kept)
       ∙ ap (λ steps. (routed_after w (nets_in (routing_of task) given.circuit) steps).trees) (own.is_end.iterations ∙ sym (steps_at_end task given.circuit given.said (end.GaveUp routing) own))
 
-  pub crowding_told : (routing : RoutingState) → Ended (end.GaveUp routing) → (crowding : Crowding) → crowding.packed ≡ placed.packed → crowding.rows ≡ task.strip.rows →
+  pub crowding_told : (routing : RoutingState) → Ended (end.GaveUp routing) → (crowding : Crowding) → crowding.packed ≡ packed_of given.circuit task.arch → crowding.rows ≡ task.strip.rows →
       crowding.overused ≡ count_over (overuse_at (wiring_of (basis_for task)) routing.trees) (graph_of (basis_for task)).count → AreCrowdedNodes (basis_for task) routing.trees 10 crowding.nodes.items → IsCrowdingOf task (Some crowding)
   crowding_told routing ended crowding packed rows overused nodes = (
     given_up routing ended,
     record {
       circuit = given.circuit;
       said = given.said;
-      packed = packed ∙ given.packed;
+      packed = packed;
       rows = rows;
       overused = overused ∙ ap (λ (trees : List Tree). count_over (overuse_at (wiring_of (basis_for task)) trees) (graph_of (basis_for task)).count) (trees_are routing ended);
       nodes = subst (λ (trees : List Tree). AreCrowdedNodes (basis_for task) trees 10 crowding.nodes.items) (trees_are routing ended) nodes;

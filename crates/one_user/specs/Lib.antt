@@ -8,5 +8,6 @@ pub mod Service
 pub mod Tracks
 pub mod Placing
 pub mod RoutingEnds
+pub mod PlacedRuns
 pub mod Crowding
 pub mod CrowdingText

@@ -1,5 +1,5 @@
 -- How the routing of placed blocks ends.
-use Rattle.std.specs.Prelude.{◌≡◌, List}
+use Rattle.std.specs.Prelude.{◌≡◌, ◌+◌, List}
 use Rattle.rr_graph.specs.Graph.{Basis}
 use Rattle.pathfinder.specs.Ends.{IsEnd}
 use Rattle.pathfinder.specs.Negotiation.{More}
@@ -8,6 +8,7 @@ use Rattle.pathfinder.specs.Routings.{IsAfter, RoutingState}
 use Rattle.pathfinder.specs.Wiring.{Net}
 use Rattle.pathfinder.specs.declared.routing.IterEnd.{IterEnd}
 use Rattle.pathfinder.specs.declared.routing.IterEnd.TheVariants.{Again, Done, GaveUp, NoPath}
+use Rattle.one_user.specs.declared.routing_end.LastIteration.{LastIteration}
 
 -- no iteration follows
 abbrev pub IsOver : IterEnd → Type 0
@@ -30,3 +31,7 @@ pub record IsRoutingEnd (basis : Basis) (nets : List Net) (end : IterEnd) : Type
   pub going : IsAfter (wiring_of basis) before More
   pub is_end : IsEnd basis before end
   pub over : IsOver end
+
+-- the last iteration of a routing of these nets, with its number
+abbrev pub IsLastIteration : Basis → List Net → LastIteration → Type 0
+IsLastIteration basis nets last = (is : IsRoutingEnd basis nets last.end) × (last.number ≡ is.before.iterations + 1)

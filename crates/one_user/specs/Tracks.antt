@@ -9,23 +9,23 @@ use Rattle.arch_file.specs.declared.fault.ArchFault.{ArchFault}
 use Rattle.blif.specs.declared.circuit.Circuit.{Circuit}
 use Rattle.grid.specs.declared.place.Place.{Place}
 use Rattle.job_state.specs.JobValue.{pass_count, placing_at}
-use Rattle.strip_place.specs.Anneal.{places_by_block}
+use Rattle.strip_place.specs.Anneal.{PlacingUnderWay, places_by_block}
 use Rattle.strips.specs.Windows.{device_strip}
 use Rattle.one_user.specs.Crowding.{IsCrowdingOf}
 use Rattle.one_user.specs.Figures.{HasFigures}
 use Rattle.one_user.specs.Outcomes.{Task, outcome_of, placing_of}
 use Rattle.one_user.specs.Placing.{IsPlacing}
 use Rattle.one_user.specs.declared.crowding.Crowding.{Crowding}
-use Rattle.one_user.specs.declared.placing.PlacedNetlist.{PlacedNetlist}
+use Rattle.one_user.specs.declared.placing.PlacingEnd.{PlacingEnd}
+use Rattle.one_user.specs.declared.placing.PlacingEnd.TheVariants as placing
 use Rattle.one_user.specs.declared.device.Request.{Request}
 use Rattle.one_user.specs.declared.figures.Figures.{Figures}
 use Rattle.one_user.specs.declared.least.DevicePlan.{DevicePlan}
 use Rattle.one_user.specs.declared.least.Least.{Least}
 use Rattle.one_user.specs.declared.least.Least.TheVariants.{Routed, Refused, Unrouted}
-use Rattle.one_user.specs.declared.least.Try.{Try}
-use Rattle.one_user.specs.declared.least.Try.TheVariants as tried
 use Rattle.one_user.specs.declared.outcome.FlowOutcome.{FlowOutcome}
 use Rattle.one_user.specs.declared.outcome.FlowOutcome.TheVariants as outcome
+use Rattle.one_user.specs.declared.outcome.Run.{Run}
 
 -- the device has 1 to 256 columns and 1 to 64 rows, and the effort is at most 100
 pub record IsLawful (plan : DevicePlan) (request : Request) : Type 0 where
@@ -66,6 +66,11 @@ WasRefused (outcome.Refused refusal) = Unit {0}
 WasRefused (outcome.Routed files) = ⊥
 WasRefused (outcome.Unrouted ending) = ⊥
 
+-- with that number of tracks, the netlist is routed by that run, and its circuit has the run's
+-- figures
+abbrev pub IsRoutedBy : DevicePlan → Request → ℕ → Run → Type 0
+IsRoutedBy plan request tracks run = ComesTo plan request tracks run.outcome × WasRouted run.outcome × ((figures : Figures) × (run.figures ≡ Some figures) × HasFiguresWith plan request tracks figures)
+
 -- with each number of tracks below the limit it is left unrouted
 abbrev pub AreUnroutedBelow : DevicePlan → Request → ℕ → Type 0
 AreUnroutedBelow plan request limit = (tracks : ℕ) → 1 ≤ tracks → tracks < limit → (told : FlowOutcome) × ComesTo plan request tracks told × WasUnrouted told
@@ -73,7 +78,7 @@ AreUnroutedBelow plan request limit = (tracks : ℕ) → 1 ≤ tracks → tracks
 -- the result of the search: the least number of tracks with which it is routed; or the refusal with
 -- the least number with which it isn't left unrouted; or neither for any number
 abbrev pub IsLeast : DevicePlan → Request → Least → Type 0
-IsLeast plan request (Routed tracks run) = (1 ≤ tracks) × (tracks ≤ MAX_TRACKS) × ComesTo plan request tracks run.outcome × WasRouted run.outcome × AreUnroutedBelow plan request tracks
+IsLeast plan request (Routed tracks run) = (1 ≤ tracks) × (tracks ≤ MAX_TRACKS) × IsRoutedBy plan request tracks run × AreUnroutedBelow plan request tracks
 IsLeast plan request (Refused run) = (tracks : ℕ) × (1 ≤ tracks) × (tracks ≤ MAX_TRACKS) × ComesTo plan request tracks run.outcome × WasRefused run.outcome × AreUnroutedBelow plan request tracks
 IsLeast plan request Unrouted = AreUnroutedBelow plan request (MAX_TRACKS + 1)
 
@@ -86,14 +91,18 @@ abbrev pub IsCrowdingWith : DevicePlan → Request → ℕ → Option Crowding �
 IsCrowdingWith plan request tracks crowding = (arch : Arch) × (arch_of plan.text.now tracks ≡ Ok arch) × IsCrowdingOf (task_for plan arch request) crowding
 
 -- Private: the netlist is packed and placed for one of the numbers of tracks
-abbrev pub IsPlacedWith : DevicePlan → Request → PlacedNetlist → Type 0
+abbrev pub IsPlacedWith : DevicePlan → Request → PlacingUnderWay → Type 0
 IsPlacedWith plan request placed = (tracks : ℕ) × (arch : Arch) × (arch_of plan.text.now tracks ≡ Ok arch) × IsPlacing (task_for plan arch request) placed
 
--- Private: the result of a try with that number of tracks
-abbrev pub IsTry : DevicePlan → Request → ℕ → Try → Type 0
-IsTry plan request tracks tried.Unrouted = StaysUnrouted plan request tracks
-IsTry plan request tracks (tried.Routed run) = ComesTo plan request tracks run.outcome × WasRouted run.outcome
-IsTry plan request tracks (tried.Refused run) = ComesTo plan request tracks run.outcome × WasRefused run.outcome
+-- Private: it is packed and placed, or refused with one track
+abbrev pub IsPlacedOrRefused : DevicePlan → Request → PlacingEnd → Type 0
+IsPlacedOrRefused plan request (placing.Placed placed) = IsPlacedWith plan request placed
+IsPlacedOrRefused plan request (placing.Refused refusal) = ComesTo plan request 1 (outcome.Refused refusal)
+
+-- Private: the result of a try with that number of tracks: the run if the netlist is routed
+abbrev pub IsTry : DevicePlan → Request → ℕ → Option Run → Type 0
+IsTry plan request tracks (Some run) = IsRoutedBy plan request tracks run
+IsTry plan request tracks None = StaysUnrouted plan request tracks
 
 -- the places of a circuit's blocks, on a device of that architecture
 abbrev pub places_for : DevicePlan → Arch → Request → Circuit → List Place

@@ -7,28 +7,30 @@ ghost use Rattle.strips.specs.Windows.{device_strip};
 ghost use Rattle.one_user.specs.Figures.{HasFigures};
 ghost use Rattle.one_user.specs.Outcomes.{Task, outcome_of, task_on};
 ghost use Rattle.one_user.specs.Counting.{IsCounted};
-ghost use Rattle.block_places.specs.Placed.{ArePlaced};
 ghost use Rattle.pathfinder.specs.Negotiation.{GaveUp};
 ghost use Rattle.pathfinder.specs.Overuse.{count_over, overuse_at};
-ghost use Rattle.pathfinder.specs.PlacedNets.{nets_to_route, wiring_of};
+ghost use Rattle.pathfinder.specs.PlacedNets.{wiring_of};
 ghost use Rattle.pathfinder.specs.Routings.{IsAfter};
 ghost use Rattle.rr_graph.specs.Graph.{graph_of};
 ghost use Rattle.one_user.specs.Crowding.{AreCrowdedNodes, IsCrowdingOf};
 ghost use Rattle.one_user.specs.Placing.{IsPlacing, IsPlacingOf};
-ghost use Rattle.one_user.specs.RoutingEnds.{IsRoutingEnd};
+ghost use Rattle.one_user.specs.PlacedRuns.{EndsWith, IsRunOn, IsRunWith, nets_on_device};
+ghost use Rattle.one_user.specs.RoutingEnds.{IsLastIteration};
 
 use crate::counts::{Counted, count};
 use crate::crowding::{Crowding, crowded_nodes};
 use crate::outcome::Run;
-use crate::placing::{PlacedNetlist, place_netlist};
-use crate::routing_end::routing_end;
+use crate::placed_run::run_with_routes;
+use crate::placing::{PlacingEnd, place_netlist};
+use crate::routing_end::{LastIteration, last_iteration};
 use crate::stages::upload;
 use arch_file::{Arch, SharedArch};
 use grid::Strip;
 use line_text::Sink;
-use pathfinder::{IterEnd, Routing};
+use pathfinder::{IterEnd, Routes, Routing};
 use std::alloc::{AllocError, Global};
 use std::marker::Model;
+use strip_place::Placing;
 use strips::{DeviceGraph, Window};
 use tenant_slot::{SharedText, Slot};
 
@@ -137,9 +139,9 @@ impl OwnDevice {
         counted
     }
 
-    /// Packs and places a netlist. `None` if it is refused. Fails with [`AllocError`] if memory
-    /// runs out.
-    pub(crate) fn place(&self, request: Request<'_>) -> Result<Option<PlacedNetlist>, AllocError>
+    /// Packs and places a netlist, or returns why it is refused. Fails with [`AllocError`] if
+    /// memory runs out.
+    pub(crate) fn place(&self, request: Request<'_>) -> Result<PlacingEnd, AllocError>
         requires { request.effort ≤ MAX_EFFORT }
         ensures { IfOk result (IsPlacingOf
             (task_on self.now request.entry.netlist.now request.entry.seed request.entry.effort)) }
@@ -148,16 +150,45 @@ impl OwnDevice {
     }
 
     /// Routes placed blocks. They may be packed for another number of tracks.
-    pub(crate) fn route(&self, placed: &PlacedNetlist) -> Result<IterEnd, AllocError>
-        requires { ArePlaced self.now.strip placed.now.packed placed.now.places.items }
-        ensures { IfOk result (IsRoutingEnd self.now
-            (nets_to_route self.now placed.now.packed placed.now.places.items)) }
+    fn route(&self, placing: &Placing) -> Result<LastIteration, AllocError>
+        requires { placing.now.strip ≡ self.now.strip }
+        ensures { IfOk result (IsLastIteration self.now (nets_on_device self.now placing.now)) }
     {
         let Some(window) = Window::new(&self.graph, 0, self.strip) else {
             unreachable!()
         };
-        let packed = placed.packed.packed();
-        routing_end(self.alloc, &window, packed, placed.places.as_slice())
+        last_iteration(self.alloc, &window, placing)
+    }
+
+    /// Routes placed blocks, which may be packed for another number of tracks. `None` if they are
+    /// left without routes. Fails with [`AllocError`] if memory runs out.
+    pub(crate) fn run_placed(&self, placing: &Placing) -> Result<Option<Run>, AllocError>
+        requires { placing.now.strip ≡ self.now.strip }
+        ensures { IfOk result (IsRunOn self.now placing.now) }
+    {
+        let LastIteration { end, number } = self.route(placing)?;
+        match end {
+            IterEnd::Done(routes) => {
+                let run = self.run_by(placing, &routes, number);
+                drop(routes);
+                Ok(Some(run?))
+            }
+            end => {
+                drop(end);
+                Ok(None)
+            }
+        }
+    }
+
+    /// The run of placed blocks whose routing found these routes in the iteration of that number.
+    fn run_by(&self, placing: &Placing, routes: &Routes, number: u32) -> Result<Run, AllocError>
+        requires { EndsWith self.now placing.now routes.now number }
+        ensures { IfOk result (IsRunWith self.now placing.now routes.now number) }
+    {
+        let Some(window) = Window::new(&self.graph, 0, self.strip) else {
+            unreachable!()
+        };
+        run_with_routes(self.alloc, &window, placing, routes, number)
     }
 
     /// Returns where the routing of a netlist is overused after its last iteration, and by which
@@ -168,24 +199,30 @@ impl OwnDevice {
         ensures { IfOk result (IsCrowdingOf
             (task_on self.now request.entry.netlist.now request.entry.seed request.entry.effort)) }
     {
-        let Some(placed) = self.place(request)? else {
-            return Ok(None);
-        };
-        let crowding = self.crowding_of(&placed);
-        drop(placed);
-        crowding
+        match self.place(request)? {
+            PlacingEnd::Placed(placing) => {
+                let crowding = self.crowding_of(&placing);
+                drop(placing);
+                crowding
+            }
+            PlacingEnd::Refused(refusal) => {
+                drop(refusal);
+                Ok(None)
+            }
+        }
     }
 
     /// Where the routing of placed blocks is overused. `None` if it is not given up.
-    fn crowding_of(&self, placed: &PlacedNetlist) -> Result<Option<Crowding>, AllocError>
+    fn crowding_of(&self, placing: &Placing) -> Result<Option<Crowding>, AllocError>
         requires { (task : Task) × (self.now ≡ record { arch = task.arch; strip = task.strip })
-            × IsPlacing task placed.now }
+            × IsPlacing task placing.now }
         ensures { (task : Task) → self.now ≡ record { arch = task.arch; strip = task.strip } →
-            IsPlacing task placed.now → IfOk result (IsCrowdingOf task) }
+            IsPlacing task placing.now → IfOk result (IsCrowdingOf task) }
     {
-        match self.route(placed)? {
+        let LastIteration { end, number: _ } = self.route(placing)?;
+        match end {
             IterEnd::GaveUp(routing) => {
-                let crowding = self.crowding_by(placed, &routing);
+                let crowding = self.crowding_by(placing, &routing);
                 drop(routing);
                 Ok(Some(crowding?))
             }
@@ -197,9 +234,9 @@ impl OwnDevice {
     }
 
     /// Where a routing of placed blocks that was given up is overused.
-    fn crowding_by(&self, placed: &PlacedNetlist, routing: &Routing) -> Result<Crowding, AllocError>
+    fn crowding_by(&self, placing: &Placing, routing: &Routing) -> Result<Crowding, AllocError>
         requires { IsAfter (wiring_of self.now) routing.now GaveUp }
-        ensures packed { IfOk result (λ crowding. crowding.packed ≡ placed.now.packed) }
+        ensures packed { IfOk result (λ crowding. crowding.packed ≡ placing.now.packed) }
         ensures rows { IfOk result (λ crowding. crowding.rows ≡ self.now.strip.rows) }
         ensures overused { IfOk result (λ crowding. crowding.overused
             ≡ count_over (overuse_at (wiring_of self.now) routing.now.trees)
@@ -211,7 +248,7 @@ impl OwnDevice {
             unreachable!()
         };
         let (overused, nodes) = crowded_nodes(self.alloc, &window, routing)?;
-        match placed.packed.clone() {
+        match placing.shared_packed().clone() {
             Ok(packed) => Ok(Crowding {
                 packed,
                 rows: self.strip.rows,

@@ -1,19 +1,19 @@
 //! The least number of tracks with which a netlist is routed.
-ghost use Rattle.std.specs.Prelude.{◌≡◌, ◌↔◌, ℕ, true, IfErr, IfOk, IfSome, IsTrue};
+ghost use Rattle.std.specs.Prelude.{ℕ, IfErr, IfOk, IfSome};
 ghost use Rattle.arch_file.specs.declared.arch.TheConstants.{MAX_TRACKS};
 ghost use Rattle.arch_file.specs.Arch.{IsWithin, arch_of};
 ghost use Rattle.line_text.specs.TextErrors.{Fails};
-ghost use Rattle.one_user.specs.RoutingEnds.{IsRoutes};
-ghost use Rattle.one_user.specs.Tracks.{ComesTo, HasFiguresWith, IsCrowdingWith, IsLawful, IsLeast, IsPlacedWith, IsTry, StaysUnrouted, fault_of};
+ghost use Rattle.one_user.specs.Tracks.{ComesTo, HasFiguresWith, IsCrowdingWith, IsLawful, IsLeast, IsPlacedOrRefused, IsPlacedWith, IsTry, fault_of};
 
 use crate::crowding::Crowding;
 use crate::device::{OwnDevice, Request};
-use crate::outcome::{FlowOutcome, Run};
-use crate::placing::PlacedNetlist;
+use crate::outcome::Run;
+use crate::placing::PlacingEnd;
+use crate::stages::refused_run;
 use arch_file::{ArchError, MAX_TRACKS, read_arch};
 use line_text::{Failed, Sink};
-use pathfinder::IterEnd;
 use std::alloc::Global;
+use strip_place::Placing;
 use text_parts::{Part, write_parts};
 
 /// The result of the search for the least number of tracks.
@@ -39,109 +39,91 @@ pub struct DevicePlan<'a> {
     pub rows: u32,
 }
 
-/// Routes a netlist with 1 track, then with 2, and so on, until it is routed or refused. The
-/// netlist is packed and placed once for all tries, since neither depends on the tracks, and once
-/// more for the run that is returned. Writes one line for each try to `tries`, and one for each
-/// step of that run to `steps`; a line that can't be written is skipped. Fails if the architecture
-/// has a fault or memory runs out.
-pub fn least_tracks<T: Sink, S: Sink>(
+/// Routes a netlist with 1 track, then with 2, and so on, until it is routed; the netlist may be
+/// refused. It is packed and placed once for all tries, since neither depends on the tracks. Writes
+/// one line for each try to `tries`; a line that can't be written is skipped. Fails if the
+/// architecture has a fault or memory runs out.
+pub fn least_tracks<T: Sink>(
     alloc: Global,
     plan: DevicePlan<'_>,
     request: Request<'_>,
     tries: &mut T,
-    steps: &mut S,
 ) -> Result<Least, ArchError>
     requires { IsLawful plan request }
     ensures least { IfOk result (IsLeast plan.entry request.entry) }
     ensures fault { IfErr result (λ error. (tracks : ℕ)
         × Fails (fault_of (arch_of plan.entry.text.now tracks)) error) }
 {
-    let placed = place_with(alloc, plan, request)?;
-    let least = least_for(alloc, plan, request, &placed, tries, steps);
-    drop(placed);
-    least
+    match place_with(alloc, plan, request)? {
+        PlacingEnd::Placed(placing) => {
+            let least = least_for(alloc, plan, request, &placing, tries);
+            drop(placing);
+            least
+        }
+        PlacingEnd::Refused(refusal) => {
+            let _told = tell_try(tries, 1, "refused");
+            Ok(Least::Refused(refused_run(refusal)))
+        }
+    }
 }
 
 /// Tries one number of tracks after another.
-fn least_for<T: Sink, S: Sink>(
+fn least_for<T: Sink>(
     alloc: Global,
     plan: DevicePlan<'_>,
     request: Request<'_>,
-    placed: &Option<PlacedNetlist>,
+    placing: &Placing,
     tries: &mut T,
-    steps: &mut S,
 ) -> Result<Least, ArchError>
     requires lawful { IsLawful plan request }
-    requires placed { IfSome placed.now (IsPlacedWith plan request) }
+    requires placed { IsPlacedWith plan request placing.now }
     ensures least { IfOk result (IsLeast plan.entry request.entry) }
     ensures fault { IfErr result (λ error. (tracks : ℕ)
         × Fails (fault_of (arch_of plan.entry.text.now tracks)) error) }
 {
     for tracks in 1..MAX_TRACKS + 1 {
-        match try_with(alloc, plan, tracks, request, placed, steps)? {
-            Try::Unrouted => {
+        match try_with(alloc, plan, tracks, request, placing)? {
+            None => {
                 let _told = tell_try(tries, tracks, "left without routes");
             }
-            Try::Routed(run) => {
+            Some(run) => {
                 let _told = tell_try(tries, tracks, "routed");
                 return Ok(Least::Routed { tracks, run });
-            }
-            Try::Refused(run) => {
-                let _told = tell_try(tries, tracks, "refused");
-                return Ok(Least::Refused(run));
             }
         }
     }
     Ok(Least::Unrouted)
 }
 
-/// The result of a try with a number of tracks.
-#[derive(Drop)]
-enum Try {
-    /// The netlist is left without routes.
-    Unrouted,
-    Routed(Run),
-    Refused(Run),
-}
-
-/// Tries a number of tracks. A placed netlist is run only if it is routed with that number.
-fn try_with<S: Sink>(
+/// Routes a placed netlist with that number of tracks. `None` if it is left without routes.
+fn try_with(
     alloc: Global,
     plan: DevicePlan<'_>,
     tracks: u32,
     request: Request<'_>,
-    placed: &Option<PlacedNetlist>,
-    steps: &mut S,
-) -> Result<Try, ArchError>
+    placing: &Placing,
+) -> Result<Option<Run>, ArchError>
     requires lawful { IsLawful plan request }
     requires tracks { IsWithin 1 tracks MAX_TRACKS }
-    requires placed { IfSome placed.now (IsPlacedWith plan request) }
+    requires placed { IsPlacedWith plan request placing.now }
     ensures tried { IfOk result (IsTry plan.entry request.entry tracks) }
     ensures fault { IfErr result (Fails (fault_of (arch_of plan.entry.text.now tracks))) }
 {
-    if stays_unrouted(alloc, plan, tracks, request, placed)? {
-        return Ok(Try::Unrouted);
-    }
-    let run = run_with(alloc, plan, tracks, request, steps)?;
-    match run.outcome {
-        FlowOutcome::Unrouted(_) => {
-            drop(run);
-            Ok(Try::Unrouted)
-        }
-        FlowOutcome::Routed(_) => Ok(Try::Routed(run)),
-        FlowOutcome::Refused(_) => Ok(Try::Refused(run)),
-    }
+    let arch = read_arch(alloc, plan.text, tracks)?;
+    let device = OwnDevice::new(alloc, arch, plan.columns, plan.rows)?;
+    let run = device.run_placed(placing);
+    drop(device);
+    Ok(run?)
 }
 
-/// Packs and places a netlist for all numbers of tracks. `None` if it is refused.
+/// Packs and places a netlist for all numbers of tracks, or returns why it is refused.
 fn place_with(
     alloc: Global,
     plan: DevicePlan<'_>,
     request: Request<'_>,
-) -> Result<Option<PlacedNetlist>, ArchError>
+) -> Result<PlacingEnd, ArchError>
     requires { IsLawful plan request }
-    ensures placed { IfOk result (λ placed.
-        IfSome placed (IsPlacedWith plan.entry request.entry)) }
+    ensures placed { IfOk result (IsPlacedOrRefused plan.entry request.entry) }
     ensures fault { IfErr result (Fails (fault_of (arch_of plan.entry.text.now 1))) }
 {
     let arch = read_arch(alloc, plan.text, 1)?;
@@ -149,42 +131,6 @@ fn place_with(
     let placed = device.place(request);
     drop(device);
     Ok(placed?)
-}
-
-/// Returns whether a placed netlist is left without routes with that number of tracks. `false` also
-/// if the netlist isn't placed.
-fn stays_unrouted(
-    alloc: Global,
-    plan: DevicePlan<'_>,
-    tracks: u32,
-    request: Request<'_>,
-    placed: &Option<PlacedNetlist>,
-) -> Result<bool, ArchError>
-    requires lawful { IsLawful plan request }
-    requires tracks { IsWithin 1 tracks MAX_TRACKS }
-    requires placed { IfSome placed.now (IsPlacedWith plan request) }
-    ensures unrouted { IfOk result (λ unrouted. unrouted ≡ true →
-        StaysUnrouted plan.entry request.entry tracks) }
-    ensures fault { IfErr result (Fails (fault_of (arch_of plan.entry.text.now tracks))) }
-{
-    let Some(placed) = placed else {
-        return Ok(false);
-    };
-    let arch = read_arch(alloc, plan.text, tracks)?;
-    let device = OwnDevice::new(alloc, arch, plan.columns, plan.rows)?;
-    let end = device.route(placed);
-    drop(device);
-    let end = end?;
-    let unrouted = is_unrouted(&end);
-    drop(end);
-    Ok(unrouted)
-}
-
-/// Returns whether a routing ended without routes.
-fn is_unrouted(end: &IterEnd) -> bool
-    ensures { IsTrue result ↔ (IsRoutes end.now → ⊥) }
-{
-    !matches!(end, IterEnd::Done(_))
 }
 
 /// Writes the line of a try with a number of tracks, with its end.

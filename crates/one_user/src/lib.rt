@@ -28,6 +28,7 @@ mod law;
 mod least;
 mod outcome;
 mod passes;
+mod placed_run;
 mod placing;
 mod routing_end;
 mod stages;

@@ -1,96 +1,109 @@
 //! A netlist that is packed and placed at one go, without a slot and its jobs.
-ghost use Rattle.std.specs.Prelude.{◌≡◌, ◌≤◌, IfOk, MatchOption, None};
+ghost use Rattle.std.specs.Prelude.{◌≡◌, ◌≤◌, IfOk, None, Ok, OnOk};
 ghost use Rattle.strip_place.specs.declared.placing.TheConstants.{MAX_EFFORT};
 ghost use Rattle.blif.specs.CircuitOf.{circuit_of};
+ghost use Rattle.block_places.specs.Fits.{fit_of};
+ghost use Rattle.block_places.specs.declared.fit.Fit.TheVariants.{Fits};
 ghost use Rattle.cluster.specs.Clusters.{packed_of, unfit_of};
 ghost use Rattle.grid.specs.Sizes.{IsStripSize};
 ghost use Rattle.job_state.specs.JobValue.{pass_count};
-ghost use Rattle.one_user.specs.Placing.{ArePlacesFrom, IsMisfit, IsPackedFrom, IsPlacingOf, IsRead};
+ghost use Rattle.one_user.specs.Outcomes.{task_on};
+ghost use Rattle.one_user.specs.Placing.{AreAllPasses, IsPackedFrom, IsPlacedFrom, IsPlacingOf, placed_from};
 
 use crate::device::Request;
 use arch_file::SharedArch;
-use blif::{BlifError, SharedCircuit, read_blif};
+use blif::{BlifError, BlifFault, SharedCircuit, read_blif};
 use block_places::{Fit, fit_of};
 use cluster::{PackEnd, PackError, PackFault, Packing, SharedPacked, check};
-use grid::{Place, Strip};
+use grid::Strip;
 use std::alloc::{AllocError, Global};
 use strip_place::{Kept, MAX_PASSES, PassEnd, Placing, laws_of_kept, laws_of_passes};
+use tenant_slot::{Misfit, Refusal};
 
 /// The largest number of clusters of a packing: a circuit has no more BLEs.
 const MAX_CLUSTERS: u32 = 8192;
 
-/// A packed circuit and the places of its blocks, by number.
+/// How the packing and placing of a netlist ended.
 #[derive(Drop)]
-pub(crate) struct PlacedNetlist {
-    pub(crate) packed: SharedPacked,
-    pub(crate) places: Vec<Place>,
+pub(crate) enum PlacingEnd {
+    /// It is placed, after the last pass.
+    Placed(Placing),
+    Refused(Refusal),
 }
 
-/// Packs and places a netlist. `None` if it is refused.
+/// Packs and places a netlist, or returns why it is refused.
 pub(crate) fn place_netlist(
     alloc: Global,
     arch: &SharedArch,
     strip: Strip,
     request: Request<'_>,
-) -> Result<Option<PlacedNetlist>, AllocError>
+) -> Result<PlacingEnd, AllocError>
     requires size { IsStripSize strip }
     requires effort { request.effort ≤ MAX_EFFORT }
-    ensures { IfOk result (IsPlacingOf (record {
-      arch = arch.now;
-      strip = strip;
-      text = request.entry.netlist.now;
-      seed = request.entry.seed;
-      effort = request.entry.effort;
-    })) }
+    ensures { IfOk result (IsPlacingOf (task_on (record { arch = arch.now; strip = strip })
+        request.entry.netlist.now request.entry.seed request.entry.effort)) }
 {
     let lut_size = arch.arch().lut_size;
-    let Some(circuit) = circuit_in(alloc, request.netlist.as_bytes(), lut_size)? else {
-        return Ok(None);
-    };
-    let packed = packed_from(alloc, &circuit, arch);
-    drop(circuit);
-    let Some(packed) = packed? else {
-        return Ok(None);
-    };
-    match places_from(alloc, &packed, strip, request.seed, request.effort) {
-        Ok(Some(places)) => Ok(Some(PlacedNetlist { packed, places })),
-        Ok(None) => {
-            drop(packed);
-            Ok(None)
+    match circuit_in(alloc, request.netlist.as_bytes(), lut_size)? {
+        Ok(circuit) => {
+            let placed = place_circuit(alloc, arch, strip, request, &circuit);
+            drop(circuit);
+            placed
         }
-        Err(error) => {
-            drop(packed);
-            Err(error)
-        }
+        Err(fault) => Ok(PlacingEnd::Refused(Refusal::BadBlif(fault))),
     }
 }
 
-/// The circuit of a text. `None` if the text has a fault.
+/// Packs and places the netlist's circuit.
+fn place_circuit(
+    alloc: Global,
+    arch: &SharedArch,
+    strip: Strip,
+    request: Request<'_>,
+    circuit: &SharedCircuit,
+) -> Result<PlacingEnd, AllocError>
+    requires size { IsStripSize strip }
+    requires effort { request.effort ≤ MAX_EFFORT }
+    requires circuit { circuit_of request.netlist.now arch.now.lut_size ≡ Ok circuit.now }
+    ensures { IfOk result (IsPlacingOf (task_on (record { arch = arch.now; strip = strip })
+        request.entry.netlist.now request.entry.seed request.entry.effort)) }
+{
+    match packed_from(alloc, circuit, arch)? {
+        Ok(packed) => {
+            let placed = place_packed(alloc, &packed, strip, request.seed, request.effort);
+            drop(packed);
+            placed
+        }
+        Err(ble) => Ok(PlacingEnd::Refused(Refusal::CannotPack(ble))),
+    }
+}
+
+/// The circuit of a text, or the text's fault.
 fn circuit_in(
     alloc: Global,
     text: &[u8],
     lut_size: u32,
-) -> Result<Option<SharedCircuit>, AllocError>
-    ensures { IfOk result (IsRead (circuit_of text.now lut_size)) }
+) -> Result<Result<SharedCircuit, BlifFault>, AllocError>
+    ensures { IfOk result (λ found. found ≡ circuit_of text.now lut_size) }
 {
     match read_blif(alloc, text, lut_size) {
-        Ok(circuit) => Ok(Some(SharedCircuit::new(alloc, circuit)?)),
-        Err(BlifError::Fault(_)) => Ok(None),
+        Ok(circuit) => Ok(Ok(SharedCircuit::new(alloc, circuit)?)),
+        Err(BlifError::Fault(fault)) => Ok(Err(fault)),
         Err(BlifError::NoMemory) => Err(AllocError),
     }
 }
 
-/// The packed circuit. `None` if a BLE fits into no cluster.
+/// The packed circuit, or a BLE that fits into no cluster.
 fn packed_from(
     alloc: Global,
     circuit: &SharedCircuit,
     arch: &SharedArch,
-) -> Result<Option<SharedPacked>, AllocError>
+) -> Result<Result<SharedPacked, u32>, AllocError>
     ensures { IfOk result (IsPackedFrom circuit.now arch.now) }
 {
     match check(alloc, circuit.circuit(), arch.arch()) {
-        Ok(()) => Ok(Some(pack(alloc, circuit, arch)?)),
-        Err(PackError::Fault(PackFault::CannotFit(_))) => Ok(None),
+        Ok(()) => Ok(Ok(pack(alloc, circuit, arch)?)),
+        Err(PackError::Fault(PackFault::CannotFit(ble))) => Ok(Err(ble)),
         Err(PackError::NoMemory) => Err(AllocError),
     }
 }
@@ -120,34 +133,55 @@ fn pack(
     unreachable!()
 }
 
-/// The places of the blocks of a packed circuit. `None` if the strip has too few places.
-fn places_from(
+/// Places the blocks of a packed circuit, if the strip has enough places.
+fn place_packed(
     alloc: Global,
     packed: &SharedPacked,
     strip: Strip,
     seed: u64,
     effort: u32,
-) -> Result<Option<Vec<Place>>, AllocError>
+) -> Result<PlacingEnd, AllocError>
     requires size { IsStripSize strip }
     requires effort { effort ≤ MAX_EFFORT }
-    ensures { IfOk result (λ found. MatchOption found (IsMisfit strip packed.now)
-        (λ places. ArePlacesFrom strip packed.now seed effort places.items)) }
+    ensures { IfOk result (IsPlacedFrom strip packed.now seed effort) }
 {
-    let Fit::Fits = fit_of(strip, packed.packed()) else {
-        return Ok(None);
-    };
+    match fit_of(strip, packed.packed()) {
+        Fit::Fits => Ok(PlacingEnd::Placed(place_fitting(alloc, packed, strip, seed, effort)?)),
+        Fit::TooManyBlocks { have, need } => Ok(PlacingEnd::Refused(Refusal::DoesNotFit(
+            Misfit::Blocks { have, need },
+        ))),
+        Fit::TooManyPads { have, need } => Ok(PlacingEnd::Refused(Refusal::DoesNotFit(Misfit::Pads {
+            have,
+            need,
+        }))),
+    }
+}
+
+/// Places the blocks of a packed circuit for which the strip has enough places.
+fn place_fitting(
+    alloc: Global,
+    packed: &SharedPacked,
+    strip: Strip,
+    seed: u64,
+    effort: u32,
+) -> Result<Placing, AllocError>
+    requires size { IsStripSize strip }
+    requires effort { effort ≤ MAX_EFFORT }
+    requires fits { fit_of strip packed.now ≡ Fits }
+    ensures exact { IfOk result (λ placing. placing ≡ placed_from strip packed.now seed effort) }
+    ensures all { OnOk result (AreAllPasses strip (pass_count strip)) }
+{
     laws_of_kept();
     let mut placing = Placing::start(alloc, packed, strip, &Kept::none(), seed, effort)?;
     make_passes(&mut placing);
-    let places = placing.places(alloc);
-    drop(placing);
-    Ok(Some(places?))
+    Ok(placing)
 }
 
 /// Makes all passes of a placing that has made none.
 fn make_passes(placing: &mut Placing)
     requires { placing.old.passes ≡ 0 }
-    ensures { placing.new ≡ record placing.old { passes = pass_count placing.old.strip } }
+    ensures made { placing.new ≡ record placing.old { passes = pass_count placing.old.strip } }
+    ensures all { AreAllPasses placing.old.strip (pass_count placing.old.strip) }
 {
     laws_of_passes();
     let _size = placing.strip();

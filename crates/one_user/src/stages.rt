@@ -132,7 +132,7 @@ fn route<W: Sink>(
 }
 
 /// The run of a netlist that is refused.
-fn refused_run(refusal: Refusal) -> Run
+pub(crate) fn refused_run(refusal: Refusal) -> Run
     ensures { result ≡ record { outcome = FlowOutcome.Refused refusal; figures = None } }
 {
     Run {

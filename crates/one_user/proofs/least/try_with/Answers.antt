@@ -1,10 +1,14 @@
-use Rattle.std.proofs.Common.{◌≡◌, subst, sym}
-use Rattle.one_user.specs.Tracks.{WasUnrouted}
-use Rattle.one_user.specs.declared.outcome.FlowOutcome.{FlowOutcome}
+use Rattle.std.proofs.Common.{ap, subst, sym, ◌∙◌}
+use Rattle.rr_graph.specs.Graph.{Basis}
+use Rattle.one_user.specs.PlacedRuns.{IsRunOn}
+use Rattle.one_user.proofs.OtherTracks.{is_try, strip_is}
 use Rattle.one_user.proofs.least.try_with.Goals as goal
 
-pub returns-in-Unrouted-clause-tried : goal.returns-in-Unrouted-clause-tried
-returns-in-Unrouted-clause-tried g c =
-    let run = c.in_ok-run.run' in
-    let was : WasUnrouted run.outcome = subst (λ (o : FlowOutcome). WasUnrouted o) (sym c.in-Unrouted.is) tt in
-    (run.outcome, c.in_ok-run.ensures.outcome, was)
+pub run_placed-run-requires : goal.run_placed-run-requires
+run_placed-run-requires c =
+    strip_is c.args.plan c.args.request c.args.tracks c.in_ok-arch.arch c.in_ok-arch.ensures.gives c.args.placing.now c.requires.placed ∙ sym (ap (λ (b : Basis). b.strip) c.in_ok-device.ensures)
+
+pub returns-clause-tried : goal.returns-clause-tried
+returns-clause-tried c =
+    is_try c.args.plan c.args.request c.args.tracks c.in_ok-arch.arch c.in_ok-arch.ensures.gives c.args.placing.now c.requires.placed c.in_ok-run.field-0
+    (subst (λ (b : Basis). IsRunOn b c.args.placing.now c.in_ok-run.field-0) c.in_ok-device.ensures c.in_ok-run.ensures)

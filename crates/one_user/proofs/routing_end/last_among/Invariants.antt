@@ -2,11 +2,11 @@ use Rattle.std.proofs.Common.{◌≡◌}
 use Rattle.pathfinder.specs.Negotiation.{More}
 use Rattle.pathfinder.specs.PlacedNets.{nets_to_route, wiring_of}
 use Rattle.pathfinder.specs.Routings.{IsAfter}
-use Rattle.one_user.proofs.routing_end.routing_end.Given as goal
+use Rattle.one_user.proofs.routing_end.last_among.Given as goal
 
 abbrev pub invariant-loop-iteration : goal.invariant-loop-iteration
 invariant-loop-iteration g l = record {
   nets : l.routing.nets ≡ nets_to_route (g.G.StripGraph.basis l.graph) l.packed l.places;
-  made : l.routing.iterations ≡ l._iteration;
+  made : l.routing.iterations ≡ l.iteration;
   going : IsAfter (wiring_of (g.G.StripGraph.basis l.graph)) l.routing More;
 }
