@@ -1,7 +1,11 @@
 //! The first line of a log.
+ghost use Rattle.std.specs.Prelude.{◌≡◌, IfOk};
+ghost use Rattle.line_text.specs.Writing.{Writes};
+ghost use Rattle.live_run.specs.Headings.{heading, memory_words, sizes_words, sum_of, sum_words};
+
 use crate::options::{Options, TENANT_MEMORY};
 use itoa::Buffer;
-use line_text::{MemorySink, write_slices};
+use line_text::{Failed, MemorySink, Sink, write_slices};
 use std::alloc::{AllocError, Global};
 
 /// The first number of the sum of a text, and what it is multiplied by for each byte (FNV-1a).
@@ -15,23 +19,39 @@ pub fn first_line(
     alloc: Global,
     options: &Options,
     architecture: &[u8],
-) -> Result<Vec<u8>, AllocError> {
+) -> Result<Vec<u8>, AllocError>
+    ensures { IfOk result (λ line. line.items ≡ heading options.now architecture.now) }
+{
     let mut line = MemorySink::new(alloc);
+    match write_heading(&mut line, options, architecture) {
+        Ok(()) => Ok(line.into_bytes()),
+        Err(_) => Err(AllocError),
+    }
+}
+
+/// Writes the line.
+fn write_heading<K: Sink>(
+    sink: &mut K,
+    options: &Options,
+    architecture: &[u8],
+) -> Result<(), Failed>
+    ensures { Writes K.contents K.has_failed sink.old sink.new
+        (heading options.now architecture.now) result }
+{
+    write_sizes(sink, options)?;
+    write_memory(sink, options.tenant_memory)?;
+    write_sum(sink, architecture)
+}
+
+/// Writes the sizes.
+fn write_sizes<K: Sink>(sink: &mut K, options: &Options) -> Result<(), Failed>
+    ensures { Writes K.contents K.has_failed sink.old sink.new (sizes_words options.now) result }
+{
     let mut tracks = Buffer::new();
     let mut columns = Buffer::new();
     let mut rows = Buffer::new();
-    let mut memory = Buffer::new();
-    let mut sum = Buffer::new();
-    let (memory_name, memory): (&[u8], &[u8]) = if options.tenant_memory == TENANT_MEMORY {
-        (b"", b"")
-    } else {
-        (
-            b" --tenant-memory ",
-            memory.format(options.tenant_memory).as_bytes(),
-        )
-    };
-    let parts = write_slices(
-        &mut line,
+    write_slices(
+        sink,
         &[
             b"# fpgad_live --tracks ",
             tracks.format(options.tracks).as_bytes(),
@@ -39,21 +59,40 @@ pub fn first_line(
             columns.format(options.columns).as_bytes(),
             b" --rows ",
             rows.format(options.rows).as_bytes(),
-            memory_name,
-            memory,
-            b", architecture ",
-            sum.format(sum_of(architecture)).as_bytes(),
-            b"\n",
         ],
-    );
-    match parts {
-        Ok(()) => Ok(line.into_bytes()),
-        Err(_) => Err(AllocError),
+    )
+}
+
+/// Writes the memory of a tenancy, if it isn't the usual one.
+fn write_memory<K: Sink>(sink: &mut K, memory: u32) -> Result<(), Failed>
+    ensures { Writes K.contents K.has_failed sink.old sink.new (memory_words memory) result }
+{
+    if memory == TENANT_MEMORY {
+        return Ok(());
     }
+    let mut digits = Buffer::new();
+    write_slices(
+        sink,
+        &[b" --tenant-memory ", digits.format(memory).as_bytes()],
+    )
+}
+
+/// Writes the sum of the architecture.
+fn write_sum<K: Sink>(sink: &mut K, architecture: &[u8]) -> Result<(), Failed>
+    ensures { Writes K.contents K.has_failed sink.old sink.new (sum_words architecture.now) result }
+{
+    let mut digits = Buffer::new();
+    let sum = sum_of(architecture);
+    write_slices(
+        sink,
+        &[b", architecture ", digits.format(sum).as_bytes(), b"\n"],
+    )
 }
 
 /// The FNV-1a sum of a text, of 64 bits.
-fn sum_of(text: &[u8]) -> u64 {
+fn sum_of(text: &[u8]) -> u64
+    ensures { result ≡ sum_of text.now }
+{
     let mut sum = SUM_BEGINS;
     for byte in text {
         sum = (sum ^ u64::from(*byte)).wrapping_mul(SUM_TIMES);

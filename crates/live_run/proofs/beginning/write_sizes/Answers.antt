@@ -1,0 +1,6 @@
+use Rattle.live_run.proofs.beginning.write_sizes.Goals as goal
+
+pub returns : goal.returns
+returns g c =
+    rw (c.as_bytes.ensures.value, c.format.ensures.text, c.as_bytes-2.ensures.value, c.format-2.ensures.text, c.as_bytes-3.ensures.value, c.format-3.ensures.text)
+    at c.write_slices.ensures
