@@ -1,2 +1,3 @@
 pub mod NodeLines
+pub mod Parts
 pub mod Sizes

@@ -1,7 +1,8 @@
 //! The three files together.
-ghost use Rattle.std.specs.Prelude.{◌≡◌, length, position, IfOk};
+ghost use Rattle.std.specs.Prelude.{◌≡◌, ◌+◌, length, position, IfOk};
 ghost use Rattle.std.specs.Str.{bytes_eq};
 ghost use Rattle.strip_files.specs.NodeLines.{AreTold, node_lines};
+ghost use Rattle.strip_files.specs.Parts.{elements_of, first_element, first_node, nodes_of, stretch};
 
 use crate::block::PlacedBlock;
 use crate::ends::{PinsAndRoutes, check_ends};
@@ -46,39 +47,71 @@ impl<'t> RoutedStrip<'t> {
         self.nets.iter().position(|net| net.name == name)
     }
 
-    /// The nodes of the route of the net of that number.
-    pub fn nodes_of(&self, net: usize) -> &[RouteNode] {
+    /// The nodes of the route of the net of that number; none if there is no such net.
+    pub fn nodes_of(&self, net: usize) -> &[RouteNode]
+        ensures { result.now ≡ nodes_of self.now net }
+    {
         let start = self.first_node(net);
-        let end = self.first_node(net.saturating_add(1));
+        let end = self.end_of_nodes(net);
         stretch(&self.nodes, start, end)
     }
 
-    /// The names of the BLEs of the block of that number.
-    pub fn elements_of(&self, block: usize) -> &[&'t [u8]] {
+    /// The names of the BLEs of the block of that number; none if there is no such block.
+    pub fn elements_of(&self, block: usize) -> &[&'t [u8]]
+        ensures { result.now ≡ elements_of self.now block }
+    {
         let start = self.first_element(block);
-        let end = self.first_element(block.saturating_add(1));
+        let end = self.end_of_elements(block);
         stretch(&self.elements, start, end)
     }
 
     /// The index at which the nodes of that net's route begin.
-    fn first_node(&self, net: usize) -> usize {
+    fn first_node(&self, net: usize) -> usize
+        ensures { result ≡ first_node self.now net }
+    {
         match self.nets.get(net) {
             Some(net) => net.first_node,
             None => self.nodes.len(),
         }
     }
 
+    /// The index after the nodes of that net's route.
+    fn end_of_nodes(&self, net: usize) -> usize
+        ensures { result ≡ first_node self.now (net + 1) }
+    {
+        if net < self.nets.len() {
+            self.first_node(net + 1)
+        } else {
+            self.nodes.len()
+        }
+    }
+
     /// The index at which the BLEs of that block begin.
-    fn first_element(&self, block: usize) -> usize {
+    fn first_element(&self, block: usize) -> usize
+        ensures { result ≡ first_element self.now block }
+    {
         match self.blocks.get(block) {
             Some(block) => block.first_element,
             None => self.elements.len(),
         }
     }
+
+    /// The index after the BLEs of that block.
+    fn end_of_elements(&self, block: usize) -> usize
+        ensures { result ≡ first_element self.now (block + 1) }
+    {
+        if block < self.blocks.len() {
+            self.first_element(block + 1)
+        } else {
+            self.elements.len()
+        }
+    }
 }
 
 /// The elements from one index to another, as far as they exist.
-fn stretch<T>(all: &[T], start: usize, end: usize) -> &[T] {
+fn stretch<T>(all: &[T], start: usize, end: usize) -> &[T]
+    ensures { result.now ≡ stretch all.now start end }
+{
     let (front, _) = all.split_at(end.min(all.len()));
     let (_, back) = front.split_at(start.min(front.len()));
     back
