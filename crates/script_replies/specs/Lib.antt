@@ -1,3 +1,4 @@
 pub mod Asking
+pub mod LineReplies
 pub mod Told
 pub mod Usage

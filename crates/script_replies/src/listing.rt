@@ -1,4 +1,9 @@
 //! A script's lines with their replies.
+ghost use Rattle.std.specs.Prelude.{◌≡◌, ◌++◌, ◌∷◌, [], false, map, IfOk, OnOk};
+ghost use Rattle.std.specs.Option.{option_map_or};
+ghost use Rattle.printed_replies.specs.Replies.{answered_line};
+ghost use Rattle.script_replies.specs.LineReplies.{line_replies, line_reply, reply_to};
+ghost use Rattle.script_replies.specs.Usage.{is_refusal};
 
 use crate::advising::{advice_for, is_refusal, netlist_line};
 use crate::lines::ScriptLine;
@@ -27,7 +32,9 @@ pub struct ToldLine<'a> {
 
 impl<'a> ToldLine<'a> {
     /// Returns whether the line is refused.
-    pub fn is_refused(&self) -> bool {
+    pub fn is_refused(&self) -> bool
+        ensures { result ≡ option_map_or (λ reply. is_refusal reply.now) self.now.reply false }
+    {
         match self.reply {
             Some(reply) => is_refusal(reply),
             None => false,
@@ -68,15 +75,23 @@ impl<'n, 'a> Listing<'n, 'a> {
         &mut self,
         lines: &[ScriptLine<'a>],
         replies: &Replies<'n, 'a>,
-    ) -> Result<(), AllocError> {
-        for (line, answered) in lines.iter().zip(replies.lines().iter()) {
-            self.add(*line, *answered)?;
+    ) -> Result<(), AllocError>
+        ensures { OnOk result (map line_reply self.new.told.items
+            ≡ map line_reply self.old.told.items ++ line_replies lines.now replies.now) }
+    {
+        let answers = replies.lines();
+        for place in 0..lines.len().min(answers.len()) {
+            self.add(lines[place], answers[place])?;
         }
         Ok(())
     }
 
     /// Adds a line with its reply.
-    fn add(&mut self, line: ScriptLine<'a>, answered: Answered<'n, 'a>) -> Result<(), AllocError> {
+    fn add(&mut self, line: ScriptLine<'a>, answered: Answered<'n, 'a>) -> Result<(), AllocError>
+        ensures { OnOk result (map line_reply self.new.told.items ≡
+            map line_reply self.old.told.items
+            ++ reply_to line.entry (answered_line answered.entry) ∷ []) }
+    {
         let told = told_line(line, answered);
         let (Some(reply), Some(_)) = (told.reply, told.advice) else {
             self.told.push(told)?;
@@ -112,14 +127,19 @@ impl<'n, 'a> Listing<'n, 'a> {
     }
 
     /// Counts one more line with the refusal of the line at that index.
-    fn count_again(&mut self, place: usize) {
-        if let Some(first) = self.told.get_mut(place) {
-            first.alike = Some(first.alike.unwrap_or(1).saturating_add(1));
+    fn count_again(&mut self, place: usize)
+        ensures { map line_reply self.new.told.items ≡ map line_reply self.old.told.items }
+    {
+        if place < self.told.len() {
+            let again = counted_again(self.told[place]);
+            self.told[place] = again;
         }
     }
 
     /// Remembers a refusal, if there are not too many.
-    fn remember(&mut self, refused: Refused<'n, 'a>) -> Result<(), AllocError> {
+    fn remember(&mut self, refused: Refused<'n, 'a>) -> Result<(), AllocError>
+        ensures { self.new.told.items ≡ self.old.told.items }
+    {
         if self.refused.len() < MAX_REMEMBERED {
             self.refused.push(refused)?;
         }
@@ -133,7 +153,10 @@ pub fn told_lines<'a>(
     alloc: Global,
     lines: &[ScriptLine<'a>],
     replies: &Replies<'_, 'a>,
-) -> Result<Vec<ToldLine<'a>>, AllocError> {
+) -> Result<Vec<ToldLine<'a>>, AllocError>
+    ensures { IfOk result (λ told. map line_reply told.items
+        ≡ line_replies lines.now replies.now) }
+{
     let mut listing = Listing {
         told: Vec::new(alloc),
         refused: Vec::new(alloc),
@@ -151,8 +174,10 @@ pub fn told_lines<'a>(
 }
 
 /// A line with its reply, explained.
-fn told_line<'a>(line: ScriptLine<'a>, answered: Answered<'_, 'a>) -> ToldLine<'a> {
-    let mut told = ToldLine {
+fn told_line<'a>(line: ScriptLine<'a>, answered: Answered<'_, 'a>) -> ToldLine<'a>
+    ensures { line_reply result ≡ reply_to line.entry (answered_line answered.entry) }
+{
+    let told = ToldLine {
         number: line.number,
         line: line.text,
         reply: None,
@@ -160,18 +185,27 @@ fn told_line<'a>(line: ScriptLine<'a>, answered: Answered<'_, 'a>) -> ToldLine<'
         fault: None,
         alike: None,
     };
-    if !answered.reply.is_empty() {
-        let (reply, _) = split_line(answered.reply);
-        let is_operator = answered.asked.name.is_none();
-        told.reply = Some(reply);
-        told.advice = words_for(is_operator, reply);
-        told.fault = if is_operator {
-            None
-        } else {
-            script_line(line.number, reply)
-        };
+    if answered.reply.is_empty() {
+        return told;
     }
-    told
+    let (reply, _) = split_line(answered.reply);
+    let is_operator = answered.asked.name.is_none();
+    ToldLine {
+        reply: Some(reply),
+        advice: words_for(is_operator, reply),
+        fault: fault_line(is_operator, line.number, reply),
+        ..told
+    }
+}
+
+/// The line with one more line that has its refusal.
+fn counted_again(told: ToldLine<'_>) -> ToldLine<'_>
+    ensures { line_reply result ≡ line_reply told.entry }
+{
+    ToldLine {
+        alike: Some(told.alike.unwrap_or(1).saturating_add(1)),
+        ..told
+    }
 }
 
 /// What a refusal means, in words.
@@ -180,7 +214,10 @@ fn words_for<'a>(is_operator: bool, reply: &[u8]) -> Option<&'a str> {
 }
 
 /// The script's line of the fault that a reply reports, if the netlist begins after that line.
-fn script_line(number: usize, reply: &[u8]) -> Option<usize> {
+fn fault_line(is_operator: bool, number: usize, reply: &[u8]) -> Option<usize> {
+    if is_operator {
+        return None;
+    }
     let line = netlist_line(reply)?;
     Some(number.saturating_add(line as usize))
 }

@@ -1,0 +1,8 @@
+use Rattle.std.proofs.Common.{◌≡◌, ◌++◌, take, map}
+use Rattle.printed_replies.specs.Replies.{answered_line}
+use Rattle.script_replies.specs.LineReplies.{line_replies, line_reply}
+use Rattle.script_replies.proofs.listing.Listing.add_all.Given as goal
+
+-- the lines so far
+abbrev pub invariant-loop-place : goal.invariant-loop-place
+invariant-loop-place l = map line_reply l.self.told.items ≡ map line_reply l.fn.self.told.items ++ take l.place (line_replies l.lines (map answered_line l.answers))
