@@ -12,4 +12,6 @@ mod Founds
 mod Tests
 mod Marking
 mod Walking
+mod Parting
+mod Reaching
 mod Starting

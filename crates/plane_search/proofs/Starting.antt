@@ -13,7 +13,7 @@ use Rattle.least_path.specs.Path.{Leads, IsPath, cost_of, path_cmp}
 use Rattle.least_path.specs.LeastPath.{IsLeastPath}
 use Rattle.plane_search.specs.Planes.{Family, IsPlane, IsPlaneBound}
 use Rattle.plane_search.specs.Best.{AreAmong, AreBounded, AreRivals}
-use Rattle.plane_search.specs.Walk.{CostsMore, AreNoCheaper, IsBetween, IsLeastFrom}
+use Rattle.plane_search.specs.Walk.{ArePruned, CostsMore, AreNoCheaper, IsBetween, IsLeastFrom}
 use Rattle.plane_search.proofs.Members.{Contains-first, only_contained, at_index, listed_end, below_next}
 use Rattle.plane_search.proofs.Order.{not_less_then, cmp_equal}
 
@@ -34,6 +34,15 @@ nothing_entered g goal best costs room all = record {
   least = λ node b small. absurd (omega (arith, small, all node 0 (omega (arith, b, room))));
   done = λ node b small. absurd (omega (arith, small, all node 0 (omega (arith, b, room))));
 }
+
+-- no place was reached yet
+pub nothing_reached : (g : Graph) (places goal best : ℕ) (costs : List ℕ) → places ≤ length costs → All (λ cost. 2 ^ 16 ≤ cost) costs → ArePruned g places goal best costs
+nothing_reached g places goal best costs room all = record { room = room; least = λ node b small. absurd (omega (arith, small, all node 0 (omega (arith, b, room)))) }
+
+-- a path from the starts is dearer than what is less than all of them
+pub beyond : {g : Graph} {goal best most : ℕ} {starts : List ℕ} → AreNoCheaper g goal best starts → most < best → (path : List ℕ) → IsPath g starts goal path → most < cost_of g path
+beyond cheap l [] p = absurd p
+beyond cheap l (x ∷ rest) p = omega (arith, l, cheap x p.0 rest p.1)
 
 -- Over the first starts the goal is dearer than the best.
 abbrev pub AreDearStarts : Graph → ℕ → ℕ → List ℕ → ℕ → Type 0

@@ -3,3 +3,4 @@ pub mod Bypass
 pub mod Best
 pub mod Ranking
 pub mod Walk
+pub mod Reach

@@ -17,6 +17,7 @@ mod bypass;
 mod marks;
 mod planes;
 mod ranking;
+mod reach;
 mod rivals;
 mod search;
 mod walk;

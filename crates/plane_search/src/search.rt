@@ -1,16 +1,18 @@
 //! A search of one plane at a time.
-ghost use Rattle.std.specs.Prelude.{◌≡◌, ℕ, ◌+◌, ◌<◌, ◌≤◌, ◌^◌, ◌∷◌, ◌++◌, [], true, false, All, Some, None, Ok, IfOk, IfSome, IfNone, OnOk, MatchOption, map, length, if◌then◌else◌};
-ghost use Rattle.std.specs.Bool.{MatchBool};
+ghost use Rattle.std.specs.Prelude.{◌≡◌, ◌↔◌, ℕ, ◌+◌, ◌<◌, ◌≤◌, ◌^◌, ◌∷◌, ◌++◌, [], true, false, All, Some, None, Ok, IfOk, IfSome, IfNone, OnOk, MatchOption, map, length, if◌then◌else◌};
+ghost use Rattle.std.specs.Bool.{IsTrue, MatchBool};
 ghost use Rattle.std.specs.List.Sorted.{IsNonDecreasing};
 ghost use Rattle.std.specs.Ordering.{nat_cmp, ordering_then};
 ghost use Rattle.std.specs.Cmp.Lexicographic.{slice_cmp};
 ghost use Rattle.std.specs.declared.cmp.Ordering.TheVariants.{Less};
 ghost use Rattle.plane_search.specs.Planes.{IsPlace};
+ghost use Rattle.plane_search.specs.Walk.{ArePruned};
 ghost use Rattle.plane_search.specs.Best.{IsKnown, Improves, AreAmong, AreBounded, IsLeastIn, IsLeastOn, IsBypassCost, HasNoneWithin};
 
 use crate::bypass::Bypassed;
 use crate::marks::UNMARKED;
 use crate::planes::Planes;
+use crate::reach::{Reach, View};
 use crate::rivals::{list_rivals, sort_starts};
 use crate::walk::{Aim, Walk};
 use least_path::{Path, Search};
@@ -25,6 +27,7 @@ const MOST: u64 = 1 << 36;
 pub(crate) struct TrackSearch {
     search: Search,
     walk: Walk,
+    reach: Reach,
     /// The starts of the search of a plane, in rising order.
     starts: Vec<usize>,
     /// The path that was found in it.
@@ -68,7 +71,7 @@ fn is_less(path: &Path, other: &Path) -> bool
 
 /// Whether the limit is this cost.
 fn is_limit(most: Option<u64>, cost: u64) -> bool
-    ensures { result ≡ true → most ≡ Some cost }
+    ensures { IsTrue result ↔ (most ≡ Some cost) }
 {
     match most {
         Some(limit) => limit == cost,
@@ -83,6 +86,7 @@ impl TrackSearch {
         TrackSearch {
             search: Search::new(alloc),
             walk: Walk::new(alloc),
+            reach: Reach::new(alloc),
             starts: Vec::new(alloc),
             found: Path { nodes, cost: 0 },
         }
@@ -203,13 +207,54 @@ impl TrackSearch {
         if least == 0 || least >= UNMARKED {
             return self.find_dearer(planes, track, most);
         }
+        self.reach.forget(planes.places())?;
         if self.find_at(planes, track, least)? {
             return Ok(true);
         }
         if is_limit(most, least) {
             return Ok(false);
         }
-        self.find_dearer(planes, track, most)
+        match most {
+            Some(most) if most < UNMARKED - 1 => self.find_reached(planes, track, most),
+            _ => self.find_dearer(planes, track, most),
+        }
+    }
+
+    /// Does as `find` does, for a low limit: finds first what the least path costs. The starts'
+    /// bounds are above 0.
+    fn find_reached<P: Planes>(
+        &mut self,
+        planes: &P,
+        track: usize,
+        most: u64,
+    ) -> Result<bool, AllocError>
+        requires track { track < (P.family planes.now).tracks }
+        requires among { AreAmong (P.family planes.now) track self.old.starts.items }
+        requires rising { IsNonDecreasing self.old.starts.items }
+        requires bounded { AreBounded (P.family planes.now) track self.old.starts.items (Some 1) }
+        requires few { most + 1 < 2 ^ 16 }
+        ensures found { result ≡ Ok true → IsLeastOn (P.family planes.now) track
+            self.old.starts.items self.new.found }
+        ensures none { result ≡ Ok false → HasNoneWithin (P.family planes.now) track
+            self.old.starts.items (Some most) }
+    {
+        let _tracks = planes.tracks();
+        let view = View {
+            planes,
+            track,
+            exit: planes.exit(),
+        };
+        let least = self.reach.least_cost(&view, &self.starts, most)?;
+        if most < least {
+            return Ok(false);
+        }
+        if least == 0 {
+            return self.find_dearer(planes, track, Some(most));
+        }
+        if self.find_at(planes, track, least)? {
+            return Ok(true);
+        }
+        self.find_dearer(planes, track, Some(most))
     }
 
     /// Finds the least path of a plane from the listed starts, by places, if it has this cost; no
@@ -227,6 +272,8 @@ impl TrackSearch {
             (Some best) }
         requires some { 1 ≤ best }
         requires few { best < 2 ^ 16 }
+        requires pruned { ArePruned ((P.family planes.now).plane track) (P.family planes.now).places
+            (P.family planes.now).exit best self.old.reach.marks }
         ensures found { result ≡ Ok true → IsLeastOn (P.family planes.now) track
             self.old.starts.items self.new.found }
         ensures none { result ≡ Ok false → HasNoneWithin (P.family planes.now) track
@@ -239,6 +286,7 @@ impl TrackSearch {
             track,
             exit: planes.exit(),
             best,
+            reached: &self.reach.marks,
         };
         self.walk.least_into(&aim, &self.starts, &mut self.found)
     }

@@ -9,7 +9,7 @@ ghost use Rattle.least_path.specs.Graph.{AreNodes};
 ghost use Rattle.least_path.specs.Path.{IsPath, cost_of};
 ghost use Rattle.least_path.specs.LeastPath.{IsLeastPath};
 ghost use Rattle.plane_search.specs.Planes.{IsPlace};
-ghost use Rattle.plane_search.specs.Walk.{IsFit, IsUnfit, IsNext, AreUnfit, IsWalking, IsBetween, IsLeastFrom, CostsAtLeast, CostsMore, AreNoCheaper, places_in, stop_at, after_step};
+ghost use Rattle.plane_search.specs.Walk.{ArePruned, IsFit, IsUnfit, IsNext, AreUnfit, IsWalking, IsBetween, IsLeastFrom, CostsAtLeast, CostsMore, AreNoCheaper, places_in, stop_at, after_step};
 
 use crate::marks::Marks;
 use crate::planes::Planes;
@@ -43,10 +43,14 @@ pub(crate) struct Aim<'a, P: Planes> {
     pub(crate) track: usize,
     pub(crate) exit: usize,
     pub(crate) best: u64,
+    /// The least costs of ways to places, as far as they are known.
+    pub(crate) reached: &'a Marks,
     ghost on: { track < (P.family planes.now).tracks },
     ghost to: { exit ≡ (P.family planes.now).exit },
     ghost some: { 1 ≤ best },
     ghost few: { best < 2 ^ 16 },
+    ghost pruned: { ArePruned ((P.family planes.now).plane track) (P.family planes.now).places
+        (P.family planes.now).exit best reached.now },
 }
 
 /// A walk that reuses its memory from one plane to the next.
@@ -90,6 +94,9 @@ fn fitting_cost<P: Planes>(
     let _tracks = aim.planes.tracks();
     let cost = before + aim.planes.cost(aim.track, place);
     if aim.best < cost || marks.is_entered(place, cost) {
+        return None;
+    }
+    if aim.reached.is_below(place, cost) {
         return None;
     }
     match aim.planes.at_least(aim.track, place) {
@@ -143,15 +150,16 @@ impl Walk {
     ) -> Result<bool, AllocError>
         requires starts { AreNodes ((P.family aim.now.planes.now).plane aim.now.track) starts.now }
         requires rising { IsNonDecreasing starts.now }
-        requires least { AreNoCheaper ((P.family aim.now.planes.now).plane aim.now.track) (P.family aim.now.planes.now).exit
-            aim.now.best starts.now }
-        ensures found { result ≡ Ok true → IsLeastPath ((P.family aim.now.planes.now).plane aim.now.track)
-            starts.now (P.family aim.now.planes.now).exit path.new.nodes.items }
+        requires least { AreNoCheaper ((P.family aim.now.planes.now).plane aim.now.track)
+            (P.family aim.now.planes.now).exit aim.now.best starts.now }
+        ensures found { result ≡ Ok true →
+            IsLeastPath ((P.family aim.now.planes.now).plane aim.now.track) starts.now
+            (P.family aim.now.planes.now).exit path.new.nodes.items }
         ensures cost { result ≡ Ok true → path.new.cost
             ≡ cost_of ((P.family aim.now.planes.now).plane aim.now.track) path.new.nodes.items }
         ensures none { result ≡ Ok false → (start : ℕ) → Contains starts.now start →
-            CostsMore ((P.family aim.now.planes.now).plane aim.now.track) (P.family aim.now.planes.now).exit aim.now.best
-            start 0 }
+            CostsMore ((P.family aim.now.planes.now).plane aim.now.track)
+            (P.family aim.now.planes.now).exit aim.now.best start 0 }
     {
         let _tracks = aim.planes.tracks();
         self.marks.renew(aim.planes.places())?;
@@ -168,16 +176,19 @@ impl Walk {
     /// Walks on from a start until a path is complete, and returns whether there is one.
     fn walk_from<P: Planes>(&mut self, aim: &Aim<'_, P>, start: usize) -> Result<bool, AllocError>
         requires start { start < (P.family aim.now.planes.now).places }
-        requires least { CostsAtLeast ((P.family aim.now.planes.now).plane aim.now.track) (P.family aim.now.planes.now).exit
-            aim.now.best start 0 }
-        requires between { IsBetween ((P.family aim.now.planes.now).plane aim.now.track) (P.family aim.now.planes.now).exit
-            aim.now.best self.old.marks }
-        ensures found { result ≡ Ok true → IsLeastFrom ((P.family aim.now.planes.now).plane aim.now.track)
+        requires least { CostsAtLeast ((P.family aim.now.planes.now).plane aim.now.track)
+            (P.family aim.now.planes.now).exit aim.now.best start 0 }
+        requires between { IsBetween ((P.family aim.now.planes.now).plane aim.now.track)
+            (P.family aim.now.planes.now).exit aim.now.best self.old.marks }
+        ensures found { result ≡ Ok true →
+            IsLeastFrom ((P.family aim.now.planes.now).plane aim.now.track)
             (P.family aim.now.planes.now).exit aim.now.best start
             (places_in self.new.stops.items ++ (P.family aim.now.planes.now).exit ∷ []) }
-        ensures none { result ≡ Ok false → CostsMore ((P.family aim.now.planes.now).plane aim.now.track)
+        ensures none { result ≡ Ok false →
+            CostsMore ((P.family aim.now.planes.now).plane aim.now.track)
             (P.family aim.now.planes.now).exit aim.now.best start 0 }
-        ensures between { result ≡ Ok false → IsBetween ((P.family aim.now.planes.now).plane aim.now.track)
+        ensures between { result ≡ Ok false →
+            IsBetween ((P.family aim.now.planes.now).plane aim.now.track)
             (P.family aim.now.planes.now).exit aim.now.best self.new.marks }
     {
         let _tracks = aim.planes.tracks();
