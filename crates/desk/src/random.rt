@@ -1,8 +1,9 @@
 //! The tool that prints a script with random circuits.
 use crate::outcome::Outcome;
+use arch_file::{MAX_CLUSTER_SIZE, MAX_LUT_SIZE};
 use line_text::Sink;
 use option_words::{Given, OptionWord, Program, Takes};
-use random_script::{LoadParameters, Phase, Plan, write_netlist, write_script};
+use random_script::{LoadParameters, MAX_TABLES, Phase, Plan, write_netlist, write_script};
 
 const NO_ROOM: &str =
     "the tenancies do not fit on the largest device: ask for fewer tenancies or fewer tables";
@@ -18,7 +19,7 @@ pub(crate) const TOOL: Program = Program {
             name: "tables",
             value_name: "N",
             help: "Lookup tables in each circuit, 1 to 7500",
-            takes: Takes::Number(1, 7500),
+            takes: Takes::Number(1, MAX_TABLES),
             default: Some("400"),
         },
         OptionWord {
@@ -32,14 +33,14 @@ pub(crate) const TOOL: Program = Program {
             name: "inputs",
             value_name: "K",
             help: "Inputs of a lookup table, 1 to 8",
-            takes: Takes::Number(1, 8),
+            takes: Takes::Number(1, MAX_LUT_SIZE),
             default: Some("4"),
         },
         OptionWord {
             name: "cluster",
             value_name: "C",
             help: "Lookup tables in a cluster, 1 to 16",
-            takes: Takes::Number(1, 16),
+            takes: Takes::Number(1, MAX_CLUSTER_SIZE),
             default: Some("1"),
         },
         OptionWord {

@@ -1,6 +1,7 @@
 -- Numbers written in decimal digits.
 use Rattle.std.specs.Prelude.{ℕ, ◌+◌, ◌-◌, ◌*◌, ◌^◌, Bool, ◌&&◌, ◌==◌, nat_lt, nat_le, if◌then◌else◌, List, length, fold, Option, Some, None}
 use Rattle.std.specs.List.{list_all, before_first, after_first}
+use Rattle.line_text.specs.declared.decimal.TheConstants.{MAX_WHOLE}
 
 -- `0` to `9`
 abbrev pub is_digit : ℕ → Bool
@@ -39,7 +40,7 @@ fraction_digits bytes = after_first is_point bytes
 -- and at most a million before it
 abbrev pub is_decimal : List ℕ → List ℕ → Bool
 is_decimal whole fraction =
-    list_all is_digit whole && list_all is_digit fraction && nat_le 1 (length whole + length fraction) && nat_le (length fraction) 6 && nat_le (value_of whole) 1000000
+    list_all is_digit whole && list_all is_digit fraction && nat_le 1 (length whole + length fraction) && nat_le (length fraction) 6 && nat_le (value_of whole) MAX_WHOLE
 
 -- a decimal number, in millionths
 abbrev pub millionths_of : List ℕ → Option ℕ

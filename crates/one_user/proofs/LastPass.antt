@@ -4,6 +4,7 @@ use Rattle.std.specs.Prelude.{if◌then◌else◌}
 use Rattle.job_state.specs.JobValue.{pass_count}
 use Rattle.job_state.proofs.StepCounts.{pass_count_is}
 use Rattle.strip_place.specs.Anneal.{PlacingUnderWay, end_of, is_past_last, one_more}
+use Rattle.strip_place.specs.declared.placing.TheConstants.{MAX_PASSES}
 use Rattle.one_user.specs.Placing.{AreAllPasses}
 use Rattle.strip_place.specs.declared.placing.PassEnd.TheVariants.{More, Last}
 
@@ -19,7 +20,7 @@ last_told true is = refl
 last_told false is = absurd (cc)
 
 -- with the last pass, it has made all
-pub last_pass : (start now new : PlacingUnderWay) (passes : ℕ) → passes < 512 → now ≡ with_passes start passes → ((fewer : ℕ) → fewer ≤ passes → is_past_last start.strip fewer ≡ false) → new ≡ one_more now → Last ≡ end_of new →
+pub last_pass : (start now new : PlacingUnderWay) (passes : ℕ) → passes < MAX_PASSES → now ≡ with_passes start passes → ((fewer : ℕ) → fewer ≤ passes → is_past_last start.strip fewer ≡ false) → new ≡ one_more now → Last ≡ end_of new →
     (new ≡ with_passes start (pass_count start.strip)) × AreAllPasses start.strip (pass_count start.strip)
 last_pass start now new passes few is before after ended =
     let made : new ≡ with_passes start (passes + 1) = after ∙ more_passes start now passes is (before passes (omega arith)) in

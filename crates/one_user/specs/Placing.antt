@@ -8,6 +8,7 @@ use Rattle.cluster.specs.Clusters.{PackedCircuit, packed_of, unfit_of}
 use Rattle.grid.specs.declared.Strip.{Strip}
 use Rattle.job_state.specs.JobValue.{pass_count, placing_at}
 use Rattle.strip_place.specs.Anneal.{PlacingUnderWay, is_past_last}
+use Rattle.strip_place.specs.declared.placing.TheConstants.{MAX_PASSES}
 use Rattle.tenant_slot.specs.SingleUser.{misfit_of}
 use Rattle.tenant_slot.specs.declared.reply.Misfit.{Misfit}
 use Rattle.tenant_slot.specs.declared.reply.Refusal.TheVariants.{DoesNotFit}
@@ -23,7 +24,7 @@ IsPackedFrom circuit arch (Err ble) = unfit_of circuit arch ≡ Some ble
 
 -- that number of passes is all: the last of them is the pass at temperature 0
 pub record AreAllPasses (strip : Strip) (passes : ℕ) : Type 0 where
-  pub few : passes ≤ 512
+  pub few : passes ≤ MAX_PASSES
   pub is_past : is_past_last strip passes ≡ true
   pub before : (fewer : ℕ) → fewer < passes → is_past_last strip fewer ≡ false
 

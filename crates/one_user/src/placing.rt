@@ -12,7 +12,7 @@ ghost use Rattle.one_user.specs.Placing.{AreAllPasses, IsPackedFrom, IsPlacedFro
 
 use crate::device::Request;
 use arch_file::SharedArch;
-use blif::{BlifError, BlifFault, SharedCircuit, read_blif};
+use blif::{BlifError, BlifFault, MAX_NETS, SharedCircuit, read_blif};
 use block_places::{Fit, fit_of};
 use cluster::{PackEnd, PackError, PackFault, Packing, SharedPacked, check};
 use grid::Strip;
@@ -21,7 +21,7 @@ use strip_place::{Kept, MAX_PASSES, PassEnd, Placing, laws_of_kept, laws_of_pass
 use tenant_slot::{Misfit, Refusal};
 
 /// The largest number of clusters of a packing: a circuit has no more BLEs.
-const MAX_CLUSTERS: u32 = 8192;
+const MAX_CLUSTERS: u32 = MAX_NETS as u32;
 
 /// How the packing and placing of a netlist ended.
 #[derive(Drop)]

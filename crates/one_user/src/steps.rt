@@ -5,6 +5,7 @@ ghost use Rattle.tenant_slot.specs.SingleUser.{kind_that_runs};
 ghost use Rattle.one_user.specs.Steps.{CanFinish, CanStep, Finishes, MakesStep};
 
 use crate::telling::tell_step;
+use blif::MAX_NETS;
 use job_state::Progress;
 use line_text::Sink;
 use std::alloc::AllocError;
@@ -13,7 +14,7 @@ use tenant_slot::{Origin, Slot, StepReply};
 
 /// The largest number of steps of a job: a circuit has no more BLEs, a placing no more passes, and
 /// a routing no more iterations.
-const MAX_STEPS: u32 = 8192;
+const MAX_STEPS: u32 = MAX_NETS as u32;
 
 /// A step that was made.
 #[derive(Clone, Copy)]

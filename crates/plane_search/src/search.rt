@@ -1,5 +1,5 @@
 //! A search of one plane at a time.
-ghost use Rattle.std.specs.Prelude.{◌≡◌, ℕ, ◌+◌, ◌<◌, ◌≤◌, ◌^◌, ◌∷◌, ◌++◌, [], true, false, All, Some, None, Ok, IfOk, IfSome, IfNone, OnOk, MatchOption, map, length, if◌then◌else◌};
+ghost use Rattle.std.specs.Prelude.{◌≡◌, ℕ, ◌+◌, ◌<◌, ◌≤◌, ◌^◌, ◌∷◌, ◌++◌, [], true, false, All, Some, None, Ok, IfOk, IfSome, IfNone, OnOk, MatchOption, map, length, if◌then◌else◌, IsTrue, ◌↔◌};
 ghost use Rattle.std.specs.Bool.{MatchBool};
 ghost use Rattle.std.specs.List.Sorted.{IsNonDecreasing};
 ghost use Rattle.std.specs.Ordering.{nat_cmp, ordering_then};
@@ -68,7 +68,7 @@ fn is_less(path: &Path, other: &Path) -> bool
 
 /// Whether the limit is this cost.
 fn is_limit(most: Option<u64>, cost: u64) -> bool
-    ensures { result ≡ true → most ≡ Some cost }
+    ensures { IsTrue result ↔ (most ≡ Some cost) }
 {
     match most {
         Some(limit) => limit == cost,

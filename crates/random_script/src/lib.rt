@@ -17,5 +17,5 @@ mod draws;
 mod plan;
 mod script;
 
-pub use plan::{LoadParameters, Phase, Plan};
+pub use plan::{LoadParameters, MAX_TABLES, Phase, Plan};
 pub use script::{write_netlist, write_script};

@@ -10,7 +10,7 @@ use grid::{MAX_COLUMNS, MAX_ROWS};
 use strips::MAX_STRIPS;
 
 /// The largest number of tables of a random circuit.
-pub(crate) const MAX_TABLES: u32 = 7_500;
+pub const MAX_TABLES: u32 = 7_500;
 
 /// The last command of a script's tenants.
 #[derive(Clone, Copy, PartialEq, PartialOrd)]

@@ -40,7 +40,8 @@ fn met_by(arch: &Arch, row: u32, track: u32) -> bool
     meets_track(arch.fc_pad, arch.tracks, row - 1, track)
 }
 
-/// The table of an architecture, with a row of the most tracks for logic blocks and one for each pad.
+/// The table of an architecture, with a row of the most tracks for logic blocks and one for each
+/// pad.
 pub(crate) fn met_table(alloc: Global, arch: &Arch, pads: u32) -> Result<Vec<bool>, AllocError>
     requires arch { IsArch arch.now }
     requires pads { pads ≤ MAX_IO_RAT }

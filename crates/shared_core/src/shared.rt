@@ -21,8 +21,7 @@ use job_state::{AnyJob, Back, Done};
 use service_core::{Device, Entry, NotServed, OpRefusal, PutReply, Receipt, Service};
 use std::alloc::{AllocError, Global};
 use std::marker::Model;
-use std::sync::ledger;
-use std::sync::ledger::{Blank, Book, Ledger};
+use std::sync::ledger::{self, Blank, Book, Ledger};
 use tenant_slot::{Command, MAX_ENTRIES, StateName};
 
 /// The most shares.
@@ -323,8 +322,7 @@ impl<C: Begun, P: Ledger> Core<C, P> {
         Ok(reply)
     }
 
-    /// Puts a step that a worker made, as `put` does; if it is recorded the worker's share counts
-    /// it.
+    /// Puts a worker's step, as `put` does; if it is recorded the worker's share counts it.
     pub fn share_put(
         &mut self,
         share: &mut Share<P>,

@@ -9,7 +9,7 @@ use Rattle.strip_files.specs.declared.route_node.RouteNode.{RouteNode}
 abbrev pub stretch : {X : Type 0} → List X → ℕ → ℕ → List X
 stretch all start end = drop start (take end all)
 
--- the index at which the nodes of that net's route begin; after the last net, the number of all nodes
+-- the index at which the nodes of that net's route begin; after the last net, the number of nodes
 abbrev pub first_node : RoutedStrip → ℕ → ℕ
 first_node strip net = option_map_or (λ net. net.first_node) (slice_get strip.nets.items net) (length strip.nodes.items)
 

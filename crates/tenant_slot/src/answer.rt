@@ -1,5 +1,5 @@
 //! A reply before it is given.
-ghost use Rattle.std.specs.Prelude.{◌≡◌, ℕ, List, length, nat_lt, Err, IfErr, IfOk, None, Some};
+ghost use Rattle.std.specs.Prelude.{◌≡◌, length, nat_lt, Err, IfErr, IfOk, None, Some};
 ghost use Rattle.strip_place.specs.declared.placing.TheConstants.{MAX_EFFORT};
 ghost use Rattle.blif.specs.CircuitOf.{circuit_of};
 ghost use Rattle.cluster.specs.Blocks.{block_nets};
@@ -18,6 +18,7 @@ ghost use Rattle.tenant_slot.specs.Standing.{IsChange};
 
 use crate::beginning::Beginning;
 use crate::content::Netlist;
+use crate::file_texts::{net_file, place_file, route_file};
 use crate::not_served::NotAnswered;
 use crate::reply::{FileKind, Misfit, Refusal, Reply, StateName};
 use crate::standing::Change;
@@ -25,12 +26,10 @@ use blif::{BlifError, SharedCircuit, read_blif};
 use block_places::{Fit, fit_of};
 use cluster::{PackError, PackFault, Packed, check};
 use job_state::{Parked, SharedText};
-use line_text::{MemorySink, Sink, Text};
 use pathfinder::Routes;
 use std::alloc::Global;
 use std::marker::Model;
 use strip_place::{Kept, MAX_EFFORT, Placing};
-use vpr_files::{net_text, place_text, route_text};
 
 /// A reply that isn't given yet, with what it changes. If it is dropped, nothing happens.
 #[derive(Drop)]
@@ -199,11 +198,10 @@ impl PreparedReply {
             ≡ file_outcome lut_size FileKind.Net (net_text_of packed.now)) }
         ensures err { IfErr result (λ e. e ≡ NotAnswered.NoMemory) }
     {
-        let mut sink = MemorySink::new(alloc);
-        if net_text(packed, &mut sink).is_err() {
-            return Err(NotAnswered::NoMemory);
+        match net_file(alloc, packed) {
+            Ok(text) => Ok(PreparedReply::file(lut_size, FileKind::Net, text)),
+            Err(_) => Err(NotAnswered::NoMemory),
         }
-        PreparedReply::file(alloc, lut_size, FileKind::Net, sink)
     }
 
     /// The answer with the `.place` file of a placed netlist.
@@ -217,11 +215,10 @@ impl PreparedReply {
             (place_text_of placing.now.strip placing.now.packed (places_by_block placing.now))) }
         ensures err { IfErr result (λ e. e ≡ NotAnswered.NoMemory) }
     {
-        let mut sink = MemorySink::new(alloc);
-        if place_text(placing, &mut sink).is_err() {
-            return Err(NotAnswered::NoMemory);
+        match place_file(alloc, placing) {
+            Ok(text) => Ok(PreparedReply::file(lut_size, FileKind::Place, text)),
+            Err(_) => Err(NotAnswered::NoMemory),
         }
-        PreparedReply::file(alloc, lut_size, FileKind::Place, sink)
     }
 
     /// The answer with the `.route` file of a routed netlist.
@@ -238,28 +235,17 @@ impl PreparedReply {
             routes.now)) }
         ensures err { IfErr result (λ e. e ≡ NotAnswered.NoMemory) }
     {
-        let mut sink = MemorySink::new(alloc);
-        if route_text(placing, routes, &mut sink).is_err() {
-            return Err(NotAnswered::NoMemory);
+        match route_file(alloc, placing, routes) {
+            Ok(text) => Ok(PreparedReply::file(lut_size, FileKind::Route, text)),
+            Err(_) => Err(NotAnswered::NoMemory),
         }
-        PreparedReply::file(alloc, lut_size, FileKind::Route, sink)
     }
 
     /// The answer with a file that is written already.
-    fn file(
-        alloc: Global,
-        lut_size: u32,
-        kind: FileKind,
-        sink: MemorySink,
-    ) -> Result<Self, NotAnswered>
-        ensures ok { (bytes : List ℕ) → ⟦<MemorySink as Sink>⟧.contents sink ≡ Some bytes →
-            IfOk result (λ a. a ≡ file_outcome lut_size kind bytes) }
-        ensures err { IfErr result (λ e. e ≡ NotAnswered.NoMemory) }
+    fn file(lut_size: u32, kind: FileKind, text: SharedText) -> Self
+        ensures { result ≡ file_outcome lut_size kind text }
     {
-        match SharedText::new(alloc, Text::new(sink.into_bytes())) {
-            Ok(text) => Ok(PreparedReply::without_change(lut_size, Reply::File { kind, text })),
-            Err(_) => Err(NotAnswered::NoMemory),
-        }
+        PreparedReply::without_change(lut_size, Reply::File { kind, text })
     }
 }
 

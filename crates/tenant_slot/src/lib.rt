@@ -10,8 +10,8 @@
 //!   nothing if the step is known to be the next one.
 //! - `SingleUser` in `specs/` is the definition: `State`, `step` and its fold `run`. `Slot` there
 //!   says what each call does.
-//! - An `PreparedReply` is computed first and accepted later, so that everything that takes memory
-//! comes   before any change.
+//! - A `PreparedReply` is computed first and accepted later, so that everything that takes memory
+//!   comes before any change.
 #![tactic(auto)]
 
 mod answer;
@@ -22,6 +22,7 @@ mod ending;
 mod event;
 mod failure;
 mod faults;
+mod file_texts;
 mod not_served;
 mod origin;
 mod reply;
@@ -32,6 +33,7 @@ pub use answer::PreparedReply;
 pub use command::Command;
 pub use event::{Advance, Event};
 pub use failure::RoutingFailure;
+pub use file_texts::{net_file, place_file, route_file};
 pub use job_state::SharedText;
 pub use not_served::NotAnswered;
 pub use origin::Origin;

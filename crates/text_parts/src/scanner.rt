@@ -1,5 +1,5 @@
 //! The parts of a line, taken from its front one by one.
-ghost use Rattle.std.specs.Prelude.{◌≡◌, ◌++◌, ◌∷◌, ◌-◌, [], ℕ, List, IfSome, IfNone, if◌then◌else◌, drop, take, length, nat_le, eqb, position, unwrap_or, IsTrue, ◌↔◌, false};
+ghost use Rattle.std.specs.Prelude.{◌≡◌, ◌++◌, ◌∷◌, [], ℕ, List, IfSome, IfNone, drop, take, length, eqb, position, unwrap_or, IsTrue, ◌↔◌, false};
 ghost use Rattle.std.specs.List.{before_first, starts_with};
 ghost use Rattle.line_text.specs.Decimal.{decimal_of};
 ghost use Rattle.text_parts.specs.PartEnds.{is_no_digit, is_space};
@@ -77,15 +77,6 @@ impl<'t> Scanner<'t> {
     {
         let end = self.word_end();
         self.split(end)
-    }
-
-    /// Takes everything off the front except the last `count` bytes; everything if fewer are left.
-    pub fn all_but(&mut self, count: usize) -> &'t [u8]
-        ensures front { result.now ≡ (if nat_le count (length self.old)
-            then take (length self.old - count) self.old else self.old) }
-        ensures taken { self.old ≡ result.now ++ self.new }
-    {
-        self.split(self.rest.len().checked_sub(count))
     }
 
     /// The index of the first byte that is not a digit.
