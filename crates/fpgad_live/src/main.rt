@@ -2,17 +2,15 @@
 //! input as it comes.
 #![tactic(auto)]
 
-use dialogue::Connection;
 use line_text::{StdSink, StdSource};
-use live_run::run_program;
+use live_threads::run_program;
 use std::process::ExitCode;
 use std::{env, io};
 
 fn main(rt: HostRuntime) -> ExitCode {
     let reader = StdSource::new(rt.reader());
     let writer = StdSink::new(io::writer(&rt));
-    let mut connection = Connection::new(reader, writer);
-    run_program(&rt, words(&rt), &mut connection)
+    run_program(&rt, words(&rt), reader, writer)
 }
 
 /// The words that the program was called with, the first being its name.

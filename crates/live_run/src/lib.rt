@@ -19,5 +19,5 @@ pub use beginning::first_line;
 pub use log_lock::LockLog;
 pub use options::{CommandLine, Options, read_options};
 pub use outcome::Outcome;
-pub use program::{run_program, run_words};
+pub use program::{read_architecture, report_outcome, report_refusal, run_program, run_words};
 pub use serving::serve;

@@ -16,7 +16,7 @@ use std::convert::AsStr;
 const HELP: &str = "\
 A line of input is a request; NAME is 1 to 32 letters, digits and `_`:
   op admit NAME WIDTH | evict NAME | move NAME OFFSET | list | owners
-  op step NAME N | take NAME | put JOB
+  op step NAME N | take NAME | put JOB, without workers
   @NAME upload | change, then lines `@NAME ..` with a BLIF netlist, and a line `@NAME .`
   @NAME pack | place SEED EFFORT | route | wait | cancel | withdraw
   @NAME status | net | placefile | routefile
@@ -24,7 +24,7 @@ A line of input is a request; NAME is 1 to 32 letters, digits and `_`:
 Each line of a reply begins with `op` or `@NAME`; `? N` says that line N has no form.
 
 Status: 0 served, 1 the architecture or a device failed, 2 the options are refused,
-  4 memory ran out
+  4 memory ran out, 5 the journals differ from the answers
 
 Example: fpgad_live --arch my.arch --tracks 8 --columns 20 --rows 10 --log day.log
 All of it: docs/LIVE.md";
@@ -66,7 +66,7 @@ const PROGRAM: Program = Program {
         OptionWord {
             name: "workers",
             value_name: "K",
-            help: "Threads that make the jobs' steps: 0, each step is made by a wait or an op step",
+            help: "Threads that make the jobs' steps; 0, each step is made by a wait or an op step",
             takes: Takes::Number(0, 16),
             default: Some("0"),
         },
@@ -100,7 +100,10 @@ const BEYOND: &str = "a number is beyond its limits";
 
 const NO_ARCH: &str = "--arch FILE is missing";
 
-const WORKERS: &str = "--workers must be 0: a live service has no workers yet";
+const NO_WORKERS: &str = "--workers must be 0 here";
+
+const LOG_ALONE: &str =
+    "--log and --workers exclude each other: without workers a log leads to one state";
 
 /// The size of the device and of its channels, and of what a tenancy's journal may hold, within
 /// their limits.
@@ -182,13 +185,15 @@ impl Options {
     }
 }
 
-/// A command line: the options, the path of the architecture's file, and the path of the log if
-/// there is one.
+/// A command line: the options, the path of the architecture's file, the path of the log if there
+/// is one, and the number of workers. With workers there is no log.
 #[derive(Clone, Copy)]
 pub struct CommandLine<'a> {
     pub options: Options,
     pub arch: &'a str,
     pub log: Option<&'a str>,
+    /// 0 to 16.
+    pub workers: u32,
 }
 
 /// The options that these words give, the first being the program's name. An error is clap's; a
@@ -203,20 +208,28 @@ pub fn read_options<'a, S: AsStr>(alloc: Global, words: &'a [S]) -> Result<Comma
     }
 }
 
+/// The refusal of these words by a program that has no workers.
+pub(crate) fn refuse_workers<S: AsStr>(alloc: Global, words: &[S]) -> Error {
+    refusal(alloc, &PROGRAM, words, NO_WORKERS)
+}
+
 /// The command line that the options give, or why they are refused.
 fn line_of<'a>(given: &Given<'a>) -> Result<CommandLine<'a>, &'static str> {
     let tracks = given.number("tracks")?;
     let columns = given.number("columns")?;
     let rows = given.number("rows")?;
-    if given.number("workers")? != 0 {
-        return Err(WORKERS);
-    }
     let options = Options::new(tracks, columns, rows).ok_or(BEYOND)?;
     let tenant_memory = given.number("tenant-memory")?;
     let options = options.with_tenant_memory(tenant_memory).ok_or(BEYOND)?;
+    let workers = given.number("workers")?;
+    let log = given.text("log");
+    if workers > 0 && log.is_some() {
+        return Err(LOG_ALONE);
+    }
     Ok(CommandLine {
         options,
         arch: given.text("arch").ok_or(NO_ARCH)?,
-        log: given.text("log"),
+        log,
+        workers,
     })
 }

@@ -58,7 +58,7 @@ impl Outcome {
     }
 
     /// How a service ends whose conversation ended so.
-    pub(crate) fn of(end: ConversationEnd) -> Self
+    pub fn of(end: ConversationEnd) -> Self
         ensures { result ≡ outcome_of end }
     {
         match end {

@@ -7,7 +7,7 @@ ghost use Rattle.live_run.specs.Outcomes.{status_of};
 use crate::beginning::first_line;
 use crate::kept_log::{KeptLog, open_log};
 use crate::log_lock::LockLog;
-use crate::options::{CommandLine, read_options};
+use crate::options::{CommandLine, read_options, refuse_workers};
 use crate::outcome::Outcome;
 use crate::serving::serve;
 use clap::Error;
@@ -84,6 +84,7 @@ where
         (⟦<Connection<R, W, FileLog<H::File>> as Dialogue>⟧.view connection.new) result }
 {
     match read_options(rt.alloc(), words) {
+        Ok(line) if line.workers != 0 => Err(refuse_workers(rt.alloc(), words)),
         Ok(line) => Ok(run_line(rt, &line, connection)),
         Err(error) if error.kind() == ErrorKind::OutOfMemory => Ok(Outcome::NoMemory),
         Err(error) => Err(error),
@@ -158,7 +159,7 @@ where
 
 /// The text of the architecture's file. Of a file that is longer than a text may be, the first byte
 /// above that is the last that is read: it is refused whatever else it holds.
-fn read_architecture<H: Files + AllocGlobal>(rt: &H, path: &str) -> Result<Vec<u8>, ReadError> {
+pub fn read_architecture<H: Files + AllocGlobal>(rt: &H, path: &str) -> Result<Vec<u8>, ReadError> {
     match File::open(rt, path) {
         Ok(file) => read_all(
             rt.alloc(),
@@ -169,7 +170,7 @@ fn read_architecture<H: Files + AllocGlobal>(rt: &H, path: &str) -> Result<Vec<u
 }
 
 /// Writes the message of how the run ended to standard error, and returns its status.
-fn report_outcome<H: Eprint>(rt: &H, outcome: Outcome) -> ExitCode
+pub fn report_outcome<H: Eprint>(rt: &H, outcome: Outcome) -> ExitCode
     ensures { exit_status result ≡ status_of outcome }
 {
     if outcome.status() != 0 {
@@ -179,7 +180,7 @@ fn report_outcome<H: Eprint>(rt: &H, outcome: Outcome) -> ExitCode
 }
 
 /// Writes why the words are refused to standard error, and returns status 2.
-fn report_refusal<H: Eprint, M: Display + Drop>(rt: &H, message: M) -> ExitCode
+pub fn report_refusal<H: Eprint, M: Display + Drop>(rt: &H, message: M) -> ExitCode
     ensures { exit_status result ≡ 2 }
 {
     let _ = rt.eprint(message);

@@ -1,5 +1,7 @@
-//! Tests of the ready queue: what no contract says of it, which is that something happens.
+//! Tests of the ready queue and of a backlog: what no contract says of them, which is that
+//! something happens.
 //!
+//! - `bounded`: a backlog up to its bounds.
 //! - `closing`: a queue that is closed.
 //! - `order`: which number is popped first.
 //! - `meeting`: seats that push and pop on threads of their own.
@@ -7,6 +9,8 @@
 //! - `crew`, `numbers`: a queue with three seats and a pass, and many pushes and pops.
 #![tactic(auto)]
 
+#[cfg(test)]
+mod bounded;
 #[cfg(test)]
 mod closing;
 #[cfg(test)]

@@ -1,0 +1,3 @@
+pub mod Contents
+pub mod Sessions
+pub mod Weights

@@ -1,0 +1,159 @@
+//! The program with workers or without.
+ghost use Rattle.std.specs.Prelude.{IfOk};
+ghost use Rattle.service_core.specs.Kept.{IsDevice};
+
+use crate::ending::ServiceEnd;
+use crate::running::{Workers, serve_with_workers};
+use arch_file::{ArchError, read_arch};
+use clap::error::ErrorKind;
+use dialogue::{Connection, FileLog};
+use line_text::{ReadError, Sink, Source};
+use live_run::{
+    CommandLine, LockLog, Outcome, read_architecture, read_options, report_outcome, report_refusal,
+};
+use service_core::{Device, Service};
+use sessions::device_graph;
+use std::alloc::Global;
+use std::io;
+use std::process::ExitCode;
+use std::rt::Files;
+use std::sync::Wait;
+use std::thread::Threads;
+use std::time::Clock;
+
+/// The status if what the sessions were answered is not what the journals say.
+const NOT_SETTLED: u8 = 5;
+
+/// Serves the lines of a reader as the words say, the first being the program's name, and returns
+/// the status. Messages go to standard error, if that can be written.
+pub fn run_program<
+    H: Files + Threads + Wait + Clock + AllocGlobal + Eprint + Sync,
+    S: Source + Drop,
+    W: Sink + Drop + Send,
+>(rt: &H, words: io::Result<Vec<String>>, reader: S, writer: W) -> ExitCode
+where
+    H::File: LockLog,
+{
+    match words {
+        Ok(words) => run_words(rt, words, reader, writer),
+        Err(error) if error.kind() == io::ErrorKind::OutOfMemory => {
+            drop((reader, writer));
+            report_outcome(rt, Outcome::NoMemory)
+        }
+        Err(_) => {
+            drop((reader, writer));
+            report_refusal(rt, "error: an argument is no text\n")
+        }
+    }
+}
+
+/// Runs it with words that could be read. Without workers it is the program of `live_run`.
+fn run_words<
+    H: Files + Threads + Wait + Clock + AllocGlobal + Eprint + Sync,
+    S: Source + Drop,
+    W: Sink + Drop + Send,
+>(rt: &H, words: Vec<String>, reader: S, writer: W) -> ExitCode
+where
+    H::File: LockLog,
+{
+    match read_options(rt.alloc(), words.as_slice()) {
+        Ok(line) if line.workers > 0 => run_line(rt, &line, reader, writer),
+        Ok(_) => {
+            let mut connection: Connection<S, W, FileLog<H::File>> = Connection::new(
+                reader, writer,
+            );
+            live_run::run_program(rt, Ok(words), &mut connection)
+        }
+        Err(error) if error.kind() == ErrorKind::OutOfMemory => {
+            drop((reader, writer, error));
+            report_outcome(rt, Outcome::NoMemory)
+        }
+        Err(error) => {
+            drop((reader, writer));
+            report_refusal(rt, error)
+        }
+    }
+}
+
+/// Serves with workers as the command line says.
+fn run_line<
+    H: Files + Threads + Wait + Clock + AllocGlobal + Eprint + Sync,
+    S: Source + Drop,
+    W: Sink + Drop + Send,
+>(rt: &H, line: &CommandLine<'_>, reader: S, writer: W) -> ExitCode {
+    match read_device(rt, line) {
+        Ok(device) => match run_device(rt, line, device, reader, writer) {
+            Ok(end) => report_end(rt, end),
+            Err(outcome) => report_outcome(rt, outcome),
+        },
+        Err(outcome) => {
+            drop((reader, writer));
+            report_outcome(rt, outcome)
+        }
+    }
+}
+
+/// The device of a command line.
+fn read_device<H: Files + AllocGlobal>(rt: &H, line: &CommandLine<'_>) -> Result<Device, Outcome>
+    ensures { IfOk result IsDevice }
+{
+    match read_architecture(rt, line.arch) {
+        Ok(architecture) => device_of(rt.alloc(), line, architecture.as_slice()),
+        Err(ReadError::Failed) => Err(Outcome::ArchUnreadable),
+        Err(ReadError::NoMemory) => Err(Outcome::NoMemory),
+    }
+}
+
+/// The device of a command line over that architecture.
+fn device_of(alloc: Global, line: &CommandLine<'_>, architecture: &[u8]) -> Result<Device, Outcome>
+    ensures { IfOk result IsDevice }
+{
+    match read_arch(alloc, architecture, line.options.tracks) {
+        Ok(arch) => Ok(line.options.device(arch)),
+        Err(ArchError::Fault(fault)) => Err(Outcome::ArchRefused(fault)),
+        Err(ArchError::NoMemory) => Err(Outcome::NoMemory),
+    }
+}
+
+/// Serves over that device.
+fn run_device<
+    H: Files + Threads + Wait + Clock + AllocGlobal + Sync,
+    S: Source + Drop,
+    W: Sink + Drop + Send,
+>(
+    rt: &H,
+    line: &CommandLine<'_>,
+    device: Device,
+    reader: S,
+    writer: W,
+) -> Result<ServiceEnd, Outcome>
+    requires { IsDevice device }
+{
+    let Ok(graph) = device_graph(rt.alloc(), &device) else {
+        drop((device, reader, writer));
+        return Err(Outcome::NoMemory);
+    };
+    let workers = Workers {
+        count: line.workers,
+        graph: &graph,
+    };
+    match Service::with_text_limit(rt.alloc(), device, line.options.text_limit()) {
+        Ok(service) => Ok(serve_with_workers(rt, workers, service, reader, writer)),
+        Err(_) => {
+            drop((reader, writer));
+            Err(Outcome::NoMemory)
+        }
+    }
+}
+
+/// Writes the message of how the service ended to standard error, and returns its status.
+fn report_end<H: Eprint>(rt: &H, end: ServiceEnd) -> ExitCode {
+    let ServiceEnd { outcome, service } = end;
+    let is_settled = service.is_some();
+    drop(service);
+    if outcome == Outcome::Done && !is_settled {
+        let _ = rt.eprintln("settle");
+        return ExitCode::from(NOT_SETTLED);
+    }
+    report_outcome(rt, outcome)
+}

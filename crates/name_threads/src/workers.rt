@@ -1,0 +1,110 @@
+//! Workers on threads.
+ghost use Rattle.std.specs.Prelude.{◌≡◌, All};
+
+use crate::seats::a_seat;
+use job_queue::Seat;
+use shared_core::{Begun, Share};
+use std::alloc::AllocGlobal;
+use std::sync::Wait;
+use std::sync::ledger::Ledger;
+use std::thread::{JoinHandle, Scope, Threads};
+use std::time::Clock;
+use worker_pool::{Open, Pool, run_worker};
+
+/// A worker's thread.
+pub type Worker<P> = JoinHandle<Share<P>>;
+
+/// Starts the workers. Returns whether all were started.
+pub fn start_workers<
+    's,
+    E,
+    C: Begun + Send + Sync + 's,
+    P: Ledger + Send + Sync + 's,
+    R: Wait + Clock + Sync + 's,
+>(
+    scope: &Scope<'s, E>,
+    pool: Pool<'s, R, C, P>,
+    seats: Vec<Seat>,
+    shares: Vec<Share<P>>,
+    started: &mut Vec<Worker<P>>,
+) -> bool
+    requires { All (λ s. s.of ≡ pool.ready.now) seats.items }
+{
+    let mut seats = seats;
+    let mut are_started = true;
+    for share in shares {
+        are_started = start_worker(scope, pool, &mut seats, share, started, are_started);
+    }
+    drop(seats);
+    are_started
+}
+
+/// Starts a worker, if those before were started. Returns whether it was.
+fn start_worker<
+    's,
+    E,
+    C: Begun + Send + Sync + 's,
+    P: Ledger + Send + Sync + 's,
+    R: Wait + Clock + Sync + 's,
+>(
+    scope: &Scope<'s, E>,
+    pool: Pool<'s, R, C, P>,
+    seats: &mut Vec<Seat>,
+    share: Share<P>,
+    started: &mut Vec<Worker<P>>,
+    goes_on: bool,
+) -> bool
+    requires { All (λ s. s.of ≡ pool.ready.now) seats.old.items }
+    ensures { All (λ s. s.of ≡ pool.entry.ready.now) seats.new.items }
+{
+    if !goes_on || started.reserve(1).is_err() {
+        drop(share);
+        return false;
+    }
+    match a_seat(seats, pool.ready) {
+        Some(seat) => match scope.spawn(move || run_worker(pool, seat, share, &Open)) {
+            Ok(worker) => {
+                started.push(worker).unwrap();
+                true
+            }
+            Err(error) => {
+                drop(error);
+                false
+            }
+        },
+        None => {
+            drop(share);
+            false
+        }
+    }
+}
+
+/// Joins the workers, and returns their shares. None if memory runs out.
+pub fn join_workers<P: Ledger, R: Threads + AllocGlobal>(
+    rt: &R,
+    workers: Vec<Worker<P>>,
+) -> Option<Vec<Share<P>>> {
+    let mut shares = Vec::with_capacity(rt.alloc(), workers.len()).ok();
+    for worker in workers {
+        let share = worker.join(rt);
+        shares = with_share(shares, share);
+    }
+    shares
+}
+
+/// The shares with one more.
+fn with_share<P: Ledger>(shares: Option<Vec<Share<P>>>, share: Share<P>) -> Option<Vec<Share<P>>> {
+    match shares {
+        Some(mut shares) => {
+            if shares.push(share).is_err() {
+                drop(shares);
+                return None;
+            }
+            Some(shares)
+        }
+        None => {
+            drop(share);
+            None
+        }
+    }
+}
