@@ -5,7 +5,7 @@ ghost use Rattle.line_text.specs.Lines.{physical_lines};
 use line_text::split_line;
 
 /// The number of lines of a text.
-pub(crate) fn count_lines(text: &[u8]) -> usize
+pub fn count_lines(text: &[u8]) -> usize
     ensures { result ≡ length (physical_lines text.now) }
 {
     let mut count = 0;

@@ -17,6 +17,7 @@ mod said;
 mod trouble;
 
 pub use asked::{LineRequest, asked_of};
+pub use counted::count_lines;
 pub use law::live_law;
 pub use live::Live;
 pub use said::Said;

@@ -12,7 +12,6 @@
 
 mod answering;
 mod asked;
-mod counted;
 mod ending;
 mod listing;
 mod program;

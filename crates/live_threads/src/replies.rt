@@ -5,9 +5,9 @@ ghost use Rattle.tagged_lines.specs.Tags.{output_of, tagged_text};
 ghost use Rattle.live_lines.specs.Live.{count_text, told_by};
 ghost use Rattle.live_threads.specs.Answers.{no_form_reply};
 
-use crate::counted::count_lines;
 use itoa::Buffer;
 use line_text::{Failed, MemorySink, Sink, write_slices};
+use live_lines::count_lines;
 use sessions::{SessionRefusal, write_session_refusal};
 use std::alloc::{AllocError, Global};
 use tagged_lines::write_tagged;
