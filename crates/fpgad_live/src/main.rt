@@ -3,14 +3,16 @@
 #![tactic(auto)]
 
 use line_text::{StdSink, StdSource};
-use live_threads::run_program;
+use live_threads::{ProgramEnd, run_program};
 use std::process::ExitCode;
 use std::{env, io};
 
 fn main(rt: HostRuntime) -> ExitCode {
     let reader = StdSource::new(rt.reader());
     let writer = StdSink::new(io::writer(&rt));
-    run_program(&rt, words(&rt), reader, writer)
+    let ProgramEnd { status, connection } = run_program(&rt, words(&rt), reader, writer);
+    drop(connection);
+    status
 }
 
 /// The words that the program was called with, the first being its name.

@@ -20,5 +20,5 @@ mod running;
 mod talking;
 
 pub use ending::ServiceEnd;
-pub use program::run_program;
+pub use program::{ProgramEnd, run_program};
 pub use running::{Workers, serve_with_workers};

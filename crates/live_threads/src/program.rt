@@ -1,16 +1,15 @@
 //! The program with workers or without.
-ghost use Rattle.std.specs.Prelude.{IfOk};
+ghost use Rattle.std.specs.Prelude.{IfOk, option_map};
+ghost use Rattle.std.specs.Process.{exit_status};
+ghost use Rattle.live_threads.specs.Endings.{IsProgramEnd, IsThreadedStatus};
 ghost use Rattle.service_core.specs.Kept.{IsDevice};
 
 use crate::ending::ServiceEnd;
 use crate::running::{Workers, serve_with_workers};
 use arch_file::{ArchError, read_arch};
-use clap::error::ErrorKind;
-use dialogue::{Connection, FileLog};
+use dialogue::{Connection, Dialogue, FileLog};
 use line_text::{ReadError, Sink, Source};
-use live_run::{
-    CommandLine, LockLog, Outcome, read_architecture, read_options, report_outcome, report_refusal,
-};
+use live_run::{CommandLine, LockLog, Outcome, read_architecture, read_options, report_outcome};
 use service_core::{Device, Service};
 use sessions::device_graph;
 use std::alloc::Global;
@@ -24,54 +23,91 @@ use std::time::Clock;
 /// The status if what the sessions were answered is not what the journals say.
 const NOT_SETTLED: u8 = 5;
 
-/// Serves the lines of a reader as the words say, the first being the program's name, and returns
-/// the status. Messages go to standard error, if that can be written.
+/// How the program ended: its status and, if it ran without workers, the connection.
+#[derive(Drop)]
+pub struct ProgramEnd<D> {
+    pub status: ExitCode,
+    pub connection: Option<D>,
+}
+
+/// Serves the lines of a reader as the words say, the first being the program's name. Messages go
+/// to standard error, if that can be written.
 pub fn run_program<
     H: Files + Threads + Wait + Clock + AllocGlobal + Eprint + Sync,
     S: Source + Drop,
     W: Sink + Drop + Send,
->(rt: &H, words: io::Result<Vec<String>>, reader: S, writer: W) -> ExitCode
+>(
+    rt: &H,
+    words: io::Result<Vec<String>>,
+    reader: S,
+    writer: W,
+) -> ProgramEnd<Connection<S, W, FileLog<H::File>>>
 where
     H::File: LockLog,
+    // Without workers it is the program of `live_run`. With workers the status is that of an
+    // outcome, or 5 if what the sessions were answered is not what the journals say.
+    ensures { IsProgramEnd (S.remaining reader) (W.contents writer)
+        (option_map (⟦<Connection<S, W, FileLog<H::File>> as Dialogue>⟧.view) result.connection)
+        (exit_status result.status) }
 {
     match words {
         Ok(words) => run_words(rt, words, reader, writer),
-        Err(error) if error.kind() == io::ErrorKind::OutOfMemory => {
-            drop((reader, writer));
-            report_outcome(rt, Outcome::NoMemory)
-        }
-        Err(_) => {
-            drop((reader, writer));
-            report_refusal(rt, "error: an argument is no text\n")
-        }
+        Err(error) => run_alone(rt, Err(error), reader, writer),
     }
 }
 
-/// Runs it with words that could be read. Without workers it is the program of `live_run`.
+/// Runs it with words that could be read.
 fn run_words<
     H: Files + Threads + Wait + Clock + AllocGlobal + Eprint + Sync,
     S: Source + Drop,
     W: Sink + Drop + Send,
->(rt: &H, words: Vec<String>, reader: S, writer: W) -> ExitCode
+>(
+    rt: &H,
+    words: Vec<String>,
+    reader: S,
+    writer: W,
+) -> ProgramEnd<Connection<S, W, FileLog<H::File>>>
 where
     H::File: LockLog,
+    ensures { IsProgramEnd (S.remaining reader) (W.contents writer)
+        (option_map (⟦<Connection<S, W, FileLog<H::File>> as Dialogue>⟧.view) result.connection)
+        (exit_status result.status) }
 {
     match read_options(rt.alloc(), words.as_slice()) {
-        Ok(line) if line.workers > 0 => run_line(rt, &line, reader, writer),
-        Ok(_) => {
-            let mut connection: Connection<S, W, FileLog<H::File>> = Connection::new(
-                reader, writer,
-            );
-            live_run::run_program(rt, Ok(words), &mut connection)
-        }
-        Err(error) if error.kind() == ErrorKind::OutOfMemory => {
-            drop((reader, writer, error));
-            report_outcome(rt, Outcome::NoMemory)
-        }
+        Ok(line) if line.workers > 0 => ProgramEnd {
+            status: run_line(rt, &line, reader, writer),
+            connection: None,
+        },
+        Ok(_) => run_alone(rt, Ok(words), reader, writer),
         Err(error) => {
-            drop((reader, writer));
-            report_refusal(rt, error)
+            drop(error);
+            run_alone(rt, Ok(words), reader, writer)
         }
+    }
+}
+
+/// Runs it without workers. It refuses words that ask for some.
+fn run_alone<
+    H: Files + Wait + AllocGlobal + Eprint,
+    S: Source + Drop,
+    W: Sink + Drop,
+>(
+    rt: &H,
+    words: io::Result<Vec<String>>,
+    reader: S,
+    writer: W,
+) -> ProgramEnd<Connection<S, W, FileLog<H::File>>>
+where
+    H::File: LockLog,
+    ensures { IsProgramEnd (S.remaining reader) (W.contents writer)
+        (option_map (⟦<Connection<S, W, FileLog<H::File>> as Dialogue>⟧.view) result.connection)
+        (exit_status result.status) }
+{
+    let mut connection = Connection::new(reader, writer);
+    let status = live_run::run_program(rt, words, &mut connection);
+    ProgramEnd {
+        status,
+        connection: Some(connection),
     }
 }
 
@@ -80,7 +116,9 @@ fn run_line<
     H: Files + Threads + Wait + Clock + AllocGlobal + Eprint + Sync,
     S: Source + Drop,
     W: Sink + Drop + Send,
->(rt: &H, line: &CommandLine<'_>, reader: S, writer: W) -> ExitCode {
+>(rt: &H, line: &CommandLine<'_>, reader: S, writer: W) -> ExitCode
+    ensures { IsThreadedStatus (exit_status result) }
+{
     match read_device(rt, line) {
         Ok(device) => match run_device(rt, line, device, reader, writer) {
             Ok(end) => report_end(rt, end),
@@ -147,7 +185,9 @@ fn run_device<
 }
 
 /// Writes the message of how the service ended to standard error, and returns its status.
-fn report_end<H: Eprint>(rt: &H, end: ServiceEnd) -> ExitCode {
+fn report_end<H: Eprint>(rt: &H, end: ServiceEnd) -> ExitCode
+    ensures { IsThreadedStatus (exit_status result) }
+{
     let ServiceEnd { outcome, service } = end;
     let is_settled = service.is_some();
     drop(service);
