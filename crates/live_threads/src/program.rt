@@ -87,11 +87,7 @@ where
 }
 
 /// Runs it without workers. It refuses words that ask for some.
-fn run_alone<
-    H: Files + Wait + AllocGlobal + Eprint,
-    S: Source + Drop,
-    W: Sink + Drop,
->(
+fn run_alone<H: Files + Wait + AllocGlobal + Eprint, S: Source + Drop, W: Sink + Drop>(
     rt: &H,
     words: io::Result<Vec<String>>,
     reader: S,

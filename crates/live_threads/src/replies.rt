@@ -26,7 +26,7 @@ pub(crate) fn tagged_reply(alloc: Global, tag: &[u8], text: &[u8]) -> Result<Vec
 {
     let mut reply = MemorySink::new(alloc);
     let done = write_tagged(&mut reply, tag, text);
-    written(done, reply)
+    bytes_of(done, reply)
 }
 
 /// The reply to the operator. If the number of its lines is open, a line with that number comes
@@ -63,7 +63,7 @@ fn count_line(alloc: Global, text: &[u8]) -> Result<Vec<u8>, AllocError>
     let digits = digits.format(count_lines(text)).as_bytes();
     let mut line = MemorySink::new(alloc);
     let done = write_slices(&mut line, &[b"lines ", digits]);
-    written(done, line)
+    bytes_of(done, line)
 }
 
 /// The line of a refusal, with that tag.
@@ -85,11 +85,11 @@ fn refusal_text(alloc: Global, refusal: SessionRefusal) -> Result<Vec<u8>, Alloc
 {
     let mut text = MemorySink::new(alloc);
     let done = write_session_refusal(&mut text, refusal);
-    written(done, text)
+    bytes_of(done, text)
 }
 
 /// The bytes, if they were written.
-fn written(done: Result<(), Failed>, sink: MemorySink) -> Result<Vec<u8>, AllocError>
+fn bytes_of(done: Result<(), Failed>, sink: MemorySink) -> Result<Vec<u8>, AllocError>
     ensures { IfOk result (λ bytes. (⟦<MemorySink as Sink>⟧.contents sink ≡ Some bytes.items)
         × is_ok done ≡ true) }
 {
