@@ -57,8 +57,8 @@ pub record ServesItem (old : TranscriptState) (item : Option SessionLine) (reply
   pub noted : new ≡ transcript_with old answer
   pub text : IfOk reply (λ bytes. bytes.items ≡ told_text answer)
 
--- private: the session that goes on, if there is one, answers one more item; without a session there
--- is no reply
+-- private: the session that goes on, if there is one, answers one more item; without a session
+-- there is no reply
 abbrev pub ServesNext : Option OpenState → Option SessionLine → Result (Vec ℕ Global) AllocError → Option OpenState → Type 0
 ServesNext None item reply new = (is_ok reply ≡ false) × (new ≡ None)
 ServesNext (Some old) item reply None = ⊥
