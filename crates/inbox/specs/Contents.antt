@@ -1,5 +1,5 @@
 -- What an inbox holds, and what it hands out.
-use Rattle.std.specs.Prelude.{ℕ, ◌≡◌, ◌⊎◌, List, [], ◌∷◌, ◌++◌, Bool, true, false, not, ◌&&◌, ◌||◌, Option, Some, None}
+use Rattle.std.specs.Prelude.{ℕ, ◌≡◌, ◌⊎◌, List, [], ◌∷◌, ◌++◌, Bool, true, false, not, ◌||◌, Option, Some, None}
 use Rattle.backlog.specs.Waiting.{Puts}
 use Rattle.sessions.specs.declared.line.SessionLine.{SessionLine}
 use Rattle.inbox.specs.declared.contents.Next.{Next}
