@@ -49,6 +49,11 @@ pub record OpenState : Type 0 where
   pub queue : ReadyId
   pub transcript : TranscriptState
 
+-- private: the session that ends, if one goes on
+abbrev pub ended_of : Option OpenState → List TranscriptState
+ended_of None = []
+ended_of (Some session) = ended_after session.transcript ∷ []
+
 -- one more item is answered, the transcript notes it, and this is the reply, if there was memory
 -- for it
 pub record ServesItem (old : TranscriptState) (item : Option SessionLine) (reply : Result (Vec ℕ Global) AllocError) (new : TranscriptState) : Type 0 where
