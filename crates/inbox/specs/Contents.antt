@@ -1,13 +1,13 @@
 -- What an inbox holds, and what it hands out.
-use Rattle.std.specs.Prelude.{ℕ, ◌≡◌, ◌⊎◌, List, [], ◌∷◌, ◌++◌, Bool, true, false, not, ◌&&◌, ◌||◌, Option, Some, None}
+use Rattle.std.specs.Prelude.{ℕ, ◌≡◌, ◌⊎◌, List, [], ◌∷◌, ◌++◌, Bool, true, false, not, ◌||◌, Option, Some, None}
 use Rattle.backlog.specs.Waiting.{Puts}
 use Rattle.sessions.specs.declared.line.SessionLine.{SessionLine}
 use Rattle.inbox.specs.declared.contents.Next.{Next}
 use Rattle.inbox.specs.declared.contents.Next.TheVariants.{Begins, Serves, Frees, Ends}
 
 -- the tenancies whose sessions have yet to begin, in order; the items to serve, in order, with
--- `None` for each that was lost; whether a tenancy of the name is live, whether the input has ended,
--- and whether a name has the inbox
+-- `None` for each that was lost; whether a tenancy of the name is live, whether the input has
+-- ended, and whether a name has the inbox
 pub record InboxState : Type 0 where
   pub leases : List ℕ
   pub items : List (Option SessionLine)
@@ -21,9 +21,9 @@ pub record IsEmpty (inbox : InboxState) : Type 0 where
   pub items : inbox.items ≡ []
 
 -- what the thread does next: a session begins before any item is served, and the items have their
--- turns in order; it ends only if nothing is left to do and the input has ended; the inbox gets free
--- only if nothing is left to do and no tenancy of the name is live; it waits only if nothing is left
--- to do
+-- turns in order; it ends only if nothing is left to do and the input has ended; the inbox gets
+-- free only if nothing is left to do and no tenancy of the name is live; it waits only if nothing
+-- is left to do
 abbrev pub TakesNext : {C : Type 0} → InboxState → Option (Next C) → InboxState → Type 0
 TakesNext old (Some (Begins id)) new = (old.leases ≡ id ∷ new.leases) × (new ≡ record old { leases = new.leases })
 TakesNext old (Some (Serves item)) new = (old.leases ≡ []) × (old.items ≡ item ∷ new.items) × (new ≡ record old { items = new.items })

@@ -49,6 +49,11 @@ pub record OpenState : Type 0 where
   pub queue : ReadyId
   pub transcript : TranscriptState
 
+-- private: the session that ends, if one goes on
+abbrev pub ended_of : Option OpenState → List TranscriptState
+ended_of None = []
+ended_of (Some session) = ended_after session.transcript ∷ []
+
 -- one more item is answered, the transcript notes it, and this is the reply, if there was memory
 -- for it
 pub record ServesItem (old : TranscriptState) (item : Option SessionLine) (reply : Result (Vec ℕ Global) AllocError) (new : TranscriptState) : Type 0 where
@@ -57,8 +62,8 @@ pub record ServesItem (old : TranscriptState) (item : Option SessionLine) (reply
   pub noted : new ≡ transcript_with old answer
   pub text : IfOk reply (λ bytes. bytes.items ≡ told_text answer)
 
--- private: the session that goes on, if there is one, answers one more item; without a session there
--- is no reply
+-- private: the session that goes on, if there is one, answers one more item; without a session
+-- there is no reply
 abbrev pub ServesNext : Option OpenState → Option SessionLine → Result (Vec ℕ Global) AllocError → Option OpenState → Type 0
 ServesNext None item reply new = (is_ok reply ≡ false) × (new ≡ None)
 ServesNext (Some old) item reply None = ⊥

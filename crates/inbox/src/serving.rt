@@ -1,6 +1,6 @@
 //! The thread of an inbox.
-ghost use Rattle.std.specs.Prelude.{◌≡◌, IfSome};
-ghost use Rattle.inbox.specs.Sessions.{ServesNext};
+ghost use Rattle.std.specs.Prelude.{◌≡◌, ◌++◌, ◌∷◌, [], IfSome, IsSomeAnd};
+ghost use Rattle.inbox.specs.Sessions.{ServesNext, ended_of};
 
 use crate::contents::Next;
 use crate::ended_session::EndedSession;
@@ -58,6 +58,8 @@ fn with_ended<C: Begun, P: Ledger, R: Wait>(
     session: Option<OpenSession<C>>,
 ) -> EndedSessions<C>
     requires { IfSome session (λ s. s.queue ≡ ready.now) }
+    ensures { IfSome result (λ new. IsSomeAnd ended (λ old.
+        new.items ≡ old.items ++ ended_of session)) }
 {
     match session {
         Some(session) => with_session(ended, session.end(rt, shared, ready)),
@@ -66,7 +68,10 @@ fn with_ended<C: Begun, P: Ledger, R: Wait>(
 }
 
 /// The sessions with one more.
-fn with_session<C: Begun>(ended: EndedSessions<C>, session: EndedSession<C>) -> EndedSessions<C> {
+fn with_session<C: Begun>(ended: EndedSessions<C>, session: EndedSession<C>) -> EndedSessions<C>
+    ensures { IfSome result (λ new. IsSomeAnd ended (λ old.
+        new.items ≡ old.items ++ session ∷ [])) }
+{
     match ended {
         Some(mut ended) => {
             if let Err(refused) = ended.push(session) {

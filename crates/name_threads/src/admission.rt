@@ -1,5 +1,6 @@
 //! How a tenancy begins.
 ghost use Rattle.std.specs.Prelude.{◌≡◌, IfSome, false};
+ghost use Rattle.name_threads.specs.Admission.{AdmitsUnlessLive};
 
 use service_core::OpRefusal;
 use shared_core::{Begun, Core, Lease, Share};
@@ -23,6 +24,7 @@ pub(crate) fn admit_in<C: Begun, P: Ledger>(
     width: u32,
 ) -> AdmitReply
     requires { C.stay ≡ false }
+    ensures { AdmitsUnlessLive core.old last width result core.new }
 {
     if core.state(last).is_some() {
         return AdmitReply::InUse;

@@ -1,5 +1,5 @@
 //! The names and their inboxes, as the thread that reads sees them.
-ghost use Rattle.std.specs.Prelude.{◌≡◌, IfSome, false};
+ghost use Rattle.std.specs.Prelude.{◌≡◌, IfSome, Some, ℕ, false, slice_get};
 
 use crate::admission::{AdmitReply, admit_in, lease_in};
 use crate::members::Members;
@@ -126,8 +126,12 @@ impl<'s, C: Begun, P: Ledger, R: Wait> Crowd<'s, C, P, R> {
         None
     }
 
-    /// The inbox of a name.
-    fn inbox_of(&self, number: usize) -> Option<&Inbox<C>> {
+    /// The inbox at a place that the name has.
+    fn inbox_of(&self, number: usize) -> Option<&Inbox<C>>
+        ensures { IfSome result (λ inbox. (place : ℕ)
+            × (slice_get self.now.members.names_by_place.items place ≡ Some (Some number))
+            × (slice_get self.now.inboxes.now place ≡ Some inbox.now)) }
+    {
         self.inboxes.get(self.members.place_of(number)?)
     }
 

@@ -1,5 +1,5 @@
 //! The threads of inboxes.
-ghost use Rattle.std.specs.Prelude.{◌≡◌, All, IfSome};
+ghost use Rattle.std.specs.Prelude.{◌≡◌, ◌++◌, ◌∷◌, [], All, IfSome, IsSomeAnd};
 ghost use Rattle.inbox.specs.Sessions.{IsEndedSession};
 
 use inbox::{EndedSession, EndedSessions, Inbox, serve_inbox};
@@ -123,7 +123,9 @@ fn with_sessions<C: Begun>(
     ended: EndedSessions<C>,
 ) -> Option<Vec<Transcript<C>>>
     requires { IfSome all (λ transcripts. All IsEndedSession transcripts.items) }
-    ensures { IfSome result (λ transcripts. All IsEndedSession transcripts.items) }
+    ensures ended { IfSome result (λ transcripts. All IsEndedSession transcripts.items) }
+    ensures none_lost { IfSome result (λ new. IsSomeAnd all (λ old. IsSomeAnd ended (λ more.
+        new.items ≡ old.items ++ more.items))) }
 {
     match ended {
         Some(ended) => with_each(all, ended),
@@ -140,7 +142,9 @@ fn with_each<C: Begun>(
     ended: Vec<EndedSession<C>>,
 ) -> Option<Vec<Transcript<C>>>
     requires { IfSome all (λ transcripts. All IsEndedSession transcripts.items) }
-    ensures { IfSome result (λ transcripts. All IsEndedSession transcripts.items) }
+    ensures ended { IfSome result (λ transcripts. All IsEndedSession transcripts.items) }
+    ensures none_lost { IfSome result (λ new. IsSomeAnd all (λ old.
+        new.items ≡ old.items ++ ended.items)) }
 {
     let mut all = all;
     for session in ended {
@@ -155,7 +159,9 @@ fn with_one<C: Begun>(
     session: EndedSession<C>,
 ) -> Option<Vec<Transcript<C>>>
     requires { IfSome all (λ transcripts. All IsEndedSession transcripts.items) }
-    ensures { IfSome result (λ transcripts. All IsEndedSession transcripts.items) }
+    ensures ended { IfSome result (λ transcripts. All IsEndedSession transcripts.items) }
+    ensures none_lost { IfSome result (λ new. IsSomeAnd all (λ old.
+        new.items ≡ old.items ++ session ∷ [])) }
 {
     match all {
         Some(mut all) => {

@@ -1,4 +1,6 @@
 //! The names, and what is known of each.
+ghost use Rattle.std.specs.Prelude.{◌≡◌, IfSome, Some, set, slice_get};
+
 use line_text::NameSet;
 use sessions::{SessionLine, SessionReader};
 use std::alloc::{AllocError, Global};
@@ -160,7 +162,10 @@ impl Members {
 
     /// The place of the inbox that a name has, or had last. None if it has had none, or another
     /// name has it now.
-    pub fn place_of(&self, number: usize) -> Option<usize> {
+    pub fn place_of(&self, number: usize) -> Option<usize>
+        ensures { IfSome result (λ place.
+            slice_get self.now.names_by_place.items place ≡ Some (Some number)) }
+    {
         for (place, name) in self.names_by_place.iter().enumerate() {
             if *name == Some(number) {
                 return Some(place);
@@ -170,7 +175,10 @@ impl Members {
     }
 
     /// A name has the inbox at that place from now on.
-    pub fn take_place(&mut self, place: usize, number: usize) {
+    pub fn take_place(&mut self, place: usize, number: usize)
+        ensures { self.new.names_by_place.items
+            ≡ set self.old.names_by_place.items place (Some number) }
+    {
         if let Some(name) = self.names_by_place.get_mut(place) {
             *name = Some(number);
         }

@@ -1,9 +1,10 @@
 //! An output that threads share.
-ghost use Rattle.std.specs.Prelude.{◌≡◌, OnErr, OnOk, false, is_ok, is_some, true};
+ghost use Rattle.std.specs.Prelude.{◌≡◌, IfOk, OnErr, OnOk, false, is_ok, is_some, true};
 ghost use Rattle.std.specs.Io.KnownBytes.{Appends};
+ghost use Rattle.tagged_lines.specs.Tags.{tagged_text};
 
 use line_text::{Failed, MemorySink, Sink, write_all};
-use std::alloc::Global;
+use std::alloc::{AllocError, Global};
 use std::sync::{Mutex, Wait};
 use tagged_lines::write_tagged;
 
@@ -52,6 +53,23 @@ impl<W: Sink + Drop> StoppableWriter<W> {
     }
 }
 
+/// A reply, each line of it with that tag, and LF after the last line too.
+///
+/// # Errors
+/// `AllocError` if memory runs out.
+pub fn tagged_reply(alloc: Global, tag: &[u8], reply: &[u8]) -> Result<Vec<u8>, AllocError>
+    ensures { IfOk result (λ text. text.items ≡ tagged_text tag.now reply.now) }
+{
+    let mut all = MemorySink::new(alloc);
+    match write_tagged(&mut all, tag, reply) {
+        Ok(()) => Ok(all.into_bytes()),
+        Err(_) => {
+            drop(all);
+            Err(AllocError)
+        }
+    }
+}
+
 /// An output that threads share: each text is written whole, before another one.
 #[derive(Drop)]
 pub struct Output<W: Sink + Drop> {
@@ -77,12 +95,13 @@ impl<W: Sink + Drop> Output<W> {
         self.writer.lock(rt).write(bytes)
     }
 
-    /// Writes a reply, each line of it with that tag.
+    /// Writes a reply, each line of it with that tag: the text of [`tagged_reply`]. If memory runs
+    /// out for it nothing more is written.
     pub fn write_reply<R: Wait>(&self, rt: &R, alloc: Global, tag: &[u8], reply: &[u8]) {
-        let mut all = MemorySink::new(alloc);
-        match write_tagged(&mut all, tag, reply) {
-            Ok(()) => {
-                let _ = self.write(rt, all.as_bytes());
+        match tagged_reply(alloc, tag, reply) {
+            Ok(text) => {
+                let _ = self.write(rt, text.as_slice());
+                drop(text);
             }
             Err(_) => self.note_no_memory(rt),
         }

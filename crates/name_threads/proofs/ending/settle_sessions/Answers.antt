@@ -13,6 +13,6 @@ returns-in-Ok g c =
       service_is = sym (given ∙ ap (λ (s : SettledState). s.service) c.in-Ok.ensures.service);
       settled = c.in-Ok.ensures.settled;
       follows = rw given c.in-Ok.ensures.follows;
-      alone = c.offset-_offset.ensures.alone;
-      parted = c.offset-_offset.ensures.parted;
+      alone = c.offset-offset.ensures.alone;
+      parted = c.offset-offset.ensures.parted;
     }
