@@ -9,8 +9,8 @@ use itoa::Buffer;
 use line_text::{Failed, MemorySink, Sink, write_slices};
 use live_lines::count_lines;
 use sessions::{SessionRefusal, write_session_refusal};
+use shared_output::tagged_reply;
 use std::alloc::{AllocError, Global};
-use tagged_lines::write_tagged;
 
 /// The reply to a line of that number that has no form.
 pub(crate) fn no_form(alloc: Global, number: u64) -> Result<Vec<u8>, AllocError>
@@ -18,15 +18,6 @@ pub(crate) fn no_form(alloc: Global, number: u64) -> Result<Vec<u8>, AllocError>
 {
     let mut digits = Buffer::new();
     tagged_reply(alloc, b"?", digits.format(number).as_bytes())
-}
-
-/// The lines of a text, each with that tag.
-pub(crate) fn tagged_reply(alloc: Global, tag: &[u8], text: &[u8]) -> Result<Vec<u8>, AllocError>
-    ensures { IfOk result (λ reply. reply.items ≡ tagged_text tag.now text.now) }
-{
-    let mut reply = MemorySink::new(alloc);
-    let done = write_tagged(&mut reply, tag, text);
-    bytes_of(done, reply)
 }
 
 /// The reply to the operator. If the number of its lines is open, a line with that number comes
