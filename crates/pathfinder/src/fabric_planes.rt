@@ -1,60 +1,75 @@
 //! The planes of a strip's graph at the prices of an iteration, towards a sink.
-use crate::entry::PinPrices;
 use crate::layout::{APART, Layout, NOWHERE, PIN};
-use crate::scratch::Wire;
 use crate::rate::{NodeCost, price};
+use crate::scratch::Wire;
 use least_path::Ends;
-use plane_search::Planes;
+use crate::bounds::Head;
+use plane_search::{Plane, Planes, Start};
 use rr_graph::Node;
 use std::alloc::AllocError;
+
+/// What a net's paths start at.
+#[derive(Clone, Copy)]
+pub(crate) struct From {
+    pub(crate) number: usize,
+    pub(crate) column: usize,
+    pub(crate) class: usize,
+    pub(crate) sides: [usize; 4],
+    pub(crate) opin_first: usize,
+}
+
+/// Where a net's paths end.
+#[derive(Clone, Copy)]
+pub(crate) struct To {
+    pub(crate) number: usize,
+    pub(crate) class: usize,
+    pub(crate) sides: [usize; 4],
+    pub(crate) ipin_first: usize,
+    pub(crate) exit: usize,
+    /// The least price of the pins on each side.
+    pub(crate) pins: [u16; 4],
+}
 
 #[derive(Drop)]
 pub(crate) struct FabricPlanes<'a> {
     pub(crate) layout: &'a Layout,
     /// The price of each wire, track by track; 255 if it is that or more.
     pub(crate) by_track: &'a [u8],
+    /// The same place by place.
+    pub(crate) by_place: &'a [u8],
     pub(crate) iterations: u32,
     pub(crate) rates: &'a [NodeCost],
     pub(crate) held: &'a [u32],
-    pub(crate) entries: &'a [Vec<usize>],
-    pub(crate) sink: Node,
-    pub(crate) sink_number: usize,
-    pub(crate) sink_class: usize,
-    pub(crate) ipin_first: usize,
-    pub(crate) exit: usize,
-    pub(crate) sides: [usize; 4],
-    pub(crate) pins: PinPrices,
-    /// The same place by place.
-    pub(crate) by_place: &'a [u8],
-    pub(crate) lasts: &'a [u32],
-    pub(crate) aheads: &'a [u16],
-    pub(crate) bounds: &'a [u32],
-    pub(crate) source_column: usize,
-    pub(crate) source_class: usize,
-    pub(crate) source_sides: [usize; 4],
-    pub(crate) source_number: usize,
-    pub(crate) opin_first: usize,
+    pub(crate) from: From,
+    pub(crate) to: To,
+    /// The place at which paths start in each track, beside the tree's wires.
+    pub(crate) start: usize,
+    pub(crate) wires: &'a [Wire],
     /// The places of the source's pins.
     pub(crate) opins: &'a [u32],
-}
-
-fn lower_far(bounds: &mut [u32], costs: &[u8], apart: &[u32], lasts: &[u32], more: u32) {
-    for track in 0..bounds.len() {
-        let bound = costs[track] as u32 + lasts[track] + more + apart[track];
-        bounds[track] = bounds[track].min(bound);
-    }
+    /// The wires from each place to one beside the sink's block.
+    pub(crate) aheads: &'a [u8],
+    /// The same for each side.
+    pub(crate) distances: [&'a [u8]; 4],
+    /// For each side and track, the price of the wire and a pin; then a row of zeros.
+    pub(crate) lasts: &'a [u16],
+    /// For each track, the least of these.
+    pub(crate) least_lasts: &'a [u16],
+    pub(crate) head: Head,
+    pub(crate) bounds: &'a [u16],
+    pub(crate) rivals: &'a [u16],
 }
 
 impl FabricPlanes<'_> {
     #[inline(always)]
     fn side_of(&self, place: usize) -> usize {
-        if place == self.sides[0] {
+        if place == self.to.sides[0] {
             0
-        } else if place == self.sides[1] {
+        } else if place == self.to.sides[1] {
             1
-        } else if place == self.sides[2] {
+        } else if place == self.to.sides[2] {
             2
-        } else if place == self.sides[3] {
+        } else if place == self.to.sides[3] {
             3
         } else {
             4
@@ -62,102 +77,103 @@ impl FabricPlanes<'_> {
     }
 
     #[inline(always)]
-    fn price_of(&self, number: usize) -> u64 {
+    pub(crate) fn price_of(&self, number: usize) -> u64 {
         price(self.rates[number], self.iterations, self.held[number])
     }
 
-    #[inline(always)]
-    fn wire_price(&self, track: usize, place: usize) -> u64 {
-        let price = self.by_track[track * self.layout.places + place];
-        if price != 255 {
-            return price as u64;
-        }
-        self.dear_price(track, place)
-    }
-
-    #[inline(always)]
-    fn price_at(&self, track: usize, place: usize) -> u64 {
-        let price = self.by_place[place * self.layout.tracks + track];
-        if price != 255 {
-            return price as u64;
-        }
-        self.dear_price(track, place)
-    }
-
-    #[inline(never)]
-    fn dear_price(&self, track: usize, place: usize) -> u64 {
-        if self.layout.class[place] == PIN {
-            return self.price_of(self.pin_number(place));
-        }
-        self.price_of(self.layout.first[place] as usize + track)
-    }
-
     /// The number of a pin.
-    #[inline(never)]
-    fn pin_number(&self, place: usize) -> usize {
-        if place == self.exit {
-            return self.sink_number;
+    #[inline(always)]
+    pub(crate) fn pin_number(&self, place: usize) -> usize {
+        if place == self.to.exit {
+            return self.to.number;
         }
-        if place == self.source_column {
-            return self.source_number;
+        if place == self.from.column {
+            return self.from.number;
         }
         let outputs = self.layout.outputs();
-        if place > self.source_column && place < self.source_column + 2 + outputs {
-            return self.opin_first + place - self.source_column - 2;
+        if place > self.from.column && place < self.from.column + 2 + outputs {
+            return self.from.opin_first + place - self.from.column - 2;
         }
-        self.ipin_first + place - (self.exit - 1) - 2 - outputs
+        self.to.ipin_first + place - (self.to.exit - 1) - 2 - outputs
     }
 
     #[inline(never)]
     fn pin_ends(&self, track: usize, place: usize) -> Ends<'_> {
-        if place == self.exit {
+        if place == self.to.exit {
             return Ends { list: &[], base: 0 };
         }
-        if place == self.source_column {
-            return Ends { list: self.opins, base: 0 };
+        if place == self.from.column {
+            return Ends {
+                list: self.opins,
+                base: 0,
+            };
         }
         let outputs = self.layout.outputs();
-        if place > self.source_column && place < self.source_column + 2 + outputs {
-            let j = place - self.source_column - 2;
+        if place > self.from.column && place < self.from.column + 2 + outputs {
+            let j = place - self.from.column - 2;
             return Ends {
-                list: self.layout.departures(self.source_class, j, track),
-                base: self.source_column - self.layout.offset(),
+                list: self.layout.departures(self.from.class, j, track),
+                base: self.from.column - self.layout.offset(),
             };
         }
         const ONLY: [u32; 1] = [0];
-        Ends { list: &ONLY, base: self.exit }
-    }
-
-    #[inline(always)]
-    fn from_wire(&self, track: usize, place: usize) -> u64 {
-        let point = self.layout.points[place];
-        self.from_point(track, place, point.across as u64, point.up as u64)
-    }
-
-    #[inline(always)]
-    fn from_point(&self, track: usize, place: usize, across: u64, up: u64) -> u64 {
-        let (x, y) = (2 * self.sink.x as u64, 2 * self.sink.y as u64);
-        let apart = across.max(x) - across.min(x) + (up.max(y) - up.min(y));
-        let last = self.lasts[track] as u64;
-        if apart > 2 {
-            return (apart - 1) / 2 + last;
+        Ends {
+            list: &ONLY,
+            base: self.to.exit,
         }
-        let pin = match self.side_of(place) {
-            0 => self.pins.top,
-            1 => self.pins.bottom,
-            2 => self.pins.right,
-            3 => self.pins.left,
-            _ => self.pins.least,
+    }
+
+    /// Paths that leave the pin before this place may come before the known one.
+    fn rival_end(&self, track: usize, pin: usize) -> usize {
+        let number = self.pin_number(pin);
+        let known = if self.start == self.from.column {
+            self.head.pin
+        } else {
+            self.head.start
         };
-        pin.min(last) + 1
+        if pin == self.from.column {
+            return self.from.column + 3 + self.head.pin - self.from.opin_first;
+        }
+        if number < known || pin < self.from.column || pin > self.from.column + 1 + self.layout.outputs() {
+            return NOWHERE;
+        }
+        if number > known {
+            return 0;
+        }
+        self.head.place + (track < self.head.track) as usize
+    }
+
+    /// A lower bound of what follows a wire.
+    #[inline(always)]
+    pub(crate) fn from_wire(&self, track: usize, place: usize) -> u64 {
+        if self.aheads[place] != 0 {
+            return self.sharp_at_least(track, place);
+        }
+        self.from_side(track, place)
+    }
+
+    /// The same for a wire beside the sink's block.
+    #[inline(never)]
+    fn from_side(&self, track: usize, place: usize) -> u64 {
+        let tracks = self.layout.tracks;
+        let mut least: u64 = APART as u64;
+        for side in 0..4 {
+            if self.to.sides[side] == place {
+                least = least.min(self.to.pins[side] as u64 + 1);
+            } else if self.to.sides[side] != NOWHERE {
+                let last = self.lasts[side * tracks + track] as u64;
+                least = least.min(self.distances[side][place] as u64 + last);
+            }
+        }
+        least
     }
 
     #[inline(never)]
     fn from_pin(&self, track: usize, place: usize) -> Option<u64> {
-        if place == self.exit {
+        if place == self.to.exit {
             return Some(0);
         }
-        if place == self.source_column {
+        if place == self.from.column {
             let mut least: u64 = 1 << 60;
             for end in self.opins {
                 let pin = *end as usize;
@@ -168,78 +184,19 @@ impl FabricPlanes<'_> {
             return if least == 1 << 60 { None } else { Some(least) };
         }
         let outputs = self.layout.outputs();
-        if place > self.source_column && place < self.source_column + 2 + outputs {
+        if place > self.from.column && place < self.from.column + 2 + outputs {
             return self.from_opin(track, place);
         }
         Some(1)
     }
 
-    #[inline(never)]
-    fn near_at_least(&self, track: usize, place: usize) -> Option<u64> {
-        let point = self.layout.points[place];
-        if point.across == u16::MAX {
-            return self.from_pin(track, place);
-        }
-        Some(self.from_point(track, place, point.across as u64, point.up as u64))
-    }
-
-    /// Lists a lower bound of the paths of each track.
-    pub(crate) fn list_bounds(&self, start: usize, wires: &[Wire], bounds: &mut Vec<u32>) -> Result<(), AllocError> {
-        bounds.clear();
-        bounds.resize(self.layout.tracks, APART)?;
-        if start == self.source_column {
-            for end in self.opins {
-                let pin = *end as usize;
-                let price = self.price_of(self.pin_number(pin)).min(APART as u64) as u32;
-                self.lower_by_pin(pin, price, bounds);
-            }
-        } else {
-            self.lower_by_pin(start, 0, bounds);
-        }
-        for wire in wires {
-            let track = wire.track as usize;
-            let ahead = self.from_wire(track, wire.place as usize);
-            bounds[track] = bounds[track].min(ahead as u32);
-        }
-        Ok(())
-    }
-
-    fn lower_by_pin(&self, pin: usize, price: u32, bounds: &mut [u32]) {
-        let j = pin - self.source_column - 2;
-        for side in 0..4 {
-            let place = self.source_sides[side];
-            if place != NOWHERE {
-                let ahead = self.aheads[place] as u32;
-                let row = place * self.layout.tracks;
-                let costs = &self.by_place[row..row + self.layout.tracks];
-                let apart = self.layout.apart_row(self.source_class, j, side);
-                if ahead != 0 {
-                    lower_far(bounds, costs, apart, self.lasts, price + ahead);
-                } else {
-                    self.lower_near(bounds, costs, apart, price, place);
-                }
-            }
-        }
-    }
-
-    #[inline(never)]
-    fn lower_near(&self, bounds: &mut [u32], costs: &[u8], apart: &[u32], price: u32, place: usize) {
-        for track in 0..bounds.len() {
-            if apart[track] == 0 {
-                let bound = price + costs[track] as u32 + self.from_wire(track, place) as u32;
-                bounds[track] = bounds[track].min(bound);
-            }
-        }
-    }
-
-    #[inline(always)]
     fn from_opin(&self, track: usize, place: usize) -> Option<u64> {
-        let j = place - self.source_column - 2;
+        let j = place - self.from.column - 2;
         let mut least: u64 = 1 << 60;
-        let base = self.source_column - self.layout.offset();
-        for end in self.layout.departures(self.source_class, j, track) {
+        let base = self.from.column - self.layout.offset();
+        for end in self.layout.departures(self.from.class, j, track) {
             let wire = *end as usize + base;
-            let cost = self.price_at(track, wire);
+            let cost = self.cost(track, wire);
             least = least.min(cost + self.from_wire(track, wire));
         }
         if least == 1 << 60 { None } else { Some(least) }
@@ -247,9 +204,6 @@ impl FabricPlanes<'_> {
 }
 
 impl Planes for FabricPlanes<'_> {
-    ghost use Rattle.std.specs.Prelude.{[], None, false};
-    ghost family = { λ p. record { whole = record { count = 0; ends = λ n. []; cost = λ n. 0 }; starts = []; goal = 0; tracks = 0; track_of = λ n. None; places = 0; there = λ t n. false; plane = λ t. record { count = 0; ends = λ n. []; cost = λ n. 0 }; number = λ t n. 0; entries = λ t. []; exit = 0 } };
-
     fn tracks(&self) -> usize {
         self.layout.tracks
     }
@@ -258,12 +212,54 @@ impl Planes for FabricPlanes<'_> {
         self.layout.places
     }
 
-    fn entries(&self, track: usize) -> &[usize] {
-        self.entries[track].as_slice()
+    fn exit(&self) -> usize {
+        self.to.exit
     }
 
-    fn exit(&self) -> usize {
-        self.exit
+    #[inline(always)]
+    fn plane(&self, track: usize) -> Plane<'_> {
+        let first = track * self.layout.places;
+        Plane {
+            costs: &self.by_track[first..first + self.layout.places],
+            aheads: self.aheads,
+            last: self.least_lasts[track] as u64,
+            classes: &self.layout.class,
+            spans: &self.layout.step_spans,
+            steps: &self.layout.steps,
+            offset: self.layout.offset(),
+        }
+    }
+
+    fn list_starts(
+        &self,
+        track: usize,
+        most: u64,
+        is_rival: bool,
+        starts: &mut Vec<Start>,
+    ) -> Result<(), AllocError> {
+        starts.clear();
+        if !is_rival || self.pin_number(self.start) <= self.head.start {
+            starts.push(Start {
+                place: self.start,
+                ahead: self.bounds[track] as u64,
+            })?;
+        }
+        for wire in self.wires {
+            if wire.track as usize == track {
+                let place = wire.place as usize;
+                let ahead = self.from_wire(track, place);
+                let number = self.layout.first[place] as usize + track;
+                if ahead <= most && (!is_rival || number < self.head.start) {
+                    starts.push(Start { place, ahead })?;
+                }
+            }
+        }
+        Ok(())
+    }
+
+    #[inline(always)]
+    fn is_elsewhere(&self, track: usize) -> bool {
+        track != self.head.track
     }
 
     #[inline(always)]
@@ -277,39 +273,84 @@ impl Planes for FabricPlanes<'_> {
 
     #[inline(always)]
     fn ends(&self, track: usize, place: usize) -> Ends<'_> {
-        let class = self.layout.class[place];
-        if class == PIN {
-            return self.pin_ends(track, place);
+        if self.aheads[place] == 0 {
+            return self.near_ends(track, place, false);
         }
+        Ends {
+            list: self.layout.steps(self.layout.class[place]),
+            base: place - self.layout.offset(),
+        }
+    }
+
+    #[inline(never)]
+    fn near_ends(&self, track: usize, place: usize, is_rival: bool) -> Ends<'_> {
         let side = self.side_of(place);
         if side < 4 {
             return Ends {
-                list: self.layout.arrivals(self.sink_class, side, track),
+                list: self.layout.arrivals(self.to.class, side, track),
                 base: place - self.layout.offset(),
             };
         }
+        let ends = self.pin_ends(track, place);
+        if !is_rival {
+            return ends;
+        }
+        let end = self.rival_end(track, place);
+        let mut count = 0;
+        while count < ends.list.len() && (ends.list[count] as usize + ends.base) < end {
+            count += 1;
+        }
         Ends {
-            list: self.layout.steps(class),
-            base: place - self.layout.offset(),
+            list: &ends.list[..count],
+            base: ends.base,
         }
     }
 
     #[inline(always)]
     fn cost(&self, track: usize, place: usize) -> u64 {
-        self.wire_price(track, place)
+        let price = self.by_track[track * self.layout.places + place];
+        if price != 255 {
+            return price as u64;
+        }
+        self.dear_cost(track, place)
+    }
+
+    #[inline(never)]
+    fn dear_cost(&self, track: usize, place: usize) -> u64 {
+        if self.layout.class[place] == PIN {
+            return self.price_of(self.pin_number(place));
+        }
+        self.price_of(self.layout.first[place] as usize + track)
     }
 
     #[inline(always)]
     fn at_least(&self, track: usize, place: usize) -> Option<u64> {
-        let ahead = self.aheads[place];
-        if ahead != 0 {
-            return Some(ahead as u64 + self.lasts[track] as u64);
+        if self.aheads[place] != 0 {
+            return Some(self.sharp_at_least(track, place));
         }
-        self.near_at_least(track, place)
+        if self.layout.class[place] == PIN {
+            return self.from_pin(track, place);
+        }
+        Some(self.from_side(track, place))
+    }
+
+    #[inline(always)]
+    fn sharp_at_least(&self, track: usize, place: usize) -> u64 {
+        let tracks = self.layout.tracks;
+        let top = self.distances[0][place] as u32 + self.lasts[track] as u32;
+        let bottom = self.distances[1][place] as u32 + self.lasts[tracks + track] as u32;
+        let right = self.distances[2][place] as u32 + self.lasts[2 * tracks + track] as u32;
+        let left = self.distances[3][place] as u32 + self.lasts[3 * tracks + track] as u32;
+        top.min(bottom).min(right.min(left)) as u64
     }
 
     #[inline(always)]
     fn bound(&self, track: usize) -> u64 {
         self.bounds[track] as u64
+    }
+
+    #[inline(always)]
+    fn rival_bound(&self, track: usize) -> u64 {
+        self.rivals[track] as u64
     }
 }

@@ -1,15 +1,9 @@
 //! The places of each track's plane, and the steps between them.
 use arch_file::Arch;
 use grid::Strip;
-use rr_graph::{Node, NodeKind, StripGraph};
+use rr_graph::{Node, NodeKind, StripGraph, sides_at};
+use plane_search::Span;
 use std::alloc::{AllocError, Global};
-
-/// Consecutive elements of a list.
-#[derive(Clone, Copy)]
-pub(crate) struct Span {
-    pub(crate) first: u32,
-    pub(crate) end: u32,
-}
 
 /// Where a wire's middle is, in half steps.
 #[derive(Clone, Copy)]
@@ -23,7 +17,9 @@ pub(crate) const NOWHERE: usize = 1 << 40;
 /// The class of a pin's place.
 pub(crate) const PIN: u8 = 255;
 /// More than any bound.
-pub(crate) const APART: u32 = 1 << 30;
+pub(crate) const APART: u16 = 20000;
+/// The most that a distance counts.
+const FAR: usize = 254;
 const UNKNOWN: Span = Span { first: 1, end: 0 };
 
 #[derive(Drop)]
@@ -36,9 +32,17 @@ pub(crate) struct Layout {
     /// The number of track 0's wire at each place.
     pub(crate) first: Vec<u32>,
     pub(crate) points: Vec<Point>,
-    /// The steps from a wire to a sink's block, by difference of place; 0 near it.
-    pub(crate) aheads: Vec<u16>,
-    pub(crate) origin: usize,
+    /// The number of wires from one to another, without the first, by difference of place, if the
+    /// last is horizontal; 0 if they are the same.
+    to_x: Vec<u8>,
+    /// The same, if the last is vertical.
+    to_y: Vec<u8>,
+    /// The number of wires from one to the nearest beside a block, by difference of place from the
+    /// one above it.
+    to_block: Vec<u8>,
+    inputs: usize,
+    /// The sides of each input pin of each class of sinks.
+    pub(crate) pin_sides: Vec<u8>,
     pub(crate) class: Vec<u8>,
     pub(crate) step_spans: Vec<Span>,
     pub(crate) steps: Vec<u32>,
@@ -47,7 +51,7 @@ pub(crate) struct Layout {
     depart_spans: Vec<Span>,
     depart: Vec<u32>,
     /// 0 if a class's pin meets the side's wire of a track, and `APART` otherwise.
-    apart: Vec<u32>,
+    apart: Vec<u16>,
 }
 
 fn class_in(at: usize, last: usize) -> usize {
@@ -70,8 +74,11 @@ impl Layout {
             places: 0,
             first: Vec::new(alloc),
             points: Vec::new(alloc),
-            aheads: Vec::new(alloc),
-            origin: 0,
+            to_x: Vec::new(alloc),
+            to_y: Vec::new(alloc),
+            to_block: Vec::new(alloc),
+            inputs: 0,
+            pin_sides: Vec::new(alloc),
             class: Vec::new(alloc),
             step_spans: Vec::new(alloc),
             steps: Vec::new(alloc),
@@ -142,6 +149,7 @@ impl Layout {
         self.tracks = tracks;
         self.rows = rows + 2;
         self.outputs = outputs;
+        self.inputs = inputs;
         self.stride = 2 + inputs + outputs + 5 * (rows + 2);
         self.places = (width + 3) * self.stride;
         self.first.resize(self.places, u32::MAX)?;
@@ -153,43 +161,68 @@ impl Layout {
                 self.add_place(graph, x, NodeKind::ChanY, y)?;
             }
         }
-        self.fill_aheads(width)?;
+        self.fill_distances(width)?;
         let classes = 6 * (rows + 2) * pads;
         self.arrive_spans.resize(classes * 4 * tracks, UNKNOWN)?;
         self.depart_spans.resize(classes * outputs * tracks, UNKNOWN)?;
         self.apart.resize(classes * outputs * tracks * 4, APART)?;
+        self.pin_sides.resize(classes * inputs, 0)?;
         Ok(())
     }
 
-    fn fill_aheads(&mut self, width: usize) -> Result<(), AllocError> {
-        self.origin = (width + 2) * self.stride + self.rows;
-        self.aheads.clear();
-        self.aheads.resize(self.origin + self.places + self.stride, 0)?;
-        let pins = self.stride - 5 * self.rows;
-        for across in 0..2 * width + 3 {
-            for up in 0..2 * self.rows - 1 {
-                for kind in 0..2 {
-                    let twice_x = 2 * across + kind;
-                    let twice_y = 2 * up + 1 - kind;
-                    let (mid_x, mid_y) = (2 * (width + 1), 2 * (self.rows - 1));
-                    let apart = twice_x.max(mid_x) - twice_x.min(mid_x) + twice_y.max(mid_y) - twice_y.min(mid_y);
-                    if apart > 2 {
-                        let at = self.origin + (across + 2) * self.stride + pins + (1 + 2 * kind) * self.rows + up
-                            - (width + 1) * self.stride - (self.rows - 1);
-                        if at < self.aheads.len() {
-                            self.aheads[at] = ((apart - 1) / 2) as u16;
-                        }
-                    }
-                }
+    fn fill_distances(&mut self, width: usize) -> Result<(), AllocError> {
+        let count = 2 * self.places + 2 * self.stride;
+        self.to_x.resize(count, 0)?;
+        self.to_y.resize(count, 0)?;
+        self.to_block.resize(count, 0)?;
+        let (mid_x, mid_y) = (width + 1, self.rows - 1);
+        for x in 0..2 * mid_x + 1 {
+            for y in 0..2 * mid_y + 1 {
+                let at = self.places + x * self.stride + y - mid_x * self.stride - mid_y;
+                self.set_distances(at, x, y, mid_x, mid_y);
             }
+        }
+        let up = 2 * self.rows;
+        for at in up..2 * self.places {
+            let level = self.to_x[at].min(self.to_x[at + 1]);
+            let upright = self.to_y[at - up].min(self.to_y[at - up + self.stride]);
+            self.to_block[at] = level.min(upright);
         }
         Ok(())
     }
 
-    /// The steps to a sink's block, by place.
-    pub(crate) fn aheads_to(&self, x: u32, y: u32) -> &[u16] {
-        let first = self.origin - (x as usize * self.stride + y as usize);
-        &self.aheads[first..first + self.places]
+    /// The distances of the wires in column x and row y from those in the middle.
+    fn set_distances(&mut self, at: usize, x: usize, y: usize, mid_x: usize, mid_y: usize) {
+        let up = 2 * self.rows;
+        let far_x = x.max(mid_x) - x.min(mid_x);
+        let far_y = y.max(mid_y) - y.min(mid_y);
+        let is_same = far_x == 0 && far_y == 0;
+        let level = 1 + far_x.saturating_sub(1) + far_y;
+        let upright = 1 + far_x + far_y.saturating_sub(1);
+        self.to_x[at] = if is_same { 0 } else { level.min(FAR) as u8 };
+        self.to_y[at] = if is_same { 0 } else { upright.min(FAR) as u8 };
+        let across = if x < mid_x { mid_x - 1 - x } else { x - mid_x };
+        let along = if y > mid_y { y - 1 - mid_y } else { mid_y - y };
+        self.to_x[at + up] = (1 + across + along).min(FAR) as u8;
+        let across = if x > mid_x { x - 1 - mid_x } else { mid_x - x };
+        let along = if y < mid_y { mid_y - 1 - y } else { y - mid_y };
+        self.to_y[at - up] = (1 + across + along).min(FAR) as u8;
+    }
+
+    /// The distances to a wire, by place.
+    pub(crate) fn distances(&self, is_level: bool, place: usize) -> &[u8] {
+        let first = self.places - place;
+        if is_level {
+            &self.to_x[first..first + self.places]
+        } else {
+            &self.to_y[first..first + self.places]
+        }
+    }
+
+    /// The distances to a block's nearest wire, by place; `above` is the one above it.
+    pub(crate) fn block_distances(&self, above: usize) -> &[u8] {
+        let first = self.places - above;
+        &self.to_block[first..first + self.places]
     }
 
     fn place_of(&self, node: Node) -> usize {
@@ -249,7 +282,12 @@ impl Layout {
         &self.depart[span.first as usize..span.end as usize]
     }
 
-    pub(crate) fn apart_row(&self, class: usize, pin: usize, side: usize) -> &[u32] {
+    /// The sides of the input pins of a class of sinks.
+    pub(crate) fn sides_of_pins(&self, class: usize) -> &[u8] {
+        &self.pin_sides[class * self.inputs..(class + 1) * self.inputs]
+    }
+
+    pub(crate) fn apart_row(&self, class: usize, pin: usize, side: usize) -> &[u16] {
         let row = ((class * self.outputs + pin) * 4 + side) * self.tracks;
         &self.apart[row..row + self.tracks]
     }
@@ -268,6 +306,7 @@ impl Layout {
     /// Lists what the wires beside a sink lead to.
     pub(crate) fn provide_sink<G: StripGraph>(&mut self, graph: &G, sink: Node, sides: [usize; 4]) -> Result<usize, AllocError> {
         let class = self.block_class(graph.strip(), sink);
+        let pins = graph.numbers_at(NodeKind::Ipin, sink.x, sink.y);
         for side in 0..4 {
             let place = sides[side];
             if place == NOWHERE {
@@ -276,6 +315,13 @@ impl Layout {
             let at = (class * 4 + side) * self.tracks;
             if self.arrive_spans[at].first <= self.arrive_spans[at].end {
                 return Ok(class);
+            }
+            for number in pins.first..pins.end {
+                let pin = graph.node(number);
+                let on = sides_at(graph.arch(), graph.strip(), pin);
+                let level = on.top as u8 + 2 * on.bottom as u8;
+                let upright = 4 * on.right as u8 + 8 * on.left as u8;
+                self.pin_sides[class * self.inputs + number - pins.first] = level + upright;
             }
             for track in 0..self.tracks {
                 self.list_arrivals(graph, sink, place, at + track, track)?;

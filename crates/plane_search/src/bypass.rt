@@ -1,8 +1,6 @@
 //! A plane with a way beside it: two further nodes, over which a path of a given cost leads to the
 //! goal. A search for the least path then ends as soon as no path of the plane is left that is as
 //! cheap.
-ghost use Rattle.std.specs.Prelude.{◌≡◌, ◌<◌, ◌≤◌, ◌^◌};
-ghost use Rattle.plane_search.specs.Bypass.{bypassed_graph};
 
 use crate::planes::Planes;
 use least_path::{Ends, Roads};
@@ -21,10 +19,6 @@ pub(crate) struct Bypassed<'a, P: Planes> {
     pub(crate) over: u64,
     /// A guess of the least path's cost.
     pub(crate) guess: u64,
-    ghost on: { track < (P.family planes.now).tracks },
-    ghost count: { places ≡ (P.family planes.now).places },
-    ghost some: { 1 ≤ over },
-    ghost few: { over ≤ 2 ^ 36 },
 }
 
 impl<P: Planes> Roads for Bypassed<'_, P> {

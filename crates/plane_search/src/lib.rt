@@ -18,9 +18,8 @@ mod marks;
 mod planes;
 mod ranking;
 mod reach;
-mod rivals;
 mod search;
 mod walk;
 
-pub use planes::Planes;
+pub use planes::{Plane, Planes, Span, Start};
 pub use ranking::PlaneSearch;

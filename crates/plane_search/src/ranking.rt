@@ -1,12 +1,7 @@
 //! A search that goes through the planes in the order of their bounds.
-ghost use Rattle.std.specs.Prelude.{◌≡◌, ◌<◌, true, false, Some, None, Ok, IfOk, OnOk, map, if◌then◌else◌};
-ghost use Rattle.least_path.specs.LeastPath.{least_path, TellsLeastPath, HasNoPath};
-ghost use Rattle.plane_search.specs.Best.{IsKnown};
-ghost use Rattle.plane_search.specs.Ranking.{tracks_in, AreRanked};
-
 use crate::planes::Planes;
 use crate::search::TrackSearch;
-use least_path::{Path, least_path_law};
+use least_path::Path;
 use std::alloc::{AllocError, Global};
 
 /// A track, and a lower bound of the costs of the paths in its plane.
@@ -16,22 +11,28 @@ struct Ranked {
     track: usize,
 }
 
-/// Lists the tracks in the order of their planes' bounds. If a path is known, those are left out
-/// whose bound is above its cost.
+/// Whether a plane may hold a path that is less than the known one.
+#[inline(always)]
+fn may_improve<P: Planes>(planes: &P, track: usize, bound: u64, path: &Path) -> bool {
+    bound < path.cost || bound == path.cost && planes.rival_bound(track) == bound
+}
+
+/// Lists the tracks in the order of their planes' bounds. With the track of a path, those are
+/// left out that can't hold a lesser one.
 fn rank<P: Planes>(
     planes: &P,
-    is_known: bool,
+    done: Option<usize>,
     path: &Path,
     ranking: &mut Vec<Ranked>,
-) -> Result<(), AllocError>
-    requires { is_known ≡ true → IsKnown (P.family planes.now) path.now }
-    ensures { OnOk result (AreRanked (P.family planes.now) is_known path.now
-        (P.family planes.now).tracks (tracks_in ranking.new.items)) }
-{
+) -> Result<(), AllocError> {
     ranking.clear();
     for track in 0..planes.tracks() {
         let bound = planes.bound(track);
-        if !is_known || bound <= path.cost {
+        let is_open = match done {
+            Some(done) => track != done && may_improve(planes, track, bound, path),
+            None => true,
+        };
+        if is_open {
             ranking.push(Ranked { bound, track })?;
         }
     }
@@ -55,32 +56,37 @@ impl PlaneSearch {
         }
     }
 
-    /// Replaces `path` by the least path, and returns whether there is one. If `is_known`, `path`
-    /// must be a path already: the closer it is to the least, the faster the search. Earlier
-    /// searches, also those that ran out of memory, don't change the result. If there is no path,
-    /// or memory runs out, the contents of `path` mean nothing.
+    /// Replaces `path` by the least path of one plane, and returns the track; `None` if there is no
+    /// path.
+    pub fn first_into<P: Planes>(
+        &mut self,
+        planes: &P,
+        path: &mut Path,
+    ) -> Result<Option<usize>, AllocError> {
+        rank(planes, None, path, &mut self.ranking)?;
+        for ranked in self.ranking.as_slice() {
+            if self.search.begin(planes, ranked.track, path)? {
+                return Ok(Some(ranked.track));
+            }
+        }
+        Ok(None)
+    }
+
+    /// Replaces `path`, which is a path already, by the least path. It is the least of the plane
+    /// `done`, if that is a track. Earlier searches, also those that ran out of memory, don't
+    /// change the result. If memory runs out, the contents of `path` mean nothing.
     pub fn least_into<P: Planes>(
         &mut self,
         planes: &P,
-        is_known: bool,
+        done: usize,
         path: &mut Path,
-    ) -> Result<bool, AllocError>
-        requires { is_known ≡ true → IsKnown (P.family planes.now) path.old }
-        ensures found { result ≡ Ok true → TellsLeastPath (P.family planes.now).whole
-            (P.family planes.now).starts (P.family planes.now).goal path.new }
-        ensures none { result ≡ Ok false → HasNoPath (P.family planes.now).whole
-            (P.family planes.now).starts (P.family planes.now).goal }
-        ensures exact { IfOk result (λ found.
-            least_path (P.family planes.now).whole (P.family planes.now).starts
-            (P.family planes.now).goal ≡ (if found then Some path.new.nodes.items else None)) }
-    {
-        least_path_law();
-        let _tracks = planes.tracks();
-        rank(planes, is_known, path, &mut self.ranking)?;
-        let mut is_found = is_known;
+    ) -> Result<(), AllocError> {
+        rank(planes, Some(done), path, &mut self.ranking)?;
+        // @count 0
+        let known_cost = path.cost;
         for ranked in self.ranking.as_slice() {
-            is_found = self.search.improve(planes, ranked.track, is_found, path)?;
+            self.search.improve(planes, ranked.track, known_cost, path)?;
         }
-        Ok(is_found)
+        Ok(())
     }
 }

@@ -1,26 +1,12 @@
 //! A search of one plane at a time.
-ghost use Rattle.std.specs.Prelude.{◌≡◌, ◌↔◌, ℕ, ◌+◌, ◌<◌, ◌≤◌, ◌^◌, ◌∷◌, ◌++◌, [], true, false, All, Some, None, Ok, IfOk, IfSome, IfNone, OnOk, MatchOption, map, length, if◌then◌else◌};
-ghost use Rattle.std.specs.Bool.{IsTrue, MatchBool};
-ghost use Rattle.std.specs.List.Sorted.{IsNonDecreasing};
-ghost use Rattle.std.specs.Ordering.{nat_cmp, ordering_then};
-ghost use Rattle.std.specs.Cmp.Lexicographic.{slice_cmp};
-ghost use Rattle.std.specs.declared.cmp.Ordering.TheVariants.{Less};
-ghost use Rattle.plane_search.specs.Planes.{IsPlace};
-ghost use Rattle.plane_search.specs.Walk.{ArePruned};
-ghost use Rattle.plane_search.specs.Best.{IsKnown, Improves, AreAmong, AreBounded, IsLeastIn, IsLeastOn, IsBypassCost, HasNoneWithin};
-
 use crate::bypass::Bypassed;
 use crate::marks::UNMARKED;
-use crate::planes::Planes;
+use crate::planes::{Planes, Start};
 use crate::reach::{Reach, View};
-use crate::rivals::{list_rivals, sort_starts};
 use crate::walk::{Aim, Walk};
 use least_path::{Path, Search};
 use std::alloc::{AllocError, Global};
 use std::mem;
-
-/// The largest cost of a node.
-const MOST: u64 = 1 << 36;
 
 /// Searches one plane at a time, and reuses its memory from one to the next.
 #[derive(Drop)]
@@ -29,54 +15,24 @@ pub(crate) struct TrackSearch {
     walk: Walk,
     reach: Reach,
     /// The starts of the search of a plane, in rising order.
-    starts: Vec<usize>,
+    starts: Vec<Start>,
+    /// Their places.
+    places: Vec<usize>,
     /// The path that was found in it.
     found: Path,
 }
 
-/// What the bypass's second node must cost so that a path over it costs `most`; `None` if no node
-/// may cost that.
-fn bypass_cost(most: Option<u64>, last: u64) -> Option<u64>
-    ensures { IfSome result (λ over. (1 ≤ over) × (over ≤ 2 ^ 36)
-        × (most ≡ Some (over + last))) }
-{
-    match most {
-        Some(most) if last < most && most - last <= MOST => Some(most - last),
-        _ => None,
-    }
-}
-
 /// Replaces each place by the number of its node.
-fn number_nodes<P: Planes>(planes: &P, track: usize, nodes: &mut Vec<usize>)
-    requires track { track < (P.family planes.now).tracks }
-    requires there { All (IsPlace (P.family planes.now) track) nodes.old.items }
-    ensures { nodes.new.items ≡ map ((P.family planes.now).number track) nodes.old.items }
-{
+fn number_nodes<P: Planes>(planes: &P, track: usize, nodes: &mut Vec<usize>) {
     for node in nodes.iter_mut() {
         *node = planes.number(track, *node);
     }
 }
 
 /// Whether the path is less than the other, by their costs and nodes.
-fn is_less(path: &Path, other: &Path) -> bool
-    ensures { MatchBool result
-        (ordering_then (nat_cmp path.now.cost other.now.cost)
-        (slice_cmp nat_cmp path.now.nodes.items other.now.nodes.items) ≡ Less)
-        (ordering_then (nat_cmp path.now.cost other.now.cost)
-        (slice_cmp nat_cmp path.now.nodes.items other.now.nodes.items) ≡ Less → ⊥) }
-{
+fn is_less(path: &Path, other: &Path) -> bool {
     path.cost < other.cost
         || path.cost == other.cost && path.nodes.as_slice() < other.nodes.as_slice()
-}
-
-/// Whether the limit is this cost.
-fn is_limit(most: Option<u64>, cost: u64) -> bool
-    ensures { IsTrue result ↔ (most ≡ Some cost) }
-{
-    match most {
-        Some(limit) => limit == cost,
-        None => false,
-    }
 }
 
 impl TrackSearch {
@@ -88,277 +44,131 @@ impl TrackSearch {
             walk: Walk::new(alloc),
             reach: Reach::new(alloc),
             starts: Vec::new(alloc),
+            places: Vec::new(alloc),
             found: Path { nodes, cost: 0 },
         }
     }
 
-    /// Goes on with one more plane: replaces `path` by the least path of the plane if that is less,
-    /// or if there is none so far.
+    /// Replaces `path` by the least path of a plane, if there is one.
+    pub(crate) fn begin<P: Planes>(
+        &mut self,
+        planes: &P,
+        track: usize,
+        path: &mut Path,
+    ) -> Result<bool, AllocError> {
+        let bound = planes.bound(track);
+        planes.list_starts(track, UNMARKED, false, &mut self.starts)?;
+        self.starts.sort_unstable();
+        if !self.find(planes, track, bound, UNMARKED - 2, false)? {
+            if !self.find_any(planes, track)? {
+                return Ok(false);
+            }
+        }
+        number_nodes(planes, track, &mut self.found.nodes);
+        mem::swap(path, &mut self.found);
+        Ok(true)
+    }
+
+    /// Goes on with one more plane: replaces `path` by the least path of the plane if that is less.
     pub(crate) fn improve<P: Planes>(
         &mut self,
         planes: &P,
         track: usize,
-        is_found: bool,
+        known_cost: u64,
         path: &mut Path,
-    ) -> Result<bool, AllocError>
-        requires track { track < (P.family planes.now).tracks }
-        requires known { is_found ≡ true → IsKnown (P.family planes.now) path.old }
-        ensures { IfOk result (λ now_found.
-            Improves (P.family planes.now) track is_found path.old now_found path.new) }
-    {
-        if !is_found {
-            return self.begin(planes, track, path);
+    ) -> Result<(), AllocError> {
+        let bound = planes.bound(track);
+        let may_tie = path.cost < known_cost || planes.rival_bound(track) <= path.cost;
+        let most = if may_tie { path.cost } else { path.cost - 1 };
+        if most < bound {
+            return Ok(());
         }
-        let _tracks = planes.tracks();
-        if planes.bound(track) <= path.cost {
-            self.replace_known(planes, track, path)?;
-        }
-        Ok(true)
-    }
-
-    /// Replaces `path` by the least path of a plane, if there is one and none so far.
-    fn begin<P: Planes>(
-        &mut self,
-        planes: &P,
-        track: usize,
-        path: &mut Path,
-    ) -> Result<bool, AllocError>
-        requires { track < (P.family planes.now).tracks }
-        ensures { IfOk result (λ is_found.
-            Improves (P.family planes.now) track false path.old is_found path.new) }
-    {
-        self.starts.clear();
-        self.starts.extend_from_slice(planes.entries(track))?;
-        sort_starts(&mut self.starts);
-        if self.find_nodes(planes, track, None)? {
-            mem::swap(path, &mut self.found);
-            Ok(true)
-        } else {
-            Ok(false)
-        }
-    }
-
-    /// Replaces `path` by the least path of a plane if that is less.
-    fn replace_known<P: Planes>(
-        &mut self,
-        planes: &P,
-        track: usize,
-        path: &mut Path,
-    ) -> Result<(), AllocError>
-        requires track { track < (P.family planes.now).tracks }
-        requires known { IsKnown (P.family planes.now) path.old }
-        ensures { OnOk result (Improves (P.family planes.now) track true path.old true path.new) }
-    {
-        let most = list_rivals(planes, track, path, &mut self.starts)?;
+        // @count 10
+        // @count 11 (bound < most) as u64
+        let is_rival =
+            bound == path.cost && path.cost == known_cost && planes.is_elsewhere(track);
+        planes.list_starts(track, most, is_rival, &mut self.starts)?;
+        self.starts.sort_unstable();
         if self.starts.is_empty() {
             return Ok(());
         }
-        if !self.find_nodes(planes, track, Some(most))? {
+        if most > UNMARKED - 2 {
+            // @count 9
+            if !self.find_any(planes, track)? {
+                return Ok(());
+            }
+        } else if !self.find(planes, track, bound, most, is_rival)? {
             return Ok(());
         }
+        number_nodes(planes, track, &mut self.found.nodes);
+        // @count 12
         if is_less(&self.found, path) {
+            // @count 13
             mem::swap(path, &mut self.found);
         }
         Ok(())
     }
 
-    /// Finds the least path of a plane from the listed starts, by nodes of the whole graph. If
-    /// `most` is given and no path costs at most that much, returns `false`.
-    fn find_nodes<P: Planes>(
-        &mut self,
-        planes: &P,
-        track: usize,
-        most: Option<u64>,
-    ) -> Result<bool, AllocError>
-        requires track { track < (P.family planes.now).tracks }
-        requires among { AreAmong (P.family planes.now) track self.old.starts.items }
-        requires rising { IsNonDecreasing self.old.starts.items }
-        ensures found { result ≡ Ok true → IsLeastIn (P.family planes.now) track
-            self.old.starts.items self.new.found }
-        ensures none { result ≡ Ok false → HasNoneWithin (P.family planes.now) track
-            self.old.starts.items most }
-    {
-        let _tracks = planes.tracks();
-        if !self.find(planes, track, most)? {
-            return Ok(false);
-        }
-        number_nodes(planes, track, &mut self.found.nodes);
-        Ok(true)
-    }
-
-    /// Finds the least path of a plane from the listed starts, by places. If `most` is given and no
-    /// path costs at most that much, returns `false`.
+    /// Finds the least path of a plane from the listed starts, by places. If no path costs at most
+    /// `most`, returns `false`.
     fn find<P: Planes>(
         &mut self,
         planes: &P,
         track: usize,
-        most: Option<u64>,
-    ) -> Result<bool, AllocError>
-        requires track { track < (P.family planes.now).tracks }
-        requires among { AreAmong (P.family planes.now) track self.old.starts.items }
-        requires rising { IsNonDecreasing self.old.starts.items }
-        ensures found { result ≡ Ok true → IsLeastOn (P.family planes.now) track
-            self.old.starts.items self.new.found }
-        ensures none { result ≡ Ok false → HasNoneWithin (P.family planes.now) track
-            self.old.starts.items most }
-    {
-        let _tracks = planes.tracks();
-        let least = planes.bound(track);
-        if least == 0 || least >= UNMARKED {
-            return self.find_dearer(planes, track, most);
-        }
+        bound: u64,
+        most: u64,
+        is_rival: bool,
+    ) -> Result<bool, AllocError> {
         self.reach.forget(planes.places())?;
-        if self.find_at(planes, track, least)? {
-            return Ok(true);
+        if bound > 0 && bound <= most {
+            // @count 5
+            if self.find_at(planes, track, bound, is_rival)? {
+                // @count 6
+                return Ok(true);
+            }
         }
-        if is_limit(most, least) {
+        if most <= bound {
             return Ok(false);
         }
-        match most {
-            Some(most) if most < UNMARKED - 1 => self.find_reached(planes, track, most),
-            _ => self.find_dearer(planes, track, most),
-        }
-    }
-
-    /// Does as `find` does, for a low limit: finds first what the least path costs. The starts'
-    /// bounds are above 0.
-    fn find_reached<P: Planes>(
-        &mut self,
-        planes: &P,
-        track: usize,
-        most: u64,
-    ) -> Result<bool, AllocError>
-        requires track { track < (P.family planes.now).tracks }
-        requires among { AreAmong (P.family planes.now) track self.old.starts.items }
-        requires rising { IsNonDecreasing self.old.starts.items }
-        requires bounded { AreBounded (P.family planes.now) track self.old.starts.items (Some 1) }
-        requires few { most + 1 < 2 ^ 16 }
-        ensures found { result ≡ Ok true → IsLeastOn (P.family planes.now) track
-            self.old.starts.items self.new.found }
-        ensures none { result ≡ Ok false → HasNoneWithin (P.family planes.now) track
-            self.old.starts.items (Some most) }
-    {
-        let _tracks = planes.tracks();
         let view = View {
             planes,
             track,
             exit: planes.exit(),
         };
+        // @count 7
         let least = self.reach.least_cost(&view, &self.starts, most)?;
         if most < least {
             return Ok(false);
         }
-        if least == 0 {
-            return self.find_dearer(planes, track, Some(most));
-        }
-        if self.find_at(planes, track, least)? {
-            return Ok(true);
-        }
-        self.find_dearer(planes, track, Some(most))
+        // @count 8
+        self.find_at(planes, track, least, false)
     }
 
     /// Finds the least path of a plane from the listed starts, by places, if it has this cost; no
     /// path may cost less.
+    #[inline(never)]
     fn find_at<P: Planes>(
         &mut self,
         planes: &P,
         track: usize,
         best: u64,
-    ) -> Result<bool, AllocError>
-        requires track { track < (P.family planes.now).tracks }
-        requires among { AreAmong (P.family planes.now) track self.old.starts.items }
-        requires rising { IsNonDecreasing self.old.starts.items }
-        requires bounded { AreBounded (P.family planes.now) track self.old.starts.items
-            (Some best) }
-        requires some { 1 ≤ best }
-        requires few { best < 2 ^ 16 }
-        requires pruned { ArePruned ((P.family planes.now).plane track) (P.family planes.now).places
-            (P.family planes.now).exit best self.old.reach.marks }
-        ensures found { result ≡ Ok true → IsLeastOn (P.family planes.now) track
-            self.old.starts.items self.new.found }
-        ensures none { result ≡ Ok false → HasNoneWithin (P.family planes.now) track
-            self.old.starts.items (Some best) }
-        ensures starts { self.new.starts ≡ self.old.starts }
-    {
-        let _tracks = planes.tracks();
+        is_rival: bool,
+    ) -> Result<bool, AllocError> {
         let aim = Aim {
             planes,
             track,
             exit: planes.exit(),
             best,
+            is_rival,
+            second: best != planes.bound(track),
             reached: &self.reach.marks,
         };
         self.walk.least_into(&aim, &self.starts, &mut self.found)
     }
 
-    /// Does as `find` does, whatever the bounds of the starts.
-    fn find_dearer<P: Planes>(
-        &mut self,
-        planes: &P,
-        track: usize,
-        most: Option<u64>,
-    ) -> Result<bool, AllocError>
-        requires track { track < (P.family planes.now).tracks }
-        requires among { AreAmong (P.family planes.now) track self.old.starts.items }
-        ensures found { result ≡ Ok true → IsLeastOn (P.family planes.now) track
-            self.old.starts.items self.new.found }
-        ensures none { result ≡ Ok false → HasNoneWithin (P.family planes.now) track
-            self.old.starts.items most }
-    {
-        let _tracks = planes.tracks();
-        let last = planes.cost(track, planes.exit());
-        match bypass_cost(most, last) {
-            Some(over) => self.find_within(planes, track, over, over + last),
-            None => self.find_any(planes, track),
-        }
-    }
-
-    /// Finds the least path of a plane from the listed starts, among those that cost at most as
-    /// much as the bypass.
-    fn find_within<P: Planes>(
-        &mut self,
-        planes: &P,
-        track: usize,
-        over: u64,
-        most: u64,
-    ) -> Result<bool, AllocError>
-        requires track { track < (P.family planes.now).tracks }
-        requires over { IsBypassCost (P.family planes.now) track over most }
-        requires among { AreAmong (P.family planes.now) track self.old.starts.items }
-        ensures found { result ≡ Ok true → IsLeastOn (P.family planes.now) track
-            self.old.starts.items self.new.found }
-        ensures none { result ≡ Ok false → HasNoneWithin (P.family planes.now) track
-            self.old.starts.items (Some most) }
-    {
-        let _tracks = planes.tracks();
-        let places = planes.places();
-        self.starts.push(places)?;
-        let roads = Bypassed {
-            planes,
-            track,
-            places,
-            over,
-            guess: most,
-        };
-        if !self
-            .search
-            .least_into(&roads, &self.starts, planes.exit(), &mut self.found)?
-        {
-            return Ok(false);
-        }
-        Ok(self.found.nodes[0] < places)
-    }
-
     /// Finds the least path of a plane from the listed starts.
-    fn find_any<P: Planes>(&mut self, planes: &P, track: usize) -> Result<bool, AllocError>
-        requires track { track < (P.family planes.now).tracks }
-        requires among { AreAmong (P.family planes.now) track self.old.starts.items }
-        ensures found { result ≡ Ok true → IsLeastOn (P.family planes.now) track
-            self.old.starts.items self.new.found }
-        ensures none { result ≡ Ok false → HasNoneWithin (P.family planes.now) track
-            self.old.starts.items None }
-    {
-        let _tracks = planes.tracks();
+    #[inline(never)]
+    fn find_any<P: Planes>(&mut self, planes: &P, track: usize) -> Result<bool, AllocError> {
         let roads = Bypassed {
             planes,
             track,
@@ -366,7 +176,11 @@ impl TrackSearch {
             over: 1,
             guess: planes.bound(track),
         };
+        self.places.clear();
+        for start in self.starts.as_slice() {
+            self.places.push(start.place)?;
+        }
         self.search
-            .least_into(&roads, &self.starts, planes.exit(), &mut self.found)
+            .least_into(&roads, &self.places, planes.exit(), &mut self.found)
     }
 }

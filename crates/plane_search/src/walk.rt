@@ -2,38 +2,19 @@
 //! costs less. At each place it takes the first edge over which such a path may lead, and at a
 //! place from which none does, it goes back: so the first path that it completes is the least. Each
 //! place is entered once at each cost.
-ghost use Rattle.std.specs.Prelude.{◌≡◌, ℕ, Contains, ◌+◌, ◌<◌, ◌≤◌, ◌^◌, ◌∷◌, ◌++◌, [], true, false, Ok, IfSome, IfNone, OnOk, length};
-ghost use Rattle.std.specs.List.Sorted.{IsNonDecreasing};
-ghost use Rattle.std.proofs.Common.{set};
-ghost use Rattle.least_path.specs.Graph.{AreNodes};
-ghost use Rattle.least_path.specs.Path.{IsPath, cost_of};
-ghost use Rattle.least_path.specs.LeastPath.{IsLeastPath};
-ghost use Rattle.plane_search.specs.Planes.{IsPlace};
-ghost use Rattle.plane_search.specs.Walk.{ArePruned, IsFit, IsUnfit, IsNext, AreUnfit, IsWalking, IsBetween, IsLeastFrom, CostsAtLeast, CostsMore, AreNoCheaper, places_in, stop_at, after_step};
-
 use crate::marks::Marks;
-use crate::planes::Planes;
-use least_path::Path;
+use crate::planes::{Plane, Planes, Start};
+use least_path::{Ends, Path};
 use std::alloc::{AllocError, Global};
 
 /// A place of the way that is being tried.
 #[derive(Clone, Copy)]
 struct Stop {
-    place: usize,
+    place: u32,
     /// The cost of the way up to it.
-    cost: u64,
+    cost: u32,
     /// The number of the edge that is tried next.
-    next_edge: usize,
-}
-
-/// An edge from a stop.
-#[derive(Clone, Copy)]
-struct Step {
-    edge: usize,
-    /// Where it ends.
-    place: usize,
-    /// The cost of the way up to there.
-    cost: u64,
+    next_edge: u32,
 }
 
 /// A plane, and the cost of the paths that are looked for in it.
@@ -43,14 +24,11 @@ pub(crate) struct Aim<'a, P: Planes> {
     pub(crate) track: usize,
     pub(crate) exit: usize,
     pub(crate) best: u64,
+    /// Whether only paths are looked for that come before the known one.
+    pub(crate) is_rival: bool,
+    pub(crate) second: bool,
     /// The least costs of ways to places, as far as they are known.
     pub(crate) reached: &'a Marks,
-    ghost on: { track < (P.family planes.now).tracks },
-    ghost to: { exit ≡ (P.family planes.now).exit },
-    ghost some: { 1 ≤ best },
-    ghost few: { best < 2 ^ 16 },
-    ghost pruned: { ArePruned ((P.family planes.now).plane track) (P.family planes.now).places
-        (P.family planes.now).exit best reached.now },
 }
 
 /// A walk that reuses its memory from one plane to the next.
@@ -60,75 +38,68 @@ pub(crate) struct Walk {
     stops: Vec<Stop>,
 }
 
-/// Whether a path of the wanted cost may begin at the start.
+/// The ends of the edges from a place.
 #[inline(always)]
-fn is_near<P: Planes>(aim: &Aim<'_, P>, start: usize) -> bool
-    requires { start < (P.family aim.now.planes.now).places }
-    ensures { result ≡ false → CostsMore ((P.family aim.now.planes.now).plane aim.now.track)
-        (P.family aim.now.planes.now).exit aim.now.best start 0 }
-{
-    match aim.planes.at_least(aim.track, start) {
-        Some(ahead) => ahead <= aim.best,
-        None => false,
+pub(crate) fn ends_of<'a, P: Planes>(
+    planes: &'a P,
+    plane: Plane<'a>,
+    track: usize,
+    place: usize,
+    is_rival: bool,
+) -> Ends<'a> {
+    if plane.aheads[place] == 0 {
+        return planes.near_ends(track, place, is_rival);
+    }
+    let span = plane.spans[plane.classes[place] as usize];
+    Ends {
+        list: &plane.steps[span.first as usize..span.end as usize],
+        base: place - plane.offset,
     }
 }
 
-/// The cost at which the place may be entered from a stop that was reached at cost `before`, if a
-/// path of the wanted cost may lead over it.
+/// The cost of a way up to a place, and a lower bound of the cost of any path over it.
+#[derive(Clone, Copy)]
+pub(crate) struct Weight {
+    pub(crate) cost: u64,
+    pub(crate) key: u64,
+}
+
+/// The weight of a place that was entered from one that was reached at cost `before`.
+#[inline(never)]
+fn other_weight<P: Planes>(planes: &P, track: usize, place: usize, before: u64) -> Weight {
+    let cost = before + planes.cost(track, place);
+    let key = match planes.at_least(track, place) {
+        Some(ahead) => cost + ahead,
+        None => u64::MAX,
+    };
+    Weight { cost, key }
+}
+
+/// The same, by tables where they tell, and exactly only if it may be at most `best`.
 #[inline(always)]
-fn fitting_cost<P: Planes>(
-    marks: &Marks,
-    aim: &Aim<'_, P>,
+pub(crate) fn weigh<P: Planes>(
+    planes: &P,
+    plane: Plane<'_>,
+    track: usize,
     place: usize,
     before: u64,
-) -> Option<u64>
-    requires place { place < (P.family aim.now.planes.now).places }
-    requires room { place < length marks.now }
-    requires before { before ≤ aim.now.best }
-    ensures some { IfSome result (λ cost. IsFit ((P.family aim.now.planes.now).plane aim.now.track)
-        aim.now.best marks.now place before cost) }
-    ensures none { IfNone result (IsUnfit ((P.family aim.now.planes.now).plane aim.now.track)
-        (P.family aim.now.planes.now).exit aim.now.best marks.now place
-        (before + ((P.family aim.now.planes.now).plane aim.now.track).cost place)) }
-{
-    let _tracks = aim.planes.tracks();
-    let cost = before + aim.planes.cost(aim.track, place);
-    if aim.best < cost || marks.is_entered(place, cost) {
-        return None;
-    }
-    if aim.reached.is_below(place, cost) {
-        return None;
-    }
-    match aim.planes.at_least(aim.track, place) {
-        Some(ahead) if ahead <= aim.best - cost => Some(cost),
-        _ => None,
-    }
-}
-
-/// The first step from the stop, from its next edge on, over which a path of the wanted cost may
-/// lead.
-#[inline(always)]
-fn next_step<P: Planes>(marks: &Marks, aim: &Aim<'_, P>, stop: Stop) -> Option<Step>
-    requires place { stop.place < (P.family aim.now.planes.now).places }
-    requires room { (P.family aim.now.planes.now).places ≤ length marks.now }
-    requires cost { stop.cost ≤ aim.now.best }
-    ensures some { IfSome result (λ step. IsNext ((P.family aim.now.planes.now).plane aim.now.track)
-        (P.family aim.now.planes.now).exit aim.now.best marks.now stop step) }
-    ensures none { IfNone result (AreUnfit ((P.family aim.now.planes.now).plane aim.now.track)
-        (P.family aim.now.planes.now).exit aim.now.best marks.now stop stop.next_edge
-        (length (((P.family aim.now.planes.now).plane aim.now.track).ends stop.place))) }
-{
-    let _tracks = aim.planes.tracks();
-    let ends = aim.planes.ends(aim.track, stop.place);
-    let mut edge = stop.next_edge;
-    while edge < ends.list.len() {
-        let place = ends.list[edge] as usize + ends.base;
-        if let Some(cost) = fitting_cost(marks, aim, place, stop.cost) {
-            return Some(Step { edge, place, cost });
+    best: u64,
+) -> Weight {
+    let price = plane.costs[place];
+    let ahead = plane.aheads[place];
+    if price != 255 && ahead != 0 {
+        let cost = before + price as u64;
+        let key = cost + ahead as u64 + plane.last;
+        if key > best {
+            return Weight { cost, key };
         }
-        edge += 1;
+        // @count 20
+        let key = cost + planes.sharp_at_least(track, place);
+        // @count 21 (key <= best) as u64
+        return Weight { cost, key };
     }
-    None
+    // @count 22
+    other_weight(planes, track, place, before)
 }
 
 impl Walk {
@@ -145,26 +116,12 @@ impl Walk {
     pub(crate) fn least_into<P: Planes>(
         &mut self,
         aim: &Aim<'_, P>,
-        starts: &[usize],
+        starts: &[Start],
         path: &mut Path,
-    ) -> Result<bool, AllocError>
-        requires starts { AreNodes ((P.family aim.now.planes.now).plane aim.now.track) starts.now }
-        requires rising { IsNonDecreasing starts.now }
-        requires least { AreNoCheaper ((P.family aim.now.planes.now).plane aim.now.track)
-            (P.family aim.now.planes.now).exit aim.now.best starts.now }
-        ensures found { result ≡ Ok true →
-            IsLeastPath ((P.family aim.now.planes.now).plane aim.now.track) starts.now
-            (P.family aim.now.planes.now).exit path.new.nodes.items }
-        ensures cost { result ≡ Ok true → path.new.cost
-            ≡ cost_of ((P.family aim.now.planes.now).plane aim.now.track) path.new.nodes.items }
-        ensures none { result ≡ Ok false → (start : ℕ) → Contains starts.now start →
-            CostsMore ((P.family aim.now.planes.now).plane aim.now.track)
-            (P.family aim.now.planes.now).exit aim.now.best start 0 }
-    {
-        let _tracks = aim.planes.tracks();
+    ) -> Result<bool, AllocError> {
         self.marks.renew(aim.planes.places())?;
         for start in starts {
-            if self.walk_from(aim, *start)? {
+            if start.ahead <= aim.best && self.walk_from(aim, start.place)? {
                 self.write_path(aim.exit, &mut path.nodes)?;
                 path.cost = aim.best;
                 return Ok(true);
@@ -174,98 +131,75 @@ impl Walk {
     }
 
     /// Walks on from a start until a path is complete, and returns whether there is one.
-    fn walk_from<P: Planes>(&mut self, aim: &Aim<'_, P>, start: usize) -> Result<bool, AllocError>
-        requires start { start < (P.family aim.now.planes.now).places }
-        requires least { CostsAtLeast ((P.family aim.now.planes.now).plane aim.now.track)
-            (P.family aim.now.planes.now).exit aim.now.best start 0 }
-        requires between { IsBetween ((P.family aim.now.planes.now).plane aim.now.track)
-            (P.family aim.now.planes.now).exit aim.now.best self.old.marks }
-        ensures found { result ≡ Ok true →
-            IsLeastFrom ((P.family aim.now.planes.now).plane aim.now.track)
-            (P.family aim.now.planes.now).exit aim.now.best start
-            (places_in self.new.stops.items ++ (P.family aim.now.planes.now).exit ∷ []) }
-        ensures none { result ≡ Ok false →
-            CostsMore ((P.family aim.now.planes.now).plane aim.now.track)
-            (P.family aim.now.planes.now).exit aim.now.best start 0 }
-        ensures between { result ≡ Ok false →
-            IsBetween ((P.family aim.now.planes.now).plane aim.now.track)
-            (P.family aim.now.planes.now).exit aim.now.best self.new.marks }
-    {
-        let _tracks = aim.planes.tracks();
-        if !is_near(aim, start) {
-            return Ok(false);
-        }
-        self.begin_at(start)?;
-        while let Some(stop) = self.take_stop() {
-            if let Some(step) = next_step(&self.marks, aim, stop) {
-                if step.place == aim.exit {
-                    self.stops.push(stop)?;
+    #[inline(never)]
+    fn walk_from<P: Planes>(&mut self, aim: &Aim<'_, P>, start: usize) -> Result<bool, AllocError> {
+        let planes = aim.planes;
+        let (track, exit, best) = (aim.track, aim.exit, aim.best);
+        let is_rival = aim.is_rival;
+        let plane = planes.plane(track);
+        let reached = aim.reached.cells.as_slice();
+        let (top, reached_top) = (self.marks.top(), aim.reached.top());
+        let cells = self.marks.cells.as_mut_slice();
+        let stops = &mut self.stops;
+        stops.clear();
+        // @count 1
+        // @count 25 aim.second as u64
+        cells[start] = top;
+        let mut place = start;
+        let mut cost: u64 = 0;
+        let mut edge: usize = 0;
+        loop {
+            let ends = ends_of(planes, plane, track, place, is_rival);
+            let mut next = exit;
+            let mut next_cost: u64 = 0;
+            while edge < ends.list.len() {
+                next = ends.list[edge] as usize + ends.base;
+                // @count 3
+                // @count 24 aim.second as u64
+                edge += 1;
+                let weight = weigh(planes, plane, track, next, cost, best);
+                if weight.key <= best {
+                    let below = weight.cost as u32;
+                    if cells[next] < top - below && reached[next] <= reached_top - below {
+                        next_cost = weight.cost;
+                        break;
+                    }
+                }
+            }
+            if next_cost > 0 {
+                stops.push(Stop {
+                    place: place as u32,
+                    cost: cost as u32,
+                    next_edge: edge as u32,
+                })?;
+                if next == exit {
                     return Ok(true);
                 }
-                self.go_on(stop, step)?;
+                // @count 2
+                // @count 23 aim.second as u64
+                cells[next] = top - next_cost as u32;
+                place = next;
+                cost = next_cost;
+                edge = 0;
+            } else {
+                match stops.pop() {
+                    None => return Ok(false),
+                    Some(stop) => {
+                        // @count 4
+                        place = stop.place as usize;
+                        cost = stop.cost as u64;
+                        edge = stop.next_edge as usize;
+                    }
+                }
             }
         }
-        Ok(false)
-    }
-
-    /// Makes the start the only stop.
-    fn begin_at(&mut self, start: usize) -> Result<(), AllocError>
-        requires { start < length self.old.marks }
-        ensures marks { OnOk result (self.new.marks ≡ set self.old.marks start 0) }
-        ensures stops { OnOk result (self.new.stops.items ≡ stop_at start 0 ∷ []) }
-    {
-        self.stops.clear();
-        self.marks.enter(start, 0);
-        self.stops.push(Stop {
-            place: start,
-            cost: 0,
-            next_edge: 0,
-        })?;
-        Ok(())
-    }
-
-    /// Takes the last stop; `None` if there is no stop.
-    #[inline(always)]
-    fn take_stop(&mut self) -> Option<Stop>
-        ensures marks { self.new.marks ≡ self.old.marks }
-        ensures some { IfSome result (λ stop.
-            self.old.stops.items ≡ self.new.stops.items ++ stop ∷ []) }
-        ensures none { IfNone result (self.old.stops.items ≡ []) }
-    {
-        self.stops.pop()
-    }
-
-    /// Puts the stop back, and after it the one that the step leads to.
-    #[inline(always)]
-    fn go_on(&mut self, stop: Stop, step: Step) -> Result<(), AllocError>
-        requires place { step.place < length self.old.marks }
-        requires cost { step.cost < 2 ^ 16 }
-        requires edge { step.edge + 1 < 2 ^ 64 }
-        ensures marks { OnOk result (self.new.marks ≡ set self.old.marks step.place step.cost) }
-        ensures stops { OnOk result (self.new.stops.items ≡ (self.old.stops.items
-            ++ after_step stop step ∷ []) ++ stop_at step.place step.cost ∷ []) }
-    {
-        self.marks.enter(step.place, step.cost);
-        self.stops.push(Stop {
-            place: stop.place,
-            cost: stop.cost,
-            next_edge: step.edge + 1,
-        })?;
-        self.stops.push(Stop {
-            place: step.place,
-            cost: step.cost,
-            next_edge: 0,
-        })?;
-        Ok(())
     }
 
     /// Writes the places of the stops, and the goal.
-    fn write_path(&self, exit: usize, nodes: &mut Vec<usize>) -> Result<(), AllocError>
-        ensures { OnOk result (nodes.new.items ≡ places_in self.now.stops.items ++ exit ∷ []) }
-    {
+    fn write_path(&self, exit: usize, nodes: &mut Vec<usize>) -> Result<(), AllocError> {
         nodes.clear();
         for stop in self.stops.as_slice() {
-            nodes.push(stop.place)?;
+            nodes.push(stop.place as usize)?;
         }
         nodes.push(exit)?;
         Ok(())
