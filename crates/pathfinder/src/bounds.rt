@@ -81,6 +81,11 @@ impl FabricPlanes<'_> {
         }
         for wire in self.wires {
             let (track, place) = (wire.track as usize, wire.place as usize);
+            let far = self.aheads[place] as u16;
+            let weak = far + self.least_lasts[track];
+            if far != 0 && weak >= bounds.all[track] && weak >= bounds.rivals[track] {
+                continue;
+            }
             let ahead = self.from_wire(track, place) as u16;
             if ahead < bounds.all[track] {
                 bounds.all[track] = ahead;

@@ -153,19 +153,12 @@ impl FabricPlanes<'_> {
     }
 
     /// The same for a wire beside the sink's block.
-    #[inline(never)]
+    #[inline(always)]
     fn from_side(&self, track: usize, place: usize) -> u64 {
-        let tracks = self.layout.tracks;
-        let mut least: u64 = APART as u64;
-        for side in 0..4 {
-            if self.to.sides[side] == place {
-                least = least.min(self.to.pins[side] as u64 + 1);
-            } else if self.to.sides[side] != NOWHERE {
-                let last = self.lasts[side * tracks + track] as u64;
-                least = least.min(self.distances[side][place] as u64 + last);
-            }
-        }
-        least
+        let least = self.least_lasts[track] as u64;
+        let side = self.side_of(place);
+        let pin = if side < 4 { self.to.pins[side] as u64 } else { 0 };
+        pin.min(least) + 1
     }
 
     #[inline(never)]
@@ -247,6 +240,10 @@ impl Planes for FabricPlanes<'_> {
         for wire in self.wires {
             if wire.track as usize == track {
                 let place = wire.place as usize;
+                let far = self.aheads[place] as u64;
+                if far != 0 && far + self.least_lasts[track] as u64 > most {
+                    continue;
+                }
                 let ahead = self.from_wire(track, place);
                 let number = self.layout.first[place] as usize + track;
                 if ahead <= most && (!is_rival || number < self.head.start) {

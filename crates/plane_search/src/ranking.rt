@@ -4,12 +4,8 @@ use crate::search::TrackSearch;
 use least_path::Path;
 use std::alloc::{AllocError, Global};
 
-/// A track, and a lower bound of the costs of the paths in its plane.
-#[derive(Clone, Copy, PartialEq, Eq, PartialOrd, Ord)]
-struct Ranked {
-    bound: u64,
-    track: usize,
-}
+/// The tracks that a ranking tells apart.
+const TRACKS: u64 = 1 << 16;
 
 /// Whether a plane may hold a path that is less than the known one.
 #[inline(always)]
@@ -23,7 +19,7 @@ fn rank<P: Planes>(
     planes: &P,
     done: Option<usize>,
     path: &Path,
-    ranking: &mut Vec<Ranked>,
+    ranking: &mut Vec<u64>,
 ) -> Result<(), AllocError> {
     ranking.clear();
     for track in 0..planes.tracks() {
@@ -33,7 +29,7 @@ fn rank<P: Planes>(
             None => true,
         };
         if is_open {
-            ranking.push(Ranked { bound, track })?;
+            ranking.push(bound * TRACKS + track as u64)?;
         }
     }
     ranking.sort_unstable();
@@ -44,7 +40,7 @@ fn rank<P: Planes>(
 #[derive(Drop)]
 pub struct PlaneSearch {
     search: TrackSearch,
-    ranking: Vec<Ranked>,
+    ranking: Vec<u64>,
 }
 
 impl PlaneSearch {
@@ -65,8 +61,8 @@ impl PlaneSearch {
     ) -> Result<Option<usize>, AllocError> {
         rank(planes, None, path, &mut self.ranking)?;
         for ranked in self.ranking.as_slice() {
-            if self.search.begin(planes, ranked.track, path)? {
-                return Ok(Some(ranked.track));
+            if self.search.begin(planes, (*ranked % TRACKS) as usize, path)? {
+                return Ok(Some((*ranked % TRACKS) as usize));
             }
         }
         Ok(None)
@@ -85,7 +81,7 @@ impl PlaneSearch {
         // @count 0
         let known_cost = path.cost;
         for ranked in self.ranking.as_slice() {
-            self.search.improve(planes, ranked.track, known_cost, path)?;
+            self.search.improve(planes, (*ranked % TRACKS) as usize, known_cost, path)?;
         }
         Ok(())
     }
