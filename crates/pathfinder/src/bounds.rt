@@ -13,6 +13,8 @@ pub(crate) struct Head {
     /// The place and the track of its first wire.
     pub(crate) place: usize,
     pub(crate) track: usize,
+    /// The known path's cost.
+    pub(crate) cost: u64,
 }
 
 /// The bounds of all tracks, and those of the paths that come before the known one.
@@ -118,6 +120,11 @@ impl FabricPlanes<'_> {
         for side in 0..4 {
             let place = self.from.sides[side];
             if place == NOWHERE {
+                continue;
+            }
+            let far = self.aheads[place];
+            let least = price + 1 + far as u16 + self.least_last;
+            if far != 0 && least as u64 > head.cost {
                 continue;
             }
             self.fill_side(j, side, place, price, bounds.row.as_mut_slice());

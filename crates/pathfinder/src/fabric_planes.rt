@@ -55,6 +55,8 @@ pub(crate) struct FabricPlanes<'a> {
     pub(crate) lasts: &'a [u16],
     /// For each track, the least of these.
     pub(crate) least_lasts: &'a [u16],
+    /// The least of all tracks.
+    pub(crate) least_last: u16,
     pub(crate) head: Head,
     pub(crate) bounds: &'a [u16],
     pub(crate) rivals: &'a [u16],
@@ -161,38 +163,10 @@ impl FabricPlanes<'_> {
         pin.min(least) + 1
     }
 
-    #[inline(never)]
-    fn from_pin(&self, track: usize, place: usize) -> Option<u64> {
-        if place == self.to.exit {
-            return Some(0);
-        }
-        if place == self.from.column {
-            let mut least: u64 = 1 << 60;
-            for end in self.opins {
-                let pin = *end as usize;
-                if let Some(ahead) = self.from_opin(track, pin) {
-                    least = least.min(self.price_of(self.pin_number(pin)) + ahead);
-                }
-            }
-            return if least == 1 << 60 { None } else { Some(least) };
-        }
-        let outputs = self.layout.outputs();
-        if place > self.from.column && place < self.from.column + 2 + outputs {
-            return self.from_opin(track, place);
-        }
-        Some(1)
-    }
-
-    fn from_opin(&self, track: usize, place: usize) -> Option<u64> {
-        let j = place - self.from.column - 2;
-        let mut least: u64 = 1 << 60;
-        let base = self.from.column - self.layout.offset();
-        for end in self.layout.departures(self.from.class, j, track) {
-            let wire = *end as usize + base;
-            let cost = self.cost(track, wire);
-            least = least.min(cost + self.from_wire(track, wire));
-        }
-        if least == 1 << 60 { None } else { Some(least) }
+    /// A lower bound of what follows a pin, if it is on a way.
+    #[inline(always)]
+    fn from_pin(&self, place: usize) -> u64 {
+        if place == self.to.exit { 0 } else { 1 }
     }
 }
 
@@ -326,7 +300,7 @@ impl Planes for FabricPlanes<'_> {
             return Some(self.sharp_at_least(track, place));
         }
         if self.layout.class[place] == PIN {
-            return self.from_pin(track, place);
+            return Some(self.from_pin(place));
         }
         Some(self.from_side(track, place))
     }
