@@ -163,6 +163,17 @@ impl FabricPlanes<'_> {
         pin.min(least) + 1
     }
 
+    /// The same for a wire that is not beside it.
+    #[inline(always)]
+    fn sharp_at_least(&self, track: usize, place: usize) -> u64 {
+        let tracks = self.layout.tracks;
+        let top = self.distances[0][place] as u32 + self.lasts[track] as u32;
+        let bottom = self.distances[1][place] as u32 + self.lasts[tracks + track] as u32;
+        let right = self.distances[2][place] as u32 + self.lasts[2 * tracks + track] as u32;
+        let left = self.distances[3][place] as u32 + self.lasts[3 * tracks + track] as u32;
+        top.min(bottom).min(right.min(left)) as u64
+    }
+
     /// A lower bound of what follows a pin, if it is on a way.
     #[inline(always)]
     fn from_pin(&self, place: usize) -> u64 {
@@ -297,22 +308,12 @@ impl Planes for FabricPlanes<'_> {
     #[inline(always)]
     fn at_least(&self, track: usize, place: usize) -> Option<u64> {
         if self.aheads[place] != 0 {
-            return Some(self.sharp_at_least(track, place));
+            return Some(self.aheads[place] as u64 + self.least_lasts[track] as u64);
         }
         if self.layout.class[place] == PIN {
             return Some(self.from_pin(place));
         }
         Some(self.from_side(track, place))
-    }
-
-    #[inline(always)]
-    fn sharp_at_least(&self, track: usize, place: usize) -> u64 {
-        let tracks = self.layout.tracks;
-        let top = self.distances[0][place] as u32 + self.lasts[track] as u32;
-        let bottom = self.distances[1][place] as u32 + self.lasts[tracks + track] as u32;
-        let right = self.distances[2][place] as u32 + self.lasts[2 * tracks + track] as u32;
-        let left = self.distances[3][place] as u32 + self.lasts[3 * tracks + track] as u32;
-        top.min(bottom).min(right.min(left)) as u64
     }
 
     #[inline(always)]

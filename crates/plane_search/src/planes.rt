@@ -79,9 +79,6 @@ pub trait Planes {
     /// there is no way.
     fn at_least(&self, track: usize, place: usize) -> Option<u64>;
 
-    /// A greater such bound of a place whose steps the tables tell.
-    fn sharp_at_least(&self, track: usize, place: usize) -> u64;
-
     /// A lower bound of the cost of any path in a track's plane.
     fn bound(&self, track: usize) -> u64;
 

@@ -78,7 +78,6 @@ impl PlaneSearch {
         path: &mut Path,
     ) -> Result<(), AllocError> {
         rank(planes, Some(done), path, &mut self.ranking)?;
-        // @count 0
         let known_cost = path.cost;
         for ranked in self.ranking.as_slice() {
             self.search.improve(planes, (*ranked % TRACKS) as usize, known_cost, path)?;

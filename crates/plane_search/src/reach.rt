@@ -128,11 +128,10 @@ impl Reach {
             if cells[from] != top - before as u32 {
                 continue;
             }
-            // @count 14
             let ends = ends_of(planes, plane, track, from, false);
             for end in ends.list {
                 let place = *end as usize + ends.base;
-                let weight = weigh(planes, plane, track, place, before, limit);
+                let weight = weigh(planes, plane, track, place, before);
                 if weight.key > limit {
                     continue;
                 }
@@ -144,7 +143,6 @@ impl Reach {
                     limit = cost - 1;
                     continue;
                 }
-                // @count 15
                 cells[place] = top - cost as u32;
                 let item = Open {
                     place: place as u32,

@@ -83,8 +83,6 @@ impl TrackSearch {
         if most < bound {
             return Ok(());
         }
-        // @count 10
-        // @count 11 (bound < most) as u64
         let is_rival =
             bound == path.cost && path.cost == known_cost && planes.is_elsewhere(track);
         planes.list_starts(track, most, is_rival, &mut self.starts)?;
@@ -93,7 +91,6 @@ impl TrackSearch {
             return Ok(());
         }
         if most > UNMARKED - 2 {
-            // @count 9
             if !self.find_any(planes, track)? {
                 return Ok(());
             }
@@ -101,9 +98,7 @@ impl TrackSearch {
             return Ok(());
         }
         number_nodes(planes, track, &mut self.found.nodes);
-        // @count 12
         if is_less(&self.found, path) {
-            // @count 13
             mem::swap(path, &mut self.found);
         }
         Ok(())
@@ -121,9 +116,7 @@ impl TrackSearch {
     ) -> Result<bool, AllocError> {
         self.reach.forget(planes.places())?;
         if bound > 0 && bound <= most {
-            // @count 5
             if self.find_at(planes, track, bound, is_rival)? {
-                // @count 6
                 return Ok(true);
             }
         }
@@ -135,12 +128,10 @@ impl TrackSearch {
             track,
             exit: planes.exit(),
         };
-        // @count 7
         let least = self.reach.least_cost(&view, &self.starts, most)?;
         if most < least {
             return Ok(false);
         }
-        // @count 8
         self.find_at(planes, track, least, false)
     }
 
@@ -160,7 +151,6 @@ impl TrackSearch {
             exit: planes.exit(),
             best,
             is_rival,
-            second: best != planes.bound(track),
             reached: &self.reach.marks,
         };
         self.walk.least_into(&aim, &self.starts, &mut self.found)

@@ -26,7 +26,6 @@ pub(crate) struct Aim<'a, P: Planes> {
     pub(crate) best: u64,
     /// Whether only paths are looked for that come before the known one.
     pub(crate) is_rival: bool,
-    pub(crate) second: bool,
     /// The least costs of ways to places, as far as they are known.
     pub(crate) reached: &'a Marks,
 }
@@ -75,7 +74,7 @@ fn other_weight<P: Planes>(planes: &P, track: usize, place: usize, before: u64) 
     Weight { cost, key }
 }
 
-/// The same, by tables where they tell, and exactly only if it may be at most `best`.
+/// The same, by tables where they tell.
 #[inline(always)]
 pub(crate) fn weigh<P: Planes>(
     planes: &P,
@@ -83,22 +82,14 @@ pub(crate) fn weigh<P: Planes>(
     track: usize,
     place: usize,
     before: u64,
-    best: u64,
 ) -> Weight {
     let price = plane.costs[place];
     let ahead = plane.aheads[place];
     if price != 255 && ahead != 0 {
         let cost = before + price as u64;
         let key = cost + ahead as u64 + plane.last;
-        if key > best {
-            return Weight { cost, key };
-        }
-        // @count 20
-        let key = cost + planes.sharp_at_least(track, place);
-        // @count 21 (key <= best) as u64
         return Weight { cost, key };
     }
-    // @count 22
     other_weight(planes, track, place, before)
 }
 
@@ -142,8 +133,6 @@ impl Walk {
         let cells = self.marks.cells.as_mut_slice();
         let stops = &mut self.stops;
         stops.clear();
-        // @count 1
-        // @count 25 aim.second as u64
         cells[start] = top;
         let mut place = start;
         let mut cost: u64 = 0;
@@ -154,10 +143,8 @@ impl Walk {
             let mut next_cost: u64 = 0;
             while edge < ends.list.len() {
                 next = ends.list[edge] as usize + ends.base;
-                // @count 3
-                // @count 24 aim.second as u64
                 edge += 1;
-                let weight = weigh(planes, plane, track, next, cost, best);
+                let weight = weigh(planes, plane, track, next, cost);
                 if weight.key <= best {
                     let below = weight.cost as u32;
                     if cells[next] < top - below && reached[next] <= reached_top - below {
@@ -175,8 +162,6 @@ impl Walk {
                 if next == exit {
                     return Ok(true);
                 }
-                // @count 2
-                // @count 23 aim.second as u64
                 cells[next] = top - next_cost as u32;
                 place = next;
                 cost = next_cost;
@@ -185,7 +170,6 @@ impl Walk {
                 match stops.pop() {
                     None => return Ok(false),
                     Some(stop) => {
-                        // @count 4
                         place = stop.place as usize;
                         cost = stop.cost as u64;
                         edge = stop.next_edge as usize;
