@@ -1,9 +1,9 @@
 //! The planes of a strip's graph at the prices of an iteration, towards a sink.
+use crate::bounds::Head;
 use crate::layout::{APART, Layout, NOWHERE, PIN};
 use crate::rate::{NodeCost, price};
 use crate::scratch::Wire;
 use least_path::Ends;
-use crate::bounds::Head;
 use plane_search::{Plane, Planes, Start};
 use rr_graph::Node;
 use std::alloc::AllocError;
@@ -136,7 +136,10 @@ impl FabricPlanes<'_> {
         if pin == self.from.column {
             return self.from.column + 3 + self.head.pin - self.from.opin_first;
         }
-        if number < known || pin < self.from.column || pin > self.from.column + 1 + self.layout.outputs() {
+        if number < known
+            || pin < self.from.column
+            || pin > self.from.column + 1 + self.layout.outputs()
+        {
             return NOWHERE;
         }
         if number > known {
@@ -159,7 +162,11 @@ impl FabricPlanes<'_> {
     fn from_side(&self, track: usize, place: usize) -> u64 {
         let least = self.least_lasts[track] as u64;
         let side = self.side_of(place);
-        let pin = if side < 4 { self.to.pins[side] as u64 } else { 0 };
+        let pin = if side < 4 {
+            self.to.pins[side] as u64
+        } else {
+            0
+        };
         pin.min(least) + 1
     }
 

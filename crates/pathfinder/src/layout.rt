@@ -1,8 +1,8 @@
 //! The places of each track's plane, and the steps between them.
 use arch_file::Arch;
 use grid::Strip;
-use rr_graph::{Node, NodeKind, StripGraph, sides_at};
 use plane_search::Span;
+use rr_graph::{Node, NodeKind, StripGraph, sides_at};
 use std::alloc::{AllocError, Global};
 
 /// Where a wire's middle is, in half steps.
@@ -20,6 +20,7 @@ pub(crate) const PIN: u8 = 255;
 pub(crate) const APART: u16 = 20000;
 /// The most that a distance counts.
 const FAR: usize = 254;
+
 const UNKNOWN: Span = Span { first: 1, end: 0 };
 
 #[derive(Drop)]
@@ -129,7 +130,11 @@ impl Layout {
 
     pub(crate) fn block_class(&self, strip: Strip, node: Node) -> usize {
         let io = strip.io_rat as usize;
-        let sub = if node.y == 0 || node.y > strip.rows { node.n as usize } else { 0 };
+        let sub = if node.y == 0 || node.y > strip.rows {
+            node.n as usize
+        } else {
+            0
+        };
         (class_in(node.x as usize, strip.width as usize) * self.rows + node.y as usize) * io + sub
     }
 
@@ -138,7 +143,10 @@ impl Layout {
         let arch: &Arch = graph.arch();
         let tracks = arch.tracks as usize;
         let (width, rows) = (strip.width as usize, strip.rows as usize);
-        if self.tracks == tracks && self.places == (width + 3) * self.stride && self.rows == rows + 2 {
+        if self.tracks == tracks
+            && self.places == (width + 3) * self.stride
+            && self.rows == rows + 2
+        {
             return Ok(());
         }
         let pads = strip.io_rat as usize;
@@ -153,7 +161,13 @@ impl Layout {
         self.stride = 2 + inputs + outputs + 5 * (rows + 2);
         self.places = (width + 3) * self.stride;
         self.first.resize(self.places, u32::MAX)?;
-        self.points.resize(self.places, Point { across: u16::MAX, up: 0 })?;
+        self.points.resize(
+            self.places,
+            Point {
+                across: u16::MAX,
+                up: 0,
+            },
+        )?;
         self.class.resize(self.places, PIN)?;
         for x in 0..strip.width + 1 {
             for y in 0..strip.rows + 1 {
@@ -164,7 +178,8 @@ impl Layout {
         self.fill_distances(width)?;
         let classes = 6 * (rows + 2) * pads;
         self.arrive_spans.resize(classes * 4 * tracks, UNKNOWN)?;
-        self.depart_spans.resize(classes * outputs * tracks, UNKNOWN)?;
+        self.depart_spans
+            .resize(classes * outputs * tracks, UNKNOWN)?;
         self.apart.resize(classes * outputs * tracks * 4, APART)?;
         self.pin_sides.resize(classes * inputs, 0)?;
         Ok(())
@@ -229,14 +244,23 @@ impl Layout {
         self.wire(node.x, node.kind, node.y)
     }
 
-    fn add_place<G: StripGraph>(&mut self, graph: &G, x: u32, kind: NodeKind, y: u32) -> Result<(), AllocError> {
+    fn add_place<G: StripGraph>(
+        &mut self,
+        graph: &G,
+        x: u32,
+        kind: NodeKind,
+        y: u32,
+    ) -> Result<(), AllocError> {
         let Some(number) = graph.number(Node { x, kind, y, n: 0 }) else {
             return Ok(());
         };
         let strip = graph.strip();
         let place = self.wire(x, kind, y);
         self.first[place] = number as u32;
-        self.points[place] = Point { across: rr_graph::across_of(kind, x) as u16, up: rr_graph::up_of(kind, y) as u16 };
+        self.points[place] = Point {
+            across: rr_graph::across_of(kind, x) as u16,
+            up: rr_graph::up_of(kind, y) as u16,
+        };
         let high = match kind {
             NodeKind::ChanY => 36,
             _ => 0,
@@ -255,13 +279,17 @@ impl Layout {
                 let to = graph.node(*end as usize + ends.base);
                 match to.kind {
                     NodeKind::ChanX | NodeKind::ChanY => {
-                        self.steps.push((self.offset() + self.place_of(to) - place) as u32)?;
+                        self.steps
+                            .push((self.offset() + self.place_of(to) - place) as u32)?;
                     }
                     _ => {}
                 }
             }
             self.steps[begin..].sort_unstable();
-            self.step_spans[class] = Span { first: begin as u32, end: self.steps.len() as u32 };
+            self.step_spans[class] = Span {
+                first: begin as u32,
+                end: self.steps.len() as u32,
+            };
         }
         Ok(())
     }
@@ -296,15 +324,36 @@ impl Layout {
     pub(crate) fn sides_of(&self, strip: Strip, at: Node) -> [usize; 4] {
         let is_block = at.y > 0 && at.y <= strip.rows;
         [
-            if at.y <= strip.rows { self.wire(at.x, NodeKind::ChanX, at.y) } else { NOWHERE },
-            if at.y > 0 { self.wire(at.x, NodeKind::ChanX, at.y - 1) } else { NOWHERE },
-            if is_block { self.wire(at.x, NodeKind::ChanY, at.y) } else { NOWHERE },
-            if is_block { self.wire(at.x - 1, NodeKind::ChanY, at.y) } else { NOWHERE },
+            if at.y <= strip.rows {
+                self.wire(at.x, NodeKind::ChanX, at.y)
+            } else {
+                NOWHERE
+            },
+            if at.y > 0 {
+                self.wire(at.x, NodeKind::ChanX, at.y - 1)
+            } else {
+                NOWHERE
+            },
+            if is_block {
+                self.wire(at.x, NodeKind::ChanY, at.y)
+            } else {
+                NOWHERE
+            },
+            if is_block {
+                self.wire(at.x - 1, NodeKind::ChanY, at.y)
+            } else {
+                NOWHERE
+            },
         ]
     }
 
     /// Lists what the wires beside a sink lead to.
-    pub(crate) fn provide_sink<G: StripGraph>(&mut self, graph: &G, sink: Node, sides: [usize; 4]) -> Result<usize, AllocError> {
+    pub(crate) fn provide_sink<G: StripGraph>(
+        &mut self,
+        graph: &G,
+        sink: Node,
+        sides: [usize; 4],
+    ) -> Result<usize, AllocError> {
         let class = self.block_class(graph.strip(), sink);
         let pins = graph.numbers_at(NodeKind::Ipin, sink.x, sink.y);
         for side in 0..4 {
@@ -330,7 +379,14 @@ impl Layout {
         Ok(class)
     }
 
-    fn list_arrivals<G: StripGraph>(&mut self, graph: &G, sink: Node, place: usize, at: usize, track: usize) -> Result<(), AllocError> {
+    fn list_arrivals<G: StripGraph>(
+        &mut self,
+        graph: &G,
+        sink: Node,
+        place: usize,
+        at: usize,
+        track: usize,
+    ) -> Result<(), AllocError> {
         let begin = self.arrive.len();
         let pins = graph.numbers_at(NodeKind::Ipin, sink.x, sink.y);
         let ends = graph.ends(self.first[place] as usize + track);
@@ -339,7 +395,10 @@ impl Layout {
             let to = graph.node(number);
             let target = match to.kind {
                 NodeKind::ChanX | NodeKind::ChanY => self.place_of(to),
-                _ if number >= pins.first && number < pins.end && self.is_own(graph.strip(), sink, to) => {
+                _
+                    if number >= pins.first
+                        && number < pins.end
+                        && self.is_own(graph.strip(), sink, to) => {
                     self.ipin(sink.x, number - pins.first)
                 }
                 _ => NOWHERE,
@@ -349,7 +408,10 @@ impl Layout {
             }
         }
         self.arrive[begin..].sort_unstable();
-        self.arrive_spans[at] = Span { first: begin as u32, end: self.arrive.len() as u32 };
+        self.arrive_spans[at] = Span {
+            first: begin as u32,
+            end: self.arrive.len() as u32,
+        };
         Ok(())
     }
 
@@ -358,7 +420,12 @@ impl Layout {
     }
 
     /// Lists the wires that the pins of a source lead to.
-    pub(crate) fn provide_source<G: StripGraph>(&mut self, graph: &G, source: Node, sides: [usize; 4]) -> Result<usize, AllocError> {
+    pub(crate) fn provide_source<G: StripGraph>(
+        &mut self,
+        graph: &G,
+        source: Node,
+        sides: [usize; 4],
+    ) -> Result<usize, AllocError> {
         let class = self.block_class(graph.strip(), source);
         let pins = graph.numbers_at(NodeKind::Opin, source.x, source.y);
         let at = class * self.outputs * self.tracks;
@@ -374,7 +441,8 @@ impl Layout {
                     let to = graph.node(*end as usize + ends.base);
                     if to.n as usize == track {
                         let place = self.place_of(to);
-                        self.depart.push((self.offset() + place - self.column(source.x)) as u32)?;
+                        self.depart
+                            .push((self.offset() + place - self.column(source.x)) as u32)?;
                         for side in 0..4 {
                             if sides[side] == place {
                                 let row = (class * self.outputs + j) * 4 + side;
@@ -384,8 +452,10 @@ impl Layout {
                     }
                 }
                 self.depart[begin..].sort_unstable();
-                self.depart_spans[at + j * self.tracks + track] =
-                    Span { first: begin as u32, end: self.depart.len() as u32 };
+                self.depart_spans[at + j * self.tracks + track] = Span {
+                    first: begin as u32,
+                    end: self.depart.len() as u32,
+                };
             }
         }
         Ok(class)

@@ -61,7 +61,10 @@ impl PlaneSearch {
     ) -> Result<Option<usize>, AllocError> {
         rank(planes, None, path, &mut self.ranking)?;
         for ranked in self.ranking.as_slice() {
-            if self.search.begin(planes, (*ranked % TRACKS) as usize, path)? {
+            if self
+                .search
+                .begin(planes, (*ranked % TRACKS) as usize, path)?
+            {
                 return Ok(Some((*ranked % TRACKS) as usize));
             }
         }
@@ -80,7 +83,8 @@ impl PlaneSearch {
         rank(planes, Some(done), path, &mut self.ranking)?;
         let known_cost = path.cost;
         for ranked in self.ranking.as_slice() {
-            self.search.improve(planes, (*ranked % TRACKS) as usize, known_cost, path)?;
+            self.search
+                .improve(planes, (*ranked % TRACKS) as usize, known_cost, path)?;
         }
         Ok(())
     }

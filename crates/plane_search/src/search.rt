@@ -83,8 +83,7 @@ impl TrackSearch {
         if most < bound {
             return Ok(());
         }
-        let is_rival =
-            bound == path.cost && path.cost == known_cost && planes.is_elsewhere(track);
+        let is_rival = bound == path.cost && path.cost == known_cost && planes.is_elsewhere(track);
         planes.list_starts(track, most, is_rival, &mut self.starts)?;
         self.starts.sort_unstable();
         if self.starts.is_empty() {
