@@ -1,5 +1,5 @@
 -- How a live service with workers ends.
-use Rattle.std.specs.Prelude.{ℕ, ◌≡◌, ◌⊎◌, List, Option, Some, None, false}
+use Rattle.std.specs.Prelude.{ℕ, ◌≡◌, Bool, List, Option, Some, None, false, true}
 use Rattle.dialogue.specs.History.{View}
 use Rattle.dialogue.specs.declared.dialogue.FailedDevice.TheVariants.{Output}
 use Rattle.line_service.specs.declared.conversation.ConversationEnd.{ConversationEnd}
@@ -7,7 +7,7 @@ use Rattle.line_service.specs.declared.conversation.ConversationEnd.TheVariants.
 use Rattle.shared_output.specs.declared.output.WriteTrouble.{WriteTrouble}
 use Rattle.shared_output.specs.declared.output.WriteTrouble.TheVariants.{NoMemory as NoMemoryTrouble, Failed as FailedTrouble}
 use Rattle.live_run.specs.declared.outcome.Outcome.{Outcome}
-use Rattle.live_run.specs.declared.outcome.Outcome.TheVariants.{Stopped, NoMemory}
+use Rattle.live_run.specs.declared.outcome.Outcome.TheVariants.{Done, Stopped, NoMemory}
 use Rattle.live_run.specs.Commands.{Exits}
 use Rattle.live_run.specs.Outcomes.{outcome_of, status_of}
 
@@ -17,10 +17,16 @@ outcome_with end (Some NoMemoryTrouble) = NoMemory
 outcome_with DoneEnd (Some FailedTrouble) = Stopped Output
 outcome_with end trouble = outcome_of end
 
--- the status with workers: that of an outcome, or 5 if what the sessions were answered is not what
--- the journals say
+-- the status of a service that ended so: 5 if all lines were served and what the sessions were
+-- answered is not what the journals say
+abbrev pub threaded_status : Bool → Outcome → ℕ
+threaded_status true outcome = status_of outcome
+threaded_status false Done = 5
+threaded_status false outcome = status_of outcome
+
+-- a status with workers
 abbrev pub IsThreadedStatus : ℕ → Type 0
-IsThreadedStatus status = (status ≡ 5) ⊎ ((outcome : Outcome) × (status ≡ status_of outcome))
+IsThreadedStatus status = (is_settled : Bool) × (outcome : Outcome) × (status ≡ threaded_status is_settled outcome)
 
 -- the program without workers, over a connection without a log that has this input and this output
 pub record ExitsAlone (input output : Option (List ℕ)) (after : View) (status : ℕ) : Type 0 where

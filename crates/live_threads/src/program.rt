@@ -1,7 +1,7 @@
 //! The program with workers or without.
-ghost use Rattle.std.specs.Prelude.{IfOk, option_map};
+ghost use Rattle.std.specs.Prelude.{◌≡◌, IfOk, is_some, option_map};
 ghost use Rattle.std.specs.Process.{exit_status};
-ghost use Rattle.live_threads.specs.Endings.{IsProgramEnd, IsThreadedStatus};
+ghost use Rattle.live_threads.specs.Endings.{IsProgramEnd, IsThreadedStatus, threaded_status};
 ghost use Rattle.service_core.specs.Kept.{IsDevice};
 
 use crate::ending::ServiceEnd;
@@ -44,8 +44,8 @@ pub fn run_program<
 ) -> ProgramEnd<Connection<S, W, FileLog<H::File>>>
 where
     H::File: LockLog,
-    // Without workers it is the program of `live_run`. With workers the status is that of an
-    // outcome, or 5 if what the sessions were answered is not what the journals say.
+    // Without workers it is the program of `live_run`. With workers the status is that of how the
+    // service ended, or 5 if it was served to its end and is not settled.
     ensures { IsProgramEnd (S.remaining reader) (W.contents writer)
         (option_map (⟦<Connection<S, W, FileLog<H::File>> as Dialogue>⟧.view) result.connection)
         (exit_status result.status) }
@@ -182,14 +182,16 @@ fn run_device<
 
 /// Writes the message of how the service ended to standard error, and returns its status.
 fn report_end<H: Eprint>(rt: &H, end: ServiceEnd) -> ExitCode
-    ensures { IsThreadedStatus (exit_status result) }
+    ensures { exit_status result ≡ threaded_status (is_some end.service) end.outcome }
 {
     let ServiceEnd { outcome, service } = end;
     let is_settled = service.is_some();
     drop(service);
-    if outcome == Outcome::Done && !is_settled {
-        let _ = rt.eprintln("settle");
-        return ExitCode::from(NOT_SETTLED);
+    match (outcome, is_settled) {
+        (Outcome::Done, false) => {
+            let _ = rt.eprintln("settle");
+            ExitCode::from(NOT_SETTLED)
+        }
+        (outcome, _) => report_outcome(rt, outcome),
     }
-    report_outcome(rt, outcome)
 }

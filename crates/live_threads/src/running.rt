@@ -12,8 +12,7 @@ use job_queue::{Ready, Seat};
 use line_service::ConversationEnd;
 use line_text::{Sink, Source};
 use name_threads::{
-    Crowd, Members, Served, close_inboxes, join_inboxes, join_workers, new_inboxes, shares_of,
-    start_inboxes, start_workers,
+    Crowd, Members, Served, close_inboxes, join_inboxes, new_inboxes, shares_of, start_inboxes,
 };
 use service_core::{MAX_ADMISSIONS, Service};
 use shared_core::{Begun, Core, MAX_WORKERS, Share, Shared};
@@ -27,7 +26,7 @@ use std::thread;
 use std::thread::{Scope, Threads};
 use std::time::Clock;
 use strips::{DeviceGraph, MAX_STRIPS};
-use worker_pool::Pool;
+use worker_pool::{Pool, join_workers, start_workers};
 
 /// The workers: how many, and the graph of the whole device.
 #[derive(Clone, Copy)]

@@ -4,8 +4,6 @@
 //!   tenancies, gives a name an inbox, and puts a session's item into it.
 //! - [`start_inboxes`] starts a thread for each inbox, and [`join_inboxes`] joins them. As no more
 //!   names are live than there are inboxes, each live name has a thread, and none is started later.
-//! - [`start_workers`] starts the threads that make the jobs' steps, and [`join_workers`] joins
-//!   them.
 //! - [`settle_sessions`] compares the sessions' transcripts with the journals. In `specs/`,
 //!   `Served` says what is known then.
 #![tactic(auto)]
@@ -15,12 +13,9 @@ mod crowd;
 mod ending;
 mod joining;
 mod members;
-mod seats;
-mod workers;
 
 pub use admission::{AdmitReply, shares_of};
 pub use crowd::Crowd;
 pub use ending::settle_sessions;
 pub use joining::{InboxThread, Served, close_inboxes, join_inboxes, new_inboxes, start_inboxes};
 pub use members::Members;
-pub use workers::{Worker, join_workers, start_workers};

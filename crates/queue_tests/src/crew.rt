@@ -1,7 +1,7 @@
 //! A queue with three seats and a pass.
 ghost use Rattle.std.specs.Prelude.{◌≡◌, All, IfSome};
 
-use job_queue::{Pass, Ready, Seat};
+use job_queue::{Pass, Ready, Seat, a_pass, a_seat};
 use std::alloc::Global;
 use std::marker::Model;
 
@@ -62,22 +62,4 @@ fn crew_of(ready: Ready, seats: Vec<Seat>, passes: Vec<Pass>) -> Option<Crew>
             None
         }
     }
-}
-
-/// One of the seats: the last one.
-fn a_seat(seats: &mut Vec<Seat>, ready: &Ready) -> Option<Seat>
-    requires { All (λ s. s.of ≡ ready.now) seats.old.items }
-    ensures rest { All (λ s. s.of ≡ ready.now) seats.new.items }
-    ensures taken { IfSome result (λ s. s.of ≡ ready.now) }
-{
-    seats.pop()
-}
-
-/// One of the passes.
-fn a_pass(passes: &mut Vec<Pass>, ready: &Ready) -> Option<Pass>
-    requires { All (λ p. p.of ≡ ready.now) passes.old.items }
-    ensures rest { All (λ p. p.of ≡ ready.now) passes.new.items }
-    ensures taken { IfSome result (λ p. p.of ≡ ready.now) }
-{
-    passes.pop()
 }

@@ -2,7 +2,6 @@ mod AskedLemmas
 mod CrowdLemmas
 mod FinishLemmas
 mod LineLemmas
-mod OneOfList
 mod LeftLemmas
 mod PartLemmas
 mod RanLemmas

@@ -8,9 +8,7 @@ ghost use Rattle.script_threads.specs.Sessions.{asked_in};
 
 use crate::part::{Part, evicted_part, run_part};
 use crate::seated::Seated;
-use crate::seats::a_pass;
-use crate::workers::{Worker, join_workers, start_workers};
-use job_queue::{Pass, Seat};
+use job_queue::{Pass, Seat, a_pass};
 use shared_core::{Begun, Share};
 use std::alloc::AllocGlobal;
 use std::snapshot::Snapshot;
@@ -19,7 +17,7 @@ use std::sync::ledger::Ledger;
 use std::thread;
 use std::thread::{Promise, PromisedHandle, Scope, Threads};
 use std::time::Clock;
-use worker_pool::Pool;
+use worker_pool::{Pool, Worker, join_workers, start_workers};
 
 /// A session that was answered at once, or that runs on a thread of its own.
 #[derive(Drop)]

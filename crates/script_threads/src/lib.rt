@@ -16,11 +16,9 @@ mod part;
 mod refusals;
 mod running;
 mod seated;
-mod seats;
 mod serving;
 mod setup;
 mod unserved;
-mod workers;
 
 pub use law::{full_stays, none_is_left, one_run, receipts_stand, threads_go_on};
 pub use serving::serve_on_threads;

@@ -4,8 +4,8 @@ ghost use Rattle.std.specs.Prelude.{◌≡◌, All, IfSome, false};
 
 use crate::cores::{begin_routing, is_served, text};
 use crate::gates::{Held, Point, is_raised};
-use crate::seats::{Worker, a_pass, a_worker};
-use job_queue::{Pass, Ready};
+use crate::seats::{Worker, a_worker};
+use job_queue::{Pass, Ready, a_pass};
 use shared_core::{Begun, Core, Share, Shared};
 use std::alloc::{AllocGlobal, Global};
 use std::sync::Wait;

@@ -1,27 +1,9 @@
-//! Seats and passes, one at a time, and what workers and sessions hold.
+//! What workers and sessions hold.
 ghost use Rattle.std.specs.Prelude.{◌≡◌, All, IfSome};
 
-use job_queue::{Pass, Ready, Seat};
+use job_queue::{Pass, Ready, Seat, a_pass, a_seat};
 use shared_core::{Begun, Core, Lease, Share};
 use std::sync::ledger::Ledger;
-
-/// Takes one of the seats. None if there are no more.
-fn a_seat(seats: &mut Vec<Seat>, ready: &Ready) -> Option<Seat>
-    requires { All (λ s. s.of ≡ ready.now) seats.old.items }
-    ensures rest { All (λ s. s.of ≡ ready.now) seats.new.items }
-    ensures taken { IfSome result (λ s. s.of ≡ ready.now) }
-{
-    seats.pop()
-}
-
-/// Takes one of the passes. None if there are no more.
-pub(crate) fn a_pass(passes: &mut Vec<Pass>, ready: &Ready) -> Option<Pass>
-    requires { All (λ p. p.of ≡ ready.now) passes.old.items }
-    ensures rest { All (λ p. p.of ≡ ready.now) passes.new.items }
-    ensures taken { IfSome result (λ p. p.of ≡ ready.now) }
-{
-    passes.pop()
-}
 
 /// What a worker holds.
 #[derive(Drop)]

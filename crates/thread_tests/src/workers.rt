@@ -4,9 +4,9 @@ ghost use Rattle.std.specs.Prelude.{◌≡◌, All, IfSome, false};
 
 use crate::cores::begin_placing;
 use crate::gates::{Counting, Meeting, Watched, is_raised};
-use crate::seats::{Worker, a_pass, a_worker};
+use crate::seats::{Worker, a_worker};
 use crate::showing::Worked;
-use job_queue::{Pass, Popped, Ready, Seat};
+use job_queue::{Pass, Popped, Ready, Seat, a_pass};
 use shared_core::{Begun, Core, Share, Shared};
 use std::alloc::AllocGlobal;
 use std::sync::Wait;

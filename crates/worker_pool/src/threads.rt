@@ -1,15 +1,16 @@
 //! Workers on threads.
 ghost use Rattle.std.specs.Prelude.{◌≡◌, All};
 
-use crate::seats::a_seat;
-use job_queue::Seat;
+use crate::gate::Open;
+use crate::pool::Pool;
+use crate::worker::run_worker;
+use job_queue::{Seat, a_seat};
 use shared_core::{Begun, Share};
 use std::alloc::AllocGlobal;
 use std::sync::Wait;
 use std::sync::ledger::Ledger;
 use std::thread::{JoinHandle, Scope, Threads};
 use std::time::Clock;
-use worker_pool::{Open, Pool, run_worker};
 
 /// A worker's thread.
 pub type Worker<P> = JoinHandle<Share<P>>;
