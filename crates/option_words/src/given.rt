@@ -1,5 +1,5 @@
 //! The values that the words give to the options.
-ghost use Rattle.std.specs.Prelude.{◌≡◌, IfOk, IfErr, Some, None, option_map};
+ghost use Rattle.std.specs.Prelude.{◌≡◌, IfErr, IfOk, None, Some, codes, option_map};
 ghost use Rattle.option_words.specs.Values.{is_given, number_of, text_of};
 
 use crate::declared::OptionWord;
@@ -67,6 +67,7 @@ impl<'a> Given<'a> {
     pub fn number(&self, name: &str) -> Result<u32, &'static str>
         ensures told { IfOk result (λ number. number_of 32 self.now name.now ≡ Some number) }
         ensures none { IfErr result (λ _. number_of 32 self.now name.now ≡ None) }
+        ensures why { IfErr result (λ why. why.now ≡ codes "a number has a sign") }
     {
         match self.text(name) {
             Some(text) => decimal_u32(text.as_bytes()).ok_or(SIGNED),
@@ -78,6 +79,7 @@ impl<'a> Given<'a> {
     pub fn long_number(&self, name: &str) -> Result<u64, &'static str>
         ensures told { IfOk result (λ number. number_of 64 self.now name.now ≡ Some number) }
         ensures none { IfErr result (λ _. number_of 64 self.now name.now ≡ None) }
+        ensures why { IfErr result (λ why. why.now ≡ codes "a number has a sign") }
     {
         match self.text(name) {
             Some(text) => decimal_u64(text.as_bytes()).ok_or(SIGNED),
