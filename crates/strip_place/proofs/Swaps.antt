@@ -10,7 +10,7 @@ use Rattle.strip_place.specs.declared.point.Point.{Point}
 use Rattle.strip_place.specs.Extents.{HasCome, count_at, mirrored_counts}
 use Rattle.strip_place.specs.Sides.{sides_of}
 use Rattle.strip_place.specs.Nets.{AreNets, AreTouched, net_at, times_on}
-use Rattle.strip_place.specs.Boxes.{AreBothRenewed, AreBoxes, AreRenewed, IsBox, IsBoxBy, at_column, at_row, boxed_length, box_at, half_after, half_of, length_after, no_sides, reach_of, reached_length}
+use Rattle.strip_place.specs.Boxes.{AreBothRenewed, AreBoxes, AreRenewed, IsBox, IsBoxBy, at_column, at_row, boxed_length, box_at, half_after, half_of, length_after, no_box, reach_of, reached_length}
 use Rattle.strip_place.specs.Wiring.{no_point, point_at, points_after}
 use Rattle.strip_place.proofs.Ends.{HaveSwapped, coordinate_at, counted, swapped_once, swapped_same}
 use Rattle.strip_place.proofs.Nearness.{near_same}
@@ -26,7 +26,7 @@ boxes_none points nets boxes none = record { long = ap length none; exact = λ n
 
 pub boxes_more : (points : List Point) (nets : List (List ℕ)) (count : ℕ) (boxes : List NetBox) (box : NetBox) → AreBoxesSoFar points nets count boxes → IsBox points (net_at nets count) box → AreBoxesSoFar points nets (count + 1) (boxes ++ box ∷ [])
 boxes_more points nets count boxes box so_far here =
-    let none : NetBox = record { near = no_sides; next = no_sides } in
+    let none : NetBox = no_box in
     record {
       long = omega (arith, length_push boxes box, so_far.long);
       exact = λ number lt. elim (cases_eq number count) [
@@ -56,7 +56,7 @@ pub renewed_more : (points : List Point) (nets : List (List ℕ)) (touched : Lis
     → IsBox points (net_at nets number) box → is ≡ half_of box → is < 131072 → more ≡ total + is
     → AreRenewed points nets touched count old new total → AreRenewed points nets touched (count + 1) old (set new number box) more
 renewed_more points nets touched count number old new total more box is lt at within some exact is_is small sum so_far =
-    let none : NetBox = record { near = no_sides; next = no_sides } in
+    let none : NetBox = no_box in
     let here : box_at (set new number box) number ≡ box = get_or-set_same new number box none within in
     record {
       long = length-set new number box ∙ so_far.long;
@@ -143,10 +143,10 @@ same_each f none old new block other from to net are there alike =
 -- a box is unchanged if the numbers of blocks are
 pub box_counts : (columns new_columns rows new_rows : ℕ → ℕ) (box : NetBox) → ((c : ℕ) → new_columns c ≡ columns c) → ((c : ℕ) → new_rows c ≡ rows c) → IsBoxBy columns rows box → IsBoxBy new_columns new_rows box
 box_counts columns new_columns rows new_rows box across along is = record {
-  left = near_same columns new_columns box.near.left box.next.left across is.left;
-  right = near_same (mirrored_counts columns) (mirrored_counts new_columns) box.near.right box.next.right (λ c. across (65535 - c)) is.right;
-  bottom = near_same rows new_rows box.near.bottom box.next.bottom along is.bottom;
-  top = near_same (mirrored_counts rows) (mirrored_counts new_rows) box.near.top box.next.top (λ c. along (65535 - c)) is.top;
+  left = near_same columns new_columns box.left box.next_left across is.left;
+  right = near_same (mirrored_counts columns) (mirrored_counts new_columns) box.right box.next_right (λ c. across (65535 - c)) is.right;
+  bottom = near_same rows new_rows box.bottom box.next_bottom along is.bottom;
+  top = near_same (mirrored_counts rows) (mirrored_counts new_rows) box.top box.next_top (λ c. along (65535 - c)) is.top;
   columns_inside = λ c past. across c ∙ is.columns_inside c past;
   rows_inside = λ c past. along c ∙ is.rows_inside c past;
 }
