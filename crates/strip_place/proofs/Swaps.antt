@@ -10,7 +10,7 @@ use Rattle.strip_place.specs.declared.point.Point.{Point}
 use Rattle.strip_place.specs.Extents.{HasCome, count_at, mirrored_counts}
 use Rattle.strip_place.specs.Sides.{sides_of}
 use Rattle.strip_place.specs.Nets.{AreNets, AreTouched, net_at, times_on}
-use Rattle.strip_place.specs.Boxes.{AreBothRenewed, AreBoxes, AreRenewed, IsBox, IsBoxBy, at_column, at_row, boxed_length, box_at, half_after, half_of, length_after, no_box, reach_of, reached_length}
+use Rattle.strip_place.specs.Boxes.{AreBothRenewed, AreBoxes, AreRenewed, IsBox, IsBoxBy, IsRenewed, at_column, at_row, boxed_length, box_at, half_after, length_after, no_box, reach_of, reached_length}
 use Rattle.strip_place.specs.Wiring.{no_point, point_at, points_after}
 use Rattle.strip_place.proofs.Ends.{HaveSwapped, coordinate_at, counted, swapped_once, swapped_same}
 use Rattle.strip_place.proofs.Nearness.{near_same}
@@ -52,30 +52,26 @@ renewed_none points nets touched boxes = record {
   small = omega arith;
 }
 
-pub renewed_more : (points : List Point) (nets : List (List ℕ)) (touched : List ℕ) (count number : ℕ) (old new : List NetBox) (total more : ℕ) (box : NetBox) (is : ℕ) → count < length touched → number ≡ get_or touched count 0 → number < length new → 0 < length (net_at nets number)
-    → IsBox points (net_at nets number) box → is ≡ half_of box → is < 131072 → more ≡ total + is
-    → AreRenewed points nets touched count old new total → AreRenewed points nets touched (count + 1) old (set new number box) more
-renewed_more points nets touched count number old new total more box is lt at within some exact is_is small sum so_far =
-    let none : NetBox = no_box in
-    let here : box_at (set new number box) number ≡ box = get_or-set_same new number box none within in
-    record {
-      long = length-set new number box ∙ so_far.long;
-      done = λ k below. elim (cases_eq (get_or touched k 0) number) [
-        | inl e ↦ rw (e, here) exact
-        | inr ne ↦ rw (get_or-set_other new number (get_or touched k 0) box none ne) (so_far.done k (earlier k below ne (cases_eq k count)))
-      ];
-      kept = λ other was. elim (cases_eq other number) [
-        | inl e ↦ rw (e, here) exact
-        | inr ne ↦ rw (get_or-set_other new number other box none ne) (so_far.kept other was)
-      ];
-      others = λ other off. get_or-set_other new number other box none (λ e. off count (omega arith) (sym at ∙ sym e)) ∙ so_far.others other (λ k below. off k (omega arith));
-      total_is =
-          (let reach = box_reach points (net_at nets number) box some exact in
-          let all = sum_by_more (λ number. reach_of points (net_at nets number)) touched count 0 lt in
-          let there : reach_of points (net_at nets number) ≡ reach_of points (net_at nets (get_or touched count 0)) = ap (λ n. reach_of points (net_at nets n)) at in
-          omega (arith, sum, so_far.total_is, is_is, reach, all, there));
-      small = omega (arith, sum, so_far.small);
-    }
+pub renewed_more : (points : List Point) (nets : List (List ℕ)) (touched : List ℕ) (count number : ℕ) (old new last : List NetBox) (total more half : ℕ) → count < length touched → number ≡ get_or touched count 0 → 0 < length (net_at nets number)
+    → IsRenewed points (net_at nets number) number new last half → more ≡ total + half → AreRenewed points nets touched count old new total → AreRenewed points nets touched (count + 1) old last more
+renewed_more points nets touched count number old new last total more half lt at some once sum so_far = record {
+  long = once.long ∙ so_far.long;
+  done = λ k below. elim (cases_eq (get_or touched k 0) number) [
+    | inl e ↦ rw e once.exact
+    | inr ne ↦ rw (once.others (get_or touched k 0) ne) (so_far.done k (earlier k below ne (cases_eq k count)))
+  ];
+  kept = λ other was. elim (cases_eq other number) [
+    | inl e ↦ rw e once.exact
+    | inr ne ↦ rw (once.others other ne) (so_far.kept other was)
+  ];
+  others = λ other off. once.others other (λ e. off count (omega arith) (sym at ∙ sym e)) ∙ so_far.others other (λ k below. off k (omega arith));
+  total_is =
+      (let reach = box_reach points (net_at nets number) (box_at last number) some once.exact in
+      let all = sum_by_more (λ number. reach_of points (net_at nets number)) touched count 0 lt in
+      let there : reach_of points (net_at nets number) ≡ reach_of points (net_at nets (get_or touched count 0)) = ap (λ n. reach_of points (net_at nets n)) at in
+      omega (arith, sum, so_far.total_is, once.half_is, reach, all, there));
+  small = omega (arith, sum, so_far.small, once.small);
+}
   where
     earlier : (k : ℕ) → k < count + 1 → (get_or touched k 0 ≡ number → ⊥) → (k ≡ count) ⊎ (k ≡ count → ⊥) → k < count
     earlier k below ne (inl e) = absurd (ne (ap (λ j. get_or touched j 0) e ∙ sym at))

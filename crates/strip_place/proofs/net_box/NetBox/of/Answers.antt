@@ -4,7 +4,7 @@ use Rattle.strip_place.specs.declared.net_box.NetBox.{NetBox}
 use Rattle.strip_place.specs.Boxes.{at_column, at_row}
 use Rattle.strip_place.specs.Wiring.{point_at}
 use Rattle.strip_place.proofs.Ends.{column_more, row_more}
-use Rattle.strip_place.proofs.Nearness.{IsBoxSoFar, box_all, box_more}
+use Rattle.strip_place.proofs.Nearness.{box_all, box_more}
 use Rattle.strip_place.proofs.net_box.NetBox.of.Goals as goal
 
 pub loop-block-preserved : goal.loop-block-preserved
