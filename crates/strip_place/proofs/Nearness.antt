@@ -4,7 +4,7 @@ use Rattle.std.specs.Prelude.{max, min}
 use Rattle.std.proofs.lemmas.Bool.{cases_eq, cases_lt}
 use Rattle.std.proofs.lemmas.Bool.Decides.{nat_tests}
 use Rattle.strip_place.specs.declared.net_box.NetBox.{NetBox}
-use Rattle.strip_place.specs.declared.point.Point.{Point}
+use Rattle.strip_place.specs.Points.{Point}
 use Rattle.strip_place.specs.Extents.{HasCome, IsNear, IsReach, mirrored_counts}
 use Rattle.strip_place.specs.Boxes.{IsBoxBy, with_block}
 use Rattle.strip_place.specs.Sides.{sides_of}

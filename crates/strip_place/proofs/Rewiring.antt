@@ -5,7 +5,7 @@ use Rattle.std.proofs.lemmas.Bool.Decides.{nat_tests}
 use Rattle.std.proofs.lemmas.Bool.{cases_eq}
 use Rattle.std.proofs.lemmas.List.{ext_get_or, take-append-le, take_all}
 use Rattle.strip_place.specs.declared.net_box.NetBox.{NetBox}
-use Rattle.strip_place.specs.declared.point.Point.{Point}
+use Rattle.strip_place.specs.Points.{Point}
 use Rattle.strip_place.specs.Nets.{AreTouched, net_at, times_on}
 use Rattle.strip_place.specs.Boxes.{AreBothRenewed, AreFewOf, AreTouchedBy, IsFollowed, box_at, boxed_length, length_after, near_of, reach_of, reached_length}
 use Rattle.strip_place.specs.Sides.{sides_of, sum_of}

@@ -4,8 +4,8 @@ ghost use Rattle.strip_place.specs.Nets.{IsNetOf};
 ghost use Rattle.strip_place.specs.Sides.{sum_of};
 ghost use Rattle.strip_place.specs.Boxes.{IsBox, IsDeep, half_after, half_of, near_of, rest, with_block};
 
-use crate::point::Point;
-use crate::sides::{FAR, Sides, opposite};
+use crate::point::{FAR, Point};
+use crate::sides::Sides;
 
 /// The distances of a net's blocks from each side: the nearest, and that of another block near it,
 /// or [`FAR`]. Eight numbers of 16 bits, so that a processor can compute them at once.
@@ -37,10 +37,11 @@ impl NetBox {
         let mut next_bottom = FAR;
         let mut next_top = FAR;
         for block in net {
-            let x = points[*block as usize].x;
-            let y = points[*block as usize].y;
-            let from_right = opposite(x);
-            let from_top = opposite(y);
+            let point = &points[*block as usize];
+            let x = point.left();
+            let y = point.bottom();
+            let from_right = point.right();
+            let from_top = point.top();
             next_left = next_left.min(left.max(x));
             next_right = next_right.min(right.max(from_right));
             next_bottom = next_bottom.min(bottom.max(y));

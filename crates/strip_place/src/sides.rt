@@ -1,11 +1,8 @@
 //! The distances of points from the sides of a field that is larger than any strip.
-ghost use Rattle.std.specs.Prelude.{◌≡◌, ◌-◌, ◌≤◌};
+ghost use Rattle.std.specs.Prelude.{◌≡◌, ◌≤◌};
 ghost use Rattle.strip_place.specs.Sides.{sides_of};
 
 use crate::point::Point;
-
-/// The distance between opposite sides of the field.
-pub(crate) const FAR: u16 = 65535;
 
 /// The distances from each side.
 #[derive(Clone, Copy)]
@@ -24,18 +21,10 @@ impl Sides {
         ensures y { point.y ≤ 65535 }
     {
         Sides {
-            left: point.x,
-            right: opposite(point.x),
-            bottom: point.y,
-            top: opposite(point.y),
+            left: point.left(),
+            right: point.right(),
+            bottom: point.bottom(),
+            top: point.top(),
         }
     }
-}
-
-/// The distance from the opposite side.
-pub(crate) fn opposite(distance: u16) -> u16
-    ensures value { result ≡ 65535 - distance }
-    ensures inside { distance ≤ 65535 }
-{
-    FAR - distance
 }
