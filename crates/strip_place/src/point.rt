@@ -30,6 +30,7 @@ impl Model for Point {
 }
 
 impl Point {
+    /// The point in this column and row.
     pub(crate) fn new(x: u16, y: u16) -> Self
         ensures { result ≡ record { x = x; y = y } }
     {
