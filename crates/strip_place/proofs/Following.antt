@@ -4,7 +4,7 @@ use Rattle.std.specs.Prelude.{max, min}
 use Rattle.std.proofs.lemmas.Bool.{cases_eq, cases_lt}
 use Rattle.std.proofs.lemmas.Bool.Decides.{nat_tests}
 use Rattle.strip_place.specs.declared.net_box.NetBox.{NetBox}
-use Rattle.strip_place.specs.declared.point.Point.{Point}
+use Rattle.strip_place.specs.Points.{Point}
 use Rattle.strip_place.specs.Boxes.{AreBoxes, AreRenewed, CanRenew, IsAmong, IsBoxBy, IsDeep, IsFollowed, at_column, at_row, box_at, with_block}
 use Rattle.strip_place.specs.Extents.{HasMoved, IsNear, count_at, mirrored_counts}
 use Rattle.strip_place.specs.Nets.{AreTouched, net_at, times_on}
@@ -80,10 +80,10 @@ moved_back old new from to moved = record {
 box_moved : (columns new_columns rows new_rows : ℕ → ℕ) (box : NetBox) (from to : Point) → from.x ≤ 65535 → from.y ≤ 65535 → to.x ≤ 65535 → to.y ≤ 65535 → HasMoved columns new_columns from.x to.x → HasMoved rows new_rows from.y to.y → IsDeep box (sides_of from) → IsBoxBy columns rows box
     → IsBoxBy new_columns new_rows (with_block box (sides_of to))
 box_moved columns new_columns rows new_rows box from to from_x from_y to_x to_y across along deep is = record {
-  left = near_moved columns new_columns box.near.left box.next.left from.x to.x deep.left to_x across.stood (λ c inside. across.each c) is.left;
-  right = near_moved_mirrored columns new_columns box.near.right box.next.right from.x to.x deep.right from_x to_x across is.right;
-  bottom = near_moved rows new_rows box.near.bottom box.next.bottom from.y to.y deep.bottom to_y along.stood (λ c inside. along.each c) is.bottom;
-  top = near_moved_mirrored rows new_rows box.near.top box.next.top from.y to.y deep.top from_y to_y along is.top;
+  left = near_moved columns new_columns box.left box.next_left from.x to.x deep.left to_x across.stood (λ c inside. across.each c) is.left;
+  right = near_moved_mirrored columns new_columns box.right box.next_right from.x to.x deep.right from_x to_x across is.right;
+  bottom = near_moved rows new_rows box.bottom box.next_bottom from.y to.y deep.bottom to_y along.stood (λ c inside. along.each c) is.bottom;
+  top = near_moved_mirrored rows new_rows box.top box.next_top from.y to.y deep.top from_y to_y along is.top;
   columns_inside = λ c past. (let each = across.each c in let off = is.columns_inside c past in grind (arith, nat_tests, each, off));
   rows_inside = λ c past. (let each = along.each c in let off = is.rows_inside c past in grind (arith, nat_tests, each, off));
 }

@@ -4,7 +4,7 @@ use Rattle.std.specs.Prelude.{max, min}
 use Rattle.std.proofs.lemmas.Bool.{cases_eq, cases_lt}
 use Rattle.std.proofs.lemmas.Bool.Decides.{nat_tests}
 use Rattle.strip_place.specs.declared.net_box.NetBox.{NetBox}
-use Rattle.strip_place.specs.declared.point.Point.{Point}
+use Rattle.strip_place.specs.Points.{Point}
 use Rattle.strip_place.specs.Extents.{HasCome, IsNear, IsReach, mirrored_counts}
 use Rattle.strip_place.specs.Boxes.{IsBoxBy, with_block}
 use Rattle.strip_place.specs.Sides.{sides_of}
@@ -146,14 +146,14 @@ still_there old new from to near next small is come = by (eqb near from) refl
 
 -- the box of the first blocks
 pub record IsBoxSoFar (columns rows : ℕ → ℕ) (count : ℕ) (box : NetBox) : Type 0 where
-  pub left : IsNearSoFar columns count box.near.left box.next.left
-  pub right : IsNearSoFar (mirrored_counts columns) count box.near.right box.next.right
-  pub bottom : IsNearSoFar rows count box.near.bottom box.next.bottom
-  pub top : IsNearSoFar (mirrored_counts rows) count box.near.top box.next.top
+  pub left : IsNearSoFar columns count box.left box.next_left
+  pub right : IsNearSoFar (mirrored_counts columns) count box.right box.next_right
+  pub bottom : IsNearSoFar rows count box.bottom box.next_bottom
+  pub top : IsNearSoFar (mirrored_counts rows) count box.top box.next_top
   pub columns_inside : (column : ℕ) → 65535 < column → columns column ≡ 0
   pub rows_inside : (row : ℕ) → 65535 < row → rows row ≡ 0
 
-pub box_none : (columns rows : ℕ → ℕ) (box : NetBox) → ((c : ℕ) → columns c ≡ 0) → ((c : ℕ) → rows c ≡ 0) → box ≡ record { near = record { left = 65535; right = 65535; bottom = 65535; top = 65535 }; next = record { left = 65535; right = 65535; bottom = 65535; top = 65535 } } → IsBoxSoFar columns rows 0 box
+pub box_none : (columns rows : ℕ → ℕ) (box : NetBox) → ((c : ℕ) → columns c ≡ 0) → ((c : ℕ) → rows c ≡ 0) → box ≡ record { left = 65535; right = 65535; bottom = 65535; top = 65535; next_left = 65535; next_right = 65535; next_bottom = 65535; next_top = 65535 } → IsBoxSoFar columns rows 0 box
 box_none columns rows box no_columns no_rows is = rw is (record {
   left = near_none columns no_columns;
   right = near_none (mirrored_counts columns) (λ c. no_columns (65535 - c));
@@ -165,20 +165,20 @@ box_none columns rows box no_columns no_rows is = rw is (record {
 
 pub box_more : (columns new_columns rows new_rows : ℕ → ℕ) (count : ℕ) (box : NetBox) (block : Point) → block.x ≤ 65535 → block.y ≤ 65535 → ((c : ℕ) → new_columns c ≡ columns c + cond (eqb block.x c) 1 0) → ((c : ℕ) → new_rows c ≡ rows c + cond (eqb block.y c) 1 0) → IsBoxSoFar columns rows count box → IsBoxSoFar new_columns new_rows (count + 1) (with_block box (sides_of block))
 box_more columns new_columns rows new_rows count box block x_small y_small across up so_far = record {
-  left = near_more columns new_columns count box.near.left box.next.left block.x x_small (λ c inside. across c) so_far.left;
-  right = near_more (mirrored_counts columns) (mirrored_counts new_columns) count box.near.right box.next.right (65535 - block.x) (omega arith) (more_mirrored columns new_columns block.x x_small across) so_far.right;
-  bottom = near_more rows new_rows count box.near.bottom box.next.bottom block.y y_small (λ c inside. up c) so_far.bottom;
-  top = near_more (mirrored_counts rows) (mirrored_counts new_rows) count box.near.top box.next.top (65535 - block.y) (omega arith) (more_mirrored rows new_rows block.y y_small up) so_far.top;
+  left = near_more columns new_columns count box.left box.next_left block.x x_small (λ c inside. across c) so_far.left;
+  right = near_more (mirrored_counts columns) (mirrored_counts new_columns) count box.right box.next_right (65535 - block.x) (omega arith) (more_mirrored columns new_columns block.x x_small across) so_far.right;
+  bottom = near_more rows new_rows count box.bottom box.next_bottom block.y y_small (λ c inside. up c) so_far.bottom;
+  top = near_more (mirrored_counts rows) (mirrored_counts new_rows) count box.top box.next_top (65535 - block.y) (omega arith) (more_mirrored rows new_rows block.y y_small up) so_far.top;
   columns_inside = λ c past. (let each = across c in let off = so_far.columns_inside c past in grind (arith, nat_tests, each, off));
   rows_inside = λ c past. (let each = up c in let off = so_far.rows_inside c past in grind (arith, nat_tests, each, off));
 }
 
 pub box_all : (columns rows : ℕ → ℕ) (count : ℕ) (box : NetBox) → 0 < count → IsBoxSoFar columns rows count box → IsBoxBy columns rows box
 box_all columns rows count box some so_far = record {
-  left = near_all columns count box.near.left box.next.left some so_far.left;
-  right = near_all (mirrored_counts columns) count box.near.right box.next.right some so_far.right;
-  bottom = near_all rows count box.near.bottom box.next.bottom some so_far.bottom;
-  top = near_all (mirrored_counts rows) count box.near.top box.next.top some so_far.top;
+  left = near_all columns count box.left box.next_left some so_far.left;
+  right = near_all (mirrored_counts columns) count box.right box.next_right some so_far.right;
+  bottom = near_all rows count box.bottom box.next_bottom some so_far.bottom;
+  top = near_all (mirrored_counts rows) count box.top box.next_top some so_far.top;
   columns_inside = so_far.columns_inside;
   rows_inside = so_far.rows_inside;
 }

@@ -5,9 +5,9 @@ use Rattle.std.proofs.lemmas.Bool.Decides.{nat_tests}
 use Rattle.std.proofs.lemmas.Bool.{cases_eq}
 use Rattle.std.proofs.lemmas.List.{ext_get_or, take-append-le, take_all}
 use Rattle.strip_place.specs.declared.net_box.NetBox.{NetBox}
-use Rattle.strip_place.specs.declared.point.Point.{Point}
+use Rattle.strip_place.specs.Points.{Point}
 use Rattle.strip_place.specs.Nets.{AreTouched, net_at, times_on}
-use Rattle.strip_place.specs.Boxes.{AreBothRenewed, AreFewOf, AreTouchedBy, IsFollowed, boxed_length, box_at, length_after, reach_of, reached_length}
+use Rattle.strip_place.specs.Boxes.{AreBothRenewed, AreFewOf, AreTouchedBy, IsFollowed, box_at, boxed_length, length_after, near_of, reach_of, reached_length}
 use Rattle.strip_place.specs.Sides.{sides_of, sum_of}
 use Rattle.strip_place.proofs.Following.{followed_back, followed_there}
 use Rattle.strip_place.proofs.Lengths.{box_sum}
@@ -128,7 +128,7 @@ module _ (nets touching : List (List ℕ)) (points : List Point) (boxes : List N
   fits_is allowance = grows points (points_after points block other there) nets first second block other (point_at points block) there allowance boxes (exchanged_points points block other there within inside differs) wired.lawful mine theirs wired.exact (known stood)
 
   -- the half perimeter of a box is at most that of the field
-  pub sums_small : (lent : List NetBox) → lent ≡ boxes → (number : ℕ) → number < length lent → sum_of (box_at lent number).near ≤ 131070
+  pub sums_small : (lent : List NetBox) → lent ≡ boxes → (number : ℕ) → number < length lent → sum_of (near_of (box_at lent number)) ≤ 131070
   sums_small lent same number lt =
       rw same (box_sum points (net_at nets number) (box_at boxes number) (wired.exact.exact number (omega (arith, ap length same, wired.exact.long))))
 

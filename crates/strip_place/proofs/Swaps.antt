@@ -6,11 +6,11 @@ use Rattle.std.proofs.lemmas.List.Sums.{sum_by_more}
 use Rattle.std.proofs.lemmas.Bool.{cases_eq, cases_lt}
 use Rattle.std.proofs.lemmas.Bool.Decides.{nat_tests}
 use Rattle.strip_place.specs.declared.net_box.NetBox.{NetBox}
-use Rattle.strip_place.specs.declared.point.Point.{Point}
+use Rattle.strip_place.specs.Points.{Point}
 use Rattle.strip_place.specs.Extents.{HasCome, count_at, mirrored_counts}
 use Rattle.strip_place.specs.Sides.{sides_of}
 use Rattle.strip_place.specs.Nets.{AreNets, AreTouched, net_at, times_on}
-use Rattle.strip_place.specs.Boxes.{AreBothRenewed, AreBoxes, AreRenewed, IsBox, IsBoxBy, at_column, at_row, boxed_length, box_at, half_after, half_of, length_after, no_sides, reach_of, reached_length}
+use Rattle.strip_place.specs.Boxes.{AreBothRenewed, AreBoxes, AreRenewed, IsBox, IsBoxBy, IsRenewed, at_column, at_row, boxed_length, box_at, half_after, length_after, no_box, reach_of, reached_length}
 use Rattle.strip_place.specs.Wiring.{no_point, point_at, points_after}
 use Rattle.strip_place.proofs.Ends.{HaveSwapped, coordinate_at, counted, swapped_once, swapped_same}
 use Rattle.strip_place.proofs.Nearness.{near_same}
@@ -26,7 +26,7 @@ boxes_none points nets boxes none = record { long = ap length none; exact = λ n
 
 pub boxes_more : (points : List Point) (nets : List (List ℕ)) (count : ℕ) (boxes : List NetBox) (box : NetBox) → AreBoxesSoFar points nets count boxes → IsBox points (net_at nets count) box → AreBoxesSoFar points nets (count + 1) (boxes ++ box ∷ [])
 boxes_more points nets count boxes box so_far here =
-    let none : NetBox = record { near = no_sides; next = no_sides } in
+    let none : NetBox = no_box in
     record {
       long = omega (arith, length_push boxes box, so_far.long);
       exact = λ number lt. elim (cases_eq number count) [
@@ -52,30 +52,26 @@ renewed_none points nets touched boxes = record {
   small = omega arith;
 }
 
-pub renewed_more : (points : List Point) (nets : List (List ℕ)) (touched : List ℕ) (count number : ℕ) (old new : List NetBox) (total more : ℕ) (box : NetBox) (is : ℕ) → count < length touched → number ≡ get_or touched count 0 → number < length new → 0 < length (net_at nets number)
-    → IsBox points (net_at nets number) box → is ≡ half_of box → is < 131072 → more ≡ total + is
-    → AreRenewed points nets touched count old new total → AreRenewed points nets touched (count + 1) old (set new number box) more
-renewed_more points nets touched count number old new total more box is lt at within some exact is_is small sum so_far =
-    let none : NetBox = record { near = no_sides; next = no_sides } in
-    let here : box_at (set new number box) number ≡ box = get_or-set_same new number box none within in
-    record {
-      long = length-set new number box ∙ so_far.long;
-      done = λ k below. elim (cases_eq (get_or touched k 0) number) [
-        | inl e ↦ rw (e, here) exact
-        | inr ne ↦ rw (get_or-set_other new number (get_or touched k 0) box none ne) (so_far.done k (earlier k below ne (cases_eq k count)))
-      ];
-      kept = λ other was. elim (cases_eq other number) [
-        | inl e ↦ rw (e, here) exact
-        | inr ne ↦ rw (get_or-set_other new number other box none ne) (so_far.kept other was)
-      ];
-      others = λ other off. get_or-set_other new number other box none (λ e. off count (omega arith) (sym at ∙ sym e)) ∙ so_far.others other (λ k below. off k (omega arith));
-      total_is =
-          (let reach = box_reach points (net_at nets number) box some exact in
-          let all = sum_by_more (λ number. reach_of points (net_at nets number)) touched count 0 lt in
-          let there : reach_of points (net_at nets number) ≡ reach_of points (net_at nets (get_or touched count 0)) = ap (λ n. reach_of points (net_at nets n)) at in
-          omega (arith, sum, so_far.total_is, is_is, reach, all, there));
-      small = omega (arith, sum, so_far.small);
-    }
+pub renewed_more : (points : List Point) (nets : List (List ℕ)) (touched : List ℕ) (count number : ℕ) (old new last : List NetBox) (total more half : ℕ) → count < length touched → number ≡ get_or touched count 0 → 0 < length (net_at nets number)
+    → IsRenewed points (net_at nets number) number new last half → more ≡ total + half → AreRenewed points nets touched count old new total → AreRenewed points nets touched (count + 1) old last more
+renewed_more points nets touched count number old new last total more half lt at some once sum so_far = record {
+  long = once.long ∙ so_far.long;
+  done = λ k below. elim (cases_eq (get_or touched k 0) number) [
+    | inl e ↦ rw e once.exact
+    | inr ne ↦ rw (once.others (get_or touched k 0) ne) (so_far.done k (earlier k below ne (cases_eq k count)))
+  ];
+  kept = λ other was. elim (cases_eq other number) [
+    | inl e ↦ rw e once.exact
+    | inr ne ↦ rw (once.others other ne) (so_far.kept other was)
+  ];
+  others = λ other off. once.others other (λ e. off count (omega arith) (sym at ∙ sym e)) ∙ so_far.others other (λ k below. off k (omega arith));
+  total_is =
+      (let reach = box_reach points (net_at nets number) (box_at last number) some once.exact in
+      let all = sum_by_more (λ number. reach_of points (net_at nets number)) touched count 0 lt in
+      let there : reach_of points (net_at nets number) ≡ reach_of points (net_at nets (get_or touched count 0)) = ap (λ n. reach_of points (net_at nets n)) at in
+      omega (arith, sum, so_far.total_is, once.half_is, reach, all, there));
+  small = omega (arith, sum, so_far.small, once.small);
+}
   where
     earlier : (k : ℕ) → k < count + 1 → (get_or touched k 0 ≡ number → ⊥) → (k ≡ count) ⊎ (k ≡ count → ⊥) → k < count
     earlier k below ne (inl e) = absurd (ne (ap (λ j. get_or touched j 0) e ∙ sym at))
@@ -143,10 +139,10 @@ same_each f none old new block other from to net are there alike =
 -- a box is unchanged if the numbers of blocks are
 pub box_counts : (columns new_columns rows new_rows : ℕ → ℕ) (box : NetBox) → ((c : ℕ) → new_columns c ≡ columns c) → ((c : ℕ) → new_rows c ≡ rows c) → IsBoxBy columns rows box → IsBoxBy new_columns new_rows box
 box_counts columns new_columns rows new_rows box across along is = record {
-  left = near_same columns new_columns box.near.left box.next.left across is.left;
-  right = near_same (mirrored_counts columns) (mirrored_counts new_columns) box.near.right box.next.right (λ c. across (65535 - c)) is.right;
-  bottom = near_same rows new_rows box.near.bottom box.next.bottom along is.bottom;
-  top = near_same (mirrored_counts rows) (mirrored_counts new_rows) box.near.top box.next.top (λ c. along (65535 - c)) is.top;
+  left = near_same columns new_columns box.left box.next_left across is.left;
+  right = near_same (mirrored_counts columns) (mirrored_counts new_columns) box.right box.next_right (λ c. across (65535 - c)) is.right;
+  bottom = near_same rows new_rows box.bottom box.next_bottom along is.bottom;
+  top = near_same (mirrored_counts rows) (mirrored_counts new_rows) box.top box.next_top (λ c. along (65535 - c)) is.top;
   columns_inside = λ c past. across c ∙ is.columns_inside c past;
   rows_inside = λ c past. along c ∙ is.rows_inside c past;
 }

@@ -3,7 +3,7 @@ use Rattle.std.specs.Prelude.{ℕ, ◌≡◌, ◌≢◌, ◌+◌, ◌-◌, ◌*�
 use Rattle.std.specs.List.{slice_index_or}
 use Rattle.strip_place.specs.declared.boxes.Move.{Move}
 use Rattle.strip_place.specs.declared.net_box.NetBox.{NetBox}
-use Rattle.strip_place.specs.declared.point.Point.{Point}
+use Rattle.strip_place.specs.Points.{Point}
 use Rattle.strip_place.specs.declared.sides.Sides.{Sides}
 use Rattle.strip_place.specs.Extents.{IsNear, count_at, mirrored_counts}
 use Rattle.strip_place.specs.Nets.{AreNets, net_at}
@@ -27,10 +27,10 @@ at_row points net = count_at (rows_at points) net
 -- a box holds the nearest coordinates at each side, for these numbers of blocks in each column and
 -- in each row
 pub record IsBoxBy (columns rows : ℕ → ℕ) (box : NetBox) : Type 0 where
-  pub left : IsNear columns box.near.left box.next.left
-  pub right : IsNear (mirrored_counts columns) box.near.right box.next.right
-  pub bottom : IsNear rows box.near.bottom box.next.bottom
-  pub top : IsNear (mirrored_counts rows) box.near.top box.next.top
+  pub left : IsNear columns box.left box.next_left
+  pub right : IsNear (mirrored_counts columns) box.right box.next_right
+  pub bottom : IsNear rows box.bottom box.next_bottom
+  pub top : IsNear (mirrored_counts rows) box.top box.next_top
   pub columns_inside : (column : ℕ) → 65535 < column → columns column ≡ 0
   pub rows_inside : (row : ℕ) → 65535 < row → rows row ≡ 0
 
@@ -38,9 +38,29 @@ pub record IsBoxBy (columns rows : ℕ → ℕ) (box : NetBox) : Type 0 where
 abbrev pub IsBox : List Point → List ℕ → NetBox → Type 0
 IsBox points net box = IsBoxBy (at_column points net) (at_row points net) box
 
+-- the nearest distances of a box, and those that it keeps next to them
+abbrev pub near_of : NetBox → Sides
+near_of box = record { left = box.left; right = box.right; bottom = box.bottom; top = box.top }
+
+abbrev pub next_of : NetBox → Sides
+next_of box = record { left = box.next_left; right = box.next_right; bottom = box.next_bottom; top = box.next_top }
+
+-- a box with these distances
+abbrev pub box_of : Sides → Sides → NetBox
+box_of near next = record {
+  left = near.left;
+  right = near.right;
+  bottom = near.bottom;
+  top = near.top;
+  next_left = next.left;
+  next_right = next.right;
+  next_bottom = next.bottom;
+  next_top = next.top;
+}
+
 -- the width plus the height
 abbrev pub half_of : NetBox → ℕ
-half_of box = 131070 - sum_of box.near
+half_of box = 131070 - sum_of (near_of box)
 
 -- the nearest distance after a block at distance `gone` is removed
 abbrev pub rest : ℕ → ℕ → ℕ → ℕ
@@ -49,10 +69,10 @@ rest near next gone = if near == gone then next else near
 -- the nearest distances at all sides after a block is removed
 abbrev pub rest_of : NetBox → Sides → Sides
 rest_of box gone = record {
-  left = rest box.near.left box.next.left gone.left;
-  right = rest box.near.right box.next.right gone.right;
-  bottom = rest box.near.bottom box.next.bottom gone.bottom;
-  top = rest box.near.top box.next.top gone.top;
+  left = rest box.left box.next_left gone.left;
+  right = rest box.right box.next_right gone.right;
+  bottom = rest box.bottom box.next_bottom gone.bottom;
+  top = rest box.top box.next_top gone.top;
 }
 
 -- the width plus the height after a block moves from one point to another
@@ -61,15 +81,15 @@ half_after box from to = 131070 - sum_of (nearer_sides (rest_of box from) to)
 
 -- a box with one more block
 abbrev pub with_block : NetBox → Sides → NetBox
-with_block box block = record { near = nearer_sides block box.near; next = nearer_sides box.next (farther_sides box.near block) }
+with_block box block = box_of (nearer_sides block (near_of box)) (nearer_sides (next_of box) (farther_sides (near_of box) block))
 
 -- a block at these distances is farther from each side than the two nearest that the box keeps
 -- there
 pub record IsDeep (box : NetBox) (block : Sides) : Type 0 where
-  pub left : box.next.left < block.left
-  pub right : box.next.right < block.right
-  pub bottom : box.next.bottom < block.bottom
-  pub top : box.next.top < block.top
+  pub left : box.next_left < block.left
+  pub right : box.next_right < block.right
+  pub bottom : box.next_bottom < block.bottom
+  pub top : box.next_top < block.top
 
 -- the width plus the height of the box of a net whose blocks are at these points
 abbrev pub reach_of : List Point → List ℕ → ℕ
@@ -78,8 +98,11 @@ reach_of points net = spread (map (slice_index (columns_at points)) net) + sprea
 abbrev pub no_sides : Sides
 no_sides = record { left = 0; right = 0; bottom = 0; top = 0 }
 
+abbrev pub no_box : NetBox
+no_box = box_of no_sides no_sides
+
 abbrev pub box_at : List NetBox → ℕ → NetBox
-box_at boxes number = slice_index_or boxes number (record { near = no_sides; next = no_sides })
+box_at boxes number = slice_index_or boxes number no_box
 
 -- the total length of the nets with these numbers: by their boxes, by their boxes after a block
 -- moved, and by the points of their blocks
@@ -91,6 +114,15 @@ length_after boxes from to numbers = sum_by (λ number. half_after (box_at boxes
 
 abbrev pub reached_length : List Point → List (List ℕ) → List ℕ → ℕ
 reached_length points nets numbers = sum_by (λ number. reach_of points (net_at nets number)) numbers
+
+-- the net with this number has the box of its blocks' points, and this length; the other boxes are
+-- unchanged
+pub record IsRenewed (points : List Point) (net : List ℕ) (number : ℕ) (old new : List NetBox) (half : ℕ) : Type 0 where
+  pub long : length new ≡ length old
+  pub exact : IsBox points net (box_at new number)
+  pub others : (other : ℕ) → other ≢ number → box_at new other ≡ box_at old other
+  pub half_is : half ≡ half_of (box_at new number)
+  pub small : half < 131072
 
 -- of the nets with these numbers the first `count` have the boxes of their blocks' points, and this
 -- total length
@@ -117,7 +149,7 @@ pub record AreFewOf (count : ℕ) (touched : List ℕ) : Type 0 where
 
 -- no box is larger than the field
 abbrev pub AreInside : List NetBox → Type 0
-AreInside boxes = (number : ℕ) → number < length boxes → sum_of (box_at boxes number).near ≤ 131070
+AreInside boxes = (number : ℕ) → number < length boxes → sum_of (near_of (box_at boxes number)) ≤ 131070
 
 -- the lengths of these boxes can be summed in 64 bits
 pub record CanSum (all : List NetBox) : Type 0 where

@@ -1,6 +1,6 @@
 -- Private: the distances of points from the sides of a field that is larger than any strip.
 use Rattle.std.specs.Prelude.{ℕ, ◌+◌, ◌-◌, max, min}
-use Rattle.strip_place.specs.declared.point.Point.{Point}
+use Rattle.strip_place.specs.Points.{Point}
 use Rattle.strip_place.specs.declared.sides.Sides.{Sides}
 
 -- the distances of a point from the four sides

@@ -1,6 +1,6 @@
 //! The bounding boxes of all nets, and the lengths of nets by their boxes.
 ghost use Rattle.std.specs.Prelude.{◌≡◌, ◌*◌, ◌<◌, ◌≤◌, length, sum_by, MatchBool};
-ghost use Rattle.strip_place.specs.Boxes.{AreBothRenewed, AreRenewed, AreTouchedBy, CanRenew, CanSum, CanWeigh, IsAmong, IsBox, IsFollowed, boxed_length, half_of, length_after};
+ghost use Rattle.strip_place.specs.Boxes.{AreBothRenewed, AreRenewed, AreTouchedBy, CanRenew, CanSum, CanWeigh, IsAmong, IsBox, IsFollowed, IsRenewed, box_at, boxed_length, half_of, length_after};
 ghost use Rattle.strip_place.specs.Nets.{IsNetOf};
 ghost use Rattle.strip_place.specs.Sides.{sum_of};
 
@@ -97,40 +97,61 @@ fn renew(
 {
     let mut total = 0;
     for number in touched {
-        let stood = boxes[*number as usize];
         let net = nets.row(*number as usize);
-        let found = new_box(stood, net, points, made, others, *number);
-        boxes[*number as usize] = found;
-        total += u64::from(found.half_perimeter());
+        total += u64::from(renew_one(boxes, net, points, made, others, *number));
     }
     total
 }
 
-/// The new bounding box of a net, given its box before. It is recomputed from all blocks if the net
-/// has few.
+/// Updates the box of a net: from all its blocks, if it has few. Returns the net's length.
 #[inline(always)]
-fn new_box(
-    stood: NetBox,
+fn renew_one(
+    boxes: &mut [NetBox],
     net: &[u32],
     points: &[Point],
     made: Move,
     others: &[u32],
     number: u32,
-) -> NetBox
+) -> u32
     requires net { IsNetOf (length points.now) net.now }
-    requires follows { IsFollowed points.now net.now others.now number stood made.from made.to }
-    ensures { IsBox points.now net.now result }
+    requires number { number < length boxes.old }
+    requires follows { IsFollowed points.now net.now others.now number (box_at boxes.old number)
+        made.from made.to }
+    ensures { IsRenewed points.now net.now number boxes.old boxes.new result }
 {
     if net.len() > FEW_BLOCKS {
-        return large_net_box(stood, net, points, made, others, number);
+        return renew_large(boxes, net, points, made, others, number);
     }
-    NetBox::of(net, points)
+    let found = NetBox::of(net, points);
+    boxes[number as usize] = found;
+    found.half_perimeter()
+}
+
+/// Updates the box of a large net. Returns the net's length.
+#[inline(never)]
+fn renew_large(
+    boxes: &mut [NetBox],
+    net: &[u32],
+    points: &[Point],
+    made: Move,
+    others: &[u32],
+    number: u32,
+) -> u32
+    requires net { IsNetOf (length points.now) net.now }
+    requires number { number < length boxes.old }
+    requires follows { IsFollowed points.now net.now others.now number (box_at boxes.old number)
+        made.from made.to }
+    ensures { IsRenewed points.now net.now number boxes.old boxes.new result }
+{
+    let stood = boxes[number as usize];
+    let found = large_net_box(stood, net, points, made, others, number);
+    boxes[number as usize] = found;
+    found.half_perimeter()
 }
 
 /// The new bounding box of a large net, given its box before. It is unchanged if both exchanged
 /// blocks are on the net, extended to the block's new point if the block was deep inside the old
 /// box, and otherwise recomputed from all blocks.
-#[inline(never)]
 fn large_net_box(
     stood: NetBox,
     net: &[u32],

@@ -4,7 +4,7 @@ use Rattle.std.proofs.lemmas.Option.{get_or_from_slice_get}
 use Rattle.grid.specs.declared.place.Place.{Place}
 use Rattle.grid.specs.Listed.{places_in_order}
 use Rattle.grid.specs.PlaceLaws.{IsPlaceIn}
-use Rattle.strip_place.specs.declared.point.Point.{Point}
+use Rattle.strip_place.specs.Points.{Point}
 use Rattle.strip_place.specs.Boards.{spot_of}
 use Rattle.strip_place.proofs.Starts.{row_small}
 use Rattle.strip_place.proofs.start.add_spots.Goals as goal
@@ -40,6 +40,7 @@ loop-number-preserved c =
     let here : get_or all number place ≡ place = get_or_from_slice_get all number place place c.place-x.ensures in
     let more : map spot_of (take (number + 1) all) ≡ map spot_of (take number all) ++ spot_of place ∷ [] = map_more spot_of all number place lt ∙ ap (λ (p : Place). map spot_of (take number all) ++ spot_of p ∷ []) here in
     c.in_ok-push.ensures.items
+    ∙ ap (λ (p : Point). c.loop-number.spots.items ++ p ∷ []) c.new.ensures
     ∙ ap (λ (front : List Point). front ++ spot_of place ∷ []) c.loop-number.invariant
     ∙ append_assoc c.args.spots.now.items (map spot_of (take number all)) (spot_of place ∷ [])
     ∙ ap (λ (end : List Point). c.args.spots.now.items ++ end) (sym more)

@@ -4,7 +4,7 @@ use Rattle.grid.specs.declared.place.Place.{Place}
 use Rattle.grid.specs.declared.place.Kind.TheVariants.{Logic, Pad}
 use Rattle.grid.specs.Places.{places_of}
 use Rattle.grid.specs.Listed.{places_in_order}
-use Rattle.strip_place.specs.declared.point.Point.{Point}
+use Rattle.strip_place.specs.Points.{Point}
 use Rattle.strip_place.specs.Sites.{sites_of}
 use Rattle.strip_place.specs.Boards.{spot_of}
 use Rattle.strip_place.proofs.start.spots_of.Goals as goal
