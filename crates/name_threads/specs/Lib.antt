@@ -1,2 +1,3 @@
 pub mod Admission
+pub mod Members
 pub mod Served

@@ -45,7 +45,7 @@ impl<'s, C: Begun, P: Ledger, R: Wait> Crowd<'s, C, P, R> {
         let reply = admit_in(&mut *self.shared.core.lock(self.rt), last, width);
         match reply {
             AdmitReply::Admitted(id, offset) => {
-                self.members.note(number, id)?;
+                self.members.note(number, id);
                 Ok(self.begin(number, id, offset))
             }
             reply => Ok(reply),
