@@ -25,13 +25,13 @@ pub record MembersState : Type 0 where
 abbrev pub new_member : MemberState
 new_member = record { text = None; last_id = 0 }
 
--- no name, and so many places, which no name has
+-- no name, and that many places, which no name has
 abbrev pub no_members : ℕ → MembersState
 no_members places = record { names = []; members = []; names_by_id = []; names_by_place = replicate places None; room = 0 }
 
 -- the name of that number; empty if no name has it
 abbrev pub name_of : MembersState → ℕ → List ℕ
-name_of old number = get_or old.names number []
+name_of now number = get_or now.names number []
 
 -- the tag of a name: `@`, and the name
 abbrev pub tag_of : List ℕ → List ℕ
@@ -39,89 +39,89 @@ tag_of name = 64 ∷ name
 
 -- the last id that the name of that number was given; 0 if it was given none, or no name has it
 abbrev pub last_id_of : MembersState → ℕ → ℕ
-last_id_of old number = (get_or old.members number new_member).last_id
+last_id_of now number = (get_or now.members number new_member).last_id
 
--- with a name among the names; a new one is the last, and nothing is known of it
+-- with that name among the names; if it is new it is the last, and has said nothing yet
 abbrev pub with_member : MembersState → List ℕ → MembersState
 with_member old name = record {
-    names = with_name old.names name;
-    members = if has_name old.names name then old.members else old.members ++ new_member ∷ [];
-    names_by_id = old.names_by_id;
-    names_by_place = old.names_by_place;
-    room = old.room;
-  }
+  names = with_name old.names name;
+  members = if has_name old.names name then old.members else old.members ++ new_member ∷ [];
+  names_by_id = old.names_by_id;
+  names_by_place = old.names_by_place;
+  room = old.room;
+}
 
--- with other things known of the name of that number
+-- with that known of the name of that number
 abbrev pub with_known : MembersState → ℕ → MemberState → MembersState
 with_known old number member = record {
-    names = old.names;
-    members = set old.members number member;
-    names_by_id = old.names_by_id;
-    names_by_place = old.names_by_place;
-    room = old.room;
-  }
+  names = old.names;
+  members = set old.members number member;
+  names_by_id = old.names_by_id;
+  names_by_place = old.names_by_place;
+  room = old.room;
+}
 
--- a session in another text
+-- the same name, whose session is in that text
 abbrev pub in_text : MemberState → Option TextSoFar → MemberState
 in_text member text = record { text = text; last_id = member.last_id }
 
--- a name with another last id
+-- the same name, which was given that id last
 abbrev pub given_id : MemberState → ℕ → MemberState
 given_id member id = record { text = member.text; last_id = id }
 
--- the name of that number hears a line, which gives that item, if any. Nothing else changes, and
--- nothing at all if no name has the number
+-- the session of the name of that number takes a line, which gives that item, if any. Nothing else
+-- changes, and nothing at all if no name has the number
 abbrev pub Hears : MembersState → ℕ → List ℕ → Option SessionLine → MembersState → Type 0
 Hears old number line item new = MatchOption (slice_get old.members number)
     ((item ≡ None) × (new ≡ old))
     (λ member. (text : Option TextSoFar) × GivesItem member.text line item text × (new ≡ with_known old number (in_text member text)))
 
--- the text that the name's session was in is lost, and nothing else
+-- the text that the session of the name of that number is in is lost, and nothing else
 abbrev pub LosesText : MembersState → ℕ → MembersState → Type 0
 LosesText old number new = IsSomeAnd (slice_get old.members number) (λ member. IsSome member.text × (new ≡ with_known old number (in_text member None)))
 
--- the lines of a name end, which gives that item, if any. Nothing else changes, and nothing at all if
--- no name has the number
+-- the lines of the name of that number end, which gives that item, if any. Nothing else changes, and
+-- nothing at all if no name has the number
 abbrev pub Finishes : MembersState → ℕ → Option SessionLine → MembersState → Type 0
 Finishes old number item new = MatchOption (slice_get old.members number)
     ((item ≡ None) × (new ≡ old))
     (λ member. (item_and item [] ≡ items_to_come member.text []) × (new ≡ with_known old number (in_text member None)))
 
--- with memory for so many more ids
+-- with memory for that many more ids
 abbrev pub with_room : MembersState → ℕ → MembersState
 with_room old room = record {
-    names = old.names;
-    members = old.members;
-    names_by_id = old.names_by_id;
-    names_by_place = old.names_by_place;
-    room = room;
-  }
+  names = old.names;
+  members = old.members;
+  names_by_id = old.names_by_id;
+  names_by_place = old.names_by_place;
+  room = room;
+}
 
--- the name of that number was given the next id, and there is memory for so many more
+-- the name of that number was given the next id, and there is memory for that many more
 abbrev pub with_id : MembersState → ℕ → ℕ → ℕ → MembersState
 with_id old number id room = record {
-    names = old.names;
-    members = set old.members number (given_id (get_or old.members number new_member) id);
-    names_by_id = old.names_by_id ++ number ∷ [];
-    names_by_place = old.names_by_place;
-    room = room;
-  }
+  names = old.names;
+  members = set old.members number (given_id (get_or old.members number new_member) id);
+  names_by_id = old.names_by_id ++ number ∷ [];
+  names_by_place = old.names_by_place;
+  room = room;
+}
 
 -- the name of that number has the inbox at that place
 abbrev pub with_place : MembersState → ℕ → ℕ → MembersState
 with_place old place number = record {
-    names = old.names;
-    members = old.members;
-    names_by_id = old.names_by_id;
-    names_by_place = set old.names_by_place place (Some number);
-    room = old.room;
-  }
+  names = old.names;
+  members = old.members;
+  names_by_id = old.names_by_id;
+  names_by_place = set old.names_by_place place (Some number);
+  room = old.room;
+}
 
--- whether a place is that of the name of that number
+-- whether that is the name of that number
 abbrev pub is_of : ℕ → Option ℕ → Bool
 is_of number None = false
 is_of number (Some other) = other == number
 
 -- the first place that the name of that number has
 abbrev pub place_of : MembersState → ℕ → Option ℕ
-place_of old number = position_from (is_of number) 0 old.names_by_place
+place_of now number = position_from (is_of number) 0 now.names_by_place

@@ -61,11 +61,11 @@ impl Model for Members {
     ghost Value = { MembersState };
 
     ghost view = { λ m. record {
-        names = texts m.names.keys;
-        members = m.members.items;
-        names_by_id = m.names_by_id.items;
-        names_by_place = m.names_by_place.items;
-        room = vec_capacity m.names_by_id - vec_len m.names_by_id;
+      names = texts m.names.keys;
+      members = m.members.items;
+      names_by_id = m.names_by_id.items;
+      names_by_place = m.names_by_place.items;
+      room = vec_capacity m.names_by_id - vec_len m.names_by_id;
     } };
 
     ghost invariant = { λ m. (texts m.tags.items ≡ map tag_of (texts m.names.keys))

@@ -1,4 +1,4 @@
-use Rattle.std.proofs.Common.{◌≡◌, ◌∙◌, ◌++◌, ◌∷◌, [], List, map, if◌then◌else◌, ap, sym}
+use Rattle.std.proofs.Common.{◌∙◌, ◌++◌, ◌∷◌, [], map, if◌then◌else◌, ap, sym}
 use Rattle.std.proofs.lemmas.List.{map_push}
 use Rattle.line_text.specs.Words.{texts}
 use Rattle.line_text.proofs.NameLemmas.{with_name-texts}

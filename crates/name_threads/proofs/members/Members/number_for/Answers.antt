@@ -1,4 +1,4 @@
-use Rattle.std.proofs.Common.{◌≡◌, ◌∙◌, ◌-◌, ◌++◌, ◌∷◌, [], ap, sym, unwrap_or, length, take, drop, true, false, vec_capacity, vec_len}
+use Rattle.std.proofs.Common.{◌∙◌, ◌-◌, ◌++◌, ◌∷◌, [], ap, sym, unwrap_or, length, take, drop, vec_capacity, vec_len}
 use Rattle.line_text.specs.Names.{has_name, number_of}
 use Rattle.line_text.specs.Words.{texts}
 use Rattle.line_text.proofs.NameLemmas.{has_name-texts, number_of-found}
@@ -38,11 +38,11 @@ pub returns-clause-added : goal.returns-clause-added
 returns-clause-added c =
     let before = c.self.inside in
     let named = c.add_name.ensures.names
-        ∙ ap (λ keys. texts keys ++ take (length c.in_ok-tag.tag.now - 1) (drop 1 c.in_ok-tag.tag.now) ∷ []) c.in_ok-reserve.ensures.keys
-        ∙ ap (λ name. texts before.names.keys ++ name ∷ []) (name_in_tag c.in_ok-tag.tag.now c.args.name.now c.in_ok-tag.ensures) in
+    ∙ ap (λ keys. texts keys ++ take (length c.in_ok-tag.tag.now - 1) (drop 1 c.in_ok-tag.tag.now) ∷ []) c.in_ok-reserve.ensures.keys
+    ∙ ap (λ name. texts before.names.keys ++ name ∷ []) (name_in_tag c.in_ok-tag.tag.now c.args.name.now c.in_ok-tag.ensures) in
     let more = rw c.unwrap.ensures at c.push.ensures.items
-        ∙ ap (λ members. members ++ c.new.result ∷ []) c.in_ok-reserve-3.ensures.items
-        ∙ ap (λ member. before.members.items ++ member ∷ []) c.new.ensures in
+    ∙ ap (λ members. members ++ c.new.result ∷ []) c.in_ok-reserve-3.ensures.items
+    ∙ ap (λ member. before.members.items ++ member ∷ []) c.new.ensures in
     new_name record { names = texts before.names.keys; members = before.members.items; names_by_id = before.names_by_id.items; names_by_place = before.names_by_place.items; room = vec_capacity before.names_by_id - vec_len before.names_by_id } c.args.name.now (texts c.add_name.new.names.keys) c.push.new.self.items
-      (sym (has_name-texts before.names.keys c.args.name.now) ∙ sym c.in_default.ensures.found) named more
+    (sym (has_name-texts before.names.keys c.args.name.now) ∙ sym c.in_default.ensures.found) named more
     ∙ ap (λ state. with_member state c.args.name.now) c.self.view_is

@@ -1,4 +1,4 @@
-use Rattle.std.proofs.Common.{◌∙◌, ap, rules}
+use Rattle.std.proofs.Common.{◌∙◌, ap}
 use Rattle.name_threads.specs.Members.{name_of, tag_of}
 use Rattle.line_text.specs.Words.{texts}
 use Rattle.name_threads.proofs.MemberLemmas.{tag_at}
