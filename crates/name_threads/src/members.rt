@@ -1,5 +1,5 @@
 //! The names, and what is known of each.
-ghost use Rattle.std.specs.Prelude.{◌≡◌, false, ◌<◌, ◌++◌, ◌∷◌, [], None, Some, map, replicate, set, vec_capacity, vec_len, IfOk, IfSome, OnErr, OnOk, length, slice_get};
+ghost use Rattle.std.specs.Prelude.{◌≡◌, false, ◌<◌, ◌++◌, ◌∷◌, [], All, None, Some, map, replicate, set, vec_capacity, vec_len, IfOk, IfSome, OnErr, OnOk, length, slice_get};
 ghost use Rattle.indexmap.specs.IndexSet.{spare};
 ghost use Rattle.line_text.specs.Names.{has_name, number_of};
 ghost use Rattle.line_text.specs.Words.{texts};
@@ -54,7 +54,7 @@ pub struct Members {
 }
 
 impl Model for Members {
-    ghost use Rattle.std.specs.Prelude.{◌≡◌, ◌-◌, length, map, vec_capacity, vec_len};
+    ghost use Rattle.std.specs.Prelude.{◌≡◌, ◌-◌, ◌<◌, All, length, map, vec_capacity, vec_len};
     ghost use Rattle.line_text.specs.Words.{texts};
     ghost use Rattle.name_threads.specs.Members.{MembersState, tag_of};
 
@@ -69,7 +69,8 @@ impl Model for Members {
     } };
 
     ghost invariant = { λ m. (texts m.tags.items ≡ map tag_of (texts m.names.keys))
-        × (length m.members.items ≡ length m.names.keys) };
+        × (length m.members.items ≡ length m.names.keys)
+        × All (λ number. number < length m.names.keys) m.names_by_id.items };
 }
 
 /// That many places, which no name has.
@@ -228,7 +229,8 @@ impl Members {
 
     /// A name was given the next id. There must be memory for it.
     pub(crate) fn note(&mut self, number: usize, id: u32)
-        requires { 0 < self.old.room }
+        requires room { 0 < self.old.room }
+        requires name { number < length self.old.names }
         ensures { self.new ≡ with_id self.old number id self.new.room }
     {
         self.names_by_id.push(number).unwrap();
@@ -239,7 +241,8 @@ impl Members {
 
     /// The numbers of the names that the ids were given, from the id 1 on.
     pub fn names_by_id(&self) -> &[usize]
-        ensures { result.now ≡ self.now.names_by_id }
+        ensures ids { result.now ≡ self.now.names_by_id }
+        ensures names { All (λ number. number < length self.now.names) result.now }
     {
         self.names_by_id.as_slice()
     }
