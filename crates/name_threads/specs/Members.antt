@@ -11,9 +11,9 @@ pub record MemberState : Type 0 where
   pub text : Option TextSoFar
   pub last_id : ℕ
 
--- the names in the order of first sight, and what is known of each; the number of the name that each
--- id was given, from the id 1 on; the number of the name that has the inbox at each place, or had it
--- last; and for how many more ids there is memory
+-- the names in the order of first sight, and what is known of each; the number of the name that
+-- each id was given, from the id 1 on; the number of the name that has the inbox at each place, or
+-- had it last; and for how many more ids there is memory
 pub record MembersState : Type 0 where
   pub names : List (List ℕ)
   pub members : List MemberState
@@ -80,8 +80,8 @@ Hears old number line item new = MatchOption (slice_get old.members number)
 abbrev pub LosesText : MembersState → ℕ → MembersState → Type 0
 LosesText old number new = IsSomeAnd (slice_get old.members number) (λ member. IsSome member.text × (new ≡ with_known old number (in_text member None)))
 
--- the lines of the name of that number end, which gives that item, if any. Nothing else changes, and
--- nothing at all if no name has the number
+-- the lines of the name of that number end, which gives that item, if any. Nothing else changes,
+-- and nothing at all if no name has the number
 abbrev pub Finishes : MembersState → ℕ → Option SessionLine → MembersState → Type 0
 Finishes old number item new = MatchOption (slice_get old.members number)
     ((item ≡ None) × (new ≡ old))

@@ -1,5 +1,5 @@
 //! The names, and what is known of each.
-ghost use Rattle.std.specs.Prelude.{◌≡◌, false, ◌<◌, ◌++◌, ◌∷◌, [], All, None, Some, map, replicate, set, vec_capacity, vec_len, IfOk, IfSome, OnErr, OnOk, length, slice_get};
+ghost use Rattle.std.specs.Prelude.{◌≡◌, ◌<◌, ◌++◌, ◌∷◌, [], All, None, Some, map, replicate, vec_capacity, vec_len, IfOk, IfSome, OnErr, OnOk, false, length, slice_get};
 ghost use Rattle.indexmap.specs.IndexSet.{spare};
 ghost use Rattle.line_text.specs.Names.{has_name, number_of};
 ghost use Rattle.line_text.specs.Words.{texts};
