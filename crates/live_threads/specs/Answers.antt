@@ -1,5 +1,6 @@
 -- What the thread that reads answers to each line itself.
-use Rattle.std.specs.Prelude.{ℕ, ◌≡◌, ◌⊎◌, List, [], ◌∷◌, ◌++◌, length, codes, decimal, Bool, true, false, Result, Ok, Err}
+use Rattle.std.specs.Prelude.{ℕ, zero, suc, ◌≡◌, ◌⊎◌, List, [], ◌∷◌, ◌++◌, length, slice_get, codes, decimal, Bool, true, false, Result, Ok, Err}
+use Rattle.std.specs.Option.{option_map_or}
 use Rattle.script_text.specs.declared.operator_line.OperatorLine.{OperatorLine}
 use Rattle.script_text.specs.declared.operator_line.OperatorLine.TheVariants.{Admit, Evict, Move, List as ListAll, Owners, Step, Take, Put}
 use Rattle.sessions.specs.declared.line.SessionLine.{SessionLine}
@@ -16,6 +17,7 @@ use Rattle.operator.specs.OwnersText.{owners_text}
 use Rattle.tagged_lines.specs.Tags.{Tagged, output_of, tagged_text}
 use Rattle.live_lines.specs.Live.{Asked, asked_of, for_name, operator_told}
 use Rattle.live_lines.specs.Live.Asked.{Nothing, NoForm, Operates, Says}
+use Rattle.name_threads.specs.Members.{MembersState, name_of}
 use Rattle.name_threads.specs.declared.admission.AdmitReply.{AdmitReply}
 use Rattle.name_threads.specs.declared.admission.AdmitReply.TheVariants.{InUse, Refused as RefusedAdmission, Admitted}
 
@@ -37,9 +39,22 @@ abbrev pub IsList : List ℕ → Type 0
 IsList text = (service : ServiceState) × (names : List (List ℕ))
     × (length names ≡ length service.histories) × (text ≡ list_text service names)
 
+-- the name that the id at that place was given, from the id 1 on; empty if no name was given it
+abbrev pub name_at : MembersState → ℕ → List ℕ
+name_at members place = option_map_or (name_of members) (slice_get members.names_by_id place) []
+
+-- the names that the first ids were given, newest first
+abbrev pub newest_names : MembersState → ℕ → List (List ℕ)
+newest_names members zero = []
+newest_names members (suc count) = name_at members count ∷ newest_names members count
+
+-- the list of some moment, in which each id has the name that it was given
+abbrev pub IsListOf : MembersState → List ℕ → Type 0
+IsListOf members text = (service : ServiceState) × (text ≡ list_text service (newest_names members (length service.histories)))
+
 -- private: a line for each live tenancy of the first `count` ids is appended
-abbrev pub AppendsRows : ServiceState → ℕ → List ℕ → List ℕ → Type 0
-AppendsRows service count before after = (names : List (List ℕ)) × (length names ≡ count) × (after ≡ before ++ list_text service names)
+abbrev pub AppendsRows : ServiceState → MembersState → ℕ → List ℕ → List ℕ → Type 0
+AppendsRows service members count before after = after ≡ before ++ list_text service (newest_names members count)
 
 -- the owners of some moment
 abbrev pub IsOwners : List ℕ → Type 0

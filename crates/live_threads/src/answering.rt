@@ -1,14 +1,13 @@
 //! Lines, answered by the thread that reads.
 ghost use Rattle.std.specs.Prelude.{◌≡◌, ◌<◌, ◌^◌, IfOk, false, length, true};
 ghost use Rattle.script_text.specs.Script.{named_operator};
-ghost use Rattle.live_threads.specs.Answers.{AnswersItem, AnswersLine, AnswersOperator, AnswersSession, IsList, IsOwners, RepliesTo, has_form};
+ghost use Rattle.live_threads.specs.Answers.{AnswersItem, AnswersLine, AnswersOperator, AnswersSession, IsList, IsListOf, IsOwners, RepliesTo, has_form};
 
 use crate::asked::{has_form, is_open, refusal_of};
-use crate::listing::{admission_reply, eviction_reply, move_reply, owners_reply, push_rows};
+use crate::listing::{admission_reply, eviction_reply, list_reply, move_reply, owners_reply};
 use crate::replies::{no_form, operator_reply, refusal_reply};
 use inbox::SessionItem;
 use line_service::Answers;
-use line_text::MemorySink;
 use live_lines::{LineRequest, asked_of};
 use name_threads::Crowd;
 use script_text::OperatorLine;
@@ -84,13 +83,11 @@ impl<'s, C: Begun, P: Ledger, R: Wait + AllocGlobal> CrowdLines<'s, C, P, R> {
 
     /// A line for each live tenancy, by id. All are seen in one turn under the lock.
     fn list(&self) -> Result<Vec<u8>, AllocError>
-        ensures { IfOk result (λ text. IsList text.items) }
+        ensures list { IfOk result (λ text. IsList text.items) }
+        ensures names { IfOk result (λ text. IsListOf self.now.crowd.members text.items) }
     {
-        let mut text = MemorySink::new(self.crowd.rt.alloc());
         let core = self.crowd.shared.core.lock(self.crowd.rt);
-        push_rows(&mut text, core.service(), &self.crowd.members)?;
-        drop(core);
-        Ok(text.into_bytes())
+        list_reply(self.crowd.rt.alloc(), core.service(), &self.crowd.members)
     }
 
     /// Who owns what. All is seen in one turn under the lock.

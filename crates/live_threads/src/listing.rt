@@ -2,7 +2,7 @@
 ghost use Rattle.std.specs.Prelude.{◌≡◌, IfOk, OnOk, length};
 ghost use Rattle.operator.specs.Held.{sink_text};
 ghost use Rattle.operator.specs.OperatorText.{evicted_text, moved_text};
-ghost use Rattle.live_threads.specs.Answers.{AppendsRows, IsOwners, admission_text};
+ghost use Rattle.live_threads.specs.Answers.{AppendsRows, IsList, IsListOf, IsOwners, admission_text, name_at};
 
 use line_text::MemorySink;
 use name_threads::{AdmitReply, Members};
@@ -48,13 +48,23 @@ pub(crate) fn move_reply(
     Ok(text.into_bytes())
 }
 
-/// Appends a line for each live tenancy, by id.
-pub(crate) fn push_rows(
-    text: &mut MemorySink,
+/// A line for each live tenancy, by id, with the name that the id was given.
+pub(crate) fn list_reply(
+    alloc: Global,
     service: &Service,
     members: &Members,
-) -> Result<(), AllocError>
-    ensures { OnOk result (AppendsRows service.now (length service.now.histories)
+) -> Result<Vec<u8>, AllocError>
+    ensures list { IfOk result (λ text. IsList text.items) }
+    ensures names { IfOk result (λ text. IsListOf members.now text.items) }
+{
+    let mut text = MemorySink::new(alloc);
+    push_rows(&mut text, service, members)?;
+    Ok(text.into_bytes())
+}
+
+/// Appends a line for each live tenancy, by id.
+fn push_rows(text: &mut MemorySink, service: &Service, members: &Members) -> Result<(), AllocError>
+    ensures { OnOk result (AppendsRows service.now members.now (length service.now.histories)
         (sink_text text.old) (sink_text text.new)) }
 {
     for index in 0..service.admissions() {
@@ -65,7 +75,9 @@ pub(crate) fn push_rows(
 }
 
 /// The name that the id at that place was given, from the id 1 on.
-fn name_at(members: &Members, place: usize) -> &'static [u8] {
+fn name_at(members: &Members, place: usize) -> &'static [u8]
+    ensures { result.now ≡ name_at members.now place }
+{
     match members.names_by_id().get(place) {
         Some(number) => members.name(*number),
         None => b"",

@@ -1,2 +1,4 @@
 pub mod Admission
+pub mod Members
+pub mod Naming
 pub mod Served

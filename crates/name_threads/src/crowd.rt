@@ -1,5 +1,9 @@
 //! The names and their inboxes, as the thread that reads sees them.
-ghost use Rattle.std.specs.Prelude.{◌≡◌, IfSome, Some, ℕ, false, slice_get};
+ghost use Rattle.std.specs.Prelude.{◌≡◌, ◌⊎◌, IfOk, IfSome, None, OnErr, Some, ℕ, false, option_and_then, option_copied, slice_get};
+ghost use Rattle.name_threads.specs.Members.{place_of, with_member, with_place};
+ghost use Rattle.name_threads.specs.Naming.{AdmitsName};
+ghost use Rattle.name_threads.specs.declared.admission.AdmitReply.TheVariants.{Admitted, Refused};
+ghost use Rattle.service_core.specs.declared.op_refusal.OpRefusal.TheVariants.{NoMemory};
 
 use crate::admission::{AdmitReply, admit_in, lease_in};
 use crate::members::Members;
@@ -24,7 +28,8 @@ pub struct Crowd<'s, C: Begun, P: Ledger, R: Wait> {
 impl<'s, C: Begun, P: Ledger, R: Wait> Crowd<'s, C, P, R> {
     /// Puts an item into the inbox of a name. If it has none, the item comes back.
     pub fn put(&self, number: usize, item: SessionItem) -> Option<SessionItem>
-        ensures { IfSome result (λ back. back ≡ item) }
+        ensures back { IfSome result (λ back. back ≡ item) }
+        ensures none { place_of self.now.members number ≡ None → result ≡ Some item }
     {
         match self.inbox_of(number) {
             Some(inbox) => inbox.put(self.rt, item),
@@ -35,9 +40,13 @@ impl<'s, C: Begun, P: Ledger, R: Wait> Crowd<'s, C, P, R> {
     /// Admits a tenancy, whose name has an inbox from then on.
     ///
     /// # Errors
-    /// `AllocError` if memory runs out for the names.
+    /// `AllocError` if memory runs out for the names. No tenancy was admitted then.
     pub fn admit(&mut self, name: &[u8], width: u32) -> Result<AdmitReply, AllocError>
         requires { C.stay ≡ false }
+        ensures names { IfOk result (λ reply.
+            AdmitsName self.old.members name.now reply self.new.members) }
+        ensures err { OnErr result ((self.new.members ≡ self.old.members)
+            ⊎ (self.new.members ≡ with_member self.old.members name.now)) }
     {
         let number = self.members.number_for(name)?;
         self.members.reserve()?;
@@ -45,7 +54,7 @@ impl<'s, C: Begun, P: Ledger, R: Wait> Crowd<'s, C, P, R> {
         let reply = admit_in(&mut *self.shared.core.lock(self.rt), last, width);
         match reply {
             AdmitReply::Admitted(id, offset) => {
-                self.members.note(number, id)?;
+                self.members.note(number, id);
                 Ok(self.begin(number, id, offset))
             }
             reply => Ok(reply),
@@ -55,6 +64,9 @@ impl<'s, C: Begun, P: Ledger, R: Wait> Crowd<'s, C, P, R> {
     /// Begins the session of a tenancy that was admitted. If memory runs out, the tenancy is ended.
     fn begin(&mut self, number: usize, id: u32, offset: u32) -> AdmitReply
         requires { C.stay ≡ false }
+        ensures reply { (result ≡ Admitted id offset) ⊎ (result ≡ Refused NoMemory) }
+        ensures place { (place : ℕ)
+            × (self.new.members ≡ with_place self.old.members place number) }
     {
         let place = self.place_for(number);
         if self.begin_at(place, number, id) {
@@ -92,7 +104,9 @@ impl<'s, C: Begun, P: Ledger, R: Wait> Crowd<'s, C, P, R> {
     }
 
     /// The place of the name's inbox. If it has none, it gets one that is free.
-    fn place_for(&mut self, number: usize) -> usize {
+    fn place_for(&mut self, number: usize) -> usize
+        ensures { self.new.members ≡ with_place self.old.members result number }
+    {
         match self.members.place_of(number) {
             Some(place) => place,
             None => {
@@ -128,9 +142,12 @@ impl<'s, C: Begun, P: Ledger, R: Wait> Crowd<'s, C, P, R> {
 
     /// The inbox at a place that the name has.
     fn inbox_of(&self, number: usize) -> Option<&Inbox<C>>
-        ensures { IfSome result (λ inbox. (place : ℕ)
-            × (slice_get self.now.members.names_by_place.items place ≡ Some (Some number))
+        ensures own { IfSome result (λ inbox. (place : ℕ)
+            × (slice_get self.now.members.names_by_place place ≡ Some (Some number))
             × (slice_get self.now.inboxes.now place ≡ Some inbox.now)) }
+        ensures exact { option_copied result ≡ option_and_then
+            (λ place. slice_get self.now.inboxes.now place)
+            (place_of self.now.members number) }
     {
         self.inboxes.get(self.members.place_of(number)?)
     }
