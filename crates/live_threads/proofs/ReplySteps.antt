@@ -3,7 +3,7 @@ use Rattle.std.proofs.Common.{◌≡◌, ℕ, ◌+◌, zero, suc, List, [], ◌�
 use Rattle.service_core.specs.Service.{ServiceState}
 use Rattle.operator.specs.OperatorText.{list_lines, list_text}
 use Rattle.name_threads.specs.Members.{MembersState}
-use Rattle.live_threads.specs.Answers.{AppendsRows, IsList, IsListOf, name_at, newest_names}
+use Rattle.live_threads.specs.Answers.{AppendsRows, IsList, name_at, newest_names}
 
 -- there are as many names as ids
 pub length-newest_names : (members : MembersState) (count : ℕ) → length (newest_names members count) ≡ count
@@ -28,19 +28,10 @@ rows_more service members count name before mid after named rows appends =
     ∙ ap (λ names. before ++ list_text service names) (sym (newest_more members count))
 
 -- the text of a sink that was empty
-pub list_said : (service : ServiceState) (members : MembersState) (before after text : List ℕ) → Some before ≡ Some [] → AppendsRows service members (length service.histories) before after → Some after ≡ Some text → IsListOf members text
+pub list_said : (service : ServiceState) (members : MembersState) (before after text : List ℕ) → Some before ≡ Some [] → AppendsRows service members (length service.histories) before after → Some after ≡ Some text → IsList members text
 list_said service members before after text empty rows is =
     let said : text ≡ after = cc in
     let none : before ≡ [] = cc in (
       service,
       said ∙ rows ∙ ap (λ b. b ++ list_text service (newest_names members (length service.histories))) none,
     )
-
--- a list in which each id has its name is a list
-pub named_list : (members : MembersState) (text : List ℕ) → IsListOf members text → IsList text
-named_list members text named = (
-  named.0,
-  newest_names members (length named.0.histories),
-  length-newest_names members (length named.0.histories),
-  named.1,
-)
