@@ -5,7 +5,7 @@ use Rattle.line_text.specs.Names.{number_of}
 use Rattle.script_text.specs.declared.operator_line.OperatorLine.{OperatorLine}
 use Rattle.script_text.specs.declared.operator_line.OperatorLine.TheVariants.{Admit, Evict, Move, List as ListAll, Owners, Step, Take, Put}
 use Rattle.sessions.specs.declared.line.SessionLine.{SessionLine}
-use Rattle.sessions.specs.declared.line.SessionLine.TheVariants.{Refused}
+use Rattle.sessions.specs.declared.line.SessionLine.TheVariants.{Blank, Refused}
 use Rattle.sessions.specs.declared.refusal.SessionRefusal.{SessionRefusal}
 use Rattle.sessions.specs.declared.refusal.SessionRefusal.TheVariants.{Evicted}
 use Rattle.sessions.specs.SessionText.{session_refusal_text}
@@ -18,7 +18,7 @@ use Rattle.operator.specs.OwnersText.{owners_text}
 use Rattle.tagged_lines.specs.Tags.{Tagged, output_of, tagged_text}
 use Rattle.live_lines.specs.Live.{Asked, asked_of, for_name, operator_told}
 use Rattle.live_lines.specs.Live.Asked.{Nothing, NoForm, Operates, Says}
-use Rattle.name_threads.specs.Members.{Hears, MembersState, name_of, with_member}
+use Rattle.name_threads.specs.Members.{Hears, MembersState, name_of, place_of, with_member}
 use Rattle.name_threads.specs.Naming.{AdmitsName}
 use Rattle.name_threads.specs.declared.admission.AdmitReply.{AdmitReply}
 use Rattle.name_threads.specs.declared.admission.AdmitReply.TheVariants.{InUse, Refused as RefusedAdmission, Admitted}
@@ -84,20 +84,22 @@ abbrev pub refusal_of : SessionLine → SessionRefusal
 refusal_of (Refused refusal) = refusal
 refusal_of item = Evicted
 
--- the reply to an item, with that tag: none, since a thread serves it or the item asks nothing; or
--- the line of its refusal
-abbrev pub AnswersItem : List ℕ → SessionLine → List ℕ → Type 0
-AnswersItem tag item reply = (reply ≡ []) ⊎ (reply ≡ tagged_text tag (session_refusal_text (refusal_of item)))
+-- the reply to an item of a name whose inbox is at that place, with that tag: the line of its
+-- refusal; or none, since a thread serves it, or since the line is blank
+abbrev pub AnswersItem : Option ℕ → List ℕ → SessionLine → List ℕ → Type 0
+AnswersItem None tag item reply = (reply ≡ tagged_text tag (session_refusal_text (refusal_of item))) ⊎ ((item ≡ Blank) × (reply ≡ []))
+AnswersItem (Some place) tag item reply = (reply ≡ tagged_text tag (session_refusal_text (refusal_of item))) ⊎ (reply ≡ [])
 
 -- the reply to a line's item, if it has one
-abbrev pub AnswersHeard : List ℕ → Option SessionLine → List ℕ → Type 0
-AnswersHeard tag None reply = reply ≡ []
-AnswersHeard tag (Some item) reply = AnswersItem tag item reply
+abbrev pub AnswersHeard : Option ℕ → List ℕ → Option SessionLine → List ℕ → Type 0
+AnswersHeard place tag None reply = reply ≡ []
+AnswersHeard place tag (Some item) reply = AnswersItem place tag item reply
 
 -- a line of a name's session, with that tag: the name takes it, and its item has that reply
 abbrev pub AnswersSession : MembersState → List ℕ → List ℕ → List ℕ → List ℕ → MembersState → Type 0
 AnswersSession old tag name line reply new = (item : Option SessionLine)
-    × Hears (with_member old name) (number_of old.names name) line item new × AnswersHeard tag item reply
+    × Hears (with_member old name) (number_of old.names name) line item new
+    × AnswersHeard (place_of new (number_of old.names name)) tag item reply
 
 -- the reply to a line of that number that asks this, and what is known of the names afterwards
 abbrev pub AnswersAsked : MembersState → ℕ → Asked → List ℕ → MembersState → Type 0

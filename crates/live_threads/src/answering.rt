@@ -1,6 +1,7 @@
 //! Lines, answered by the thread that reads.
 ghost use Rattle.std.specs.Prelude.{◌≡◌, ◌<◌, ◌^◌, IfOk, false, length, true};
 ghost use Rattle.script_text.specs.Script.{named_operator};
+ghost use Rattle.name_threads.specs.Members.{place_of};
 ghost use Rattle.live_threads.specs.Answers.{AnswersItem, AnswersLine, AnswersOperator, AnswersSession, IsList, IsOwners, RepliesTo, has_form};
 
 use crate::asked::{has_form, is_open, refusal_of};
@@ -113,13 +114,15 @@ impl<'s, C: Begun, P: Ledger, R: Wait + AllocGlobal> CrowdLines<'s, C, P, R> {
 }
 
 /// Puts an item into the inbox of its name. If the name has none, the item is refused at once.
+#[tactic(auto, using(crate::proofs::ReplySteps::refused_item))]
 pub(crate) fn take_item<C: Begun, P: Ledger, R: Wait + AllocGlobal>(
     crowd: &Crowd<'_, C, P, R>,
     number: usize,
     tag: &[u8],
     item: SessionLine,
 ) -> Result<Vec<u8>, AllocError>
-    ensures { IfOk result (λ reply. AnswersItem tag.now item reply.items) }
+    ensures { IfOk result (λ reply.
+        AnswersItem (place_of crowd.now.members number) tag.now item reply.items) }
 {
     let alloc = crowd.rt.alloc();
     let Some(item) = SessionItem::of(item) else {
