@@ -39,9 +39,9 @@ impl Member {
     }
 }
 
-/// All names and what is known of each; whose each id is, from 1 on, and whose each inbox is. A name
-/// and what is known of it have the same number. No error leaves one without the other, which is
-/// why the names are an `IndexSet`: a `NameSet` doesn't say what an error leaves.
+/// All names and what is known of each; whose each id is, from 1 on, and whose each inbox is. A
+/// name and what is known of it have the same number. No error leaves one without the other, which
+/// is why the names are an `IndexSet`: a `NameSet` doesn't say what an error leaves.
 #[derive(Drop)]
 pub struct Members {
     alloc: Global,
