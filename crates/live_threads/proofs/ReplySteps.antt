@@ -1,9 +1,12 @@
 -- The texts of replies.
-use Rattle.std.proofs.Common.{◌≡◌, ℕ, ◌+◌, zero, suc, List, [], ◌∷◌, ◌++◌, Some, length, sym, ap, ◌∙◌, arith, append_assoc, refl}
+use Rattle.std.proofs.Common.{◌≡◌, ℕ, ◌+◌, zero, suc, List, [], ◌∷◌, ◌++◌, Option, None, Some, inl, length, sym, ap, ◌∙◌, arith, append_assoc, refl}
 use Rattle.service_core.specs.Service.{ServiceState}
 use Rattle.operator.specs.OperatorText.{list_lines, list_text}
+use Rattle.sessions.specs.declared.line.SessionLine.{SessionLine}
+use Rattle.sessions.specs.SessionText.{session_refusal_text}
+use Rattle.tagged_lines.specs.Tags.{tagged_text}
 use Rattle.name_threads.specs.Members.{MembersState}
-use Rattle.live_threads.specs.Answers.{AppendsRows, IsList, IsListOf, name_at, newest_names}
+use Rattle.live_threads.specs.Answers.{AnswersItem, AppendsRows, IsList, name_at, newest_names, refusal_of}
 
 -- there are as many names as ids
 pub length-newest_names : (members : MembersState) (count : ℕ) → length (newest_names members count) ≡ count
@@ -28,7 +31,7 @@ rows_more service members count name before mid after named rows appends =
     ∙ ap (λ names. before ++ list_text service names) (sym (newest_more members count))
 
 -- the text of a sink that was empty
-pub list_said : (service : ServiceState) (members : MembersState) (before after text : List ℕ) → Some before ≡ Some [] → AppendsRows service members (length service.histories) before after → Some after ≡ Some text → IsListOf members text
+pub list_said : (service : ServiceState) (members : MembersState) (before after text : List ℕ) → Some before ≡ Some [] → AppendsRows service members (length service.histories) before after → Some after ≡ Some text → IsList members text
 list_said service members before after text empty rows is =
     let said : text ≡ after = cc in
     let none : before ≡ [] = cc in (
@@ -36,11 +39,7 @@ list_said service members before after text empty rows is =
       said ∙ rows ∙ ap (λ b. b ++ list_text service (newest_names members (length service.histories))) none,
     )
 
--- a list in which each id has its name is a list
-pub named_list : (members : MembersState) (text : List ℕ) → IsListOf members text → IsList text
-named_list members text named = (
-  named.0,
-  newest_names members (length named.0.histories),
-  length-newest_names members (length named.0.histories),
-  named.1,
-)
+-- an item that is refused, whether its name has an inbox or not
+pub refused_item : (place : Option ℕ) (tag : List ℕ) (item : SessionLine) (reply : List ℕ) → reply ≡ tagged_text tag (session_refusal_text (refusal_of item)) → AnswersItem place tag item reply
+refused_item None tag item reply e = inl e
+refused_item (Some place) tag item reply e = inl e

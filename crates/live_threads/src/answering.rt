@@ -1,7 +1,8 @@
 //! Lines, answered by the thread that reads.
 ghost use Rattle.std.specs.Prelude.{◌≡◌, ◌<◌, ◌^◌, IfOk, false, length, true};
 ghost use Rattle.script_text.specs.Script.{named_operator};
-ghost use Rattle.live_threads.specs.Answers.{AnswersItem, AnswersLine, AnswersOperator, AnswersSession, IsList, IsListOf, IsOwners, RepliesTo, has_form};
+ghost use Rattle.name_threads.specs.Members.{place_of};
+ghost use Rattle.live_threads.specs.Answers.{AnswersItem, AnswersLine, AnswersOperator, AnswersSession, IsList, IsOwners, RepliesTo, has_form};
 
 use crate::asked::{has_form, is_open, refusal_of};
 use crate::listing::{admission_reply, eviction_reply, list_reply, move_reply, owners_reply};
@@ -27,7 +28,8 @@ impl<'s, C: Begun, P: Ledger, R: Wait + AllocGlobal> CrowdLines<'s, C, P, R> {
     fn take_line(&mut self, number: u64, line: &[u8]) -> Result<Vec<u8>, AllocError>
         requires stay { C.stay ≡ false }
         requires short { length line.now < 2 ^ 63 }
-        ensures answers { IfOk result (λ reply. AnswersLine number line.now reply.items) }
+        ensures answers { IfOk result (λ reply. AnswersLine self.old.crowd.members number line.now
+            reply.items self.new.crowd.members) }
     {
         let alloc = self.crowd.rt.alloc();
         match asked_of(alloc, line)? {
@@ -45,8 +47,8 @@ impl<'s, C: Begun, P: Ledger, R: Wait + AllocGlobal> CrowdLines<'s, C, P, R> {
         line: OperatorLine<&[u8]>,
     ) -> Result<Vec<u8>, AllocError>
         requires stay { C.stay ≡ false }
-        ensures answers { IfOk result (λ reply. AnswersOperator number (named_operator line.entry)
-            reply.items) }
+        ensures answers { IfOk result (λ reply. AnswersOperator self.old.crowd.members number
+            (named_operator line.entry) reply.items self.new.crowd.members) }
     {
         let alloc = self.crowd.rt.alloc();
         if !has_form(line) {
@@ -60,7 +62,8 @@ impl<'s, C: Begun, P: Ledger, R: Wait + AllocGlobal> CrowdLines<'s, C, P, R> {
     fn operate(&mut self, line: OperatorLine<&[u8]>) -> Result<Vec<u8>, AllocError>
         requires stay { C.stay ≡ false }
         requires form { has_form (named_operator line) ≡ true }
-        ensures replies { IfOk result (λ text. RepliesTo (named_operator line.entry) text.items) }
+        ensures replies { IfOk result (λ text. RepliesTo self.old.crowd.members
+            (named_operator line.entry) text.items self.new.crowd.members) }
     {
         let alloc = self.crowd.rt.alloc();
         match line {
@@ -83,8 +86,7 @@ impl<'s, C: Begun, P: Ledger, R: Wait + AllocGlobal> CrowdLines<'s, C, P, R> {
 
     /// A line for each live tenancy, by id. All are seen in one turn under the lock.
     fn list(&self) -> Result<Vec<u8>, AllocError>
-        ensures list { IfOk result (λ text. IsList text.items) }
-        ensures names { IfOk result (λ text. IsListOf self.now.crowd.members text.items) }
+        ensures { IfOk result (λ text. IsList self.now.crowd.members text.items) }
     {
         let core = self.crowd.shared.core.lock(self.crowd.rt);
         list_reply(self.crowd.rt.alloc(), core.service(), &self.crowd.members)
@@ -100,7 +102,8 @@ impl<'s, C: Begun, P: Ledger, R: Wait + AllocGlobal> CrowdLines<'s, C, P, R> {
 
     /// Takes a line of a name's session.
     fn take_session(&mut self, tag: &[u8], name: &[u8], said: &[u8]) -> Result<Vec<u8>, AllocError>
-        ensures answers { IfOk result (λ reply. AnswersSession tag.now reply.items) }
+        ensures answers { IfOk result (λ reply. AnswersSession self.old.crowd.members tag.now
+            name.now said.now reply.items self.new.crowd.members) }
     {
         let number = self.crowd.members.number_for(name)?;
         match self.crowd.members.hear(number, said)? {
@@ -111,13 +114,15 @@ impl<'s, C: Begun, P: Ledger, R: Wait + AllocGlobal> CrowdLines<'s, C, P, R> {
 }
 
 /// Puts an item into the inbox of its name. If the name has none, the item is refused at once.
+#[tactic(auto, using(crate::proofs::ReplySteps::refused_item))]
 pub(crate) fn take_item<C: Begun, P: Ledger, R: Wait + AllocGlobal>(
     crowd: &Crowd<'_, C, P, R>,
     number: usize,
     tag: &[u8],
     item: SessionLine,
 ) -> Result<Vec<u8>, AllocError>
-    ensures { IfOk result (λ reply. AnswersItem tag.now item reply.items) }
+    ensures { IfOk result (λ reply.
+        AnswersItem (place_of crowd.now.members number) tag.now item reply.items) }
 {
     let alloc = crowd.rt.alloc();
     let Some(item) = SessionItem::of(item) else {
@@ -135,7 +140,8 @@ impl<'s, C: Begun, P: Ledger, R: Wait + AllocGlobal> Answers for CrowdLines<'s, 
 
     ghost is_ready = { λ lines. C.stay ≡ false };
 
-    ghost answers = { λ old number line reply new. AnswersLine number line reply };
+    ghost answers = { λ old number line reply new.
+        AnswersLine old.crowd.members number line reply new.crowd.members };
 
     fn answer(&mut self, number: u64, line: &[u8]) -> Result<Vec<u8>, AllocError> {
         self.take_line(number, line)

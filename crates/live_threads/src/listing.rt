@@ -2,7 +2,7 @@
 ghost use Rattle.std.specs.Prelude.{◌≡◌, IfOk, OnOk, length};
 ghost use Rattle.operator.specs.Held.{sink_text};
 ghost use Rattle.operator.specs.OperatorText.{evicted_text, moved_text};
-ghost use Rattle.live_threads.specs.Answers.{AppendsRows, IsList, IsListOf, IsOwners, admission_text, name_at};
+ghost use Rattle.live_threads.specs.Answers.{AppendsRows, IsList, IsOwners, admission_text, name_at};
 
 use line_text::MemorySink;
 use name_threads::{AdmitReply, Members};
@@ -54,8 +54,7 @@ pub(crate) fn list_reply(
     service: &Service,
     members: &Members,
 ) -> Result<Vec<u8>, AllocError>
-    ensures list { IfOk result (λ text. IsList text.items) }
-    ensures names { IfOk result (λ text. IsListOf members.now text.items) }
+    ensures { IfOk result (λ text. IsList members.now text.items) }
 {
     let mut text = MemorySink::new(alloc);
     push_rows(&mut text, service, members)?;

@@ -39,8 +39,9 @@ impl Member {
     }
 }
 
-/// All names, whose each id is, from 1 on, and whose each inbox is. There are as many members as
-/// names.
+/// All names and what is known of each; whose each id is, from 1 on, and whose each inbox is. A
+/// name and what is known of it have the same number. No error leaves one without the other, which
+/// is why the names are an `IndexSet`: a `NameSet` doesn't say what an error leaves.
 #[derive(Drop)]
 pub struct Members {
     alloc: Global,
@@ -183,7 +184,8 @@ impl Members {
         Ok(number)
     }
 
-    /// Takes a line of a name, and returns the item that ends with it.
+    /// Takes a line of a name, and returns the item that ends with it. Memory can run out within a
+    /// text only: the text is lost then, and nothing else.
     pub fn hear(&mut self, number: usize, line: &[u8]) -> Result<Option<SessionLine>, AllocError>
         ensures given { IfOk result (λ item. Hears self.old number line.now item self.new) }
         ensures lost { OnErr result (LosesText self.old number self.new) }
