@@ -1,4 +1,5 @@
 pub mod Planes
+pub mod Starts
 pub mod Bypass
 pub mod Best
 pub mod Ranking
