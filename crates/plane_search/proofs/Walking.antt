@@ -84,7 +84,7 @@ above : (g : Graph) (goal best node d : ℕ) → best < d → CostsMore g goal b
 above g goal best node d l rest leads = omega (arith, l)
 
 -- no path over the end of an edge is cheaper
-least_on : (g : Graph) (goal best node cost end : ℕ) → Contains (g.ends node) end → CostsAtLeast g goal best node cost → CostsAtLeast g goal best end (cost + g.cost end)
+pub least_on : (g : Graph) (goal best node cost end : ℕ) → Contains (g.ends node) end → CostsAtLeast g goal best node cost → CostsAtLeast g goal best end (cost + g.cost end)
 least_on g goal best node cost end c least rest leads = omega (arith, least (end ∷ rest) (c, leads), sum_by-cons g.cost end rest)
 
 -- Stops cost no more than the last one.

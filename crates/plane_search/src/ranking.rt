@@ -2,8 +2,8 @@
 ghost use Rattle.std.specs.Prelude.{◌≡◌, ◌≢◌, ◌<◌, ◌≤◌, ℕ, true, false, Some, None, Ok, IfOk, OnOk, map};
 ghost use Rattle.std.specs.Ordering.{nat_cmp};
 ghost use Rattle.least_path.specs.LeastPath.{least_path, TellsLeastPath, HasNoPath};
-ghost use Rattle.plane_search.specs.Planes.{IsKnown, HoldsNothingLess, IsLeastOfTrack};
-ghost use Rattle.plane_search.specs.Ranking.{tracks_in, AreAll, AreRanked};
+ghost use Rattle.plane_search.specs.Planes.{IsPlaneBound, IsKnown, HoldsNothingLess, IsLeastOfTrack};
+ghost use Rattle.plane_search.specs.Ranking.{tracks_in, AreRanked};
 
 use crate::planes::Planes;
 use crate::search::TrackSearch;
@@ -19,7 +19,8 @@ struct Ranked {
 
 /// Lists all tracks in the order of their planes' bounds.
 fn rank_all<P: Planes>(planes: &P, ranking: &mut Vec<Ranked>) -> Result<(), AllocError>
-    ensures { OnOk result (AreAll (P.family planes.now).tracks (tracks_in ranking.new.items)) }
+    ensures { OnOk result (AreRanked (P.family planes.now) (λ track. ⊥)
+        (P.family planes.now).tracks (tracks_in ranking.new.items)) }
 {
     ranking.clear();
     for track in 0..planes.tracks() {
@@ -32,8 +33,19 @@ fn rank_all<P: Planes>(planes: &P, ranking: &mut Vec<Ranked>) -> Result<(), Allo
 
 /// Whether a plane may hold a path that is less than the known one.
 #[inline(always)]
-fn may_improve<P: Planes>(planes: &P, track: usize, bound: u64, path: &Path) -> bool {
-    bound < path.cost || bound == path.cost && planes.rival_bound(track) <= path.cost
+fn may_improve<P: Planes>(planes: &P, track: usize, bound: u64, path: &Path) -> bool
+    requires track { track < (P.family planes.now).tracks }
+    requires bound { IsPlaneBound (P.family planes.now) track bound }
+    requires known { IsKnown (P.family planes.now) path.now }
+    requires about { P.is_about planes.now path.now.nodes.items }
+    ensures { result ≡ false →
+        HoldsNothingLess (P.family planes.now) track path.now.nodes.items }
+{
+    let _tracks = planes.tracks();
+    if bound < path.cost {
+        return true;
+    }
+    bound == path.cost && planes.rival_bound(track) <= path.cost
 }
 
 /// Lists the tracks in the order of their planes' bounds, without those whose planes hold no path
@@ -48,7 +60,8 @@ fn rank<P: Planes>(
     requires about { P.is_about planes.now path.now.nodes.items }
     requires done { done < (P.family planes.now).tracks →
         HoldsNothingLess (P.family planes.now) done path.now.nodes.items }
-    ensures { OnOk result (AreRanked (P.family planes.now) path.now
+    ensures { OnOk result (AreRanked (P.family planes.now)
+        (λ track. HoldsNothingLess (P.family planes.now) track path.now.nodes.items)
         (P.family planes.now).tracks (tracks_in ranking.new.items)) }
 {
     ranking.clear();
