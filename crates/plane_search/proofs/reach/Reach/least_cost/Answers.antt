@@ -2,6 +2,7 @@ use Rattle.std.proofs.Common.{◌≡◌, ℕ, ◌<◌, List, length, arith, ◌�
 use Rattle.std.specs.List.{sum_by, Contains}
 use Rattle.std.proofs.lemmas.List.Elements.{All-contains}
 use Rattle.plane_search.specs.Starts.{places_of}
+use Rattle.plane_search.specs.Reach.{IsUnderWay}
 use Rattle.plane_search.specs.declared.reach.Open.{Open}
 use Rattle.plane_search.proofs.Parting.{no_entry, removed_next}
 use Rattle.plane_search.proofs.Reaching.{moved, none_cheaper}
@@ -24,24 +25,25 @@ follow-requires-clause-room g c =
 pub loop-item-preserved : goal.loop-item-preserved
 loop-item-preserved g c =
     let removed = removed_next c.take_next.new.self.next.items c.take_next.new.self.later.items c.in-Some.item c.loop-item.self.next.items c.in-Some.ensures.all in
-    let before = rw (c.in-Some.ensures.marks, c.in-Some.ensures.later) c.loop-item.invariant.1 in
+    let f = g.P.Planes.family c.args.view.now.planes.now in
+    let before : IsUnderWay (f.plane c.args.view.now.track) (places_of c.args.starts.now) f.exit c.loop-item.limit c.take_next.new.self.marks c.loop-item.self.next.items c.take_next.new.self.later.items = rw (c.in-Some.ensures.marks, c.in-Some.ensures.later) c.loop-item.invariant.1 in
     let after = c.in_ok-limit.ensures.under_way (places_of c.args.starts.now) c.loop-item.self.next.items before removed in (
       omega (arith, c.loop-item.invariant.0, c.in_ok-limit.ensures.limit),
-      rw c.in_ok-refill-in-loop-item.ensures.marks (moved c.in_ok-refill-in-loop-item.ensures.refilled after),
+      rw c.in_ok-refill-2.ensures.marks (moved c.in_ok-refill-2.ensures.refilled after),
     )
 
 pub loop-item-smaller : goal.loop-item-smaller
 loop-item-smaller g c =
     let removed = removed_next c.take_next.new.self.next.items c.loop-item.self.later.items c.in-Some.item c.loop-item.self.next.items c.in-Some.ensures.all in
     let total : List ℕ → ℕ = λ marks. sum_by (λ (cost : ℕ). cost) marks in
-    rw c.in_ok-refill-in-loop-item.ensures.marks
-    (omega (arith, c.in_ok-limit.ensures.nearer, c.in_ok-refill-in-loop-item.ensures.refilled.size, ap total c.in-Some.ensures.marks, ap (λ (xs : List Open). length xs) c.in-Some.ensures.later, removed.size))
+    rw c.in_ok-refill-2.ensures.marks
+    (omega (arith, c.in_ok-limit.ensures.nearer, c.in_ok-refill-2.ensures.refilled.size, ap total c.in-Some.ensures.marks, ap (λ (xs : List Open). length xs) c.in-Some.ensures.later, removed.size))
 
 pub returns-clause-least : goal.returns-clause-least
 returns-clause-least g c =
     let f = g.P.Planes.family c.args.view.now.planes.now in
     let plane = c.tracks-tracks.ensures.lawful.planes c.args.view.now.track c.args.view.now.on in
-    let later = c.as_slice-key.ensures.value ∙ c.in_default.ensures.later in
+    let later = c.as_slice.ensures.value ∙ c.in_default.ensures.later in
     none_cheaper plane.lawful (omega (arith, c.loop-item.invariant.0, c.requires.few)) c.loop-item.invariant.1 c.lower.ensures.least
     (λ item has. elim has [
       | inl h ↦ absurd (no_entry c.in_default.ensures.none h)

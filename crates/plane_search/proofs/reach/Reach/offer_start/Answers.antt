@@ -18,4 +18,4 @@ returns-clause-on g c =
     let f = g.P.Planes.family c.args.view.now.planes.now in
     let plane = c.tracks-tracks.ensures.lawful.planes c.args.view.now.track c.args.view.now.on in
     λ starts k is w. rw (c.in_ok-wait.ensures.marks, c.enter.ensures)
-    (start_entered c.args.start.place c.args.start.ahead is.is (subst (λ (x : ℕ). Contains starts x) is.is (Contains-get_or starts k 0 is.within)) (omega (arith, plane.count, c.requires.start)) c.requires.other c.requires.bounded c.in_ok-wait.ensures.added w)
+    (start_entered c.args.start.place c.args.start.ahead is.is (subst (λ (x : ℕ). Contains starts x) is.is (Contains-get_or starts k 0 is.within)) (omega (arith, plane.count, c.requires.start)) c.requires.other (λ rest leads. omega (arith, c.requires.bounded rest leads)) c.in_ok-wait.ensures.added w)
