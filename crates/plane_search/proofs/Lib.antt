@@ -8,3 +8,6 @@ mod Walking
 mod Starting
 mod Parting
 mod Reaching
+mod Sorting
+mod Bests
+mod Rankings

@@ -40,7 +40,7 @@ pub record Improves (f : Family) (track cost : ℕ) (nodes : List ℕ) (path new
 
 -- the starts of the track's plane, in rising order
 pub record AreListed (f : Family) (track most : ℕ) (starts : List Start) : Type 0 where
-  pub starts : AreStarts f track most starts
+  pub are : AreStarts f track most starts
   pub rising : IsNonDecreasing (places_of starts)
 
 -- the least path in the track's plane from these starts, by places, with its cost
@@ -52,3 +52,10 @@ pub record IsLeastOn (f : Family) (track : ℕ) (starts : List ℕ) (path : Path
 abbrev pub HasNoneWithin : Family → ℕ → List ℕ → ℕ → Type 0
 HasNoneWithin f track starts most = (path : List ℕ) → IsPath (f.plane track) starts f.exit path
     → most < cost_of (f.plane track) path
+
+-- a path of the whole graph, with its cost, than which none in the track's plane from these starts
+-- is less
+pub record IsLeastIn (f : Family) (track : ℕ) (starts : List ℕ) (path : Path) : Type 0 where
+  pub known : IsKnown f path
+  pub least : (other : List ℕ) → IsPath (f.plane track) starts f.exit other
+      → path_cmp f.whole (map (f.number track) other) path.nodes.items ≢ Less

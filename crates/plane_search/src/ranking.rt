@@ -31,21 +31,30 @@ fn rank_all<P: Planes>(planes: &P, ranking: &mut Vec<Ranked>) -> Result<(), Allo
     Ok(())
 }
 
-/// Whether a plane may hold a path that is less than the known one.
+/// Whether a plane may hold a path that is less than the known one, which is no greater than those
+/// of the plane `done`.
 #[inline(always)]
-fn may_improve<P: Planes>(planes: &P, track: usize, bound: u64, path: &Path) -> bool
+fn may_improve<P: Planes>(planes: &P, track: usize, bound: u64, done: usize, path: &Path) -> bool
     requires track { track < (P.family planes.now).tracks }
     requires bound { IsPlaneBound (P.family planes.now) track bound }
     requires known { IsKnown (P.family planes.now) path.now }
     requires about { P.is_about planes.now path.now.nodes.items }
+    requires done { done < (P.family planes.now).tracks →
+        HoldsNothingLess (P.family planes.now) done path.now.nodes.items }
     ensures { result ≡ false →
         HoldsNothingLess (P.family planes.now) track path.now.nodes.items }
 {
     let _tracks = planes.tracks();
+    if track == done {
+        return false;
+    }
     if bound < path.cost {
         return true;
     }
-    bound == path.cost && planes.rival_bound(track) <= path.cost
+    if path.cost < bound {
+        return false;
+    }
+    planes.rival_bound(track) <= path.cost
 }
 
 /// Lists the tracks in the order of their planes' bounds, without those whose planes hold no path
@@ -67,7 +76,7 @@ fn rank<P: Planes>(
     ranking.clear();
     for track in 0..planes.tracks() {
         let bound = planes.bound(track);
-        if track != done && may_improve(planes, track, bound, path) {
+        if may_improve(planes, track, bound, done, path) {
             ranking.push(Ranked { bound, track })?;
         }
     }
@@ -105,6 +114,7 @@ impl PlaneSearch {
         ensures none { result ≡ Ok None → HasNoPath (P.family planes.now).whole
             (P.family planes.now).starts (P.family planes.now).goal }
     {
+        let _tracks = planes.tracks();
         rank_all(planes, &mut self.ranking)?;
         for ranked in self.ranking.as_slice() {
             if self.search.begin(planes, ranked.track, path)? {

@@ -8,7 +8,7 @@ ghost use Rattle.std.specs.declared.cmp.Ordering.TheVariants.{Less};
 ghost use Rattle.plane_search.specs.Planes.{IsPlace, IsPlaneBound, IsKnown, HoldsNothingLess, IsLeastOfTrack};
 ghost use Rattle.plane_search.specs.Starts.{AreStarts, places_of};
 ghost use Rattle.plane_search.specs.Walk.{ArePruned, AreNoCheaper};
-ghost use Rattle.plane_search.specs.Best.{HoldsNone, HoldsNothingBeyond, Improves, IsNoLater, AreListed, IsLeastOn, HasNoneWithin};
+ghost use Rattle.plane_search.specs.Best.{HoldsNone, HoldsNothingBeyond, Improves, IsNoLater, AreListed, IsLeastOn, IsLeastIn, HasNoneWithin};
 ghost use Rattle.least_path.specs.LeastPath.{HasNoPath};
 
 use crate::marks::UNMARKED;
@@ -79,11 +79,13 @@ fn lesser_limit<P: Planes>(planes: &P, track: usize, known_cost: u64, path: &Pat
         HoldsNothingBeyond (P.family planes.now) track path.now.nodes.items result }
 {
     let _tracks = planes.tracks();
-    if path.cost == known_cost && path.cost < planes.rival_bound(track) {
-        path.cost.saturating_sub(1)
-    } else {
-        path.cost
+    if path.cost != known_cost {
+        return path.cost;
     }
+    if planes.rival_bound(track) <= path.cost {
+        return path.cost;
+    }
+    path.cost.saturating_sub(1)
 }
 
 impl TrackSearch {
@@ -112,15 +114,26 @@ impl TrackSearch {
         ensures none { result ≡ Ok false → HoldsNone (P.family planes.now) track }
     {
         let _tracks = planes.tracks();
-        if !self.find_cheap(planes, track)? {
-            self.list_starts(planes, track, u64::MAX)?;
-            if !self.find_any(planes, track)? {
-                return Ok(false);
-            }
+        if !self.find_first(planes, track)? {
+            return Ok(false);
         }
         number_nodes(planes, track, &mut self.found.nodes);
         mem::swap(path, &mut self.found);
         Ok(true)
+    }
+
+    /// Finds the least path of a plane, by places.
+    fn find_first<P: Planes>(&mut self, planes: &P, track: usize) -> Result<bool, AllocError>
+        requires { track < (P.family planes.now).tracks }
+        ensures found { result ≡ Ok true → IsLeastOn (P.family planes.now) track
+            ((P.family planes.now).entries track) self.new.found }
+        ensures none { result ≡ Ok false → HoldsNone (P.family planes.now) track }
+    {
+        if self.find_cheap(planes, track)? {
+            return Ok(true);
+        }
+        self.list_in_order(planes, track, u64::MAX)?;
+        self.find_any(planes, track)
     }
 
     /// Finds the least path of a plane, by places, if its cost can be marked.
@@ -129,13 +142,15 @@ impl TrackSearch {
         ensures { result ≡ Ok true → IsLeastOn (P.family planes.now) track
             ((P.family planes.now).entries track) self.new.found }
     {
-        let _tracks = planes.tracks();
         let most = UNMARKED - 2;
-        self.list_starts(planes, track, most)?;
+        self.list_in_order(planes, track, most)?;
         if !self.find(planes, track, most)? {
             return Ok(false);
         }
-        Ok(self.found.cost <= most)
+        if most < self.found.cost {
+            return Ok(false);
+        }
+        Ok(true)
     }
 
     /// Goes on with one more plane: replaces `path` by the least path of the plane if that is less.
@@ -158,11 +173,10 @@ impl TrackSearch {
         if most < planes.bound(track) {
             return Ok(());
         }
-        self.list_starts(planes, track, most)?;
-        if !self.find(planes, track, most)? {
+        self.list_in_order(planes, track, most)?;
+        if !self.find_nodes(planes, track, most)? {
             return Ok(());
         }
-        number_nodes(planes, track, &mut self.found.nodes);
         if is_less(&self.found, path) {
             mem::swap(path, &mut self.found);
         }
@@ -170,7 +184,7 @@ impl TrackSearch {
     }
 
     /// Lists the starts of a plane from which a path may cost at most `most`, in rising order.
-    fn list_starts<P: Planes>(
+    fn list_in_order<P: Planes>(
         &mut self,
         planes: &P,
         track: usize,
@@ -182,6 +196,29 @@ impl TrackSearch {
         planes.list_starts(track, most, &mut self.starts)?;
         self.starts.sort_unstable();
         Ok(())
+    }
+
+    /// Finds the least path of a plane from the listed starts, by nodes of the whole graph. If no
+    /// path costs at most `most`, returns `false`.
+    fn find_nodes<P: Planes>(
+        &mut self,
+        planes: &P,
+        track: usize,
+        most: u64,
+    ) -> Result<bool, AllocError>
+        requires track { track < (P.family planes.now).tracks }
+        requires listed { AreListed (P.family planes.now) track most self.old.starts.items }
+        ensures found { result ≡ Ok true → IsLeastIn (P.family planes.now) track
+            (places_of self.old.starts.items) self.new.found }
+        ensures none { result ≡ Ok false → HasNoneWithin (P.family planes.now) track
+            (places_of self.old.starts.items) most }
+    {
+        let _tracks = planes.tracks();
+        if !self.find(planes, track, most)? {
+            return Ok(false);
+        }
+        number_nodes(planes, track, &mut self.found.nodes);
+        Ok(true)
     }
 
     /// Finds the least path of a plane from the listed starts, by places. If no path costs at most
@@ -201,7 +238,7 @@ impl TrackSearch {
     {
         let _tracks = planes.tracks();
         let bound = planes.bound(track);
-        if most < bound || self.starts.is_empty() {
+        if most < bound {
             return Ok(false);
         }
         if bound == 0 || UNMARKED - 2 < most {
@@ -243,7 +280,10 @@ impl TrackSearch {
         if most < least {
             return Ok(false);
         }
-        if least > 0 && self.find_at(planes, track, least)? {
+        if least == 0 {
+            return self.find_any(planes, track);
+        }
+        if self.find_at(planes, track, least)? {
             return Ok(true);
         }
         self.find_any(planes, track)
