@@ -1,22 +1,22 @@
 -- What is found in a plane, and the best path so far.
 use Rattle.std.proofs.Common.{◌≡◌, ◌≢◌, ℕ, refl, ◌+◌, ◌-◌, ◌^◌, ◌<◌, ◌≤◌, ◌⊎◌, List, [], ◌∷◌, All, get_or, map, arith, ◌∙◌, inl, inr, sym, ap, subst}
-use Rattle.std.specs.List.{sum_by, Contains}
+use Rattle.std.specs.List.{Contains}
 use Rattle.std.specs.Ordering.{nat_cmp, ordering_then, ordering_reverse}
 use Rattle.std.specs.Cmp.Lexicographic.{slice_cmp}
 use Rattle.std.specs.declared.cmp.Ordering.{Ordering}
 use Rattle.std.specs.declared.cmp.Ordering.TheVariants.{Less, Equal, Greater}
 use Rattle.std.proofs.lemmas.Cmp.{nat_list_cmp_total, ranked}
 use Rattle.std.proofs.lemmas.List.Elements.{Contains-get_or}
-use Rattle.least_path.specs.Path.{Leads, IsPath, cost_of, path_cmp}
-use Rattle.least_path.specs.LeastPath.{IsLeastPath, HasNoPath}
+use Rattle.least_path.specs.Path.{IsPath, cost_of, path_cmp}
+use Rattle.least_path.specs.LeastPath.{HasNoPath}
 use Rattle.least_path.specs.declared.path.Path.{Path}
 use Rattle.plane_search.specs.Planes.{Family, IsPlane, IsPlaneBound, IsRivalBound, IsKnown, HoldsNothingLess, IsLeastOfTrack}
-use Rattle.plane_search.specs.Starts.{AreStarts, IsTooFar, places_of}
-use Rattle.plane_search.specs.Best.{HoldsNone, HoldsNothingBeyond, IsNoLater, Improves, AreListed, IsLeastOn, IsLeastIn, HasNoneWithin}
+use Rattle.plane_search.specs.Starts.{AreStarts, places_of}
+use Rattle.plane_search.specs.Best.{HoldsNone, HoldsNothingBeyond, IsNoLater, Improves, IsLeastOn, IsLeastIn, HasNoneWithin}
 use Rattle.plane_search.specs.Walk.{AreNoCheaper, AreBoundedStarts, CostsMore}
 use Rattle.plane_search.specs.declared.planes.Start.{Start}
 use Rattle.plane_search.proofs.Order.{path_cmp_total, less_under, not_less_dearer, not_less_then}
-use Rattle.plane_search.proofs.Embedding.{path_whole, path_there, cost_whole, cmp_whole}
+use Rattle.plane_search.proofs.Embedding.{path_whole, cost_whole, cmp_whole}
 use Rattle.plane_search.proofs.Sorting.{place_from}
 
 -- ---- the starts of a plane

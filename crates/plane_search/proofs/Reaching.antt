@@ -1,13 +1,13 @@
 -- A pass that enters places, and what each path costs at least when it ends.
-use Rattle.std.proofs.Common.{◌≡◌, ◌≢◌, ℕ, refl, ◌+◌, ◌*◌, ◌^◌, ◌<◌, ◌≤◌, ◌⊎◌, List, [], ◌∷◌, ◌++◌, length, get_or, set, arith, ◌∙◌, inl, inr, sym, ap, subst, length-set}
+use Rattle.std.proofs.Common.{◌≡◌, ◌≢◌, ℕ, refl, ◌+◌, ◌^◌, ◌<◌, ◌≤◌, ◌⊎◌, List, [], ◌∷◌, length, get_or, set, arith, ◌∙◌, inl, inr, sym, ap, subst, length-set}
 use Rattle.std.specs.List.{sum_by, All, Contains}
-use Rattle.std.proofs.lemmas.Bool.{cases_eq, cases_lt}
+use Rattle.std.proofs.lemmas.Bool.{cases_lt}
 use Rattle.std.proofs.lemmas.List.Elements.{Contains-get_or}
 use Rattle.std.proofs.lemmas.List.Sums.{sum_by-cons, sum_by-set}
 use Rattle.least_path.specs.Graph.{Graph, IsLawful}
 use Rattle.least_path.specs.Path.{Leads}
-use Rattle.plane_search.specs.Walk.{CostsAtLeast, CostsMore, IsUnfit, AreNoCheaper}
-use Rattle.plane_search.specs.Reach.{IsIn, IsKeyed, IsOpen, IsFollowed, AreSound, IsReaching, AreBegun, IsUnderWay, IsFollowing, IsBeginning, IsAdded, IsRemoved, AreSame, measure_of}
+use Rattle.plane_search.specs.Walk.{CostsAtLeast, IsUnfit, AreNoCheaper}
+use Rattle.plane_search.specs.Reach.{IsIn, IsKeyed, IsOpen, IsFollowed, IsReaching, IsUnderWay, IsFollowing, IsBeginning, IsAdded, IsRemoved, AreSame, measure_of}
 use Rattle.plane_search.specs.declared.reach.Open.{Open}
 use Rattle.plane_search.proofs.Members.{at_index, below_next}
 use Rattle.plane_search.proofs.Parting.{no_entry}

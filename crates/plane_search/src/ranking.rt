@@ -54,7 +54,10 @@ fn may_improve<P: Planes>(planes: &P, track: usize, bound: u64, done: usize, pat
     if path.cost < bound {
         return false;
     }
-    planes.rival_bound(track) <= path.cost
+    if path.cost < planes.rival_bound(track) {
+        return false;
+    }
+    true
 }
 
 /// Lists the tracks in the order of their planes' bounds, without those whose planes hold no path

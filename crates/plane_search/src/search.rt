@@ -223,12 +223,7 @@ impl TrackSearch {
 
     /// Finds the least path of a plane from the listed starts, by places. If no path costs at most
     /// `most`, returns `false`.
-    fn find<P: Planes>(
-        &mut self,
-        planes: &P,
-        track: usize,
-        most: u64,
-    ) -> Result<bool, AllocError>
+    fn find<P: Planes>(&mut self, planes: &P, track: usize, most: u64) -> Result<bool, AllocError>
         requires track { track < (P.family planes.now).tracks }
         requires listed { AreListed (P.family planes.now) track most self.old.starts.items }
         ensures found { result ≡ Ok true → IsLeastOn (P.family planes.now) track

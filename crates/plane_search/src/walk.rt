@@ -166,11 +166,7 @@ impl Walk {
 
     /// Walks on from a start if a path of the wanted cost may begin there.
     #[inline(always)]
-    fn try_start<P: Planes>(
-        &mut self,
-        aim: &Aim<'_, P>,
-        start: Start,
-    ) -> Result<bool, AllocError>
+    fn try_start<P: Planes>(&mut self, aim: &Aim<'_, P>, start: Start) -> Result<bool, AllocError>
         requires start { start.place < (P.family aim.now.planes.now).places }
         requires bounded { IsLowerBound ((P.family aim.now.planes.now).plane aim.now.track)
             (P.family aim.now.planes.now).exit start.place (Some start.ahead) }

@@ -3,7 +3,7 @@ use Rattle.plane_search.proofs.Rankings.{ranked_first, ranked_in, ranked_sorted}
 use Rattle.plane_search.proofs.ranking.rank_all.Goals as goal
 
 pub loop-track-init : goal.loop-track-init
-loop-track-init g c = ranked_first c.clear.new.ranking.items c.clear.ensures.items
+loop-track-init g c = ranked_first c.clear.new.self.items c.clear.ensures.items
 
 pub loop-track-preserved : goal.loop-track-preserved
 loop-track-preserved g c =

@@ -1,6 +1,5 @@
 use Rattle.std.proofs.Common.{arith}
 use Rattle.std.proofs.lemmas.List.{get_or_default}
-use Rattle.plane_search.specs.declared.reach.Open.{Open}
 use Rattle.plane_search.proofs.Parting.{parted_first, parted_put, parted_all}
 use Rattle.plane_search.proofs.reach.part.Goals as goal
 

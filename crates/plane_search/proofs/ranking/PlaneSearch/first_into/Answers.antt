@@ -1,4 +1,4 @@
-use Rattle.std.proofs.Common.{◌≡◌, ℕ, ◌≤◌, List, get_or, arith, sym, subst}
+use Rattle.std.proofs.Common.{◌≡◌, ℕ, List, get_or, sym, subst}
 use Rattle.plane_search.specs.declared.ranking.Ranked.{Ranked}
 use Rattle.plane_search.specs.Planes.{IsLeastOfTrack}
 use Rattle.plane_search.specs.Best.{HoldsNone}

@@ -1,4 +1,4 @@
-use Rattle.std.proofs.Common.{◌≡◌, ◌≤◌, List, arith, sym, subst}
+use Rattle.std.proofs.Common.{List, sym, subst}
 use Rattle.plane_search.specs.declared.ranking.Ranked.{Ranked}
 use Rattle.plane_search.specs.Planes.{HoldsNothingLess}
 use Rattle.plane_search.specs.Ranking.{tracks_in, AreRanked}

@@ -1,4 +1,4 @@
-use Rattle.std.proofs.Common.{◌≡◌, ◌≢◌, ℕ, ◌<◌, ◌≤◌, get_or, length, arith, [], subst}
+use Rattle.std.proofs.Common.{get_or, arith, []}
 use Rattle.std.proofs.lemmas.List.Elements.{Contains-get_or}
 use Rattle.plane_search.specs.Starts.{places_of}
 use Rattle.plane_search.specs.declared.planes.Start.{Start}

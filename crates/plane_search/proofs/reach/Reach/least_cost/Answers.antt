@@ -1,4 +1,4 @@
-use Rattle.std.proofs.Common.{◌≡◌, ℕ, ◌<◌, List, length, arith, ◌∙◌, ap, sym, subst, inl, inr}
+use Rattle.std.proofs.Common.{ℕ, ◌<◌, List, length, arith, ◌∙◌, ap, sym, subst, inl, inr}
 use Rattle.std.specs.List.{sum_by, Contains}
 use Rattle.std.proofs.lemmas.List.Elements.{All-contains}
 use Rattle.plane_search.specs.Starts.{places_of}

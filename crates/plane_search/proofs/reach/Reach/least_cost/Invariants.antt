@@ -1,4 +1,4 @@
-use Rattle.std.proofs.Common.{ℕ, ◌≤◌}
+use Rattle.std.proofs.Common.{◌≤◌}
 use Rattle.plane_search.specs.Starts.{places_of}
 use Rattle.plane_search.specs.Reach.{IsUnderWay, measure_of}
 use Rattle.plane_search.proofs.reach.Reach.least_cost.Given as goal

@@ -1,4 +1,4 @@
-use Rattle.std.proofs.Common.{◌≡◌, ℕ, get_or, arith, inr, sym, subst}
+use Rattle.std.proofs.Common.{ℕ, arith, inr, sym, subst}
 use Rattle.std.proofs.lemmas.List.Elements.{Contains-get_or}
 use Rattle.std.specs.List.{Contains}
 use Rattle.plane_search.specs.Walk.{IsUnfit}

@@ -1,7 +1,7 @@
-use Rattle.std.proofs.Common.{◌≡◌, ℕ, ◌<◌, ◌≤◌, ◌∷◌, ◌++◌, [], List, length, get_or, arith, ◌∙◌, ap, sym, subst}
+use Rattle.std.proofs.Common.{◌≡◌, ℕ, ◌∷◌, ◌++◌, [], List, get_or, arith, ◌∙◌, ap, sym, subst}
 use Rattle.std.proofs.lemmas.List.Elements.{Contains-get_or}
 use Rattle.plane_search.specs.Starts.{places_of}
-use Rattle.plane_search.specs.Walk.{CostsAtLeast, CostsMore, IsLeastFrom, places_in}
+use Rattle.plane_search.specs.Walk.{CostsMore, IsLeastFrom, places_in}
 use Rattle.plane_search.specs.declared.planes.Start.{Start}
 use Rattle.plane_search.proofs.Starting.{least_of_starts, all_dear, one_dearer, place_at, place_among, as_many}
 use Rattle.plane_search.proofs.walk.Walk.least_into.Goals as goal
@@ -36,7 +36,7 @@ loop-start-preserved g c =
     let index = c.loop-start.start-index in (
       c.in_ok-try_start.ensures.between cc,
       one_dearer plane f.exit c.args.aim.now.best (places_of starts) index c.loop-start.invariant.1
-      (subst (λ (x : ℕ). CostsMore plane f.exit c.args.aim.now.best x 0) (sym (place_at starts index no_start c.loop-start-test.true)) (c.in_ok-try_start.ensures.none cc)),
+          (subst (λ (x : ℕ). CostsMore plane f.exit c.args.aim.now.best x 0) (sym (place_at starts index no_start c.loop-start-test.true)) (c.in_ok-try_start.ensures.none cc)),
     )
 
 pub returns-then-branch-clause-found : goal.returns-then-branch-clause-found
