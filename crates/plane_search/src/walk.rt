@@ -4,6 +4,7 @@
 //! place is entered once at each cost.
 ghost use Rattle.std.specs.Prelude.{◌≡◌, ℕ, Contains, ◌+◌, ◌<◌, ◌≤◌, ◌^◌, ◌∷◌, ◌++◌, [], true, false, Ok, Some, IfSome, IfNone, OnOk, length};
 ghost use Rattle.std.specs.List.Sorted.{IsNonDecreasing};
+ghost use Rattle.std.specs.Option.{option_to_list};
 ghost use Rattle.std.proofs.Common.{set};
 ghost use Rattle.least_path.specs.Graph.{AreNodes};
 ghost use Rattle.least_path.specs.Path.{IsPath, cost_of};
@@ -210,68 +211,78 @@ impl Walk {
             (P.family aim.now.planes.now).exit aim.now.best self.new.marks }
     {
         let _tracks = aim.planes.tracks();
-        self.begin_at(start)?;
-        while let Some(stop) = self.take_stop() {
+        let mut current = Some(self.begin_at(start));
+        while let Some(stop) = current {
             if let Some(step) = next_step(&self.marks, aim, stop) {
+                self.put_back(stop, step)?;
                 if step.place == aim.exit {
-                    self.stops.push(stop)?;
                     return Ok(true);
                 }
-                self.go_on(stop, step)?;
+                current = Some(self.enter(step));
+            } else {
+                current = self.take_stop();
             }
         }
         Ok(false)
     }
 
-    /// Makes the start the only stop.
-    fn begin_at(&mut self, start: usize) -> Result<(), AllocError>
+    /// Enters the start, with no other stop.
+    fn begin_at(&mut self, start: usize) -> Stop
         requires { start < length self.old.marks }
-        ensures marks { OnOk result (self.new.marks ≡ set self.old.marks start 0) }
-        ensures stops { OnOk result (self.new.stops.items ≡ stop_at start 0 ∷ []) }
+        ensures stop { result ≡ stop_at start 0 }
+        ensures marks { self.new.marks ≡ set self.old.marks start 0 }
+        ensures stops { self.new.stops.items ≡ [] }
     {
         self.stops.clear();
         self.marks.enter(start, 0);
-        self.stops.push(Stop {
+        Stop {
             place: start,
             cost: 0,
             next_edge: 0,
-        })?;
-        Ok(())
+        }
     }
 
     /// Takes the last stop; `None` if there is no stop.
     #[inline(always)]
     fn take_stop(&mut self) -> Option<Stop>
         ensures marks { self.new.marks ≡ self.old.marks }
-        ensures some { IfSome result (λ stop.
-            self.old.stops.items ≡ self.new.stops.items ++ stop ∷ []) }
+        ensures all { self.old.stops.items ≡ self.new.stops.items ++ option_to_list result }
         ensures none { IfNone result (self.old.stops.items ≡ []) }
     {
         self.stops.pop()
     }
 
-    /// Puts the stop back, and after it the one that the step leads to.
+    /// Puts the stop back, from which the step leads.
     #[inline(always)]
-    fn go_on(&mut self, stop: Stop, step: Step) -> Result<(), AllocError>
-        requires place { step.place < length self.old.marks }
-        requires cost { step.cost < 2 ^ 16 }
-        requires edge { step.edge + 1 < 2 ^ 64 }
-        ensures marks { OnOk result (self.new.marks ≡ set self.old.marks step.place step.cost) }
-        ensures stops { OnOk result (self.new.stops.items ≡ (self.old.stops.items
-            ++ after_step stop step ∷ []) ++ stop_at step.place step.cost ∷ []) }
+    fn put_back(&mut self, stop: Stop, step: Step) -> Result<(), AllocError>
+        requires { step.edge + 1 < 2 ^ 64 }
+        ensures marks { OnOk result (self.new.marks ≡ self.old.marks) }
+        ensures stops { OnOk result (self.new.stops.items
+            ≡ self.old.stops.items ++ after_step stop step ∷ []) }
     {
-        self.marks.enter(step.place, step.cost);
         self.stops.push(Stop {
             place: stop.place,
             cost: stop.cost,
             next_edge: step.edge + 1,
         })?;
-        self.stops.push(Stop {
+        Ok(())
+    }
+
+    /// Enters the place that the step leads to.
+    #[inline(always)]
+    fn enter(&mut self, step: Step) -> Stop
+        requires place { step.place < length self.old.marks }
+        requires cost { step.cost < 2 ^ 16 }
+        ensures stop { result ≡ stop_at step.place step.cost }
+        ensures marks { self.new.marks ≡ set self.old.marks step.place step.cost }
+        ensures stops { self.new.stops ≡ self.old.stops }
+    {
+        self.marks.enter(step.place, step.cost);
+        Stop {
             place: step.place,
             cost: step.cost,
             next_edge: 0,
-        })?;
-        Ok(())
+        }
     }
 
     /// Writes the places of the stops, and the goal.
