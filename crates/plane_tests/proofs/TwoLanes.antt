@@ -1,15 +1,17 @@
 -- The two lanes are a family of planes.
-use Rattle.std.proofs.Common.{◌≡◌, ◌≢◌, ℕ, zero, suc, refl, ◌+◌, ◌*◌, ◌%◌, ◌/◌, ◌^◌, ◌<◌, ◌≤◌, ◌⊎◌, Option, Some, None, List, [], ◌∷◌, length, map, get_or, arith, ◌∙◌, inl, inr, sym, ap, subst}
-use Rattle.std.specs.List.{sum_by, All, Contains}
+use Rattle.std.proofs.Common.{◌≡◌, ℕ, zero, suc, refl, ◌+◌, ◌*◌, ◌%◌, ◌/◌, ◌^◌, ◌<◌, ◌≤◌, ◌⊎◌, Some, List, [], ◌∷◌, length, map, get_or, arith, ◌∙◌, inl, inr, sym, ap, subst}
+use Rattle.std.specs.List.{All, Contains}
 use Rattle.std.proofs.lemmas.Bool.{cases_lt, cases_eq}
 use Rattle.std.proofs.lemmas.List.{length-map}
 use Rattle.std.proofs.lemmas.List.Sums.{sum_by-cons}
 use Rattle.std.proofs.lemmas.List.Elements.{All-nil, All-cons, Contains-get_or}
 use Rattle.least_path.specs.Graph.{IsLawful}
-use Rattle.least_path.specs.Path.{Leads, IsPath, cost_of}
+use Rattle.least_path.specs.Path.{Leads}
 use Rattle.least_path.specs.LowerBound.{IsLowerBound}
-use Rattle.plane_search.specs.Planes.{Family, IsPlace, IsOn, IsPlane, IsFamily, IsPlaneBound}
-use Rattle.plane_tests.specs.Lanes.{steps, number, track_of, cost_at, lanes_graph, lane, lanes}
+use Rattle.plane_search.specs.Planes.{Family, IsOn, IsPlane, IsFamily, IsPlaneBound}
+use Rattle.plane_search.specs.Starts.{AreStarts}
+use Rattle.plane_search.specs.declared.planes.Start.{Start}
+use Rattle.plane_tests.specs.Lanes.{steps, number, track_of, lanes_graph, lane, lanes}
 
 -- ---- members
 
@@ -264,3 +266,19 @@ module _ (factor : ℕ) where
     | inl e ↦ one_at_least k x (omega (arith, e)) xs p.1
     | inr n ↦ absurd (none_in x n)
   ]
+
+  -- ---- the only start of a lane
+
+  abbrev start : Start
+  start = record { place = 0; ahead = 1 }
+
+  only_start : (x : Start) → Contains (start ∷ []) x → start ≡ x
+  only_start x (zero, b, e) = e
+  only_start x (suc k, b, e) = absurd (omega (arith, b))
+
+  pub the_starts : (k most : ℕ) (starts : List Start) → starts ≡ start ∷ [] → AreStarts (lanes factor) k most starts
+  the_starts k most starts is = subst (λ (xs : List Start). AreStarts (lanes factor) k most xs) (sym is) (record {
+    among = λ x c. subst (λ (v : Start). Contains (0 ∷ []) v.place) (only_start x c) (first_in 0 []);
+    bounded = λ x c. subst (λ (v : Start). IsLowerBound (lane factor k) 3 v.place (Some v.ahead)) (only_start x c) (one_at_least k 0 (omega arith));
+    all = λ entry c. inl c;
+  })

@@ -12,6 +12,7 @@ const PLACES: usize = 4;
 
 /// The goal's place, and its number.
 const EXIT: usize = 3;
+
 const GOAL: usize = 6;
 
 /// The ends of a wire's edges, as differences.
@@ -131,7 +132,7 @@ fn finds(alloc: Global, factor: usize, cost: u64, nodes: &[usize]) -> bool
 }
 
 #[test]
-fn lanes(rt: HostRuntime) {
+fn least_path_over_lanes(rt: HostRuntime) {
     assert!(rt; finds(rt.alloc(), 0, 2, &[0, 2, 6]));
     assert!(rt; finds(rt.alloc(), 1, 3, &[1, 5, 6]));
 }
