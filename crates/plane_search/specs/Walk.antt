@@ -62,8 +62,8 @@ abbrev pub AreUnfit : Graph → ℕ → ℕ → List ℕ → Stop → ℕ → �
 AreUnfit g goal best entered stop from to = (k : ℕ) → from ≤ k → k < to
     → IsUnfit g goal best entered (get_or (g.ends stop.place) k 0) (stop.cost + g.cost (get_or (g.ends stop.place) k 0))
 
--- The stop is followed by the first end, from its next edge on, that is fit. Lesser ends are ends of
--- earlier edges.
+-- The stop is followed by the first end, from its next edge on, that is fit. Lesser ends are ends
+-- of earlier edges.
 pub record IsNext (g : Graph) (goal best : ℕ) (entered : List ℕ) (stop : Stop) (step : Step) : Type 0 where
   pub within : step.edge < length (g.ends stop.place)
   pub end : get_or (g.ends stop.place) step.edge 0 ≡ step.place

@@ -85,8 +85,8 @@ pub trait Planes {
         ensures { IsPlaneBound (family self.now) track result };
 
     /// A lower bound of the cost of any path in a track's plane that comes before the known path in
-    /// the order of nodes. A plane is not searched for a path that costs as much as the known one if
-    /// this bound is above that cost.
+    /// the order of nodes. A plane is not searched for a path that costs as much as the known one
+    /// if this bound is above that cost.
     fn rival_bound(&self, track: usize) -> u64
         requires { track < (family self.now).tracks }
         ensures { (known : List ℕ) → is_about self.now known →

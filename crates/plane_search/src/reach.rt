@@ -46,7 +46,7 @@ pub(crate) struct Reach {
 }
 
 /// The lower of two numbers.
-fn lower(least: u64, key: u64) -> u64
+fn least_of(least: u64, key: u64) -> u64
     ensures least { result ≤ least }
     ensures key { result ≤ key }
 {
@@ -59,7 +59,7 @@ fn least_key(waiting: &[Open]) -> u64
 {
     let mut least = 1 << 16;
     for item in waiting {
-        least = lower(least, item.key as u64);
+        least = least_of(least, item.key as u64);
     }
     least
 }
@@ -148,7 +148,7 @@ impl Reach {
             self.refill(limit)?;
         }
         let key = least_key(self.later.as_slice());
-        Ok(lower(limit + 1, key))
+        Ok(least_of(limit + 1, key))
     }
 
     /// Enters the starts.

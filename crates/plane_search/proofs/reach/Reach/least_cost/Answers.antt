@@ -44,15 +44,15 @@ returns-clause-least g c =
     let f = g.P.Planes.family c.args.view.now.planes.now in
     let plane = c.tracks-tracks.ensures.lawful.planes c.args.view.now.track c.args.view.now.on in
     let later = c.as_slice.ensures.value ∙ c.in_default.ensures.later in
-    none_cheaper plane.lawful (omega (arith, c.loop-item.invariant.0, c.requires.few)) c.loop-item.invariant.1 c.lower.ensures.least
+    none_cheaper plane.lawful (omega (arith, c.loop-item.invariant.0, c.requires.few)) c.loop-item.invariant.1 c.least_of.ensures.least
     (λ item has. elim has [
       | inl h ↦ absurd (no_entry c.in_default.ensures.none h)
-      | inr h ↦ omega (arith, c.lower.ensures.key, c.least_key-key.ensures item (subst (λ (xs : List Open). Contains xs item) (sym later) h))
+      | inr h ↦ omega (arith, c.least_of.ensures.key, c.least_key-key.ensures item (subst (λ (xs : List Open). Contains xs item) (sym later) h))
     ])
     (λ start h. All-contains (λ (x : ℕ). x < (f.plane c.args.view.now.track).count) (places_of c.args.starts.now) start c.requires.starts h)
 
 pub returns-clause-few : goal.returns-clause-few
-returns-clause-few g c = omega (arith, c.lower.ensures.least, c.loop-item.invariant.0)
+returns-clause-few g c = omega (arith, c.least_of.ensures.least, c.loop-item.invariant.0)
 
 pub returns-clause-room : goal.returns-clause-room
 returns-clause-room g c =
