@@ -82,16 +82,20 @@ fn fitting_cost<P: Planes>(
 {
     let _tracks = aim.planes.tracks();
     let cost = before + aim.planes.cost(aim.track, place);
-    if aim.best < cost || marks.is_entered(place, cost) {
+    if aim.best < cost {
+        return None;
+    }
+    let Some(ahead) = aim.planes.at_least(aim.track, place) else {
+        return None;
+    };
+    let left = aim.best - cost;
+    if left < ahead || marks.is_entered(place, cost) {
         return None;
     }
     if aim.reached.is_below(place, cost) {
         return None;
     }
-    match aim.planes.at_least(aim.track, place) {
-        Some(ahead) if ahead <= aim.best - cost => Some(cost),
-        _ => None,
-    }
+    Some(cost)
 }
 
 /// The first step from the stop, from its next edge on, over which a path of the wanted cost may
