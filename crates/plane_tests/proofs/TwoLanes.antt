@@ -6,9 +6,10 @@ use Rattle.std.proofs.lemmas.List.{length-map}
 use Rattle.std.proofs.lemmas.List.Sums.{sum_by-cons}
 use Rattle.std.proofs.lemmas.List.Elements.{All-nil, All-cons, Contains-get_or}
 use Rattle.least_path.specs.Graph.{IsLawful}
-use Rattle.least_path.specs.Path.{Leads}
+use Rattle.least_path.specs.Path.{Leads, IsPath, cost_of}
 use Rattle.least_path.specs.LowerBound.{IsLowerBound}
-use Rattle.plane_search.specs.Planes.{Family, IsOn, IsPlane, IsFamily, IsPlaneBound}
+use Rattle.least_path.specs.declared.path.Path.{Path}
+use Rattle.plane_search.specs.Planes.{Family, IsOn, IsPlane, IsFamily, IsPlaneBound, IsKnown}
 use Rattle.plane_search.specs.Starts.{AreStarts}
 use Rattle.plane_search.specs.declared.planes.Start.{Start}
 use Rattle.plane_tests.specs.Lanes.{steps, number, track_of, lanes_graph, lane, lanes}
@@ -282,3 +283,17 @@ module _ (factor : ℕ) where
     bounded = λ x c. subst (λ (v : Start). IsLowerBound (lane factor k) 3 v.place (Some v.ahead)) (only_start x c) (one_at_least k 0 (omega arith));
     all = λ entry c. inl c;
   })
+
+-- ---- a path over all wires of the first lane
+
+abbrev along : List ℕ
+along = 0 ∷ 2 ∷ 4 ∷ 6 ∷ []
+
+along_is_path : IsPath (lanes_graph 0) (0 ∷ 1 ∷ []) 6 along
+along_is_path = (first_in 0 (1 ∷ []), (first_in 2 (4 ∷ []), (first_in 4 (6 ∷ []), (first_in 6 [], refl))))
+
+pub along_known : (path : Path) → path.nodes.items ≡ along → path.cost ≡ 3 → IsKnown (lanes 0) path
+along_known path is cost = record {
+  is_path = subst (λ (nodes : List ℕ). IsPath (lanes_graph 0) (0 ∷ 1 ∷ []) 6 nodes) (sym is) along_is_path;
+  cost = subst (λ (nodes : List ℕ). path.cost ≡ cost_of (lanes_graph 0) nodes) (sym is) cost;
+}

@@ -1,6 +1,7 @@
 //! Least paths over two lanes of three wires each. From a wire one comes to the next one or to the
 //! one after it, and from the last two to the goal.
-ghost use Rattle.std.specs.Prelude.{◌<◌};
+ghost use Rattle.std.specs.Prelude.{◌≡◌, ◌<◌, IfOk};
+ghost use Rattle.plane_search.specs.Planes.{IsKnown};
 ghost use Rattle.plane_tests.specs.Lanes.{lanes};
 
 use least_path::{Ends, Path};
@@ -131,8 +132,42 @@ fn finds(alloc: Global, factor: usize, cost: u64, nodes: &[usize]) -> bool
     is_so
 }
 
+/// A path over all wires of the first lane, and what it costs if each node costs 1.
+fn long_path(alloc: Global) -> Result<Path, AllocError>
+    ensures { IfOk result (λ path. IsKnown (lanes 0) path) }
+{
+    Ok(Path {
+        nodes: vec![in alloc; 0, 2, 4, 6]?,
+        cost: 3,
+    })
+}
+
+/// Whether a search that knows the path makes it the least one.
+fn improves(alloc: Global, path: &mut Path) -> bool
+    requires { IsKnown (lanes 0) path.old }
+{
+    let lanes = Lanes { factor: 0 };
+    let mut search = PlaneSearch::new(alloc);
+    let is_so = search.least_into(&lanes, 2, path) == Ok(()) && is(path, 2, &[0, 2, 6]);
+    drop(search);
+    is_so
+}
+
+/// Whether a search that knows the long path finds the least one.
+fn shortens(alloc: Global) -> bool {
+    match long_path(alloc) {
+        Ok(mut path) => {
+            let is_so = improves(alloc, &mut path);
+            drop(path);
+            is_so
+        }
+        Err(_) => false,
+    }
+}
+
 #[test]
 fn least_path_over_lanes(rt: HostRuntime) {
     assert!(rt; finds(rt.alloc(), 0, 2, &[0, 2, 6]));
     assert!(rt; finds(rt.alloc(), 1, 3, &[1, 5, 6]));
+    assert!(rt; shortens(rt.alloc()));
 }
