@@ -1,134 +1,204 @@
--- The best path so far.
-use Rattle.std.proofs.Common.{◌≡◌, ◌≢◌, ℕ, refl, ◌<◌, length, Some, None, Bool, true, false, List, [], ◌∷◌, map, arith, ◌∙◌, inl, inr, sym, subst}
+-- What is found in a plane, and the best path so far.
+use Rattle.std.proofs.Common.{◌≡◌, ◌≢◌, ℕ, refl, ◌+◌, ◌-◌, ◌^◌, ◌<◌, ◌≤◌, ◌⊎◌, List, [], ◌∷◌, All, get_or, map, arith, ◌∙◌, inl, inr, sym, ap, subst}
 use Rattle.std.specs.List.{Contains}
-use Rattle.std.specs.Ordering.{nat_cmp, ordering_then}
+use Rattle.std.specs.Ordering.{nat_cmp, ordering_then, ordering_reverse}
 use Rattle.std.specs.Cmp.Lexicographic.{slice_cmp}
-use Rattle.std.specs.declared.cmp.Ordering.TheVariants.{Less}
-use Rattle.std.proofs.lemmas.List.{nil_from_length}
+use Rattle.std.specs.declared.cmp.Ordering.{Ordering}
+use Rattle.std.specs.declared.cmp.Ordering.TheVariants.{Less, Equal, Greater}
+use Rattle.std.proofs.lemmas.Cmp.{nat_list_cmp_total, ranked}
+use Rattle.std.proofs.lemmas.List.Elements.{Contains-get_or}
 use Rattle.least_path.specs.Path.{IsPath, cost_of, path_cmp}
+use Rattle.least_path.specs.LeastPath.{HasNoPath}
 use Rattle.least_path.specs.declared.path.Path.{Path}
-use Rattle.plane_search.specs.Planes.{Family, IsPlane, IsPlaneBound}
-use Rattle.plane_search.specs.Best.{HoldsNothingLess, HoldsNone, IsKnown, IsBestSoFar, Improves, AreAmong, IsLeastOn, IsLeastIn, HasNoneWithin, AreRivals}
-use Rattle.plane_search.proofs.Members.{Contains_cases}
-use Rattle.plane_search.proofs.Order.{path_cmp_total, less_under, not_less_dearer}
+use Rattle.plane_search.specs.Planes.{Family, IsPlane, IsPlaneBound, IsRivalBound, IsKnown, HoldsNothingLess, IsLeastOfTrack}
+use Rattle.plane_search.specs.Starts.{AreStarts, places_of}
+use Rattle.plane_search.specs.Best.{HoldsNone, HoldsNothingBeyond, IsNoLater, Improves, IsLeastOn, IsLeastIn, HasNoneWithin}
+use Rattle.plane_search.specs.Walk.{AreNoCheaper, AreBoundedStarts, CostsMore}
+use Rattle.plane_search.specs.declared.planes.Start.{Start}
+use Rattle.plane_search.proofs.Order.{path_cmp_total, less_under, not_less_dearer, not_less_then}
 use Rattle.plane_search.proofs.Embedding.{path_whole, cost_whole, cmp_whole}
+use Rattle.plane_search.proofs.Sorting.{place_from}
 
--- ---- paths from some of a plane's starts
+-- ---- the starts of a plane
 
-pub among_path : (f : Family) (track : ℕ) (starts : List ℕ) → AreAmong f track starts → (path : List ℕ) → IsPath (f.plane track) starts f.exit path → IsPath (f.plane track) (f.entries track) f.exit path
-among_path f track starts among [] p = p
-among_path f track starts among (x ∷ xs) p = (among x p.0, p.1)
+module _ {f : Family} {track most : ℕ} {starts : List Start} (are : AreStarts f track most starts) where
+  pub among : (x : ℕ) → Contains (places_of starts) x → Contains (f.entries track) x
+  among x c = let r = place_from starts x c in subst (λ (v : ℕ). Contains (f.entries track) v) r.2 (are.among r.0 r.1)
 
--- the least one, in the whole graph
-pub numbered : {f : Family} {track : ℕ} {starts : List ℕ} → IsPlane f track → AreAmong f track starts → (places nodes : Path) → IsLeastOn f track starts places → nodes.cost ≡ places.cost
-    → nodes.nodes.items ≡ map (f.number track) places.nodes.items → IsLeastIn f track starts nodes
-numbered {f} {track} {starts} plane among places nodes on cost is =
-    let p = among_path f track starts among places.nodes.items on.least.found in
-    let sum : nodes.cost ≡ cost_of f.whole (map (f.number track) places.nodes.items) = cost ∙ on.cost ∙ sym (cost_whole plane places.nodes.items p) in
-    record {
-      known = record {
-        is_path = subst (λ (q : List ℕ). IsPath f.whole f.starts f.goal q) (sym is) (path_whole plane places.nodes.items p);
-        cost = subst (λ (q : List ℕ). nodes.cost ≡ cost_of f.whole q) (sym is) sum;
-      };
-      least = λ path o. subst (λ (q : List ℕ). path_cmp f.whole (map (f.number track) path) q ≢ Less) (sym is)
-          (λ less. on.least.least path o (sym (cmp_whole plane path places.nodes.items (among_path f track starts among path o) p) ∙ less));
-    }
+  pub among_path : (path : List ℕ) → IsPath (f.plane track) (places_of starts) f.exit path → IsPath (f.plane track) (f.entries track) f.exit path
+  among_path [] p = p
+  among_path (x ∷ xs) p = (among x p.0, p.1)
 
--- ---- one more plane
+  -- the plane's nodes
+  pub among_nodes : IsPlane f track → All (λ (x : ℕ). x < (f.plane track).count) (places_of starts)
+  among_nodes plane k d l = omega (arith, plane.count, (plane.entries_there (get_or (places_of starts) k d) (among (get_or (places_of starts) k d) (Contains-get_or (places_of starts) k d l))).within)
 
-module _ (f : Family) (track : ℕ) where
-  and_here : (P : ℕ → Type 0) (done : List ℕ) → ((k : ℕ) → Contains done k → P k) → P track → (k : ℕ) → Contains (track ∷ done) k → P k
-  and_here P done before here k c = elim (Contains_cases track k done c) [ inl e ↦ subst P e here | inr d ↦ before k d ]
+  pub bounded_starts : AreBoundedStarts (f.plane track) f.exit starts
+  bounded_starts start c = are.bounded start c
 
-  pub first_best : (old path : Path) → IsLeastIn f track (f.entries track) path → Improves f track false old true path
-  first_best old path least done none = (least.known, and_here (λ k. HoldsNothingLess f k path.nodes.items) done (λ k c q o. absurd (none k c q o)) least.least)
+  -- no path from them is cheaper than the plane's bound
+  pub none_below : (bound : ℕ) → IsPlaneBound f track bound → AreNoCheaper (f.plane track) f.exit bound (places_of starts)
+  none_below bound h start c rest leads = omega (arith, h (start ∷ rest) (among start c, leads))
 
-  pub none_yet : (old path : Path) → HasNoneWithin f track (f.entries track) None → Improves f track false old false path
-  none_yet old path here done none = and_here (λ k. HoldsNone f k) done none here
-
-  -- the same from starts among which are all entries
-  module _ (starts : List ℕ) (all : (entry : ℕ) → Contains (f.entries track) entry → Contains starts entry) where
-    from_all : (path : List ℕ) → IsPath (f.plane track) (f.entries track) f.exit path → IsPath (f.plane track) starts f.exit path
-    from_all [] p = p
-    from_all (x ∷ xs) p = (all x p.0, p.1)
-
-    pub first_of_all : (old path : Path) → IsLeastIn f track starts path → Improves f track false old true path
-    first_of_all old path least = first_best old path (record { known = least.known; least = λ q o. least.least q (from_all q o) })
-
-    pub none_of_them : (old path : Path) → HasNoneWithin f track starts None → Improves f track false old false path
-    none_of_them old path here = none_yet old path (λ q o. here q (from_all q o))
-
-  pub stays_best : (path : Path) → HoldsNothingLess f track path.nodes.items → Improves f track true path true path
-  stays_best path here done best = (best.0, and_here (λ k. HoldsNothingLess f k path.nodes.items) done best.1 here)
-
-  -- Paths that cost more are not less.
-  pub dearer_plane : IsPlane f track → (path : Path) (bound : ℕ) → IsKnown f path → IsPlaneBound f track bound → path.cost < bound → HoldsNothingLess f track path.nodes.items
-  dearer_plane plane path bound known h more q o = not_less_dearer f.whole (map (f.number track) q) path.nodes.items (omega (arith, h q o, more, cost_whole plane q o, known.cost))
-
-  -- No rival is as cheap as it would have to be.
-  pub none_cheaper : (best rivals : List ℕ) (most : ℕ) → AreRivals f track best rivals most → HasNoneWithin f track rivals (Some most) → HoldsNothingLess f track best
-  none_cheaper best rivals most are none [] p = absurd p
-  none_cheaper best rivals most are none (x ∷ xs) p = elim (are.only x p.0) [
-    | inl c ↦ are.limit x c xs p.1 (none (x ∷ xs) (c, p.1))
-    | inr h ↦ h xs p.1
+  -- a path of the plane begins at one of them, or is dear
+  cases : (path : List ℕ) → IsPath (f.plane track) (f.entries track) f.exit path → IsPath (f.plane track) (places_of starts) f.exit path ⊎ ((most < 2 ^ 64 - 1) × (most < cost_of (f.plane track) path))
+  cases [] p = absurd p
+  cases (x ∷ xs) p = elim (are.all x p.0) [
+    | inl c ↦ inl (c, p.1)
+    | inr far ↦ inr (far.few, far.more xs p.1)
   ]
 
-  pub no_rivals : (best rivals : List ℕ) (most : ℕ) → AreRivals f track best rivals most → length rivals ≡ 0 → HoldsNothingLess f track best
-  no_rivals best rivals most are e = none_cheaper best rivals most are (subst (λ (xs : List ℕ). HasNoneWithin f track xs (Some most)) (sym (nil_from_length rivals e)) none)
-    where
-      none : HasNoneWithin f track [] (Some most)
-      none [] p = absurd p
-      none (x ∷ xs) p = absurd (omega (arith, p.0.1))
+  -- What is the least of those from the starts is the least of the plane, if no other can be less.
+  pub on_all : (path : Path) → IsLeastOn f track (places_of starts) path → (path.cost ≤ most) ⊎ (2 ^ 64 - 1 ≤ most) → IsLeastOn f track (f.entries track) path
+  on_all path on cheap = record {
+    least = record {
+      found = among_path path.nodes.items on.least.found;
+      least = λ other o. elim (cases other o) [
+        | inl p ↦ on.least.least other p
+        | inr dear ↦ not_less_dearer (f.plane track) other path.nodes.items (omega (arith, dear.0, dear.1, on.cost, cheap))
+      ];
+    };
+    cost = on.cost;
+  }
 
-  -- whether a path with its cost is less than another
-  less_by : (path other : Path) → IsKnown f path → IsKnown f other → ordering_then (nat_cmp path.cost other.cost) (slice_cmp nat_cmp path.nodes.items other.nodes.items) ≡ path_cmp f.whole path.nodes.items other.nodes.items
-  less_by path other p o = (λ i. ordering_then (nat_cmp (p.cost i) (o.cost i)) (slice_cmp nat_cmp path.nodes.items other.nodes.items))
+  pub none_of_all : 2 ^ 64 - 1 ≤ most → HasNoPath (f.plane track) (places_of starts) f.exit → HoldsNone f track
+  none_of_all all none path p = elim (cases path p) [
+    | inl q ↦ none path q
+    | inr dear ↦ absurd (omega (arith, all, dear.0))
+  ]
 
-  module _ (found path : Path) (rivals : List ℕ) (most : ℕ) (known : IsKnown f path) (are : AreRivals f track path.nodes.items rivals most) (least : IsLeastIn f track rivals found) where
-    -- A lesser path takes the place of the best one.
-    pub lesser_best : ordering_then (nat_cmp found.cost path.cost) (slice_cmp nat_cmp found.nodes.items path.nodes.items) ≡ Less → Improves f track true path true found
-    lesser_best less done best = (
-      least.known,
-      and_here (λ k. HoldsNothingLess f k found.nodes.items) done (λ k c q o e. best.1 k c q o (falls k q e)) here,
-    )
+-- a limit below all paths
+pub none_within : (f : Family) (track : ℕ) (most bound : ℕ) (starts : List ℕ) → AreNoCheaper (f.plane track) f.exit bound starts → most < bound → HasNoneWithin f track starts most
+none_within f track most bound starts cheap l [] p = absurd p
+none_within f track most bound starts cheap l (x ∷ rest) p = omega (arith, l, cheap x p.0 rest p.1)
+
+-- no path at all
+pub none_at_all : (f : Family) (track : ℕ) (most : ℕ) (starts : List ℕ) → HasNoPath (f.plane track) starts f.exit → HasNoneWithin f track starts most
+none_at_all f track most starts none path p = absurd (none path p)
+
+-- all paths from each start are dear
+pub none_from_each : (f : Family) (track : ℕ) (most : ℕ) (starts : List ℕ) → ((start : ℕ) → Contains starts start → CostsMore (f.plane track) f.exit most start 0) → HasNoneWithin f track starts most
+none_from_each f track most starts dear [] p = absurd p
+none_from_each f track most starts dear (x ∷ rest) p = omega (arith, dear x p.0 rest p.1)
+
+-- ---- a path of a plane, in the whole graph
+
+module _ {f : Family} {track : ℕ} (plane : IsPlane f track) where
+  pub numbered : (starts : List ℕ) → ((path : List ℕ) → IsPath (f.plane track) starts f.exit path → IsPath (f.plane track) (f.entries track) f.exit path) → (places nodes : Path) → IsLeastOn f track starts places → nodes.cost ≡ places.cost
+      → nodes.nodes.items ≡ map (f.number track) places.nodes.items → IsLeastIn f track starts nodes
+  numbered starts own places nodes on cost is =
+      let p = own places.nodes.items on.least.found in
+      let sum : nodes.cost ≡ cost_of f.whole (map (f.number track) places.nodes.items) = cost ∙ on.cost ∙ sym (cost_whole plane places.nodes.items p) in
+      record {
+        known = record {
+          is_path = subst (λ (q : List ℕ). IsPath f.whole f.starts f.goal q) (sym is) (path_whole plane places.nodes.items p);
+          cost = subst (λ (q : List ℕ). nodes.cost ≡ cost_of f.whole q) (sym is) sum;
+        };
+        least = λ path o. subst (λ (q : List ℕ). path_cmp f.whole (map (f.number track) path) q ≢ Less) (sym is)
+            (λ less. on.least.least path o (sym (cmp_whole plane path places.nodes.items (own path o) p) ∙ less));
+      }
+
+  -- the least path of a plane
+  pub of_track : track < f.tracks → (places nodes : Path) → IsLeastOn f track (f.entries track) places → nodes.cost ≡ places.cost → nodes.nodes.items ≡ map (f.number track) places.nodes.items → IsLeastOfTrack f track nodes
+  of_track within places nodes on cost is =
+      let least = numbered (f.entries track) (λ path p. p) places nodes on cost is in
+      record { within = within; known = least.known; least = least.least }
+
+  -- ---- what can be less
+
+  module _ (path : Path) (known : IsKnown f path) where
+    -- a path of the plane that is as dear, and doesn't come before
+    not_less : (other : List ℕ) → IsPath (f.plane track) (f.entries track) f.exit other → path.cost ≤ cost_of (f.plane track) other
+        → (path.cost ≡ cost_of (f.plane track) other → slice_cmp nat_cmp (map (f.number track) other) path.nodes.items ≢ Less)
+        → path_cmp f.whole (map (f.number track) other) path.nodes.items ≢ Less
+    not_less other o le h =
+        not_less_then (cost_of f.whole (map (f.number track) other)) (cost_of f.whole path.nodes.items) (slice_cmp nat_cmp (map (f.number track) other) path.nodes.items)
+        (omega (arith, le, known.cost, cost_whole plane other o)) (λ same. h (omega (arith, same, known.cost, cost_whole plane other o)))
+
+    pub dearer : HoldsNothingBeyond f track path.nodes.items path.cost
+    dearer other o more = not_less other o (omega (arith, more)) (λ e. absurd (omega (arith, e, more)))
+
+    -- If the bound is that of rivals, nothing that costs as much is less.
+    pub tied : (cost rival : ℕ) (nodes : List ℕ) → IsRivalBound f track nodes rival → IsNoLater cost nodes path → path.cost ≡ cost → path.cost < rival → (other : List ℕ) → IsPath (f.plane track) (f.entries track) f.exit other
+        → path.cost ≤ cost_of (f.plane track) other → path_cmp f.whole (map (f.number track) other) path.nodes.items ≢ Less
+    tied cost rival nodes bound later same l other o le =
+        not_less other o le (λ e less.
+        let first : slice_cmp nat_cmp (map (f.number track) other) nodes ≡ Less = less_under nat_list_cmp_total (map (f.number track) other) path.nodes.items nodes less (later.order same) in
+        absurd (omega (arith, bound other o first, e, l)))
+
+    pub no_tie : (cost rival most : ℕ) (nodes : List ℕ) → IsRivalBound f track nodes rival → IsNoLater cost nodes path → path.cost ≡ cost → path.cost < rival → path.cost ≤ most + 1 → HoldsNothingBeyond f track path.nodes.items most
+    no_tie cost rival most nodes bound later same l low other o more = tied cost rival nodes bound later same l other o (omega (arith, low, more))
+
+    pub nothing_less : (bound most : ℕ) → IsPlaneBound f track bound → most < bound → HoldsNothingBeyond f track path.nodes.items most → HoldsNothingLess f track path.nodes.items
+    nothing_less bound most h l beyond other o = beyond other o (omega (arith, h other o, l))
+
+  -- ---- one more plane
+
+  module _ {most : ℕ} {starts : List Start} (are : AreStarts f track most starts) (path : Path) (known : IsKnown f path) (beyond : HoldsNothingBeyond f track path.nodes.items most) where
+    pub none_found : HasNoneWithin f track (places_of starts) most → HoldsNothingLess f track path.nodes.items
+    none_found none other o = elim (cases are other o) [
+      | inl p ↦ beyond other o (none other p)
+      | inr dear ↦ beyond other o dear.1
+    ]
+
+    module _ (found : Path) (least : IsLeastIn f track (places_of starts) found) where
+      pub less_by : ordering_then (nat_cmp found.cost path.cost) (slice_cmp nat_cmp found.nodes.items path.nodes.items) ≡ path_cmp f.whole found.nodes.items path.nodes.items
+      less_by = (λ i. ordering_then (nat_cmp (least.known.cost i) (known.cost i)) (slice_cmp nat_cmp found.nodes.items path.nodes.items))
+
+      pub here_if_less : path_cmp f.whole found.nodes.items path.nodes.items ≡ Less → HoldsNothingLess f track found.nodes.items
+      here_if_less under other o = elim (cases are other o) [
+        | inl p ↦ least.least other p
+        | inr dear ↦ λ e. beyond other o dear.1 ((path_cmp_total f.whole).trans (map (f.number track) other) found.nodes.items path.nodes.items e under)
+      ]
+
+      pub here_if_not : (path_cmp f.whole found.nodes.items path.nodes.items ≡ Less → ⊥) → HoldsNothingLess f track path.nodes.items
+      here_if_not over other o = elim (cases are other o) [
+        | inl p ↦ λ e. least.least other p (less_under (path_cmp_total f.whole) (map (f.number track) other) path.nodes.items found.nodes.items e over)
+        | inr dear ↦ beyond other o dear.1
+      ]
+
+-- ---- the best path so far
+
+less_not_greater : Less ≡ Greater → ⊥
+less_not_greater e = cc
+
+-- Nodes do not come before themselves.
+not_before : (xs : List ℕ) → slice_cmp nat_cmp xs xs ≢ Less
+not_before xs less = less_not_greater (sym less ∙ nat_list_cmp_total.antisymm xs xs ∙ ap ordering_reverse less)
+
+-- the known path itself
+pub is_no_later : (path : Path) → IsNoLater path.cost path.nodes.items path
+is_no_later path = record { cheap = omega arith; order = λ e. not_before path.nodes.items }
+
+-- The path stays.
+pub stays : {f : Family} {track cost : ℕ} {nodes : List ℕ} (path : Path) → IsKnown f path → IsNoLater cost nodes path → HoldsNothingLess f track path.nodes.items → Improves f track cost nodes path path
+stays path known later here = record { known = known; later = later; here = here; still = λ other h. h }
+
+then_less : (a b : ℕ) (o : Ordering) → ordering_then (nat_cmp a b) o ≡ Less → (a ≤ b) × (a ≡ b → o ≡ Less)
+then_less a b o e = go (nat_cmp a b) refl
+  where
+    go : (r : Ordering) → r ≡ nat_cmp a b → (a ≤ b) × (a ≡ b → o ≡ Less)
+    go Less q = (let l = ranked a b Less q in (omega (arith, l), λ same. absurd (omega (arith, l, same))))
+    go Equal q = (omega (arith, ranked a b Equal q), λ same. subst (λ (r : Ordering). ordering_then r o ≡ Less) (sym q) e)
+    go Greater q = absurd (not_less_greater (subst (λ (r : Ordering). ordering_then r o ≡ Less) (sym q) e))
       where
-        under : path_cmp f.whole found.nodes.items path.nodes.items ≡ Less
-        under = sym (less_by found path least.known known) ∙ less
+        not_less_greater : ordering_then Greater o ≡ Less → ⊥
+        not_less_greater q = cc
 
-        falls : (k : ℕ) (q : List ℕ) → path_cmp f.whole (map (f.number k) q) found.nodes.items ≡ Less → path_cmp f.whole (map (f.number k) q) path.nodes.items ≡ Less
-        falls k q e = (path_cmp_total f.whole).trans (map (f.number k) q) found.nodes.items path.nodes.items e under
-
-        here : HoldsNothingLess f track found.nodes.items
-        here [] p = absurd p
-        here (x ∷ xs) p = elim (are.only x p.0) [
-          | inl c ↦ least.least (x ∷ xs) (c, p.1)
-          | inr h ↦ λ e. h xs p.1 (falls track (x ∷ xs) e)
-        ]
-
-    -- If the least path from the rivals is not less, no path in the plane is.
-    pub still_best : (ordering_then (nat_cmp found.cost path.cost) (slice_cmp nat_cmp found.nodes.items path.nodes.items) ≡ Less → ⊥) → Improves f track true path true path
-    still_best over = stays_best path here
-      where
-        not_under : path_cmp f.whole found.nodes.items path.nodes.items ≢ Less
-        not_under e = over (less_by found path least.known known ∙ e)
-
-        here : HoldsNothingLess f track path.nodes.items
-        here [] p = absurd p
-        here (x ∷ xs) p = elim (are.only x p.0) [
-          | inl c ↦ λ e. least.least (x ∷ xs) (c, p.1) (less_under (path_cmp_total f.whole) (map (f.number track) (x ∷ xs)) path.nodes.items found.nodes.items e not_under)
-          | inr h ↦ h xs p.1
-        ]
-
--- ---- the planes that are done
-
-pub best_fewer : (f : Family) (more fewer : List ℕ) (b : Bool) (path : Path) → ((k : ℕ) → Contains fewer k → Contains more k) → IsBestSoFar f more b path → IsBestSoFar f fewer b path
-best_fewer f more fewer true path h best = (best.0, λ k c. best.1 k (h k c))
-best_fewer f more fewer false path h best = λ k c. best k (h k c)
-
-pub best_known : (f : Family) (done : List ℕ) (b : Bool) (path : Path) → b ≡ true → IsBestSoFar f done b path → IsKnown f path
-best_known f done true path e best = best.0
-best_known f done false path e best = cc
-
-pub best_first : (f : Family) (b : Bool) (path : Path) → (b ≡ true → IsKnown f path) → IsBestSoFar f [] b path
-best_first f true path known = (known refl, λ k c. absurd (omega (arith, c.1)))
-best_first f false path known = λ k c. absurd (omega (arith, c.1))
+-- A lesser path takes its place.
+pub gets_less : {f : Family} {track cost : ℕ} {nodes : List ℕ} (path found : Path) → IsKnown f found → IsNoLater cost nodes path → HoldsNothingLess f track found.nodes.items
+    → ordering_then (nat_cmp found.cost path.cost) (slice_cmp nat_cmp found.nodes.items path.nodes.items) ≡ Less → path_cmp f.whole found.nodes.items path.nodes.items ≡ Less
+    → Improves f track cost nodes path found
+gets_less {f} {track} {cost} {nodes} path found known later here less under =
+    let t = then_less found.cost path.cost (slice_cmp nat_cmp found.nodes.items path.nodes.items) less in
+    record {
+      known = known;
+      later = record {
+        cheap = omega (arith, t.0, later.cheap);
+        order = λ e before.
+            let same : found.cost ≡ path.cost = omega (arith, e, t.0, later.cheap) in
+            later.order (omega (arith, same, e)) (nat_list_cmp_total.trans nodes found.nodes.items path.nodes.items before (t.1 same));
+      };
+      here = here;
+      still = λ other h q o e. h q o ((path_cmp_total f.whole).trans (map (f.number other) q) found.nodes.items path.nodes.items e under);
+    }

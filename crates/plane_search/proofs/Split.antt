@@ -5,8 +5,8 @@ use Rattle.std.specs.declared.cmp.Ordering.TheVariants.{Less}
 use Rattle.std.proofs.lemmas.List.Elements.{All-nil, All-cons, All-contains}
 use Rattle.least_path.specs.Path.{Leads, IsPath, path_cmp}
 use Rattle.least_path.specs.LeastPath.{IsLeastPath}
-use Rattle.plane_search.specs.Planes.{Family, IsOn, IsFamily, IsInPlane}
-use Rattle.plane_search.specs.Best.{HoldsNothingLess, HoldsNone}
+use Rattle.plane_search.specs.Planes.{Family, IsOn, IsFamily, IsInPlane, HoldsNothingLess}
+use Rattle.plane_search.specs.Best.{HoldsNone}
 use Rattle.plane_search.proofs.Embedding.{path_plane}
 
 only_this : (f : Family) (node track : ℕ) → f.track_of node ≡ Some track → IsOn f track node

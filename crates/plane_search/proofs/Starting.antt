@@ -1,19 +1,19 @@
 -- Walks from one start after another, and what they find.
-use Rattle.std.proofs.Common.{◌≡◌, ◌≢◌, ℕ, ◌+◌, ◌^◌, ◌<◌, ◌≤◌, List, [], ◌∷◌, length, map, get_or, arith, ◌∙◌, inl, inr, sym, subst, Some}
+use Rattle.std.proofs.Common.{◌≡◌, ◌≢◌, ℕ, ◌+◌, ◌^◌, ◌<◌, ◌≤◌, List, [], ◌∷◌, length, map, get_or, arith, ◌∙◌, inl, inr, sym, subst}
 use Rattle.std.specs.List.{sum_by, All, Contains}
-use Rattle.std.specs.List.Sorted.{IsNonDecreasing, IsPermutation}
+use Rattle.std.specs.List.Sorted.{IsNonDecreasing}
 use Rattle.std.specs.Ordering.{nat_cmp}
 use Rattle.std.specs.Cmp.Lexicographic.{slice_cmp}
 use Rattle.std.specs.declared.cmp.Ordering.TheVariants.{Less}
 use Rattle.std.proofs.lemmas.Bool.{cases_lt}
+use Rattle.std.proofs.lemmas.List.{get_or-map, length-map}
 use Rattle.std.proofs.lemmas.List.Elements.{Contains-get_or}
-use Rattle.std.proofs.lemmas.List.Sorted.{Contains-permutation, IsPermutation-sym}
 use Rattle.least_path.specs.Graph.{Graph}
 use Rattle.least_path.specs.Path.{Leads, IsPath, cost_of, path_cmp}
 use Rattle.least_path.specs.LeastPath.{IsLeastPath}
-use Rattle.plane_search.specs.Planes.{Family, IsPlane, IsPlaneBound}
-use Rattle.plane_search.specs.Best.{AreAmong, AreBounded, AreRivals}
-use Rattle.plane_search.specs.Walk.{CostsMore, AreNoCheaper, IsBetween, IsLeastFrom}
+use Rattle.plane_search.specs.declared.planes.Start.{Start}
+use Rattle.plane_search.specs.Starts.{places_of}
+use Rattle.plane_search.specs.Walk.{ArePruned, CostsMore, AreNoCheaper, IsBetween, IsLeastFrom}
 use Rattle.plane_search.proofs.Members.{Contains-first, only_contained, at_index, listed_end, below_next}
 use Rattle.plane_search.proofs.Order.{not_less_then, cmp_equal}
 
@@ -34,6 +34,15 @@ nothing_entered g goal best costs room all = record {
   least = λ node b small. absurd (omega (arith, small, all node 0 (omega (arith, b, room))));
   done = λ node b small. absurd (omega (arith, small, all node 0 (omega (arith, b, room))));
 }
+
+-- no place was reached yet
+pub nothing_reached : (g : Graph) (places goal best : ℕ) (costs : List ℕ) → places ≤ length costs → All (λ cost. 2 ^ 16 ≤ cost) costs → ArePruned g places goal best costs
+nothing_reached g places goal best costs room all = record { room = room; least = λ node b small. absurd (omega (arith, small, all node 0 (omega (arith, b, room)))) }
+
+-- a path from the starts is dearer than what is less than all of them
+pub beyond : (g : Graph) (goal best most : ℕ) (starts : List ℕ) → AreNoCheaper g goal best starts → most < best → (path : List ℕ) → IsPath g starts goal path → most < cost_of g path
+beyond g goal best most starts cheap l [] p = absurd p
+beyond g goal best most starts cheap l (x ∷ rest) p = omega (arith, l, cheap x p.0 rest p.1)
 
 -- Over the first starts the goal is dearer than the best.
 abbrev pub AreDearStarts : Graph → ℕ → ℕ → List ℕ → ℕ → Type 0
@@ -84,23 +93,16 @@ least_of_starts g goal best starts count path l rises cheap before from = record
         not_less_then (sum_by g.cost q) (cost_of g p) (slice_cmp nat_cmp (y ∷ q) p) (omega (arith, i.cost, cheap y o.0 q o.1))
         (λ same. after y q p i o.0 o.1 (same ∙ i.cost))
 
--- ---- starts in another order
+-- ---- starts with their bounds
 
-pub unsorted : (xs ys : List ℕ) → IsPermutation xs ys → (x : ℕ) → Contains ys x → Contains xs x
-unsorted xs ys same x c = Contains-permutation ys xs x (IsPermutation-sym xs ys same) c
+-- the place of start number `index`
+pub place_at : (starts : List Start) (index : ℕ) (d : Start) → index < length starts → get_or (places_of starts) index 0 ≡ (get_or starts index d).place
+place_at starts index d l = get_or-map (λ (start : Start). start.place) starts index d 0 l
 
-pub sorted_rivals : (f : Family) (track : ℕ) (best xs ys : List ℕ) (most : ℕ) → IsPermutation xs ys → AreRivals f track best xs most → AreRivals f track best ys most
-sorted_rivals f track best xs ys most same are = record {
-  among = λ x c. are.among x (unsorted xs ys same x c);
-  limit = λ x c. are.limit x (unsorted xs ys same x c);
-  only = λ x c. elim (are.only x c) [ inl d ↦ inl (Contains-permutation xs ys x same d) | inr h ↦ inr h ];
-}
+pub as_many : (starts : List Start) → length (places_of starts) ≡ length starts
+as_many starts = length-map starts (λ (start : Start). start.place)
 
--- the plane's nodes
-pub among_nodes : {f : Family} {track : ℕ} → IsPlane f track → (starts : List ℕ) → AreAmong f track starts → All (λ (x : ℕ). x < (f.plane track).count) starts
-among_nodes plane starts among k d l = omega (arith, plane.count, (plane.entries_there (get_or starts k d) (among (get_or starts k d) (Contains-get_or starts k d l))).within)
-
--- ---- the bounds of the starts
-
-pub plane_bounded : (f : Family) (track : ℕ) (starts : List ℕ) (bound : ℕ) → AreAmong f track starts → IsPlaneBound f track bound → AreBounded f track starts (Some bound)
-plane_bounded f track starts bound among h start c rest leads = h (start ∷ rest) (among start c, leads)
+-- the place of a start among all places
+pub place_among : (starts : List Start) (index : ℕ) (d : Start) → index < length starts → Contains (places_of starts) (get_or starts index d).place
+place_among starts index d l =
+    subst (λ (x : ℕ). Contains (places_of starts) x) (place_at starts index d l) (Contains-get_or (places_of starts) index 0 (omega (arith, l, as_many starts)))

@@ -1,11 +1,12 @@
 -- A walk whose stops are the way that is being tried.
-use Rattle.std.proofs.Common.{◌≡◌, ◌≢◌, ℕ, refl, ◌+◌, ◌-◌, ◌^◌, ◌<◌, ◌≤◌, ◌⊎◌, List, [], ◌∷◌, ◌++◌, length, reverse, get_or, set, arith, ◌∙◌, inl, inr, sym, ap, subst, length-set}
+use Rattle.std.proofs.Common.{◌≡◌, ◌≢◌, ℕ, refl, ◌+◌, ◌-◌, ◌^◌, ◌<◌, ◌≤◌, ◌⊎◌, Option, Some, None, IfNone, List, [], ◌∷◌, ◌++◌, length, reverse, get_or, set, arith, ◌∙◌, inl, inr, sym, ap, subst, length-set}
 use Rattle.std.specs.List.{sum_by, Contains}
+use Rattle.std.specs.Option.{option_to_list}
 use Rattle.std.specs.Ordering.{nat_cmp}
 use Rattle.std.specs.Cmp.Lexicographic.{slice_cmp}
 use Rattle.std.specs.declared.cmp.Ordering.TheVariants.{Less}
 use Rattle.std.proofs.lemmas.Bool.{cases_eq, cases_lt}
-use Rattle.std.proofs.lemmas.List.{reverse-append, get_or-set_same, get_or-set_other}
+use Rattle.std.proofs.lemmas.List.{append-nil, reverse-append, get_or-set_same, get_or-set_other}
 use Rattle.std.proofs.lemmas.List.Sums.{sum_by-cons, sum_by-set}
 use Rattle.std.proofs.lemmas.List.Elements.{All-contains, Contains-get_or}
 use Rattle.least_path.specs.Graph.{Graph, IsLawful}
@@ -84,7 +85,7 @@ above : (g : Graph) (goal best node d : ℕ) → best < d → CostsMore g goal b
 above g goal best node d l rest leads = omega (arith, l)
 
 -- no path over the end of an edge is cheaper
-least_on : (g : Graph) (goal best node cost end : ℕ) → Contains (g.ends node) end → CostsAtLeast g goal best node cost → CostsAtLeast g goal best end (cost + g.cost end)
+pub least_on : (g : Graph) (goal best node cost end : ℕ) → Contains (g.ends node) end → CostsAtLeast g goal best node cost → CostsAtLeast g goal best end (cost + g.cost end)
 least_on g goal best node cost end c least rest leads = omega (arith, least (end ∷ rest) (c, leads), sum_by-cons g.cost end rest)
 
 -- Stops cost no more than the last one.
@@ -281,18 +282,37 @@ module _ {g : Graph} {goal best start : ℕ} (law : IsLawful g) (few : best < 2 
       (λ other leads total. no_further costs stop below w step next other leads (omega (arith, total, sum)) b)
 
   -- the path over the stops, after the last one was put back
-  pub completed : (costs : List ℕ) (stop : Stop) (below items : List Stop) → items ≡ below ++ stop ∷ [] → IsOnWay g goal best start costs (stop ∷ reverse below) → (step : Step) → IsNext g goal best costs stop step
+  pub completed : (costs : List ℕ) (stop : Stop) (below items : List Stop) (step : Step) → items ≡ below ++ after_step stop step ∷ [] → IsOnWay g goal best start costs (stop ∷ reverse below) → IsNext g goal best costs stop step
       → step.place ≡ goal → IsLeastFrom g goal best start (places_in items ++ goal ∷ [])
-  completed costs stop below items is w step next e =
-      let top : onto (stop ∷ reverse below) (goal ∷ []) ≡ onto (reverse (below ++ stop ∷ [])) (goal ∷ []) = ap (λ (xs : List Stop). onto xs (goal ∷ [])) (sym (reverse-push stop below)) in
-      let path : onto (stop ∷ reverse below) (goal ∷ []) ≡ places_in (below ++ stop ∷ []) ++ goal ∷ [] = top ∙ path_of (below ++ stop ∷ []) (goal ∷ []) in
+  completed costs stop below items step is w next e =
+      let top : onto (stop ∷ reverse below) (goal ∷ []) ≡ onto (reverse (below ++ after_step stop step ∷ [])) (goal ∷ []) = ap (λ (xs : List Stop). onto xs (goal ∷ [])) (sym (reverse-push (after_step stop step) below)) in
+      let path : onto (stop ∷ reverse below) (goal ∷ []) ≡ places_in (below ++ after_step stop step ∷ []) ++ goal ∷ [] = top ∙ path_of (below ++ after_step stop step ∷ []) (goal ∷ []) in
       rw is (subst (λ (p : List ℕ). IsLeastFrom g goal best start p) path (completes costs stop (reverse below) w step next e))
 
--- the walk after it has taken the last stop
-pub last_taken : {g : Graph} {goal best start : ℕ} (costs marks : List ℕ) (stop : Stop) (items below : List Stop) → marks ≡ costs → items ≡ below ++ stop ∷ [] → IsOnWay g goal best start costs (reverse items) → IsOnWay g goal best start marks (stop ∷ reverse below)
-last_taken {g} {goal} {best} {start} costs marks stop items below same is w =
-    let stack : reverse items ≡ stop ∷ reverse below = ap reverse is ∙ reverse-push stop below in
-    subst (λ (m : List ℕ). IsOnWay g goal best start m (stop ∷ reverse below)) (sym same) (subst (λ (xs : List Stop). IsOnWay g goal best start costs xs) stack w)
+-- ---- the current stop, and those below it
+
+-- the stops from the current one on
+abbrev pub stack_of : Option Stop → List Stop → List Stop
+stack_of None items = []
+stack_of (Some stop) items = stop ∷ reverse items
+
+abbrev pub count_of : Option Stop → ℕ
+count_of None = 0
+count_of (Some stop) = 1
+
+-- The last stop is the current one.
+pub taken_back : (items below : List Stop) (last : Option Stop) → items ≡ below ++ option_to_list last → IfNone last (items ≡ []) → reverse items ≡ stack_of last below
+taken_back items below None is none = ap reverse none
+taken_back items below (Some stop) is none = ap reverse is ∙ reverse-push stop below
+
+length_push : (xs : List Stop) (x : Stop) → length (xs ++ x ∷ []) ≡ length xs + 1
+length_push [] x = refl
+length_push (y ∷ xs) x = omega (arith, length_push xs x)
+
+-- The walk is shorter by the stop that was taken.
+pub fewer : (items below : List Stop) (last : Option Stop) → items ≡ below ++ option_to_list last → length below + count_of last ≡ length items
+fewer items below None is = omega (arith, ap (λ (xs : List Stop). length xs) is, ap (λ (xs : List Stop). length xs) (append-nil below))
+fewer items below (Some stop) is = omega (arith, ap (λ (xs : List Stop). length xs) is, length_push below stop)
 
 -- ---- the first stop
 

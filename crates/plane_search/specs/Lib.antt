@@ -1,5 +1,6 @@
 pub mod Planes
-pub mod Bypass
+pub mod Starts
 pub mod Best
 pub mod Ranking
 pub mod Walk
+pub mod Reach

@@ -1,7 +1,11 @@
 -- Graphs that consist of planes, one for each track.
-use Rattle.std.specs.Prelude.{◌≡◌, ℕ, ◌^◌, ◌<◌, ◌≤◌, Bool, true, Option, Some, List, All, Contains, map}
+use Rattle.std.specs.Prelude.{◌≡◌, ◌≢◌, ℕ, ◌^◌, ◌<◌, ◌≤◌, Bool, true, Option, Some, List, All, Contains, map}
+use Rattle.std.specs.Ordering.{nat_cmp}
+use Rattle.std.specs.Cmp.Lexicographic.{slice_cmp}
+use Rattle.std.specs.declared.cmp.Ordering.TheVariants.{Less}
 use Rattle.least_path.specs.Graph.{Graph, AreNodes, IsLawful}
-use Rattle.least_path.specs.Path.{Leads, IsPath, cost_of}
+use Rattle.least_path.specs.Path.{Leads, IsPath, cost_of, path_cmp}
+use Rattle.least_path.specs.declared.path.Path.{Path}
 
 -- A graph with some starts and a goal, and a plane of it for each track: the graph of the places of
 -- the track, and for each place the number of its node in the whole graph.
@@ -34,16 +38,24 @@ pub record IsPlane (f : Family) (track : ℕ) : Type 0 where
   pub count : (f.plane track).count ≡ f.places
   pub exit_there : IsPlace f track f.exit
   pub exit_is : f.number track f.exit ≡ f.goal
-  pub order : (place other : ℕ) → IsPlace f track place → IsPlace f track other → place < other → f.number track place < f.number track other
+  pub order : (place other : ℕ) → IsPlace f track place → IsPlace f track other → place < other
+      → f.number track place < f.number track other
   pub within : (place : ℕ) → IsPlace f track place → f.number track place < f.whole.count
-  pub cost : (place : ℕ) → IsPlace f track place → (f.plane track).cost place ≡ f.whole.cost (f.number track place)
-  pub ends_there : (place end : ℕ) → IsPlace f track place → Contains ((f.plane track).ends place) end → IsPlace f track end
-  pub sound : (place end : ℕ) → IsPlace f track place → Contains ((f.plane track).ends place) end → Contains (f.whole.ends (f.number track place)) (f.number track end)
-  pub complete : (place node : ℕ) (rest : List ℕ) → IsPlace f track place → Contains (f.whole.ends (f.number track place)) node → IsOn f track node → Leads f.whole f.goal node rest
+  pub cost : (place : ℕ) → IsPlace f track place
+      → (f.plane track).cost place ≡ f.whole.cost (f.number track place)
+  pub ends_there : (place end : ℕ) → IsPlace f track place
+      → Contains ((f.plane track).ends place) end → IsPlace f track end
+  pub sound : (place end : ℕ) → IsPlace f track place → Contains ((f.plane track).ends place) end
+      → Contains (f.whole.ends (f.number track place)) (f.number track end)
+  pub complete : (place node : ℕ) (rest : List ℕ) → IsPlace f track place
+      → Contains (f.whole.ends (f.number track place)) node → IsOn f track node
+      → Leads f.whole f.goal node rest
       → (end : ℕ) × Contains ((f.plane track).ends place) end × (f.number track end ≡ node)
   pub entries_there : (entry : ℕ) → Contains (f.entries track) entry → IsPlace f track entry
-  pub entries_sound : (entry : ℕ) → Contains (f.entries track) entry → Contains f.starts (f.number track entry)
-  pub entries_complete : (node : ℕ) (rest : List ℕ) → Contains f.starts node → IsOn f track node → Leads f.whole f.goal node rest
+  pub entries_sound : (entry : ℕ) → Contains (f.entries track) entry
+      → Contains f.starts (f.number track entry)
+  pub entries_complete : (node : ℕ) (rest : List ℕ) → Contains f.starts node → IsOn f track node
+      → Leads f.whole f.goal node rest
       → (entry : ℕ) × Contains (f.entries track) entry × (f.number track entry ≡ node)
 
 -- The whole graph consists of its planes: from a wire each way to the goal stays on its track.
@@ -53,8 +65,10 @@ pub record IsFamily (f : Family) : Type 0 where
   pub goal : f.goal < f.whole.count
   pub some : 1 ≤ f.tracks
   pub few : f.places ≤ 2 ^ 22
-  pub wires : (node track : ℕ) → node < f.whole.count → f.track_of node ≡ Some track → track < f.tracks
-  pub stays : (node track : ℕ) (rest : List ℕ) → node < f.whole.count → f.track_of node ≡ Some track → Leads f.whole f.goal node rest → All (IsOn f track) rest
+  pub wires : (node track : ℕ) → node < f.whole.count → f.track_of node ≡ Some track
+      → track < f.tracks
+  pub stays : (node track : ℕ) (rest : List ℕ) → node < f.whole.count → f.track_of node ≡ Some track
+      → Leads f.whole f.goal node rest → All (IsOn f track) rest
   pub planes : (track : ℕ) → track < f.tracks → IsPlane f track
 
 -- The path of the whole graph is a path of a plane.
@@ -67,4 +81,31 @@ pub record IsInPlane (f : Family) (path : List ℕ) : Type 0 where
 
 -- Each path in the track's plane costs at least this.
 abbrev pub IsPlaneBound : Family → ℕ → ℕ → Type 0
-IsPlaneBound f track bound = (path : List ℕ) → IsPath (f.plane track) (f.entries track) f.exit path → bound ≤ cost_of (f.plane track) path
+IsPlaneBound f track bound = (path : List ℕ) → IsPath (f.plane track) (f.entries track) f.exit path
+    → bound ≤ cost_of (f.plane track) path
+
+-- Each path in the track's plane whose nodes come before the known ones costs at least this.
+abbrev pub IsRivalBound : Family → ℕ → List ℕ → ℕ → Type 0
+IsRivalBound f track known bound = (path : List ℕ)
+    → IsPath (f.plane track) (f.entries track) f.exit path
+    → slice_cmp nat_cmp (map (f.number track) path) known ≡ Less
+    → bound ≤ cost_of (f.plane track) path
+
+-- ---- results
+
+-- A path of the whole graph, with its cost.
+pub record IsKnown (f : Family) (path : Path) : Type 0 where
+  pub is_path : IsPath f.whole f.starts f.goal path.nodes.items
+  pub cost : path.cost ≡ cost_of f.whole path.nodes.items
+
+-- No path in the track's plane is less than these nodes.
+abbrev pub HoldsNothingLess : Family → ℕ → List ℕ → Type 0
+HoldsNothingLess f track nodes = (path : List ℕ)
+    → IsPath (f.plane track) (f.entries track) f.exit path
+    → path_cmp f.whole (map (f.number track) path) nodes ≢ Less
+
+-- A path of the whole graph, with its cost, than which none in the track's plane is less.
+pub record IsLeastOfTrack (f : Family) (track : ℕ) (path : Path) : Type 0 where
+  pub within : track < f.tracks
+  pub known : IsKnown f path
+  pub least : HoldsNothingLess f track path.nodes.items

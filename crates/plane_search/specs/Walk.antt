@@ -1,11 +1,13 @@
 -- Private: a walk through a graph along ways that may have exactly a given cost.
-use Rattle.std.proofs.Common.{◌≡◌, ◌≢◌, ℕ, ◌+◌, ◌*◌, ◌-◌, ◌^◌, ◌<◌, ◌≤◌, ◌⊎◌, List, [], ◌∷◌, length, get_or, map}
+use Rattle.std.proofs.Common.{◌≡◌, ◌≢◌, ℕ, ◌+◌, ◌*◌, ◌-◌, ◌^◌, ◌<◌, ◌≤◌, ◌⊎◌, List, [], ◌∷◌, Some, length, get_or, map}
 use Rattle.std.specs.List.{sum_by, All, Contains}
 use Rattle.std.specs.Ordering.{nat_cmp}
 use Rattle.std.specs.Cmp.Lexicographic.{slice_cmp}
 use Rattle.std.specs.declared.cmp.Ordering.TheVariants.{Less}
 use Rattle.least_path.specs.Graph.{Graph}
 use Rattle.least_path.specs.Path.{Leads, IsPath, cost_of}
+use Rattle.least_path.specs.LowerBound.{IsLowerBound}
+use Rattle.plane_search.specs.declared.planes.Start.{Start}
 use Rattle.plane_search.specs.declared.walk.Stop.{Stop}
 use Rattle.plane_search.specs.declared.walk.Step.{Step}
 
@@ -29,16 +31,25 @@ pub record AreCells (number : ℕ) (cells : List ℕ) : Type 0 where
 -- Each way from the node, which is reached at this cost, to the goal makes the whole at least as
 -- dear as this.
 abbrev pub CostsAtLeast : Graph → ℕ → ℕ → ℕ → ℕ → Type 0
-CostsAtLeast g goal best node cost = (rest : List ℕ) → Leads g goal node rest → best ≤ cost + sum_by g.cost rest
+CostsAtLeast g goal best node cost = (rest : List ℕ) → Leads g goal node rest
+    → best ≤ cost + sum_by g.cost rest
 
 -- Each way from the node, which is reached at this cost, to the goal makes the whole dearer than
 -- this.
 abbrev pub CostsMore : Graph → ℕ → ℕ → ℕ → ℕ → Type 0
-CostsMore g goal best node cost = (rest : List ℕ) → Leads g goal node rest → best < cost + sum_by g.cost rest
+CostsMore g goal best node cost = (rest : List ℕ) → Leads g goal node rest
+    → best < cost + sum_by g.cost rest
+
+-- No path over a place that was reached costs less than the best, at the cost at which it was.
+pub record ArePruned (g : Graph) (places goal best : ℕ) (reached : List ℕ) : Type 0 where
+  pub room : places ≤ length reached
+  pub least : (node : ℕ) → node < places → get_or reached node 0 < 2 ^ 16
+      → CostsAtLeast g goal best node (get_or reached node 0)
 
 -- The node was entered at this cost or less, or is too dear.
 abbrev pub IsUnfit : Graph → ℕ → ℕ → List ℕ → ℕ → ℕ → Type 0
-IsUnfit g goal best entered node cost = (get_or entered node 0 ≤ cost) ⊎ CostsMore g goal best node cost
+IsUnfit g goal best entered node cost = (get_or entered node 0 ≤ cost)
+    ⊎ CostsMore g goal best node cost
 
 -- The node may be entered at this cost, which is its predecessor's and its own.
 pub record IsFit (g : Graph) (best : ℕ) (entered : List ℕ) (node before cost : ℕ) : Type 0 where
@@ -48,7 +59,8 @@ pub record IsFit (g : Graph) (best : ℕ) (entered : List ℕ) (node before cost
 
 -- The ends of the stop's edges from number `from` up to `to` are unfit.
 abbrev pub AreUnfit : Graph → ℕ → ℕ → List ℕ → Stop → ℕ → ℕ → Type 0
-AreUnfit g goal best entered stop from to = (k : ℕ) → from ≤ k → k < to → IsUnfit g goal best entered (get_or (g.ends stop.place) k 0) (stop.cost + g.cost (get_or (g.ends stop.place) k 0))
+AreUnfit g goal best entered stop from to = (k : ℕ) → from ≤ k → k < to
+    → IsUnfit g goal best entered (get_or (g.ends stop.place) k 0) (stop.cost + g.cost (get_or (g.ends stop.place) k 0))
 
 -- The stop is followed by the first end, from its next edge on, that is fit. Lesser ends are ends
 -- of earlier edges.
@@ -57,7 +69,8 @@ pub record IsNext (g : Graph) (goal best : ℕ) (entered : List ℕ) (stop : Sto
   pub end : get_or (g.ends stop.place) step.edge 0 ≡ step.place
   pub fit : IsFit g best entered step.place stop.cost step.cost
   pub unfit : AreUnfit g goal best entered stop stop.next_edge step.edge
-  pub order : (k : ℕ) → k < length (g.ends stop.place) → get_or (g.ends stop.place) k 0 < step.place → k < step.edge
+  pub order : (k : ℕ) → k < length (g.ends stop.place) → get_or (g.ends stop.place) k 0 < step.place
+      → k < step.edge
 
 -- a stop before its first edge
 abbrev pub stop_at : ℕ → ℕ → Stop
@@ -72,14 +85,18 @@ after_step stop step = record { place = stop.place; cost = stop.cost; next_edge 
 -- The node is a stop that was reached at this cost.
 abbrev pub IsStop : List Stop → ℕ → ℕ → Type 0
 IsStop [] node cost = ⊥
-IsStop (stop ∷ below) node cost = ((stop.place ≡ node) × (stop.cost ≡ cost)) ⊎ IsStop below node cost
+IsStop (stop ∷ below) node cost = ((stop.place ≡ node) × (stop.cost ≡ cost))
+    ⊎ IsStop below node cost
 
 -- A place that was entered is a stop, or too dear at the cost at which it was entered; and no path
 -- over it costs less than the best.
 pub record IsWalking (g : Graph) (goal best : ℕ) (entered : List ℕ) (stops : List Stop) : Type 0 where
   pub room : g.count ≤ length entered
-  pub least : (node : ℕ) → node < g.count → get_or entered node 0 < 2 ^ 16 → CostsAtLeast g goal best node (get_or entered node 0)
-  pub done : (node : ℕ) → node < g.count → get_or entered node 0 < 2 ^ 16 → IsStop stops node (get_or entered node 0) ⊎ CostsMore g goal best node (get_or entered node 0)
+  pub least : (node : ℕ) → node < g.count → get_or entered node 0 < 2 ^ 16
+      → CostsAtLeast g goal best node (get_or entered node 0)
+  pub done : (node : ℕ) → node < g.count → get_or entered node 0 < 2 ^ 16
+      → IsStop stops node (get_or entered node 0)
+      ⊎ CostsMore g goal best node (get_or entered node 0)
 
 -- Walks may begin: no place is a stop.
 abbrev pub IsBetween : Graph → ℕ → ℕ → List ℕ → Type 0
@@ -89,7 +106,8 @@ IsBetween g goal best entered = IsWalking g goal best entered []
 pub record IsLeastFrom (g : Graph) (goal best start : ℕ) (path : List ℕ) : Type 0 where
   pub is_path : IsPath g (start ∷ []) goal path
   pub cost : cost_of g path ≡ best
-  pub least : (other : List ℕ) → IsPath g (start ∷ []) goal other → cost_of g other ≡ best → slice_cmp nat_cmp other path ≢ Less
+  pub least : (other : List ℕ) → IsPath g (start ∷ []) goal other → cost_of g other ≡ best
+      → slice_cmp nat_cmp other path ≢ Less
 
 -- the places of the stops
 abbrev pub places_in : List Stop → List ℕ
@@ -97,4 +115,10 @@ places_in stops = map (λ (stop : Stop). stop.place) stops
 
 -- No path from the starts costs less than this.
 abbrev pub AreNoCheaper : Graph → ℕ → ℕ → List ℕ → Type 0
-AreNoCheaper g goal best starts = (start : ℕ) → Contains starts start → CostsAtLeast g goal best start 0
+AreNoCheaper g goal best starts = (start : ℕ) → Contains starts start
+    → CostsAtLeast g goal best start 0
+
+-- Each start has a lower bound of the costs of the paths from it.
+abbrev pub AreBoundedStarts : Graph → ℕ → List Start → Type 0
+AreBoundedStarts g goal starts = (start : Start) → Contains starts start
+    → IsLowerBound g goal start.place (Some start.ahead)

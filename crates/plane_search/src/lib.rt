@@ -8,18 +8,20 @@
 //!
 //! The planes are searched in the order of their bounds, each only if it may hold a path that is
 //! less than the best one so far, and then no further than to the cost of that one. Often the best
-//! one is known beforehand: the path that a net had before. Where in a plane a lesser path may
-//! begin is decided by lower bounds alone: at the starts, and along the best path, where another
-//! way branches off to a lesser node.
+//! one is known beforehand: the path that a net had before. If not, the least path of one plane is
+//! found first.
+//!
+//! In a plane, a pass finds what the least path costs at least, and a walk along ways that may cost
+//! just that finds it. If a plane's bound may be that cost, the walk comes first.
 #![tactic(auto)]
 
-mod bypass;
 mod marks;
 mod planes;
 mod ranking;
-mod rivals;
+mod reach;
+mod roads;
 mod search;
 mod walk;
 
-pub use planes::Planes;
+pub use planes::{Planes, Start};
 pub use ranking::PlaneSearch;

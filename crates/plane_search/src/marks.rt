@@ -13,8 +13,8 @@ pub(crate) const UNMARKED: u64 = 1 << 16;
 const SPAN: u32 = 1 << 16;
 
 /// The cost at which a walk entered each place; 2^16 or more if it didn't. A cell holds the number
-/// of the walk and what the cost lacks to 2^16: so a cell of an earlier walk is less than each of a
-/// later one, a cheaper entry is greater, and a walk begins without clearing.
+/// of the walk and how far the cost is below 2^16: so a cell of an earlier walk is less than each
+/// of a later one, a cheaper entry is greater, and a walk begins without clearing.
 #[derive(Drop)]
 pub(crate) struct Marks {
     cells: Vec<u32>,
@@ -68,6 +68,26 @@ impl Marks {
             (cost < slice_index self.now place) }
     {
         self.number * SPAN + (SPAN - 1 - cost as u32) <= self.cells[place]
+    }
+
+    /// Whether the place was entered at a lower cost.
+    #[inline(always)]
+    pub(crate) fn is_below(&self, place: usize, cost: u64) -> bool
+        requires place { place < length self.now }
+        requires cost { cost < 2 ^ 16 }
+        ensures { MatchBool result (slice_index self.now place < cost)
+            (cost ≤ slice_index self.now place) }
+    {
+        self.number * SPAN + (SPAN - 1 - cost as u32) < self.cells[place]
+    }
+
+    /// The cost at which the place was entered.
+    #[inline(always)]
+    pub(crate) fn cost(&self, place: usize) -> u64
+        requires { place < length self.now }
+        ensures { result ≡ slice_index self.now place }
+    {
+        (self.number * SPAN + (SPAN - 1)).saturating_sub(self.cells[place]) as u64
     }
 
     /// Marks the place as entered at this cost.

@@ -1,17 +1,29 @@
 //! A graph that consists of planes, as a search uses it.
-ghost use Rattle.std.specs.Prelude.{◌≡◌, ◌+◌, ◌<◌, ℕ, Option, List, Some, map};
+ghost use Rattle.std.specs.Prelude.{◌≡◌, ◌+◌, ◌<◌, ℕ, Option, List, Some, OnOk, map};
 ghost use Rattle.std.specs.List.Sorted.{IsNonDecreasing};
 ghost use Rattle.least_path.specs.Graph.{Graph};
 ghost use Rattle.least_path.specs.Path.{IsPath};
 ghost use Rattle.least_path.specs.LowerBound.{IsLowerBound};
-ghost use Rattle.plane_search.specs.Planes.{Family, IsFamily, IsPlace, IsInPlane, IsPlaneBound};
+ghost use Rattle.plane_search.specs.Planes.{Family, IsFamily, IsPlace, IsInPlane, IsPlaneBound, IsRivalBound};
+ghost use Rattle.plane_search.specs.Starts.{AreStarts};
 
 use least_path::Ends;
+use std::alloc::AllocError;
+
+/// A start, and a lower bound of the cost of any path from it in its plane.
+#[derive(Clone, Copy, PartialEq, Eq, PartialOrd, Ord)]
+pub struct Start {
+    pub place: usize,
+    pub ahead: u64,
+}
 
 /// A graph that consists of planes, one for each track, with some starts and a goal. The nodes of a
 /// plane are places, which are numbered from 0 in each plane.
 pub trait Planes {
     ghost family: { Self → Family };
+
+    /// Holds of the nodes of each path that the rivals' bounds are made for.
+    ghost is_about: { Self → List ℕ → Type 0 };
 
     /// The number of tracks, at least 1.
     fn tracks(&self) -> usize
@@ -22,10 +34,16 @@ pub trait Planes {
     fn places(&self) -> usize
         ensures { result ≡ (family self.now).places };
 
-    /// The places of the starts that are in a track's plane.
-    fn entries(&self, track: usize) -> &[usize]
+    /// Lists the starts that are in a track's plane, in any order. A start may be left out if each
+    /// path from it costs more than `most`; at the greatest `most` no start is left out.
+    fn list_starts(
+        &self,
+        track: usize,
+        most: u64,
+        starts: &mut Vec<Start>,
+    ) -> Result<(), AllocError>
         requires { track < (family self.now).tracks }
-        ensures { result.now ≡ (family self.now).entries track };
+        ensures { OnOk result (AreStarts (family self.now) track most starts.new.items) };
 
     /// The place of the goal, the same in each plane.
     fn exit(&self) -> usize
@@ -64,10 +82,15 @@ pub trait Planes {
     /// greater bound makes a search faster and changes no result.
     fn bound(&self, track: usize) -> u64
         requires { track < (family self.now).tracks }
-        ensures { IsPlaneBound (family self.now) track result }
-    {
-        0
-    }
+        ensures { IsPlaneBound (family self.now) track result };
+
+    /// A lower bound of the cost of any path in a track's plane that comes before the known path in
+    /// the order of nodes. A plane is not searched for a path that costs as much as the known one
+    /// if this bound is above that cost.
+    fn rival_bound(&self, track: usize) -> u64
+        requires { track < (family self.now).tracks }
+        ensures { (known : List ℕ) → is_about self.now known →
+            IsRivalBound (family self.now) track known result };
 }
 
 /// Each path of the whole graph from a start to the goal is a path of one of its planes.

@@ -1,7 +1,8 @@
 //! A search that goes through the planes in the order of their bounds.
-ghost use Rattle.std.specs.Prelude.{◌≡◌, ◌<◌, true, false, Some, None, Ok, IfOk, OnOk, map, if◌then◌else◌};
+ghost use Rattle.std.specs.Prelude.{◌≡◌, ◌≢◌, ◌<◌, ◌≤◌, ℕ, true, false, Some, None, Ok, IfOk, OnOk, map};
+ghost use Rattle.std.specs.Ordering.{nat_cmp};
 ghost use Rattle.least_path.specs.LeastPath.{least_path, TellsLeastPath, HasNoPath};
-ghost use Rattle.plane_search.specs.Best.{IsKnown};
+ghost use Rattle.plane_search.specs.Planes.{IsPlaneBound, IsKnown, HoldsNothingLess, IsLeastOfTrack};
 ghost use Rattle.plane_search.specs.Ranking.{tracks_in, AreRanked};
 
 use crate::planes::Planes;
@@ -16,22 +17,69 @@ struct Ranked {
     track: usize,
 }
 
-/// Lists the tracks in the order of their planes' bounds. If a path is known, those are left out
-/// whose bound is above its cost.
-fn rank<P: Planes>(
-    planes: &P,
-    is_known: bool,
-    path: &Path,
-    ranking: &mut Vec<Ranked>,
-) -> Result<(), AllocError>
-    requires { is_known ≡ true → IsKnown (P.family planes.now) path.now }
-    ensures { OnOk result (AreRanked (P.family planes.now) is_known path.now
+/// Lists all tracks in the order of their planes' bounds.
+fn rank_all<P: Planes>(planes: &P, ranking: &mut Vec<Ranked>) -> Result<(), AllocError>
+    ensures { OnOk result (AreRanked (P.family planes.now) (λ track. ⊥)
         (P.family planes.now).tracks (tracks_in ranking.new.items)) }
 {
     ranking.clear();
     for track in 0..planes.tracks() {
         let bound = planes.bound(track);
-        if !is_known || bound <= path.cost {
+        ranking.push(Ranked { bound, track })?;
+    }
+    ranking.sort_unstable();
+    Ok(())
+}
+
+/// Whether a plane may hold a path that is less than the known one, which is no greater than those
+/// of the plane `done`.
+#[inline(always)]
+fn may_improve<P: Planes>(planes: &P, track: usize, bound: u64, done: usize, path: &Path) -> bool
+    requires track { track < (P.family planes.now).tracks }
+    requires bound { IsPlaneBound (P.family planes.now) track bound }
+    requires known { IsKnown (P.family planes.now) path.now }
+    requires about { P.is_about planes.now path.now.nodes.items }
+    requires done { done < (P.family planes.now).tracks →
+        HoldsNothingLess (P.family planes.now) done path.now.nodes.items }
+    ensures { result ≡ false →
+        HoldsNothingLess (P.family planes.now) track path.now.nodes.items }
+{
+    let _tracks = planes.tracks();
+    if track == done {
+        return false;
+    }
+    if bound < path.cost {
+        return true;
+    }
+    if path.cost < bound {
+        return false;
+    }
+    if path.cost < planes.rival_bound(track) {
+        return false;
+    }
+    true
+}
+
+/// Lists the tracks in the order of their planes' bounds, without those whose planes hold no path
+/// that is less than the known one. One of them is `done`, if that is a track.
+fn rank<P: Planes>(
+    planes: &P,
+    done: usize,
+    path: &Path,
+    ranking: &mut Vec<Ranked>,
+) -> Result<(), AllocError>
+    requires known { IsKnown (P.family planes.now) path.now }
+    requires about { P.is_about planes.now path.now.nodes.items }
+    requires done { done < (P.family planes.now).tracks →
+        HoldsNothingLess (P.family planes.now) done path.now.nodes.items }
+    ensures { OnOk result (AreRanked (P.family planes.now)
+        (λ track. HoldsNothingLess (P.family planes.now) track path.now.nodes.items)
+        (P.family planes.now).tracks (tracks_in ranking.new.items)) }
+{
+    ranking.clear();
+    for track in 0..planes.tracks() {
+        let bound = planes.bound(track);
+        if may_improve(planes, track, bound, done, path) {
             ranking.push(Ranked { bound, track })?;
         }
     }
@@ -55,32 +103,57 @@ impl PlaneSearch {
         }
     }
 
-    /// Replaces `path` by the least path, and returns whether there is one. If `is_known`, `path`
-    /// must be a path already: the closer it is to the least, the faster the search. Earlier
-    /// searches, also those that ran out of memory, don't change the result. If there is no path,
-    /// or memory runs out, the contents of `path` mean nothing.
+    /// Replaces `path` by the least path of one plane, and returns its track; `None` if there is no
+    /// path at all. Bounds of rivals are not used. Earlier searches, also those that ran out of
+    /// memory, don't change the result. If there is no path, or memory runs out, the contents of
+    /// `path` mean nothing.
+    pub fn first_into<P: Planes>(
+        &mut self,
+        planes: &P,
+        path: &mut Path,
+    ) -> Result<Option<usize>, AllocError>
+        ensures found { (track : ℕ) → result ≡ Ok (Some track) →
+            IsLeastOfTrack (P.family planes.now) track path.new }
+        ensures none { result ≡ Ok None → HasNoPath (P.family planes.now).whole
+            (P.family planes.now).starts (P.family planes.now).goal }
+    {
+        let _tracks = planes.tracks();
+        rank_all(planes, &mut self.ranking)?;
+        for ranked in self.ranking.as_slice() {
+            if self.search.begin(planes, ranked.track, path)? {
+                return Ok(Some(ranked.track));
+            }
+        }
+        Ok(None)
+    }
+
+    /// Replaces `path`, which is a path already, by the least path. The bounds of rivals must be
+    /// made for `path`. If `done` is a track, `path` must be the least of its plane already, or
+    /// less. Earlier searches, also those that ran out of memory, don't change the result. If
+    /// memory runs out, the contents of `path` mean nothing.
     pub fn least_into<P: Planes>(
         &mut self,
         planes: &P,
-        is_known: bool,
+        done: usize,
         path: &mut Path,
-    ) -> Result<bool, AllocError>
-        requires { is_known ≡ true → IsKnown (P.family planes.now) path.old }
-        ensures found { result ≡ Ok true → TellsLeastPath (P.family planes.now).whole
-            (P.family planes.now).starts (P.family planes.now).goal path.new }
-        ensures none { result ≡ Ok false → HasNoPath (P.family planes.now).whole
-            (P.family planes.now).starts (P.family planes.now).goal }
-        ensures exact { IfOk result (λ found.
-            least_path (P.family planes.now).whole (P.family planes.now).starts
-            (P.family planes.now).goal ≡ (if found then Some path.new.nodes.items else None)) }
+    ) -> Result<(), AllocError>
+        requires known { IsKnown (P.family planes.now) path.old }
+        requires about { P.is_about planes.now path.old.nodes.items }
+        requires done { done < (P.family planes.now).tracks →
+            HoldsNothingLess (P.family planes.now) done path.old.nodes.items }
+        ensures least { OnOk result (TellsLeastPath (P.family planes.now).whole
+            (P.family planes.now).starts (P.family planes.now).goal path.new) }
+        ensures exact { OnOk result (least_path (P.family planes.now).whole
+            (P.family planes.now).starts (P.family planes.now).goal
+            ≡ Some path.new.nodes.items) }
     {
         least_path_law();
         let _tracks = planes.tracks();
-        rank(planes, is_known, path, &mut self.ranking)?;
-        let mut is_found = is_known;
+        rank(planes, done, path, &mut self.ranking)?;
+        let known_cost = path.cost;
         for ranked in self.ranking.as_slice() {
-            is_found = self.search.improve(planes, ranked.track, is_found, path)?;
+            self.search.improve(planes, ranked.track, known_cost, path)?;
         }
-        Ok(is_found)
+        Ok(())
     }
 }

@@ -1,46 +1,37 @@
 //! A search of one plane at a time.
-ghost use Rattle.std.specs.Prelude.{◌≡◌, ℕ, ◌+◌, ◌<◌, ◌≤◌, ◌^◌, ◌∷◌, ◌++◌, [], true, false, All, Some, None, Ok, IfOk, IfSome, IfNone, OnOk, MatchOption, map, length, if◌then◌else◌, IsTrue, ◌↔◌};
+ghost use Rattle.std.specs.Prelude.{◌≡◌, ℕ, ◌+◌, ◌<◌, ◌≤◌, ◌^◌, [], true, false, All, Some, None, Ok, IfOk, OnOk, map, length, List, Contains};
 ghost use Rattle.std.specs.Bool.{MatchBool};
 ghost use Rattle.std.specs.List.Sorted.{IsNonDecreasing};
 ghost use Rattle.std.specs.Ordering.{nat_cmp, ordering_then};
 ghost use Rattle.std.specs.Cmp.Lexicographic.{slice_cmp};
 ghost use Rattle.std.specs.declared.cmp.Ordering.TheVariants.{Less};
-ghost use Rattle.plane_search.specs.Planes.{IsPlace};
-ghost use Rattle.plane_search.specs.Best.{IsKnown, Improves, AreAmong, AreBounded, IsLeastIn, IsLeastOn, IsBypassCost, HasNoneWithin};
+ghost use Rattle.plane_search.specs.Planes.{IsPlace, IsPlaneBound, IsKnown, HoldsNothingLess, IsLeastOfTrack};
+ghost use Rattle.plane_search.specs.Starts.{AreStarts, places_of};
+ghost use Rattle.plane_search.specs.Walk.{ArePruned, AreNoCheaper};
+ghost use Rattle.plane_search.specs.Best.{HoldsNone, HoldsNothingBeyond, Improves, IsNoLater, AreListed, IsLeastOn, IsLeastIn, HasNoneWithin};
+ghost use Rattle.least_path.specs.LeastPath.{HasNoPath};
 
-use crate::bypass::Bypassed;
 use crate::marks::UNMARKED;
-use crate::planes::Planes;
-use crate::rivals::{list_rivals, sort_starts};
+use crate::planes::{Planes, Start};
+use crate::reach::{Reach, View};
+use crate::roads::PlaneRoads;
 use crate::walk::{Aim, Walk};
 use least_path::{Path, Search};
 use std::alloc::{AllocError, Global};
 use std::mem;
-
-/// The largest cost of a node.
-const MOST: u64 = 1 << 36;
 
 /// Searches one plane at a time, and reuses its memory from one to the next.
 #[derive(Drop)]
 pub(crate) struct TrackSearch {
     search: Search,
     walk: Walk,
+    reach: Reach,
     /// The starts of the search of a plane, in rising order.
-    starts: Vec<usize>,
+    starts: Vec<Start>,
+    /// Their places.
+    places: Vec<usize>,
     /// The path that was found in it.
     found: Path,
-}
-
-/// What the bypass's second node must cost so that a path over it costs `most`; `None` if no node
-/// may cost that.
-fn bypass_cost(most: Option<u64>, last: u64) -> Option<u64>
-    ensures { IfSome result (λ over. (1 ≤ over) × (over ≤ 2 ^ 36)
-        × (most ≡ Some (over + last))) }
-{
-    match most {
-        Some(most) if last < most && most - last <= MOST => Some(most - last),
-        _ => None,
-    }
 }
 
 /// Replaces each place by the number of its node.
@@ -52,6 +43,17 @@ fn number_nodes<P: Planes>(planes: &P, track: usize, nodes: &mut Vec<usize>)
     for node in nodes.iter_mut() {
         *node = planes.number(track, *node);
     }
+}
+
+/// Lists the places of the starts.
+fn list_places(starts: &[Start], places: &mut Vec<usize>) -> Result<(), AllocError>
+    ensures { OnOk result (places.new.items ≡ places_of starts.now) }
+{
+    places.clear();
+    for start in starts {
+        places.push(start.place)?;
+    }
+    Ok(())
 }
 
 /// Whether the path is less than the other, by their costs and nodes.
@@ -66,14 +68,24 @@ fn is_less(path: &Path, other: &Path) -> bool
         || path.cost == other.cost && path.nodes.as_slice() < other.nodes.as_slice()
 }
 
-/// Whether the limit is this cost.
-fn is_limit(most: Option<u64>, cost: u64) -> bool
-    ensures { IsTrue result ↔ (most ≡ Some cost) }
+/// What a path in a track's plane costs at most if it is less than the path. If that costs as much
+/// as the known one, it is the known one or comes before it.
+#[inline(always)]
+fn lesser_limit<P: Planes>(planes: &P, track: usize, known_cost: u64, path: &Path) -> u64
+    requires track { track < (P.family planes.now).tracks }
+    requires known { IsKnown (P.family planes.now) path.now }
+    ensures { (nodes : List ℕ) → P.is_about planes.now nodes →
+        IsNoLater known_cost nodes path.now →
+        HoldsNothingBeyond (P.family planes.now) track path.now.nodes.items result }
 {
-    match most {
-        Some(limit) => limit == cost,
-        None => false,
+    let _tracks = planes.tracks();
+    if path.cost != known_cost {
+        return path.cost;
     }
+    if planes.rival_bound(track) <= path.cost {
+        return path.cost;
+    }
+    path.cost.saturating_sub(1)
 }
 
 impl TrackSearch {
@@ -83,73 +95,86 @@ impl TrackSearch {
         TrackSearch {
             search: Search::new(alloc),
             walk: Walk::new(alloc),
+            reach: Reach::new(alloc),
             starts: Vec::new(alloc),
+            places: Vec::new(alloc),
             found: Path { nodes, cost: 0 },
         }
     }
 
-    /// Goes on with one more plane: replaces `path` by the least path of the plane if that is less,
-    /// or if there is none so far.
-    pub(crate) fn improve<P: Planes>(
-        &mut self,
-        planes: &P,
-        track: usize,
-        is_found: bool,
-        path: &mut Path,
-    ) -> Result<bool, AllocError>
-        requires track { track < (P.family planes.now).tracks }
-        requires known { is_found ≡ true → IsKnown (P.family planes.now) path.old }
-        ensures { IfOk result (λ now_found.
-            Improves (P.family planes.now) track is_found path.old now_found path.new) }
-    {
-        if !is_found {
-            return self.begin(planes, track, path);
-        }
-        let _tracks = planes.tracks();
-        if planes.bound(track) <= path.cost {
-            self.replace_known(planes, track, path)?;
-        }
-        Ok(true)
-    }
-
-    /// Replaces `path` by the least path of a plane, if there is one and none so far.
-    fn begin<P: Planes>(
+    /// Replaces `path` by the least path of a plane, if there is one.
+    pub(crate) fn begin<P: Planes>(
         &mut self,
         planes: &P,
         track: usize,
         path: &mut Path,
     ) -> Result<bool, AllocError>
         requires { track < (P.family planes.now).tracks }
-        ensures { IfOk result (λ is_found.
-            Improves (P.family planes.now) track false path.old is_found path.new) }
+        ensures found { result ≡ Ok true → IsLeastOfTrack (P.family planes.now) track path.new }
+        ensures none { result ≡ Ok false → HoldsNone (P.family planes.now) track }
     {
-        self.starts.clear();
-        self.starts.extend_from_slice(planes.entries(track))?;
-        sort_starts(&mut self.starts);
-        if self.find_nodes(planes, track, None)? {
-            mem::swap(path, &mut self.found);
-            Ok(true)
-        } else {
-            Ok(false)
+        let _tracks = planes.tracks();
+        if !self.find_first(planes, track)? {
+            return Ok(false);
         }
+        number_nodes(planes, track, &mut self.found.nodes);
+        mem::swap(path, &mut self.found);
+        Ok(true)
     }
 
-    /// Replaces `path` by the least path of a plane if that is less.
-    fn replace_known<P: Planes>(
+    /// Finds the least path of a plane, by places.
+    fn find_first<P: Planes>(&mut self, planes: &P, track: usize) -> Result<bool, AllocError>
+        requires { track < (P.family planes.now).tracks }
+        ensures found { result ≡ Ok true → IsLeastOn (P.family planes.now) track
+            ((P.family planes.now).entries track) self.new.found }
+        ensures none { result ≡ Ok false → HoldsNone (P.family planes.now) track }
+    {
+        if self.find_cheap(planes, track)? {
+            return Ok(true);
+        }
+        self.list_in_order(planes, track, u64::MAX)?;
+        self.find_any(planes, track)
+    }
+
+    /// Finds the least path of a plane, by places, if its cost can be marked.
+    fn find_cheap<P: Planes>(&mut self, planes: &P, track: usize) -> Result<bool, AllocError>
+        requires { track < (P.family planes.now).tracks }
+        ensures { result ≡ Ok true → IsLeastOn (P.family planes.now) track
+            ((P.family planes.now).entries track) self.new.found }
+    {
+        let most = UNMARKED - 2;
+        self.list_in_order(planes, track, most)?;
+        if !self.find(planes, track, most)? {
+            return Ok(false);
+        }
+        if most < self.found.cost {
+            return Ok(false);
+        }
+        Ok(true)
+    }
+
+    /// Goes on with one more plane: replaces `path` by the least path of the plane if that is less.
+    /// If `path` costs as much as the known one, it is the known one or comes before it.
+    pub(crate) fn improve<P: Planes>(
         &mut self,
         planes: &P,
         track: usize,
+        known_cost: u64,
         path: &mut Path,
     ) -> Result<(), AllocError>
         requires track { track < (P.family planes.now).tracks }
         requires known { IsKnown (P.family planes.now) path.old }
-        ensures { OnOk result (Improves (P.family planes.now) track true path.old true path.new) }
+        ensures { OnOk result ((nodes : List ℕ) → P.is_about planes.now nodes →
+            IsNoLater known_cost nodes path.old →
+            Improves (P.family planes.now) track known_cost nodes path.old path.new) }
     {
-        let most = list_rivals(planes, track, path, &mut self.starts)?;
-        if self.starts.is_empty() {
+        let _tracks = planes.tracks();
+        let most = lesser_limit(planes, track, known_cost, path);
+        if most < planes.bound(track) {
             return Ok(());
         }
-        if !self.find_nodes(planes, track, Some(most))? {
+        self.list_in_order(planes, track, most)?;
+        if !self.find_nodes(planes, track, most)? {
             return Ok(());
         }
         if is_less(&self.found, path) {
@@ -158,21 +183,35 @@ impl TrackSearch {
         Ok(())
     }
 
-    /// Finds the least path of a plane from the listed starts, by nodes of the whole graph. If
-    /// `most` is given and no path costs at most that much, returns `false`.
+    /// Lists the starts of a plane from which a path may cost at most `most`, in rising order.
+    fn list_in_order<P: Planes>(
+        &mut self,
+        planes: &P,
+        track: usize,
+        most: u64,
+    ) -> Result<(), AllocError>
+        requires track { track < (P.family planes.now).tracks }
+        ensures { OnOk result (AreListed (P.family planes.now) track most self.new.starts.items) }
+    {
+        planes.list_starts(track, most, &mut self.starts)?;
+        self.starts.sort_unstable();
+        Ok(())
+    }
+
+    /// Finds the least path of a plane from the listed starts, by nodes of the whole graph. If no
+    /// path costs at most `most`, returns `false`.
     fn find_nodes<P: Planes>(
         &mut self,
         planes: &P,
         track: usize,
-        most: Option<u64>,
+        most: u64,
     ) -> Result<bool, AllocError>
         requires track { track < (P.family planes.now).tracks }
-        requires among { AreAmong (P.family planes.now) track self.old.starts.items }
-        requires rising { IsNonDecreasing self.old.starts.items }
+        requires listed { AreListed (P.family planes.now) track most self.old.starts.items }
         ensures found { result ≡ Ok true → IsLeastIn (P.family planes.now) track
-            self.old.starts.items self.new.found }
+            (places_of self.old.starts.items) self.new.found }
         ensures none { result ≡ Ok false → HasNoneWithin (P.family planes.now) track
-            self.old.starts.items most }
+            (places_of self.old.starts.items) most }
     {
         let _tracks = planes.tracks();
         if !self.find(planes, track, most)? {
@@ -182,34 +221,67 @@ impl TrackSearch {
         Ok(true)
     }
 
-    /// Finds the least path of a plane from the listed starts, by places. If `most` is given and no
-    /// path costs at most that much, returns `false`.
-    fn find<P: Planes>(
+    /// Finds the least path of a plane from the listed starts, by places. If no path costs at most
+    /// `most`, returns `false`.
+    fn find<P: Planes>(&mut self, planes: &P, track: usize, most: u64) -> Result<bool, AllocError>
+        requires track { track < (P.family planes.now).tracks }
+        requires listed { AreListed (P.family planes.now) track most self.old.starts.items }
+        ensures found { result ≡ Ok true → IsLeastOn (P.family planes.now) track
+            (places_of self.old.starts.items) self.new.found }
+        ensures none { result ≡ Ok false → HasNoneWithin (P.family planes.now) track
+            (places_of self.old.starts.items) most }
+    {
+        let _tracks = planes.tracks();
+        let bound = planes.bound(track);
+        if most < bound {
+            return Ok(false);
+        }
+        if bound == 0 || UNMARKED - 2 < most {
+            return self.find_any(planes, track);
+        }
+        self.reach.forget(planes.places())?;
+        if self.find_at(planes, track, bound)? {
+            return Ok(true);
+        }
+        if most == bound {
+            return Ok(false);
+        }
+        self.find_reached(planes, track, most)
+    }
+
+    /// Does as `find` does: finds first what the least path costs.
+    fn find_reached<P: Planes>(
         &mut self,
         planes: &P,
         track: usize,
-        most: Option<u64>,
+        most: u64,
     ) -> Result<bool, AllocError>
         requires track { track < (P.family planes.now).tracks }
-        requires among { AreAmong (P.family planes.now) track self.old.starts.items }
-        requires rising { IsNonDecreasing self.old.starts.items }
+        requires listed { AreListed (P.family planes.now) track most self.old.starts.items }
+        requires some { IsPlaneBound (P.family planes.now) track 1 }
+        requires few { most + 1 < 2 ^ 16 }
         ensures found { result ≡ Ok true → IsLeastOn (P.family planes.now) track
-            self.old.starts.items self.new.found }
+            (places_of self.old.starts.items) self.new.found }
         ensures none { result ≡ Ok false → HasNoneWithin (P.family planes.now) track
-            self.old.starts.items most }
+            (places_of self.old.starts.items) most }
     {
         let _tracks = planes.tracks();
-        let least = planes.bound(track);
-        if least == 0 || least >= UNMARKED {
-            return self.find_dearer(planes, track, most);
+        let view = View {
+            planes,
+            track,
+            exit: planes.exit(),
+        };
+        let least = self.reach.least_cost(&view, &self.starts, most)?;
+        if most < least {
+            return Ok(false);
+        }
+        if least == 0 {
+            return self.find_any(planes, track);
         }
         if self.find_at(planes, track, least)? {
             return Ok(true);
         }
-        if is_limit(most, least) {
-            return Ok(false);
-        }
-        self.find_dearer(planes, track, most)
+        self.find_any(planes, track)
     }
 
     /// Finds the least path of a plane from the listed starts, by places, if it has this cost; no
@@ -221,16 +293,18 @@ impl TrackSearch {
         best: u64,
     ) -> Result<bool, AllocError>
         requires track { track < (P.family planes.now).tracks }
-        requires among { AreAmong (P.family planes.now) track self.old.starts.items }
-        requires rising { IsNonDecreasing self.old.starts.items }
-        requires bounded { AreBounded (P.family planes.now) track self.old.starts.items
-            (Some best) }
+        requires listed { (most : ℕ) × AreListed (P.family planes.now) track most
+            self.old.starts.items }
+        requires least { AreNoCheaper ((P.family planes.now).plane track) (P.family planes.now).exit
+            best (places_of self.old.starts.items) }
         requires some { 1 ≤ best }
         requires few { best < 2 ^ 16 }
+        requires pruned { ArePruned ((P.family planes.now).plane track) (P.family planes.now).places
+            (P.family planes.now).exit best self.old.reach.marks }
         ensures found { result ≡ Ok true → IsLeastOn (P.family planes.now) track
-            self.old.starts.items self.new.found }
+            (places_of self.old.starts.items) self.new.found }
         ensures none { result ≡ Ok false → HasNoneWithin (P.family planes.now) track
-            self.old.starts.items (Some best) }
+            (places_of self.old.starts.items) best }
         ensures starts { self.new.starts ≡ self.old.starts }
     {
         let _tracks = planes.tracks();
@@ -239,86 +313,25 @@ impl TrackSearch {
             track,
             exit: planes.exit(),
             best,
+            reached: &self.reach.marks,
         };
         self.walk.least_into(&aim, &self.starts, &mut self.found)
-    }
-
-    /// Does as `find` does, whatever the bounds of the starts.
-    fn find_dearer<P: Planes>(
-        &mut self,
-        planes: &P,
-        track: usize,
-        most: Option<u64>,
-    ) -> Result<bool, AllocError>
-        requires track { track < (P.family planes.now).tracks }
-        requires among { AreAmong (P.family planes.now) track self.old.starts.items }
-        ensures found { result ≡ Ok true → IsLeastOn (P.family planes.now) track
-            self.old.starts.items self.new.found }
-        ensures none { result ≡ Ok false → HasNoneWithin (P.family planes.now) track
-            self.old.starts.items most }
-    {
-        let _tracks = planes.tracks();
-        let last = planes.cost(track, planes.exit());
-        match bypass_cost(most, last) {
-            Some(over) => self.find_within(planes, track, over, over + last),
-            None => self.find_any(planes, track),
-        }
-    }
-
-    /// Finds the least path of a plane from the listed starts, among those that cost at most as
-    /// much as the bypass.
-    fn find_within<P: Planes>(
-        &mut self,
-        planes: &P,
-        track: usize,
-        over: u64,
-        most: u64,
-    ) -> Result<bool, AllocError>
-        requires track { track < (P.family planes.now).tracks }
-        requires over { IsBypassCost (P.family planes.now) track over most }
-        requires among { AreAmong (P.family planes.now) track self.old.starts.items }
-        ensures found { result ≡ Ok true → IsLeastOn (P.family planes.now) track
-            self.old.starts.items self.new.found }
-        ensures none { result ≡ Ok false → HasNoneWithin (P.family planes.now) track
-            self.old.starts.items (Some most) }
-    {
-        let _tracks = planes.tracks();
-        let places = planes.places();
-        self.starts.push(places)?;
-        let roads = Bypassed {
-            planes,
-            track,
-            places,
-            over,
-            guess: most,
-        };
-        if !self
-            .search
-            .least_into(&roads, &self.starts, planes.exit(), &mut self.found)?
-        {
-            return Ok(false);
-        }
-        Ok(self.found.nodes[0] < places)
     }
 
     /// Finds the least path of a plane from the listed starts.
     fn find_any<P: Planes>(&mut self, planes: &P, track: usize) -> Result<bool, AllocError>
         requires track { track < (P.family planes.now).tracks }
-        requires among { AreAmong (P.family planes.now) track self.old.starts.items }
+        requires listed { (most : ℕ) × AreListed (P.family planes.now) track most
+            self.old.starts.items }
         ensures found { result ≡ Ok true → IsLeastOn (P.family planes.now) track
-            self.old.starts.items self.new.found }
-        ensures none { result ≡ Ok false → HasNoneWithin (P.family planes.now) track
-            self.old.starts.items None }
+            (places_of self.old.starts.items) self.new.found }
+        ensures none { result ≡ Ok false → HasNoPath ((P.family planes.now).plane track)
+            (places_of self.old.starts.items) (P.family planes.now).exit }
     {
         let _tracks = planes.tracks();
-        let roads = Bypassed {
-            planes,
-            track,
-            places: planes.places(),
-            over: 1,
-            guess: planes.bound(track),
-        };
+        list_places(&self.starts, &mut self.places)?;
+        let roads = PlaneRoads { planes, track };
         self.search
-            .least_into(&roads, &self.starts, planes.exit(), &mut self.found)
+            .least_into(&roads, &self.places, planes.exit(), &mut self.found)
     }
 }

@@ -2,17 +2,19 @@
 //! costs less. At each place it takes the first edge over which such a path may lead, and at a
 //! place from which none does, it goes back: so the first path that it completes is the least. Each
 //! place is entered once at each cost.
-ghost use Rattle.std.specs.Prelude.{◌≡◌, ℕ, Contains, ◌+◌, ◌<◌, ◌≤◌, ◌^◌, ◌∷◌, ◌++◌, [], true, false, Ok, IfSome, IfNone, OnOk, length};
+ghost use Rattle.std.specs.Prelude.{◌≡◌, ℕ, Contains, ◌+◌, ◌<◌, ◌≤◌, ◌^◌, ◌∷◌, ◌++◌, [], true, false, Ok, Some, IfSome, IfNone, OnOk, length};
 ghost use Rattle.std.specs.List.Sorted.{IsNonDecreasing};
+ghost use Rattle.std.specs.Option.{option_to_list};
 ghost use Rattle.std.proofs.Common.{set};
 ghost use Rattle.least_path.specs.Graph.{AreNodes};
 ghost use Rattle.least_path.specs.Path.{IsPath, cost_of};
 ghost use Rattle.least_path.specs.LeastPath.{IsLeastPath};
-ghost use Rattle.plane_search.specs.Planes.{IsPlace};
-ghost use Rattle.plane_search.specs.Walk.{IsFit, IsUnfit, IsNext, AreUnfit, IsWalking, IsBetween, IsLeastFrom, CostsAtLeast, CostsMore, AreNoCheaper, places_in, stop_at, after_step};
+ghost use Rattle.least_path.specs.LowerBound.{IsLowerBound};
+ghost use Rattle.plane_search.specs.Starts.{places_of};
+ghost use Rattle.plane_search.specs.Walk.{ArePruned, IsFit, IsUnfit, IsNext, AreUnfit, IsWalking, IsBetween, IsLeastFrom, CostsAtLeast, CostsMore, AreNoCheaper, AreBoundedStarts, places_in, stop_at, after_step};
 
 use crate::marks::Marks;
-use crate::planes::Planes;
+use crate::planes::{Planes, Start};
 use least_path::Path;
 use std::alloc::{AllocError, Global};
 
@@ -43,10 +45,14 @@ pub(crate) struct Aim<'a, P: Planes> {
     pub(crate) track: usize,
     pub(crate) exit: usize,
     pub(crate) best: u64,
+    /// The least costs of ways to places, as far as they are known.
+    pub(crate) reached: &'a Marks,
     ghost on: { track < (P.family planes.now).tracks },
     ghost to: { exit ≡ (P.family planes.now).exit },
     ghost some: { 1 ≤ best },
     ghost few: { best < 2 ^ 16 },
+    ghost pruned: { ArePruned ((P.family planes.now).plane track) (P.family planes.now).places
+        (P.family planes.now).exit best reached.now },
 }
 
 /// A walk that reuses its memory from one plane to the next.
@@ -54,19 +60,6 @@ pub(crate) struct Aim<'a, P: Planes> {
 pub(crate) struct Walk {
     marks: Marks,
     stops: Vec<Stop>,
-}
-
-/// Whether a path of the wanted cost may begin at the start.
-#[inline(always)]
-fn is_near<P: Planes>(aim: &Aim<'_, P>, start: usize) -> bool
-    requires { start < (P.family aim.now.planes.now).places }
-    ensures { result ≡ false → CostsMore ((P.family aim.now.planes.now).plane aim.now.track)
-        (P.family aim.now.planes.now).exit aim.now.best start 0 }
-{
-    match aim.planes.at_least(aim.track, start) {
-        Some(ahead) => ahead <= aim.best,
-        None => false,
-    }
 }
 
 /// The cost at which the place may be entered from a stop that was reached at cost `before`, if a
@@ -90,6 +83,9 @@ fn fitting_cost<P: Planes>(
     let _tracks = aim.planes.tracks();
     let cost = before + aim.planes.cost(aim.track, place);
     if aim.best < cost || marks.is_entered(place, cost) {
+        return None;
+    }
+    if aim.reached.is_below(place, cost) {
         return None;
     }
     match aim.planes.at_least(aim.track, place) {
@@ -138,25 +134,29 @@ impl Walk {
     pub(crate) fn least_into<P: Planes>(
         &mut self,
         aim: &Aim<'_, P>,
-        starts: &[usize],
+        starts: &[Start],
         path: &mut Path,
     ) -> Result<bool, AllocError>
-        requires starts { AreNodes ((P.family aim.now.planes.now).plane aim.now.track) starts.now }
-        requires rising { IsNonDecreasing starts.now }
-        requires least { AreNoCheaper ((P.family aim.now.planes.now).plane aim.now.track) (P.family aim.now.planes.now).exit
-            aim.now.best starts.now }
-        ensures found { result ≡ Ok true → IsLeastPath ((P.family aim.now.planes.now).plane aim.now.track)
-            starts.now (P.family aim.now.planes.now).exit path.new.nodes.items }
+        requires starts { AreNodes ((P.family aim.now.planes.now).plane aim.now.track)
+            (places_of starts.now) }
+        requires rising { IsNonDecreasing (places_of starts.now) }
+        requires bounded { AreBoundedStarts ((P.family aim.now.planes.now).plane aim.now.track)
+            (P.family aim.now.planes.now).exit starts.now }
+        requires least { AreNoCheaper ((P.family aim.now.planes.now).plane aim.now.track)
+            (P.family aim.now.planes.now).exit aim.now.best (places_of starts.now) }
+        ensures found { result ≡ Ok true →
+            IsLeastPath ((P.family aim.now.planes.now).plane aim.now.track) (places_of starts.now)
+            (P.family aim.now.planes.now).exit path.new.nodes.items }
         ensures cost { result ≡ Ok true → path.new.cost
             ≡ cost_of ((P.family aim.now.planes.now).plane aim.now.track) path.new.nodes.items }
-        ensures none { result ≡ Ok false → (start : ℕ) → Contains starts.now start →
-            CostsMore ((P.family aim.now.planes.now).plane aim.now.track) (P.family aim.now.planes.now).exit aim.now.best
-            start 0 }
+        ensures none { result ≡ Ok false → (start : ℕ) → Contains (places_of starts.now) start →
+            CostsMore ((P.family aim.now.planes.now).plane aim.now.track)
+            (P.family aim.now.planes.now).exit aim.now.best start 0 }
     {
         let _tracks = aim.planes.tracks();
         self.marks.renew(aim.planes.places())?;
         for start in starts {
-            if self.walk_from(aim, *start)? {
+            if self.try_start(aim, *start)? {
                 self.write_path(aim.exit, &mut path.nodes)?;
                 path.cost = aim.best;
                 return Ok(true);
@@ -165,87 +165,124 @@ impl Walk {
         Ok(false)
     }
 
+    /// Walks on from a start if a path of the wanted cost may begin there.
+    #[inline(always)]
+    fn try_start<P: Planes>(&mut self, aim: &Aim<'_, P>, start: Start) -> Result<bool, AllocError>
+        requires start { start.place < (P.family aim.now.planes.now).places }
+        requires bounded { IsLowerBound ((P.family aim.now.planes.now).plane aim.now.track)
+            (P.family aim.now.planes.now).exit start.place (Some start.ahead) }
+        requires least { CostsAtLeast ((P.family aim.now.planes.now).plane aim.now.track)
+            (P.family aim.now.planes.now).exit aim.now.best start.place 0 }
+        requires between { IsBetween ((P.family aim.now.planes.now).plane aim.now.track)
+            (P.family aim.now.planes.now).exit aim.now.best self.old.marks }
+        ensures found { result ≡ Ok true →
+            IsLeastFrom ((P.family aim.now.planes.now).plane aim.now.track)
+            (P.family aim.now.planes.now).exit aim.now.best start.place
+            (places_in self.new.stops.items ++ (P.family aim.now.planes.now).exit ∷ []) }
+        ensures none { result ≡ Ok false →
+            CostsMore ((P.family aim.now.planes.now).plane aim.now.track)
+            (P.family aim.now.planes.now).exit aim.now.best start.place 0 }
+        ensures between { result ≡ Ok false →
+            IsBetween ((P.family aim.now.planes.now).plane aim.now.track)
+            (P.family aim.now.planes.now).exit aim.now.best self.new.marks }
+    {
+        if aim.best < start.ahead {
+            return Ok(false);
+        }
+        self.walk_from(aim, start.place)
+    }
+
     /// Walks on from a start until a path is complete, and returns whether there is one.
     fn walk_from<P: Planes>(&mut self, aim: &Aim<'_, P>, start: usize) -> Result<bool, AllocError>
         requires start { start < (P.family aim.now.planes.now).places }
-        requires least { CostsAtLeast ((P.family aim.now.planes.now).plane aim.now.track) (P.family aim.now.planes.now).exit
-            aim.now.best start 0 }
-        requires between { IsBetween ((P.family aim.now.planes.now).plane aim.now.track) (P.family aim.now.planes.now).exit
-            aim.now.best self.old.marks }
-        ensures found { result ≡ Ok true → IsLeastFrom ((P.family aim.now.planes.now).plane aim.now.track)
+        requires least { CostsAtLeast ((P.family aim.now.planes.now).plane aim.now.track)
+            (P.family aim.now.planes.now).exit aim.now.best start 0 }
+        requires between { IsBetween ((P.family aim.now.planes.now).plane aim.now.track)
+            (P.family aim.now.planes.now).exit aim.now.best self.old.marks }
+        ensures found { result ≡ Ok true →
+            IsLeastFrom ((P.family aim.now.planes.now).plane aim.now.track)
             (P.family aim.now.planes.now).exit aim.now.best start
             (places_in self.new.stops.items ++ (P.family aim.now.planes.now).exit ∷ []) }
-        ensures none { result ≡ Ok false → CostsMore ((P.family aim.now.planes.now).plane aim.now.track)
+        ensures none { result ≡ Ok false →
+            CostsMore ((P.family aim.now.planes.now).plane aim.now.track)
             (P.family aim.now.planes.now).exit aim.now.best start 0 }
-        ensures between { result ≡ Ok false → IsBetween ((P.family aim.now.planes.now).plane aim.now.track)
+        ensures between { result ≡ Ok false →
+            IsBetween ((P.family aim.now.planes.now).plane aim.now.track)
             (P.family aim.now.planes.now).exit aim.now.best self.new.marks }
     {
         let _tracks = aim.planes.tracks();
-        if !is_near(aim, start) {
-            return Ok(false);
-        }
-        self.begin_at(start)?;
-        while let Some(stop) = self.take_stop() {
+        let mut current = Some(self.begin_at(start));
+        while let Some(stop) = current {
             if let Some(step) = next_step(&self.marks, aim, stop) {
+                self.put_back(stop, step)?;
                 if step.place == aim.exit {
-                    self.stops.push(stop)?;
                     return Ok(true);
                 }
-                self.go_on(stop, step)?;
+                current = Some(self.enter(step));
+            } else {
+                current = self.take_stop();
             }
         }
         Ok(false)
     }
 
-    /// Makes the start the only stop.
-    fn begin_at(&mut self, start: usize) -> Result<(), AllocError>
+    /// Enters the start, with no other stop.
+    fn begin_at(&mut self, start: usize) -> Stop
         requires { start < length self.old.marks }
-        ensures marks { OnOk result (self.new.marks ≡ set self.old.marks start 0) }
-        ensures stops { OnOk result (self.new.stops.items ≡ stop_at start 0 ∷ []) }
+        ensures stop { result ≡ stop_at start 0 }
+        ensures marks { self.new.marks ≡ set self.old.marks start 0 }
+        ensures stops { self.new.stops.items ≡ [] }
     {
         self.stops.clear();
         self.marks.enter(start, 0);
-        self.stops.push(Stop {
+        Stop {
             place: start,
             cost: 0,
             next_edge: 0,
-        })?;
-        Ok(())
+        }
     }
 
     /// Takes the last stop; `None` if there is no stop.
     #[inline(always)]
     fn take_stop(&mut self) -> Option<Stop>
         ensures marks { self.new.marks ≡ self.old.marks }
-        ensures some { IfSome result (λ stop.
-            self.old.stops.items ≡ self.new.stops.items ++ stop ∷ []) }
+        ensures all { self.old.stops.items ≡ self.new.stops.items ++ option_to_list result }
         ensures none { IfNone result (self.old.stops.items ≡ []) }
     {
         self.stops.pop()
     }
 
-    /// Puts the stop back, and after it the one that the step leads to.
+    /// Puts the stop back, from which the step leads.
     #[inline(always)]
-    fn go_on(&mut self, stop: Stop, step: Step) -> Result<(), AllocError>
-        requires place { step.place < length self.old.marks }
-        requires cost { step.cost < 2 ^ 16 }
-        requires edge { step.edge + 1 < 2 ^ 64 }
-        ensures marks { OnOk result (self.new.marks ≡ set self.old.marks step.place step.cost) }
-        ensures stops { OnOk result (self.new.stops.items ≡ (self.old.stops.items
-            ++ after_step stop step ∷ []) ++ stop_at step.place step.cost ∷ []) }
+    fn put_back(&mut self, stop: Stop, step: Step) -> Result<(), AllocError>
+        requires { step.edge + 1 < 2 ^ 64 }
+        ensures marks { OnOk result (self.new.marks ≡ self.old.marks) }
+        ensures stops { OnOk result (self.new.stops.items
+            ≡ self.old.stops.items ++ after_step stop step ∷ []) }
     {
-        self.marks.enter(step.place, step.cost);
         self.stops.push(Stop {
             place: stop.place,
             cost: stop.cost,
             next_edge: step.edge + 1,
         })?;
-        self.stops.push(Stop {
+        Ok(())
+    }
+
+    /// Enters the place that the step leads to.
+    #[inline(always)]
+    fn enter(&mut self, step: Step) -> Stop
+        requires place { step.place < length self.old.marks }
+        requires cost { step.cost < 2 ^ 16 }
+        ensures stop { result ≡ stop_at step.place step.cost }
+        ensures marks { self.new.marks ≡ set self.old.marks step.place step.cost }
+        ensures stops { self.new.stops ≡ self.old.stops }
+    {
+        self.marks.enter(step.place, step.cost);
+        Stop {
             place: step.place,
             cost: step.cost,
             next_edge: 0,
-        })?;
-        Ok(())
+        }
     }
 
     /// Writes the places of the stops, and the goal.

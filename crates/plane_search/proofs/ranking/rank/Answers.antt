@@ -1,19 +1,19 @@
 use Rattle.std.proofs.Common.{◌<◌, ◌≤◌, refl, arith}
-use Rattle.plane_search.proofs.Bests.{dearer_plane}
-use Rattle.plane_search.proofs.Rankings.{ranked_in, ranked_out, ranked_sorted}
+use Rattle.plane_search.proofs.Rankings.{ranked_first, ranked_in, ranked_out, ranked_sorted}
 use Rattle.plane_search.proofs.ranking.rank.Goals as goal
-use Rattle.plane_search.proofs.ranking.rank.Goals.{then-not-is_known+in_ok-push, else-not-is_known+else-bound-path}
+use Rattle.plane_search.proofs.ranking.rank.Goals.{then-may_improve+in_ok-push, else-may_improve}
+
+pub loop-track-init : goal.loop-track-init
+loop-track-init g c = ranked_first c.clear.new.self.items c.clear.ensures.items
 
 pub loop-track-preserved : goal.loop-track-preserved
 loop-track-preserved g c =
     let f = g.P.Planes.family c.args.planes.now in
     let track = c.loop-track.track in
     let below : track < f.tracks = omega (arith, c.loop-track-test.true, c.tracks-track-end.ensures.value) in
-    let plane = c.tracks-track-end.ensures.lawful.planes track below in
-    elim c.if-not-is_known.branch [
-      | then-not-is_known+in_ok-push w ↦ rw w.ranking-is (ranked_in track c.loop-track.ranking.items _ _ c.loop-track.invariant w.in_ok-push.ensures.items refl below)
-      | else-not-is_known+else-bound-path w ↦ rw w.ranking-is (ranked_out track _ c.loop-track.invariant w.if-not-is_known.false
-          (dearer_plane f track plane c.args.path.now c.bound-bound.result (c.requires w.if-not-is_known.false) c.bound-bound.ensures w.if-bound-path.false))
+    elim c.if-may_improve.branch [
+      | then-may_improve+in_ok-push w ↦ rw w.ranking-is (ranked_in track c.loop-track.ranking.items _ _ c.loop-track.invariant w.in_ok-push.ensures.items refl below)
+      | else-may_improve w ↦ rw w.ranking-is (ranked_out track _ c.loop-track.invariant (w.if-may_improve.ensures cc))
     ]
 
 pub returns : goal.returns

@@ -1,5 +1,6 @@
+use Rattle.plane_search.specs.Planes.{HoldsNothingLess}
 use Rattle.plane_search.specs.Ranking.{tracks_in, AreRanked}
 use Rattle.plane_search.proofs.ranking.rank.Given as goal
 
 abbrev pub invariant-loop-track : goal.invariant-loop-track
-invariant-loop-track g l = AreRanked (g.P.Planes.family l.planes) l.is_known l.path l.track (tracks_in l.ranking.items)
+invariant-loop-track g l = AreRanked (g.P.Planes.family l.planes) (λ track. HoldsNothingLess (g.P.Planes.family l.planes) track l.path.nodes.items) l.track (tracks_in l.ranking.items)

@@ -1,27 +1,18 @@
-use Rattle.std.proofs.Common.{◌≡◌, ℕ, true, false, ◌++◌, List, ◌∙◌, ap, sym, subst}
-use Rattle.std.specs.List.{Contains}
-use Rattle.std.proofs.lemmas.List.Sorted.{Contains-permutation}
+use Rattle.std.proofs.Common.{refl, sym, subst}
 use Rattle.least_path.specs.declared.path.Path.{Path}
-use Rattle.plane_search.specs.Best.{Improves}
-use Rattle.plane_search.proofs.Starting.{unsorted}
-use Rattle.plane_search.proofs.Bests.{first_of_all, none_of_them}
+use Rattle.plane_search.specs.Planes.{IsLeastOfTrack}
+use Rattle.plane_search.proofs.Embedding.{path_there}
+use Rattle.plane_search.proofs.Bests.{of_track}
 use Rattle.plane_search.proofs.search.TrackSearch.begin.Goals as goal
 
-pub find_nodes-requires-clause-among : goal.find_nodes-requires-clause-among
-find_nodes-requires-clause-among g c =
-    let f = g.P.Planes.family c.args.planes.now in
-    let starts : c.extend_from_slice.new.self.items ≡ f.entries c.args.track = c.in_ok-extend_from_slice.ensures.items ∙ ap (λ (xs : List ℕ). xs ++ c.entries.result.now) c.clear.ensures.items ∙ c.entries.ensures in
-    λ entry h. subst (λ (xs : List ℕ). Contains xs entry) starts (unsorted _ _ c.sort_starts.ensures.same entry h)
+pub number_nodes-requires-clause-there : goal.number_nodes-requires-clause-there
+number_nodes-requires-clause-there g c =
+    let plane = c.tracks-tracks.ensures.lawful.planes c.args.track c.requires in
+    path_there plane c.find_first.new.self.found.nodes.items (c.in_ok-find_first.ensures.found cc).least.found
 
-pub returns-then-branch : goal.returns-then-branch
-returns-then-branch g c =
+pub returns-clause-found : goal.returns-clause-found
+returns-clause-found g c =
     let f = g.P.Planes.family c.args.planes.now in
-    let starts : c.extend_from_slice.new.self.items ≡ f.entries c.args.track = c.in_ok-extend_from_slice.ensures.items ∙ ap (λ (xs : List ℕ). xs ++ c.entries.result.now) c.clear.ensures.items ∙ c.entries.ensures in
-    subst (λ (path : Path). Improves f c.args.track false c.args.path.now true path) (sym c.swap.ensures.x_after)
-    (first_of_all f c.args.track _ (λ entry h. Contains-permutation _ _ entry c.sort_starts.ensures.same (subst (λ (xs : List ℕ). Contains xs entry) (sym starts) h)) c.args.path.now _ (c.in_ok-find_nodes.ensures.found cc))
-
-pub returns-else-branch : goal.returns-else-branch
-returns-else-branch g c =
-    let f = g.P.Planes.family c.args.planes.now in
-    let starts : c.extend_from_slice.new.self.items ≡ f.entries c.args.track = c.in_ok-extend_from_slice.ensures.items ∙ ap (λ (xs : List ℕ). xs ++ c.entries.result.now) c.clear.ensures.items ∙ c.entries.ensures in
-    none_of_them f c.args.track _ (λ entry h. Contains-permutation _ _ entry c.sort_starts.ensures.same (subst (λ (xs : List ℕ). Contains xs entry) (sym starts) h)) c.args.path.now c.args.path.now (c.in_ok-find_nodes.ensures.none cc)
+    let plane = c.tracks-tracks.ensures.lawful.planes c.args.track c.requires in
+    λ _. subst (λ (path : Path). IsLeastOfTrack f c.args.track path) (sym c.swap.ensures.x_after)
+    (of_track plane c.requires c.find_first.new.self.found _ (c.in_ok-find_first.ensures.found cc) refl c.number_nodes.ensures)

@@ -1,10 +1,11 @@
-use Rattle.std.proofs.Common.{ℕ, ◌<◌, List, sym, subst}
-use Rattle.std.specs.List.{All}
-use Rattle.plane_search.proofs.Starting.{among_nodes}
+use Rattle.std.proofs.Common.{ℕ, ◌<◌, List, All, sym, subst}
+use Rattle.plane_search.specs.Starts.{places_of}
+use Rattle.plane_search.specs.declared.planes.Start.{Start}
+use Rattle.plane_search.proofs.Bests.{among_nodes}
 use Rattle.plane_search.proofs.search.TrackSearch.find_at.Goals as goal
 
 pub least_into-requires-clause-starts : goal.least_into-requires-clause-starts
 least_into-requires-clause-starts g c =
     let f = g.P.Planes.family c.args.planes.now in
     let plane = c.tracks-tracks.ensures.lawful.planes c.args.track c.requires.track in
-    subst (λ (starts : List ℕ). All (λ (x : ℕ). x < (f.plane c.args.track).count) starts) (sym c.deref.ensures.value) (among_nodes plane c.args.self.now.starts.items c.requires.among)
+    subst (λ (starts : List Start). All (λ (x : ℕ). x < (f.plane c.args.track).count) (places_of starts)) (sym c.deref.ensures.value) (among_nodes c.requires.listed.1.are plane)

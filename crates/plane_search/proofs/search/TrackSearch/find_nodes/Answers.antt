@@ -5,13 +5,10 @@ use Rattle.plane_search.proofs.search.TrackSearch.find_nodes.Goals as goal
 
 pub number_nodes-requires-clause-there : goal.number_nodes-requires-clause-there
 number_nodes-requires-clause-there g c =
-    let f = g.P.Planes.family c.args.planes.now in
     let plane = c.tracks-tracks.ensures.lawful.planes c.args.track c.requires.track in
-    let on = c.in_ok-find.ensures.found cc in
-    path_there plane c.find.new.self.found.nodes.items (among_path f c.args.track c.args.self.now.starts.items c.requires.among c.find.new.self.found.nodes.items on.least.found)
+    path_there plane c.find.new.self.found.nodes.items (among_path c.requires.listed.are c.find.new.self.found.nodes.items (c.in_ok-find.ensures.found cc).least.found)
 
 pub returns-clause-found : goal.returns-clause-found
 returns-clause-found g c =
     let plane = c.tracks-tracks.ensures.lawful.planes c.args.track c.requires.track in
-    let on = c.in_ok-find.ensures.found cc in
-    λ _. numbered plane c.requires.among c.find.new.self.found _ on refl c.number_nodes.ensures
+    λ _. numbered plane _ (among_path c.requires.listed.are) c.find.new.self.found _ (c.in_ok-find.ensures.found cc) refl c.number_nodes.ensures

@@ -1,17 +1,41 @@
-use Rattle.std.proofs.Common.{Bool, true, sym, subst}
-use Rattle.plane_search.specs.Best.{Improves, IsKnown}
-use Rattle.plane_search.proofs.Bests.{stays_best, dearer_plane}
+use Rattle.std.proofs.Common.{◌∙◌, sym, subst}
+use Rattle.least_path.specs.declared.path.Path.{Path}
+use Rattle.plane_search.specs.Best.{Improves}
+use Rattle.plane_search.proofs.Bests.{stays, gets_less, nothing_less, none_found, here_if_less, here_if_not, less_by}
 use Rattle.plane_search.proofs.search.TrackSearch.improve.Goals as goal
 
-pub returns-in_ok-replace_known : goal.returns-in_ok-replace_known
-returns-in_ok-replace_known g c =
-    let f = g.P.Planes.family c.args.planes.now in
-    subst (λ (b : Bool). Improves f c.args.track b c.args.path.now true c.replace_known.new.path) (sym c.if-not-is_found.false) c.in_ok-replace_known.ensures
+pub returns-then-most-bound : goal.returns-then-most-bound
+returns-then-most-bound g c =
+    let plane = c.tracks-tracks.ensures.lawful.planes c.args.track c.requires.track in
+    λ nodes about later. stays c.args.path.now c.requires.known later
+    (nothing_less plane c.args.path.now c.requires.known c.bound.result _ c.bound.ensures c.if-most-bound.true (c.lesser_limit-most.ensures nodes about later))
 
-pub returns-else-bound-path : goal.returns-else-bound-path
-returns-else-bound-path g c =
+pub returns-then-not-branch : goal.returns-then-not-branch
+returns-then-not-branch g c =
+    let plane = c.tracks-tracks.ensures.lawful.planes c.args.track c.requires.track in
+    λ nodes about later. stays c.args.path.now c.requires.known later
+    (none_found plane c.in_ok-list_in_order.ensures.are c.args.path.now c.requires.known (c.lesser_limit-most.ensures nodes about later) (c.in_ok-find_nodes.ensures.none cc))
+
+pub returns-then-is_less : goal.returns-then-is_less
+returns-then-is_less g c =
     let f = g.P.Planes.family c.args.planes.now in
     let plane = c.tracks-tracks.ensures.lawful.planes c.args.track c.requires.track in
-    let known : IsKnown f c.args.path.now = c.requires.known c.if-not-is_found.false in
-    subst (λ (b : Bool). Improves f c.args.track b c.args.path.now true c.args.path.now) (sym c.if-not-is_found.false)
-    (stays_best f c.args.track c.args.path.now (dearer_plane f c.args.track plane c.args.path.now c.bound.result known c.bound.ensures c.if-bound-path.false))
+    let are = c.in_ok-list_in_order.ensures.are in
+    let found = c.find_nodes.new.self.found in
+    let least = c.in_ok-find_nodes.ensures.found cc in
+    λ nodes about later.
+    let beyond = c.lesser_limit-most.ensures nodes about later in
+    let under = sym (less_by plane are c.args.path.now c.requires.known beyond found least) ∙ c.if-is_less.ensures in
+    subst (λ (path : Path). Improves f c.args.track c.args.known_cost nodes c.args.path.now path) (sym c.swap.ensures.x_after)
+    (gets_less c.args.path.now found least.known later (here_if_less plane are c.args.path.now c.requires.known beyond found least under) c.if-is_less.ensures under)
+
+pub returns-else-is_less : goal.returns-else-is_less
+returns-else-is_less g c =
+    let plane = c.tracks-tracks.ensures.lawful.planes c.args.track c.requires.track in
+    let are = c.in_ok-list_in_order.ensures.are in
+    let found = c.find_nodes.new.self.found in
+    let least = c.in_ok-find_nodes.ensures.found cc in
+    λ nodes about later.
+    let beyond = c.lesser_limit-most.ensures nodes about later in
+    stays c.args.path.now c.requires.known later
+    (here_if_not plane are c.args.path.now c.requires.known beyond found least (λ e. c.if-is_less.ensures (less_by plane are c.args.path.now c.requires.known beyond found least ∙ e)))

@@ -1,0 +1,16 @@
+pub mod Labels
+pub mod Layout
+pub mod Distances
+pub mod Ways
+pub mod Sides
+pub mod Sizes
+pub mod Steps
+pub mod Tables
+pub mod Laid
+pub mod Differences
+pub mod Spots
+pub mod Aheads
+pub mod SideBounds
+pub mod Pins
+pub mod SidePlaces
+pub mod Prices

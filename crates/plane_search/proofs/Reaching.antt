@@ -1,0 +1,257 @@
+-- A pass that enters places, and what each path costs at least when it ends.
+use Rattle.std.proofs.Common.{◌≡◌, ◌≢◌, ℕ, refl, ◌+◌, ◌^◌, ◌<◌, ◌≤◌, ◌⊎◌, List, [], ◌∷◌, length, get_or, set, arith, ◌∙◌, inl, inr, sym, ap, subst, length-set}
+use Rattle.std.specs.List.{sum_by, All, Contains}
+use Rattle.std.proofs.lemmas.Bool.{cases_lt}
+use Rattle.std.proofs.lemmas.List.Elements.{Contains-get_or}
+use Rattle.std.proofs.lemmas.List.Sums.{sum_by-cons, sum_by-set}
+use Rattle.least_path.specs.Graph.{Graph, IsLawful}
+use Rattle.least_path.specs.Path.{Leads}
+use Rattle.plane_search.specs.Walk.{CostsAtLeast, IsUnfit, AreNoCheaper}
+use Rattle.plane_search.specs.Reach.{IsIn, IsKeyed, IsOpen, IsFollowed, IsReaching, IsUnderWay, IsFollowing, IsBeginning, IsAdded, IsRemoved, AreSame, measure_of}
+use Rattle.plane_search.specs.declared.reach.Open.{Open}
+use Rattle.plane_search.proofs.Members.{at_index, below_next}
+use Rattle.plane_search.proofs.Parting.{no_entry}
+use Rattle.plane_search.proofs.Walking.{cost_cases, end_within, least_on}
+
+-- ---- marks and limits that fall
+
+unfit_on : (g : Graph) (goal limit low node cost : ℕ) (entered new : List ℕ) → low ≤ limit → get_or new node 0 ≤ get_or entered node 0 → IsUnfit g goal limit entered node cost → IsUnfit g goal low new node cost
+unfit_on g goal limit low node cost entered new l falls (inl reached) = inl (omega (arith, falls, reached))
+unfit_on g goal limit low node cost entered new l falls (inr more) = inr (λ rest leads. omega (arith, l, more rest leads))
+
+set_falls : (entered : List ℕ) (place cost node : ℕ) → place < length entered → cost ≤ get_or entered place 0 → get_or (set entered place cost) node 0 ≤ get_or entered node 0
+set_falls entered place cost node l le = elim (cost_cases entered place node cost l) [
+  | inl s ↦ omega (arith, s.1, le, ap (λ (v : ℕ). get_or entered v 0) s.0)
+  | inr o ↦ omega (arith, o.1)
+]
+
+followed_on : (g : Graph) (goal limit low node cost : ℕ) (entered new : List ℕ) → low ≤ limit → ((v : ℕ) → get_or new v 0 ≤ get_or entered v 0) → IsFollowed g goal limit entered node cost → IsFollowed g goal low new node cost
+followed_on g goal limit low node cost entered new l falls followed end c = unfit_on g goal limit low end (cost + g.cost end) entered new l (falls end) (followed end c)
+
+reaching_below : {g : Graph} {starts : List ℕ} {goal limit at : ℕ} {entered : List ℕ} {Has : Open → Type 0} (low : ℕ) → low ≤ limit → IsReaching g starts goal limit at entered Has → IsReaching g starts goal low at entered Has
+reaching_below {g} {starts} {goal} {limit} {at} {entered} {Has} low l w = record {
+  room = w.room;
+  other = w.other;
+  keyed = w.keyed;
+  sound = w.sound;
+  done = λ node b s. elim (w.done node b s) [
+    | inl d ↦ inl (elim d [ inl item ↦ inl item | inr followed ↦ inr (followed_on g goal limit low node (get_or entered node 0) entered entered l (λ v. omega arith) followed) ])
+    | inr e ↦ inr e
+  ];
+}
+
+-- ---- one more place is entered
+
+module _ {g : Graph} {starts : List ℕ} {goal limit at : ℕ} {entered : List ℕ} {next later new_next new_later : List Open} (place cost key : ℕ) (w : IsReaching g starts goal limit at entered (IsIn next later)) (b : place < g.count) (other : place ≢ goal)
+    (less : cost ≤ get_or entered place 0) (sound : (best : ℕ) → AreNoCheaper g goal best starts → CostsAtLeast g goal best place cost) (least : CostsAtLeast g goal key place cost) (added : IsAdded next later (record { place = place; cost = cost; key = key }) new_next new_later) where
+  inside : place < length entered
+  inside = omega (arith, b, w.room)
+
+  pub enters : IsReaching g starts goal limit at (set entered place cost) (IsIn new_next new_later)
+  enters = record {
+    room = omega (arith, w.room, length-set entered place cost);
+    other = elim (cost_cases entered place goal cost inside) [
+      | inl s ↦ absurd (other (sym s.0))
+      | inr o ↦ omega (arith, o.1, w.other)
+    ];
+    keyed = λ item has. elim (added.only item has) [
+      | inl old ↦ w.keyed item old
+      | inr e ↦ subst (λ (o : Open). IsKeyed g goal o) (sym e) (record { within = b; least = least })
+    ];
+    sound = λ best cheap node c small. elim (cost_cases entered place node cost inside) [
+      | inl s ↦ subst (λ (d : ℕ). CostsAtLeast g goal best node d) (sym s.1) (subst (λ (v : ℕ). CostsAtLeast g goal best v cost) (sym s.0) (sound best cheap))
+      | inr o ↦ subst (λ (d : ℕ). CostsAtLeast g goal best node d) (sym o.1) (w.sound best cheap node c (omega (arith, small, o.1)))
+    ];
+    done = λ node c small. elim (cost_cases entered place node cost inside) [
+      | inl s ↦ inl (inl (record { place = place; cost = cost; key = key }, added.here, sym s.0, sym s.1))
+      | inr o ↦ subst (λ (d : ℕ). (IsOpen (IsIn new_next new_later) node d ⊎ IsFollowed g goal limit (set entered place cost) node d) ⊎ (node ≡ at)) (sym o.1)
+          (elim (w.done node c (omega (arith, small, o.1))) [
+            | inl d ↦ inl (elim d [
+              | inl item ↦ inl (item.0, added.kept item.0 item.1, item.2, item.3)
+              | inr followed ↦ inr (followed_on g goal limit limit node (get_or entered node 0) entered (set entered place cost) (omega arith) (λ v. set_falls entered place cost v inside less) followed)
+            ])
+            | inr e ↦ inr e
+          ])
+    ];
+  }
+
+pub measure_falls : (entered : List ℕ) (place cost : ℕ) (next later new_next new_later : List Open) → place < length entered → cost < get_or entered place 0 → length new_next + length new_later ≡ length next + length later + 1 → measure_of (set entered place cost) new_next new_later ≤ measure_of entered next later
+measure_falls entered place cost next later new_next new_later b lower size = omega (arith, sum_by-set (λ (c : ℕ). c) entered place cost 0 b, lower, size)
+
+-- ---- the starts
+
+-- no place is entered yet
+pub beginning : {g : Graph} {starts : List ℕ} {goal limit : ℕ} {entered : List ℕ} {next later : List Open} → g.count ≤ length entered → goal < g.count → All (λ (cost : ℕ). 2 ^ 16 ≤ cost) entered → next ≡ [] → later ≡ [] → IsBeginning g starts goal limit 0 entered next later
+beginning {g} {starts} {goal} {limit} {entered} room b all e f = record {
+  first = λ k l. absurd (omega (arith, l));
+  reaching = record {
+    room = room;
+    other = all goal 0 (omega (arith, b, room));
+    keyed = λ item has. elim has [ inl c ↦ absurd (no_entry e c) | inr c ↦ absurd (no_entry f c) ];
+    sound = λ best cheap node c small. absurd (omega (arith, small, all node 0 (omega (arith, c, room))));
+    done = λ node c small. absurd (omega (arith, small, all node 0 (omega (arith, c, room))));
+  };
+}
+
+pub start_passed : {g : Graph} {starts : List ℕ} {goal limit k : ℕ} {entered : List ℕ} {next later : List Open} → IsUnfit g goal limit entered (get_or starts k 0) 0 → IsBeginning g starts goal limit k entered next later → IsBeginning g starts goal limit (k + 1) entered next later
+start_passed {g} {starts} {goal} {limit} {k} {entered} unfit w = record { first = below_next (λ (i : ℕ). IsUnfit g goal limit entered (get_or starts i 0) 0) k w.first unfit; reaching = w.reaching }
+
+pub start_entered : {g : Graph} {starts : List ℕ} {goal limit k : ℕ} {entered : List ℕ} {next later new_next new_later : List Open} (start key : ℕ) → get_or starts k 0 ≡ start → Contains starts start → start < g.count → start ≢ goal → CostsAtLeast g goal key start 0
+    → IsAdded next later (record { place = start; cost = 0; key = key }) new_next new_later → IsBeginning g starts goal limit k entered next later → IsBeginning g starts goal limit (k + 1) (set entered start 0) new_next new_later
+start_entered {g} {starts} {goal} {limit} {k} {entered} start key is among b other least added w =
+    let inside : start < length entered = omega (arith, b, w.reaching.room) in
+    record {
+      first = below_next (λ (i : ℕ). IsUnfit g goal limit (set entered start 0) (get_or starts i 0) 0) k
+          (λ i l. unfit_on g goal limit limit (get_or starts i 0) 0 entered (set entered start 0) (omega arith) (set_falls entered start 0 (get_or starts i 0) inside (omega arith)) (w.first i l))
+          (elim (cost_cases entered start (get_or starts k 0) 0 inside) [ inl s ↦ inl (omega (arith, s.1)) | inr o ↦ absurd (o.0 is) ]);
+      reaching = enters start 0 key w.reaching b other (omega arith) (λ best cheap. cheap start among) least added;
+    }
+
+pub begun : {g : Graph} {starts : List ℕ} {goal limit k : ℕ} {entered : List ℕ} {next later : List Open} → length starts ≤ k → IsBeginning g starts goal limit k entered next later → IsUnderWay g starts goal limit entered next later
+begun {g} {starts} {goal} {limit} {k} {entered} all w = record {
+  begun = λ start c. (let at = at_index starts start c in subst (λ (x : ℕ). IsUnfit g goal limit entered x 0) at.2 (w.first at.0 (omega (arith, at.1, all))));
+  reaching = w.reaching;
+}
+
+-- ---- the edges of a place
+
+pub end_passed : {g : Graph} {starts : List ℕ} {goal limit k : ℕ} {item : Open} {entered : List ℕ} {next later : List Open} (place low : ℕ) → low ≤ limit → get_or (g.ends item.place) k 0 ≡ place → IsUnfit g goal low entered place (item.cost + g.cost place) → IsFollowing g starts goal limit item k entered next later
+    → IsFollowing g starts goal low item (k + 1) entered next later
+end_passed {g} {starts} {goal} {limit} {k} {item} {entered} place low l is unfit w = record {
+  begun = λ start c. unfit_on g goal limit low start 0 entered entered l (omega arith) (w.begun start c);
+  reaching = reaching_below low l w.reaching;
+  within = w.within;
+  here = w.here;
+  first = below_next (λ (i : ℕ). IsUnfit g goal low entered (get_or (g.ends item.place) i 0) (item.cost + g.cost (get_or (g.ends item.place) i 0))) k
+      (λ i b. unfit_on g goal limit low (get_or (g.ends item.place) i 0) (item.cost + g.cost (get_or (g.ends item.place) i 0)) entered entered l (omega arith) (w.first i b))
+      (subst (λ (v : ℕ). IsUnfit g goal low entered v (item.cost + g.cost v)) (sym is) unfit);
+}
+
+pub end_entered : {g : Graph} {starts : List ℕ} {goal limit k : ℕ} {item : Open} {entered : List ℕ} {next later new_next new_later : List Open} → IsLawful g → (place cost key : ℕ) → cost ≡ item.cost + g.cost place → k < length (g.ends item.place) → get_or (g.ends item.place) k 0 ≡ place → place < g.count → place ≢ goal
+    → cost < get_or entered place 0 → cost < 2 ^ 16 → CostsAtLeast g goal key place cost → IsAdded next later (record { place = place; cost = cost; key = key }) new_next new_later → IsFollowing g starts goal limit item k entered next later
+    → IsFollowing g starts goal limit item (k + 1) (set entered place cost) new_next new_later
+end_entered {g} {starts} {goal} {limit} {k} {item} {entered} law place cost key sum within is b other less small least added w =
+    let inside : place < length entered = omega (arith, b, w.reaching.room) in
+    let among : Contains (g.ends item.place) place = subst (λ (x : ℕ). Contains (g.ends item.place) x) is (Contains-get_or (g.ends item.place) k 0 within) in
+    let falls : (v : ℕ) → get_or (set entered place cost) v 0 ≤ get_or entered v 0 = λ v. set_falls entered place cost v inside (omega (arith, less)) in
+    let still : get_or (set entered place cost) item.place 0 ≡ item.cost = elim (cost_cases entered place item.place cost inside) [
+      | inl s ↦ absurd (omega (arith, less, sum, w.here, ap (λ (v : ℕ). get_or entered v 0) s.0, law.cost_from place b))
+      | inr o ↦ o.1 ∙ w.here
+    ] in
+    let from : (best : ℕ) → AreNoCheaper g goal best starts → CostsAtLeast g goal best item.place item.cost = λ best cheap. subst (λ (d : ℕ). CostsAtLeast g goal best item.place d) w.here (w.reaching.sound best cheap item.place w.within (omega (arith, w.here, small, sum))) in
+    record {
+      begun = λ start c. unfit_on g goal limit limit start 0 entered (set entered place cost) (omega arith) (falls start) (w.begun start c);
+      reaching = enters place cost key w.reaching b other (omega (arith, less))
+          (λ best cheap. subst (λ (d : ℕ). CostsAtLeast g goal best place d) (sym sum) (least_on g goal best item.place item.cost place among (from best cheap))) least added;
+      within = w.within;
+      here = still;
+      first = below_next (λ (i : ℕ). IsUnfit g goal limit (set entered place cost) (get_or (g.ends item.place) i 0) (item.cost + g.cost (get_or (g.ends item.place) i 0))) k
+          (λ i l. unfit_on g goal limit limit (get_or (g.ends item.place) i 0) (item.cost + g.cost (get_or (g.ends item.place) i 0)) entered (set entered place cost) (omega arith) (falls (get_or (g.ends item.place) i 0)) (w.first i l))
+          (subst (λ (v : ℕ). IsUnfit g goal limit (set entered place cost) v (item.cost + g.cost v)) (sym is)
+          (elim (cost_cases entered place place cost inside) [ inl s ↦ inl (omega (arith, s.1, sum)) | inr o ↦ absurd (o.0 refl) ]));
+    }
+
+pub all_followed : {g : Graph} {starts : List ℕ} {goal limit k : ℕ} {item : Open} {entered : List ℕ} {next later : List Open} → length (g.ends item.place) ≤ k → IsFollowing g starts goal limit item k entered next later → IsUnderWay g starts goal limit entered next later
+all_followed {g} {starts} {goal} {limit} {k} {item} {entered} all w = record {
+  begun = w.begun;
+  reaching = record {
+    room = w.reaching.room;
+    other = w.reaching.other;
+    keyed = w.reaching.keyed;
+    sound = w.reaching.sound;
+    done = λ node b s. elim (w.reaching.done node b s) [
+      | inl d ↦ inl d
+      | inr e ↦ inl (inr (here node e))
+    ];
+  };
+}
+  where
+    ends_done : IsFollowed g goal limit entered item.place item.cost
+    ends_done end c = let at = at_index (g.ends item.place) end c in subst (λ (x : ℕ). IsUnfit g goal limit entered x (item.cost + g.cost x)) at.2 (w.first at.0 (omega (arith, at.1, all)))
+
+    here : (node : ℕ) → node ≡ item.place → IsFollowed g goal limit entered node (get_or entered node 0)
+    here node e = subst (λ (v : ℕ). IsFollowed g goal limit entered v (get_or entered v 0)) (sym e) (subst (λ (c : ℕ). IsFollowed g goal limit entered item.place c) (sym w.here) ends_done)
+
+-- ---- an entry is taken
+
+taken_done : {g : Graph} {starts : List ℕ} {goal limit : ℕ} {item : Open} {entered : List ℕ} {next later new_next new_later : List Open} → IsRemoved next later item new_next new_later → IsUnderWay g starts goal limit entered next later → (node : ℕ) → node < g.count → get_or entered node 0 < 2 ^ 16
+    → (IsOpen (IsIn new_next new_later) node (get_or entered node 0) ⊎ IsFollowed g goal limit entered node (get_or entered node 0)) ⊎ ((item.place ≡ node) × (item.cost ≡ get_or entered node 0))
+taken_done taken w node b s = elim (w.reaching.done node b s) [
+  | inl d ↦ elim d [
+    | inl o ↦ elim (taken.kept o.0 o.1) [
+      | inl has ↦ inl (inl (o.0, has, o.2, o.3))
+      | inr e ↦ inr (ap (λ (x : Open). x.place) (sym e) ∙ o.2, ap (λ (x : Open). x.cost) (sym e) ∙ o.3)
+    ]
+    | inr followed ↦ inl (inr followed)
+  ]
+  | inr e ↦ absurd (omega (arith, e, b))
+]
+
+-- The entry is up to date: its edges are followed next.
+pub taken_next : {g : Graph} {starts : List ℕ} {goal limit : ℕ} {item : Open} {entered : List ℕ} {next later new_next new_later : List Open} → IsRemoved next later item new_next new_later → item.cost ≡ get_or entered item.place 0 → IsUnderWay g starts goal limit entered next later
+    → IsFollowing g starts goal limit item 0 entered new_next new_later
+taken_next {g} {starts} {goal} {limit} {item} {entered} taken same w = record {
+  begun = w.begun;
+  reaching = record {
+    room = w.reaching.room;
+    other = w.reaching.other;
+    keyed = λ o has. w.reaching.keyed o (taken.only o has);
+    sound = w.reaching.sound;
+    done = λ node b s. elim (taken_done taken w node b s) [ inl d ↦ inl d | inr e ↦ inr (sym e.0) ];
+  };
+  within = (w.reaching.keyed item taken.here).within;
+  here = sym same;
+  first = λ k l. absurd (omega (arith, l));
+}
+
+-- The entry is outdated.
+pub taken_over : {g : Graph} {starts : List ℕ} {goal limit : ℕ} {item : Open} {entered : List ℕ} {next later new_next new_later : List Open} → IsRemoved next later item new_next new_later → item.cost ≢ get_or entered item.place 0 → IsUnderWay g starts goal limit entered next later
+    → IsUnderWay g starts goal limit entered new_next new_later
+taken_over {g} {starts} {goal} {limit} {item} {entered} taken other w = record {
+  begun = w.begun;
+  reaching = record {
+    room = w.reaching.room;
+    other = w.reaching.other;
+    keyed = λ o has. w.reaching.keyed o (taken.only o has);
+    sound = w.reaching.sound;
+    done = λ node b s. elim (taken_done taken w node b s) [ inl d ↦ inl d | inr e ↦ absurd (other (e.1 ∙ ap (λ (v : ℕ). get_or entered v 0) (sym e.0))) ];
+  };
+}
+
+-- The entries are moved.
+pub moved : {g : Graph} {starts : List ℕ} {goal limit : ℕ} {entered : List ℕ} {next later new_next new_later : List Open} → AreSame next later new_next new_later → IsUnderWay g starts goal limit entered next later → IsUnderWay g starts goal limit entered new_next new_later
+moved {g} {starts} {goal} {limit} {entered} same w = record {
+  begun = w.begun;
+  reaching = record {
+    room = w.reaching.room;
+    other = w.reaching.other;
+    keyed = λ item has. w.reaching.keyed item (same.only item has);
+    sound = w.reaching.sound;
+    done = λ node b s. elim (w.reaching.done node b s) [
+      | inl d ↦ inl (elim d [ inl o ↦ inl (o.0, same.kept o.0 o.1, o.2, o.3) | inr followed ↦ inr followed ])
+      | inr e ↦ inr e
+    ];
+  };
+}
+
+-- ---- the end
+
+module _ {g : Graph} {starts : List ℕ} {goal limit least : ℕ} {entered : List ℕ} {next later : List Open} (law : IsLawful g) (small : limit < 2 ^ 16) (w : IsUnderWay g starts goal limit entered next later) (low : least ≤ limit + 1) (keys : (item : Open) → IsIn next later item → least ≤ item.key) where
+  dear : (node cost : ℕ) (rest : List ℕ) → node < g.count → IsUnfit g goal limit entered node cost → Leads g goal node rest → least ≤ cost + sum_by g.cost rest
+  dear node cost rest b (inr more) leads = omega (arith, more rest leads, low)
+  dear node cost [] b (inl reached) leads = omega (arith, reached, w.reaching.other, ap (λ (v : ℕ). get_or entered v 0) leads, low, small)
+  dear node cost (x ∷ rest) b (inl reached) leads = elim (cases_lt (get_or entered node 0) (2 ^ 16)) [
+    | inl s ↦ elim (w.reaching.done node b s) [
+      | inl d ↦ elim d [
+        | inl o ↦
+            (let keyed : CostsAtLeast g goal o.0.key node (get_or entered node 0) = subst (λ (c : ℕ). CostsAtLeast g goal o.0.key node c) o.3 (subst (λ (v : ℕ). CostsAtLeast g goal o.0.key v o.0.cost) o.2 (w.reaching.keyed o.0 o.1).least) in
+            omega (arith, keys o.0 o.1, keyed (x ∷ rest) leads, reached))
+        | inr followed ↦ omega (arith, dear x (get_or entered node 0 + g.cost x) rest (end_within g law node x b leads.0) (followed x leads.0) leads.1, sum_by-cons g.cost x rest, reached)
+      ]
+      | inr e ↦ absurd (omega (arith, e, b))
+    ]
+    | inr big ↦ omega (arith, big, reached, small, low)
+  ]
+
+  pub none_cheaper : ((start : ℕ) → Contains starts start → start < g.count) → AreNoCheaper g goal least starts
+  none_cheaper within start c rest leads = dear start 0 rest (within start c) (w.begun start c) leads

@@ -1,0 +1,9 @@
+use Rattle.std.proofs.Common.{◌∷◌, ◌++◌, [], List, ap, ◌∙◌}
+use Rattle.plane_search.specs.declared.planes.Start.{Start}
+use Rattle.plane_tests.proofs.TwoLanes.{the_starts}
+use Rattle.plane_tests.proofs.lanes.LanesPlanes.list_starts.Goals as goal
+
+pub returns : goal.returns
+returns c =
+    the_starts c.args.self.now.factor c.args._track c.args._most _
+    (c.in_ok-push.ensures.items ∙ ap (λ (xs : List Start). xs ++ record { place = 0; ahead = 1 } ∷ []) c.clear.ensures.items)
