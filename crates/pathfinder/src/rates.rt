@@ -1,4 +1,4 @@
-//! What all nodes are, and the parts of their costs in an iteration that don't depend on the trees.
+//! The parts of all nodes' costs in an iteration that don't depend on the trees.
 ghost use Rattle.std.specs.Prelude.{◌≡◌, ◌<◌, ◌^◌, IfOk};
 ghost use Rattle.rr_graph.specs.Geometry.{capacity_of};
 ghost use Rattle.rr_graph.specs.Graph.{graph_of};
@@ -37,7 +37,8 @@ pub(crate) fn rates_of<G: StripGraph>(
     for node in 0..history.len() {
         let place = graph.node(node);
         let capacity = capacity_at(graph, node, place);
-        rates.push(NodeCost::new(place, 1 + history[node], capacity))?;
+        let factor = 1 + history[node];
+        rates.push(NodeCost { factor, capacity })?;
     }
     Ok(rates)
 }

@@ -40,7 +40,7 @@ mod ways;
 pub use edges::Edges;
 pub use fabric::Fabric;
 pub use graph::{EdgeEnds, Numbers, StripGraph, one_graph};
-pub use joins::sides_at;
+pub use joins::{is_together, meets, sides_at};
 pub use laws::{laws_of_geometry, laws_of_ways};
 pub use node::{Node, NodeKind};
 pub use part::GraphPart;

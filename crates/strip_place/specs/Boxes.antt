@@ -1,5 +1,5 @@
 -- Private: the bounding boxes of nets whose blocks are at points.
-use Rattle.std.specs.Prelude.{ℕ, ◌≡◌, ◌≢◌, ◌+◌, ◌-◌, ◌*◌, ◌<◌, ◌≤◌, ◌==◌, List, length, map, take, sum_by, slice_index, if◌then◌else◌}
+use Rattle.std.specs.Prelude.{ℕ, ◌≡◌, ◌≢◌, ◌+◌, ◌-◌, ◌*◌, ◌<◌, ◌≤◌, ◌^◌, ◌==◌, List, length, map, take, sum_by, slice_index, if◌then◌else◌}
 use Rattle.std.specs.List.{slice_index_or}
 use Rattle.strip_place.specs.declared.boxes.Move.{Move}
 use Rattle.strip_place.specs.declared.net_box.NetBox.{NetBox}
@@ -144,7 +144,7 @@ pub record AreBothRenewed (points : List Point) (nets : List (List ℕ)) (first 
 
 -- the numbers are those of nets, and their count is within the limit
 pub record AreFewOf (count : ℕ) (touched : List ℕ) : Type 0 where
-  pub few : length touched ≤ 2147483648
+  pub few : length touched < 2 ^ 14
   pub within : (k : ℕ) → k < length touched → slice_index touched k < count
 
 -- no box is larger than the field

@@ -32,7 +32,7 @@ pub record AreNets (count : ℕ) (nets : List (List ℕ)) : Type 0 where
   pub within : (number : ℕ) → number < length nets → All (λ block. block < count) (net_at nets number)
   pub once : (number block : ℕ) → number < length nets → times_on block (net_at nets number) ≤ 1
   pub short : (number : ℕ) → number < length nets → length (net_at nets number) + 2 < 2 ^ 16
-  pub few : length nets < 2 ^ 31
+  pub few : length nets < 2 ^ 14
 
 -- the numbers of the nets that the block is on, in increasing order
 pub record AreTouched (nets : List (List ℕ)) (block : ℕ) (touched : List ℕ) : Type 0 where

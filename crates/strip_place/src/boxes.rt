@@ -4,10 +4,10 @@ ghost use Rattle.strip_place.specs.Boxes.{AreBothRenewed, AreRenewed, AreTouched
 ghost use Rattle.strip_place.specs.Nets.{IsNetOf};
 ghost use Rattle.strip_place.specs.Sides.{sum_of};
 
-use crate::net_box::NetBox;
-use crate::point::Point;
+use crate::lists::Lists;
+use crate::net_box::{NetBox, rest};
+use crate::point::{FAR, Point};
 use crate::sides::Sides;
-use rows::Rows;
 
 /// The box of a net with more blocks than this is updated from the box before, if possible.
 const FEW_BLOCKS: usize = 12;
@@ -20,7 +20,8 @@ pub(crate) struct Lengths {
 }
 
 /// The total length of the nets with these numbers, and a lower bound of it after a block on each
-/// of them moves.
+/// of them moves. Each side has sums of its own, so that the compiler keeps the sums of all four in
+/// one vector register.
 pub(crate) fn weigh(boxes: &[NetBox], touched: &[u32], from: Sides, to: Sides) -> Lengths
     requires touched { CanWeigh boxes.now touched.now }
     requires to { sum_of to ≤ 131070 }
@@ -29,16 +30,30 @@ pub(crate) fn weigh(boxes: &[NetBox], touched: &[u32], from: Sides, to: Sides) -
     ensures before_small { result.before ≤ 131072 * length touched.now }
     ensures after_small { result.after ≤ 131072 * length touched.now }
 {
-    let mut lengths = Lengths {
-        before: 0,
-        after: 0,
-    };
+    let mut left = 0;
+    let mut right = 0;
+    let mut bottom = 0;
+    let mut top = 0;
+    let mut new_left = 0;
+    let mut new_right = 0;
+    let mut new_bottom = 0;
+    let mut new_top = 0;
     for number in touched {
-        let found = boxes[*number as usize];
-        lengths.before += u64::from(found.half_perimeter());
-        lengths.after += u64::from(found.half_after(from, to));
+        let found = &boxes[*number as usize];
+        left += u32::from(found.left);
+        right += u32::from(found.right);
+        bottom += u32::from(found.bottom);
+        top += u32::from(found.top);
+        new_left += u32::from(rest(found.left, found.next_left, from.left).min(to.left));
+        new_right += u32::from(rest(found.right, found.next_right, from.right).min(to.right));
+        new_bottom += u32::from(rest(found.bottom, found.next_bottom, from.bottom).min(to.bottom));
+        new_top += u32::from(rest(found.top, found.next_top, from.top).min(to.top));
     }
-    lengths
+    let field = 2 * u64::from(FAR) * touched.len() as u64;
+    Lengths {
+        before: field - u64::from(left + right + bottom + top),
+        after: field - u64::from(new_left + new_right + new_bottom + new_top),
+    }
 }
 
 /// The total length of all nets.
@@ -64,7 +79,7 @@ pub(crate) struct Move {
 /// and a block of those on the second made the opposite move. Returns their total length.
 pub(crate) fn renew_both(
     boxes: &mut [NetBox],
-    nets: &Rows,
+    nets: &Lists,
     points: &[Point],
     first: &[u32],
     second: &[u32],
@@ -85,7 +100,7 @@ pub(crate) fn renew_both(
 /// block on each of the others made the opposite move. Returns their total length.
 fn renew(
     boxes: &mut [NetBox],
-    nets: &Rows,
+    nets: &Lists,
     points: &[Point],
     touched: &[u32],
     others: &[u32],

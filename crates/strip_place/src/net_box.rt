@@ -2,7 +2,7 @@
 ghost use Rattle.std.specs.Prelude.{◌≡◌, ◌<◌, ◌≤◌, ⊤, MatchBool, length};
 ghost use Rattle.strip_place.specs.Nets.{IsNetOf};
 ghost use Rattle.strip_place.specs.Sides.{sum_of};
-ghost use Rattle.strip_place.specs.Boxes.{IsBox, IsDeep, half_after, half_of, near_of, rest, with_block};
+ghost use Rattle.strip_place.specs.Boxes.{IsBox, IsDeep, half_of, near_of, rest, with_block};
 
 use crate::point::{FAR, Point};
 use crate::sides::Sides;
@@ -76,21 +76,6 @@ impl NetBox {
                 + u32::from(self.top))
     }
 
-    /// A lower bound of the width plus the height after a block of the net moves, also if another
-    /// of its blocks makes the opposite move.
-    pub(crate) fn half_after(self, from: Sides, to: Sides) -> u32
-        requires { sum_of to ≤ 131070 }
-        ensures value { result ≡ half_after self from to }
-        ensures small { result < 131072 }
-    {
-        let left = rest(self.left, self.next_left, from.left).min(to.left);
-        let right = rest(self.right, self.next_right, from.right).min(to.right);
-        let bottom = rest(self.bottom, self.next_bottom, from.bottom).min(to.bottom);
-        let top = rest(self.top, self.next_top, from.top).min(to.top);
-        2 * u32::from(FAR)
-            - (u32::from(left) + u32::from(right) + u32::from(bottom) + u32::from(top))
-    }
-
     /// Whether a block at these distances is farther from each side than the two nearest that are
     /// kept there.
     pub(crate) fn is_deep(self, block: Sides) -> bool
@@ -120,7 +105,7 @@ impl NetBox {
 }
 
 /// The nearest distance after a block at distance `gone` is removed.
-fn rest(near: u16, next: u16, gone: u16) -> u16
+pub(crate) fn rest(near: u16, next: u16, gone: u16) -> u16
     ensures { result ≡ rest near next gone }
 {
     if near == gone { next } else { near }

@@ -1,0 +1,126 @@
+-- The wires of a row have consecutive numbers, track by track, and places in their order.
+use Rattle.std.proofs.Common.{◌≡◌, ℕ, zero, suc, ◌+◌, ◌<◌, ◌≤◌, refl, sym, ap, ◌∙◌, subst, inl, inr, arith, true}
+use Rattle.std.proofs.lemmas.Bool.{cases_eq, cases_lt, eq-eqb}
+use Rattle.rr_graph.specs.declared.node.NodeKind.{NodeKind}
+use Rattle.rr_graph.specs.declared.node.NodeKind.TheVariants.{Source, Sink, Opin, Ipin, ChanX, ChanY}
+use Rattle.rr_graph.specs.declared.node.Node.{Node}
+use Rattle.rr_graph.specs.Node.{IsBefore, rank_of}
+use Rattle.rr_graph.specs.Geometry.{IsWire, is_node}
+use Rattle.rr_graph.specs.Graph.{Basis, IsBasis, graph_of, make_node}
+use Rattle.fabric_planes.specs.Layout.{Terminals, place_of, place_count, shows}
+use Rattle.fabric_planes.proofs.Ends.{level_facts, upright_facts, level_there, upright_there}
+use Rattle.fabric_planes.proofs.Strips.{lawful, low, place_order, before_number}
+
+before_column : (a b : Node) → IsBefore a b → a.x ≤ b.x
+before_column a b (inl l) = omega (arith, l)
+before_column a b (inr (e, more)) = omega (arith, e)
+
+before_kind : (a b : Node) → IsBefore a b → a.x ≡ b.x → rank_of a.kind ≤ rank_of b.kind
+before_kind a b (inl l) x = absurd (omega (arith, l, x))
+before_kind a b (inr (e, inl l)) x = omega (arith, l)
+before_kind a b (inr (e, inr (f, more))) x = omega (arith, f)
+
+before_row : (a b : Node) → IsBefore a b → a.x ≡ b.x → rank_of a.kind ≡ rank_of b.kind → a.y ≤ b.y
+before_row a b (inl l) x k = absurd (omega (arith, l, x))
+before_row a b (inr (e, inl l)) x k = absurd (omega (arith, l, k))
+before_row a b (inr (e, inr (f, inl l))) x k = omega (arith, l)
+before_row a b (inr (e, inr (f, inr (g, l)))) x k = omega (arith, g)
+
+-- nothing is between two wires of a row whose tracks follow one another
+nothing_between : (a b c : Node) → a.x ≡ c.x → rank_of a.kind ≡ rank_of c.kind → a.y ≡ c.y → a.n + 1 ≡ c.n → IsBefore a b → IsBefore b c → ⊥
+nothing_between a b c x k y n before after =
+    let xs : a.x ≡ b.x = omega (arith, before_column a b before, before_column b c after, x) in
+    let xt : b.x ≡ c.x = omega (arith, xs, x) in
+    let ks : rank_of a.kind ≡ rank_of b.kind = omega (arith, before_kind a b before xs, before_kind b c after xt, k) in
+    let kt : rank_of b.kind ≡ rank_of c.kind = omega (arith, ks, k) in
+    let ys : a.y ≡ b.y = omega (arith, before_row a b before xs ks, before_row b c after xt kt, y) in
+    let yt : b.y ≡ c.y = omega (arith, ys, y) in
+    omega (arith, before_number a b xs ks ys before, before_number b c xt kt yt after, n)
+
+-- a node does not come after one with a greater number
+not_after : (a b : Node) → a.x ≡ b.x → rank_of a.kind ≡ rank_of b.kind → a.y ≡ b.y → a.n < b.n → IsBefore b a → ⊥
+not_after a b x k y n before = omega (arith, before_number b a (sym x) (sym k) (sym y) before, n)
+
+not_itself : (a : Node) → IsBefore a a → ⊥
+not_itself a before = omega (arith, before_number a a refl refl refl before)
+
+-- the wire of another track at the same place is a node, too
+on_track : (basis : Basis) (kind : NodeKind) (x y n m : ℕ) → IsWire kind → m ≤ n → is_node basis.arch basis.strip (make_node x kind y n) ≡ true → is_node basis.arch basis.strip (make_node x kind y m) ≡ true
+on_track basis Source x y n m w l h = absurd w
+on_track basis Sink x y n m w l h = absurd w
+on_track basis Opin x y n m w l h = absurd w
+on_track basis Ipin x y n m w l h = absurd w
+on_track basis ChanX x y n m w l h =
+    let f = level_facts basis x y n h in level_there basis x y m (record { from = f.from; to = f.to; row = f.row; track = omega (arith, l, f.track) })
+on_track basis ChanY x y n m w l h =
+    let f = upright_facts basis x y n h in upright_there basis x y m (record { from = f.from; to = f.to; row = f.row; track = omega (arith, l, f.track) })
+
+-- the first wire of a row, and the distance to a given one
+pub record IsFirstOf (basis : Basis) (number : ℕ) (wire : Node) : Type 0 where
+  pub first : ℕ
+  pub within : first < (graph_of basis).count
+  pub is : (graph_of basis).node first ≡ make_node wire.x wire.kind wire.y 0
+  pub apart : first + wire.n ≡ number
+
+module _ {basis : Basis} (is : IsBasis basis) where
+  abbrev node : ℕ → Node
+  node = (graph_of basis).node
+
+  pub same_number : (i j : ℕ) → i < (graph_of basis).count → j < (graph_of basis).count → node i ≡ node j → i ≡ j
+  same_number i j bi bj e = elim (cases_eq i j) [
+    | inl same ↦ same
+    | inr other ↦ elim (cases_lt i j) [
+      | inl l ↦ absurd (not_itself (node j) (subst (λ (v : Node). IsBefore v (node j)) e ((lawful is).ordered i j l bj)))
+      | inr l ↦ (let m : j < i = omega (arith, l, other) in absurd (not_itself (node j) (subst (λ (v : Node). IsBefore (node j) v) e ((lawful is).ordered j i m bi))))
+    ]
+  ]
+
+  first_by : (kind : NodeKind) (x y n number : ℕ) → IsWire kind → number < (graph_of basis).count → node number ≡ make_node x kind y n → IsFirstOf basis number (make_node x kind y n)
+  first_by kind x y zero number w b e = record { first = number; within = b; is = e; apart = omega arith }
+  first_by kind x y (suc m) number w b e =
+      let there = on_track basis kind x y (suc m) m w (omega arith) (subst (λ (v : Node). is_node basis.arch basis.strip v ≡ true) e ((lawful is).nodes number b)) in
+      let found = (lawful is).all (make_node x kind y m) there in
+      let k = found.0 in
+      let before = first_by kind x y m k w found.1 found.2 in
+      let next : k + 1 ≡ number = elim (cases_lt k number) [
+        | inl less ↦ elim (cases_eq (k + 1) number) [
+          | inl same ↦ same
+          | inr other ↦
+              let between : k + 1 < number = omega (arith, less, other) in
+              absurd (nothing_between (make_node x kind y m) (node (k + 1)) (make_node x kind y (suc m)) refl refl refl (omega arith)
+              (subst (λ (v : Node). IsBefore v (node (k + 1))) found.2 ((lawful is).ordered k (k + 1) (omega arith) (omega (arith, between, b))))
+              (subst (λ (v : Node). IsBefore (node (k + 1)) v) e ((lawful is).ordered (k + 1) number between b)))
+        ]
+        | inr more ↦ elim (cases_eq k number) [
+          | inl same ↦ absurd (omega (arith, ap (λ (v : Node). v.n) (sym found.2 ∙ (ap node same ∙ e))))
+          | inr other ↦
+              let down : number < k = omega (arith, more, other) in
+              absurd (not_after (make_node x kind y m) (make_node x kind y (suc m)) refl refl refl (omega arith)
+              (subst (λ (v : Node). IsBefore v (make_node x kind y m)) e (subst (λ (v : Node). IsBefore (node number) v) found.2 ((lawful is).ordered number k down found.1))))
+        ]
+      ] in
+      record { first = before.first; within = before.within; is = before.is; apart = omega (arith, before.apart, next) }
+
+  -- the wire of track 0 in the row of a wire
+  pub first_of : (number : ℕ) → number < (graph_of basis).count → IsWire (node number).kind → IsFirstOf basis number (node number)
+  first_of number b w = first_by (node number).kind (node number).x (node number).y (node number).n number w b refl
+
+  wire_shown : (kind : NodeKind) (t : Terminals) (v : Node) (track : ℕ) → IsWire kind → v.n ≡ track → shows basis.strip t track kind v ≡ true
+  wire_shown Source t v track w e = absurd w
+  wire_shown Sink t v track w e = absurd w
+  wire_shown Opin t v track w e = absurd w
+  wire_shown Ipin t v track w e = absurd w
+  wire_shown ChanX t v track w e = eq-eqb v.n track e
+  wire_shown ChanY t v track w e = eq-eqb v.n track e
+
+  -- wires of a track have places in their order
+  pub wires_order : (i j : ℕ) → i < j → j < (graph_of basis).count → IsWire (node i).kind → IsWire (node j).kind → (node i).n ≡ (node j).n → place_of basis (node i) < place_of basis (node j)
+  wires_order i j l b wi wj e =
+      let t : Terminals = record { source = node i; sink = node i } in
+      place_order is t (node j).n i j l (omega (arith, l, b)) b (wire_shown (node i).kind t (node i) (node j).n wi e) (wire_shown (node j).kind t (node j) (node j).n wj refl) ((lawful is).ordered i j l b)
+
+  -- wires have places of the plane
+  pub wire_low : (i : ℕ) → i < (graph_of basis).count → IsWire (node i).kind → place_of basis (node i) < place_count basis
+  wire_low i b w =
+      let t : Terminals = record { source = node i; sink = node i } in
+      low is t (node i).n i b (wire_shown (node i).kind t (node i) (node i).n w refl)

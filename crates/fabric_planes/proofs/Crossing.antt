@@ -1,0 +1,118 @@
+-- Each way from a wire to a sink leads over a last wire and a pin.
+use Rattle.std.proofs.Common.{◌≡◌, ℕ, ◌+◌, ◌<◌, List, [], ◌∷◌, refl, sym, ap, ◌∙◌, subst, inl, inr, arith, true}
+use Rattle.std.specs.Prelude.{Contains, sum_by}
+use Rattle.std.proofs.lemmas.List.Sums.{sum_by-cons}
+use Rattle.rr_graph.specs.declared.node.NodeKind.{NodeKind}
+use Rattle.rr_graph.specs.declared.node.NodeKind.TheVariants.{Source, Sink, Opin, Ipin, ChanX, ChanY}
+use Rattle.rr_graph.specs.declared.node.Node.{Node}
+use Rattle.rr_graph.specs.Geometry.{IsWire, is_together, joins}
+use Rattle.rr_graph.specs.Graph.{Basis, IsBasis, graph_of}
+use Rattle.rr_graph.proofs.GeometryLaws.{edge_joins}
+use Rattle.least_path.specs.Path.{Leads}
+use Rattle.fabric_planes.specs.Layout.{graph_at, AreCosts}
+use Rattle.fabric_planes.specs.Distances.{wires_apart}
+use Rattle.fabric_planes.specs.Ways.{IsWireAt, IsWayOver}
+use Rattle.fabric_planes.proofs.Joins.{IsReached}
+use Rattle.fabric_planes.proofs.Nearer.{no_wires, wires_fall}
+use Rattle.fabric_planes.proofs.Strips.{lawful, edge_reached, sink_last}
+
+-- an input pin leads only to a sink
+from_pin : (strip : _) (kb : NodeKind) (a b : Node) → IsReached strip Ipin kb a b → (kb ≡ Sink) × (is_together strip a b ≡ true)
+from_pin strip Source a b r = absurd r
+from_pin strip Sink a b r = (refl, r.1)
+from_pin strip Opin a b r = cc
+from_pin strip Ipin a b r = absurd r
+from_pin strip ChanX a b (inl o) = cc
+from_pin strip ChanX a b (inr w) = absurd w.0
+from_pin strip ChanY a b (inl o) = cc
+from_pin strip ChanY a b (inr w) = absurd w.0
+
+module _ {basis : Basis} (is : IsBasis basis) {cost : ℕ → ℕ} (costs : AreCosts basis cost) (goal : ℕ) (kind : ((graph_of basis).node goal).kind ≡ Sink) where
+  abbrev node : ℕ → Node
+  node = (graph_of basis).node
+
+  -- from an input pin
+  pub record IsPinWay (pin : ℕ) (rest : List ℕ) : Type 0 where
+    pub own : is_together basis.strip (node pin) (node goal) ≡ true
+    pub sum : sum_by cost rest ≡ cost goal
+
+  pin_way : (rest : List ℕ) (pin : ℕ) → pin < (graph_of basis).count → (node pin).kind ≡ Ipin → Leads (graph_at basis cost) goal pin rest → IsPinWay pin rest
+  pin_way [] pin b k l = absurd (none (sym k ∙ (ap (λ v. (node v).kind) l ∙ kind)))
+    where
+      none : Ipin ≡ Sink → ⊥
+      none q = cc
+  pin_way (j ∷ rest) pin b k l =
+      let r = edge_reached is pin j b l.0 in
+      let s = from_pin basis.strip (node j).kind (node pin) (node j) (subst (λ k. IsReached basis.strip k (node j).kind (node pin) (node j)) k r.1) in
+      let e = sink_last is cost goal rest j r.0 s.0 l.1 in
+      record {
+        own = subst (λ v. is_together basis.strip (node pin) (node v) ≡ true) e.0 s.1;
+        sum = subst (λ (rest : List ℕ). sum_by cost (j ∷ rest) ≡ cost goal) (sym e.1) (omega (arith, sum_by-cons cost j [], ap cost e.0));
+      }
+
+  abbrev Way : ℕ → List ℕ → Type 0
+  Way i rest = IsWayOver basis cost goal i rest
+
+  -- one more wire before a way
+  longer : (i j : ℕ) (rest : List ℕ) → IsWireAt basis i → IsWireAt basis j → Contains ((graph_of basis).ends i) j → (node i).n ≡ (node j).n → Way j rest → Way i (j ∷ rest)
+  longer i j rest wi wj c n way =
+      let step : joins basis.arch basis.strip (node i).kind (node j).kind (node i) (node j) ≡ true = edge_joins basis.arch basis.strip (node i) (node j) (((lawful is).pairs i j wi.within).0 c).1 in
+      let fall = wires_fall basis.arch basis.strip (node i) (node j) (node way.last) wi.wire wj.wire step in
+      record {
+        last = way.last;
+        pin = way.pin;
+        wire = way.wire;
+        track = way.track ∙ sym n;
+        entry = way.entry;
+        length = inr (elim way.length [
+          | inl d ↦ record {
+            wires = 0;
+            apart = omega (arith, fall, no_wires (node way.last), ap (λ v. wires_apart (node v) (node way.last)) (sym d.same));
+            sum = omega (arith, sum_by-cons cost j rest, d.sum, ap cost d.same);
+          }
+          | inr d ↦ record {
+            wires = 1 + d.wires;
+            apart = omega (arith, fall, d.apart);
+            sum = omega (arith, sum_by-cons cost j rest, d.sum, costs.some j wj.within);
+          }
+        ]);
+      }
+
+  Ways : List ℕ → Type 0
+  Ways rest = (i : ℕ) → IsWireAt basis i → Leads (graph_at basis cost) goal i rest → Way i rest
+
+  way_more : (kb : NodeKind) (i j : ℕ) (rest : List ℕ) → (node j).kind ≡ kb → IsWireAt basis i → Contains ((graph_of basis).ends i) j → j < (graph_of basis).count
+      → IsReached basis.strip (node i).kind kb (node i) (node j) → Leads (graph_at basis cost) goal j rest → Ways rest → Way i (j ∷ rest)
+  unfolding Ways
+  way_more Source i j rest e w c b r l next = absurd r
+  way_more Sink i j rest e w c b r l next = absurd (subst IsWire r.0 w.wire)
+  way_more Opin i j rest e w c b r l next = absurd (subst IsWire r.0 w.wire)
+  way_more Ipin i j rest e w c b r l next =
+      let p = pin_way rest j b e l in
+      record {
+        last = i;
+        pin = j;
+        wire = w;
+        track = refl;
+        entry = record { edge = c; within = b; kind = e; own = p.own };
+        length = inl (record { same = refl; sum = omega (arith, sum_by-cons cost j rest, p.sum) });
+      }
+  way_more ChanX i j rest e w c b (inl o) l next = absurd (subst IsWire o w.wire)
+  way_more ChanX i j rest e w c b (inr s) l next =
+      let wj : IsWireAt basis j = record { within = b; wire = subst IsWire (sym e) tt } in
+      longer i j rest w wj c s.1 (next j wj l)
+  way_more ChanY i j rest e w c b (inl o) l next = absurd (subst IsWire o w.wire)
+  way_more ChanY i j rest e w c b (inr s) l next =
+      let wj : IsWireAt basis j = record { within = b; wire = subst IsWire (sym e) tt } in
+      longer i j rest w wj c s.1 (next j wj l)
+
+  ways : (rest : List ℕ) → Ways rest
+  unfolding Ways
+  ways [] i w l = absurd (subst IsWire (ap (λ v. (node v).kind) l ∙ kind) w.wire)
+  ways (j ∷ rest) i w l =
+      let r = edge_reached is i j w.within l.0 in
+      way_more (node j).kind i j rest refl w l.0 r.0 r.1 l.1 (ways rest)
+
+  pub way_over : (rest : List ℕ) (i : ℕ) → IsWireAt basis i → Leads (graph_at basis cost) goal i rest → IsWayOver basis cost goal i rest
+  unfolding Ways
+  way_over rest i w l = ways rest i w l

@@ -1,0 +1,185 @@
+-- Of two paths, the one whose nodes come first leaves its start first.
+use Rattle.std.proofs.Common.{◌≡◌, ℕ, ◌+◌, ◌*◌, ◌<◌, ◌≤◌, ◌⊎◌, List, ◌∷◌, refl, sym, ap, ◌∙◌, subst, inl, inr, arith}
+use Rattle.std.specs.Ordering.{nat_cmp, ordering_then, MatchOrdering}
+use Rattle.std.specs.Cmp.Lexicographic.{slice_cmp}
+use Rattle.std.specs.declared.cmp.Ordering.{Ordering}
+use Rattle.std.specs.declared.cmp.Ordering.TheVariants.{Less, Equal, Greater}
+use Rattle.std.proofs.lemmas.Cmp.{ranked}
+use Rattle.rr_graph.specs.declared.node.NodeKind.{NodeKind}
+use Rattle.rr_graph.specs.declared.node.NodeKind.TheVariants.{Source, Sink, Opin, Ipin, ChanX, ChanY}
+use Rattle.rr_graph.specs.declared.node.Node.{Node}
+use Rattle.rr_graph.specs.Node.{IsBefore}
+use Rattle.rr_graph.specs.Geometry.{IsWire}
+use Rattle.rr_graph.specs.Graph.{Basis, IsBasis, graph_of}
+use Rattle.rr_graph.proofs.Columns.{same_kind}
+use Rattle.fabric_planes.specs.declared.rivals.Head.{Head}
+use Rattle.fabric_planes.specs.Laid.{IsWireOf}
+use Rattle.fabric_planes.specs.Layout.{stride_of, offset_of, place_of}
+use Rattle.fabric_planes.specs.Rivals.{IsWireHead, IsPinHead, IsSourceHead, IsHeadOf, ComesFirst}
+use Rattle.fabric_planes.specs.Ways.{IsWireAt}
+use Rattle.fabric_planes.proofs.Offsets.{low_of, high_of, below_stride, kinds_apart, columns_apart}
+use Rattle.fabric_planes.proofs.Strips.{lawful, wire_row}
+
+-- ---- lists
+
+-- the first numbers decide, or the others do
+first_less : (a b : ℕ) (xs ys : List ℕ) → slice_cmp nat_cmp (a ∷ xs) (b ∷ ys) ≡ Less → (a < b) ⊎ ((a ≡ b) × (slice_cmp nat_cmp xs ys ≡ Less))
+first_less a b xs ys h = by (nat_cmp a b) (ranked a b (nat_cmp a b) refl) h
+  where
+    by : (o : Ordering) → MatchOrdering o (a < b) (a ≡ b) (b < a) → ordering_then o (slice_cmp nat_cmp xs ys) ≡ Less → (a < b) ⊎ ((a ≡ b) × (slice_cmp nat_cmp xs ys ≡ Less))
+    by Less m e = inl m
+    by Equal m e = inr (m, e)
+    by Greater m e = cc
+
+-- ---- wires
+
+-- the offset of a wire is among those of its kind
+wire_in : (basis : Basis) (kind : NodeKind) (v : Node) → IsWire kind → v.y ≤ basis.strip.rows → (low_of basis kind ≤ offset_of basis kind v) × (offset_of basis kind v < high_of basis kind)
+wire_in basis Source v w r = absurd w
+wire_in basis Sink v w r = absurd w
+wire_in basis Opin v w r = absurd w
+wire_in basis Ipin v w r = absurd w
+wire_in basis ChanX v w r = (omega arith, omega (arith, r))
+wire_in basis ChanY v w r = (omega arith, omega (arith, r))
+
+-- the offsets of wires of a kind are in the order of their rows
+row_less : (basis : Basis) (kind : NodeKind) (a b : Node) → IsWire kind → a.y < b.y → offset_of basis kind a < offset_of basis kind b
+row_less basis Source a b w l = absurd w
+row_less basis Sink a b w l = absurd w
+row_less basis Opin a b w l = absurd w
+row_less basis Ipin a b w l = absurd w
+row_less basis ChanX a b w l = omega (arith, l)
+row_less basis ChanY a b w l = omega (arith, l)
+
+row_same : (basis : Basis) (kind : NodeKind) (a b : Node) → IsWire kind → a.y ≡ b.y → offset_of basis kind a ≡ offset_of basis kind b
+row_same basis Source a b w e = absurd w
+row_same basis Sink a b w e = absurd w
+row_same basis Opin a b w e = absurd w
+row_same basis Ipin a b w e = absurd w
+row_same basis ChanX a b w e = omega (arith, e)
+row_same basis ChanY a b w e = omega (arith, e)
+
+module _ {basis : Basis} (is : IsBasis basis) where
+  abbrev node : ℕ → Node
+  node = (graph_of basis).node
+
+  abbrev offset : ℕ → ℕ
+  offset i = offset_of basis (node i).kind (node i)
+
+  abbrev IsAhead : ℕ → ℕ → Type 0
+  IsAhead i j = (place_of basis (node i) < place_of basis (node j)) ⊎ ((place_of basis (node i) ≡ place_of basis (node j)) × ((node i).n < (node j).n))
+
+  in_kind : (i : ℕ) → IsWireAt basis i → (low_of basis (node i).kind ≤ offset i) × (offset i < high_of basis (node i).kind)
+  in_kind i w = wire_in basis (node i).kind (node i) w.wire (wire_row is i w.within w.wire)
+
+  in_column_order : (i j : ℕ) → (node i).x ≡ (node j).x → offset i < offset j → place_of basis (node i) < place_of basis (node j)
+  in_column_order i j x o =
+      let e : ((node i).x + 2) * stride_of basis ≡ ((node j).x + 2) * stride_of basis = ap (λ (x : ℕ). (x + 2) * stride_of basis) x in
+      omega (arith, o, e)
+
+  by_node : (i j : ℕ) → IsWireAt basis i → IsWireAt basis j → IsBefore (node i) (node j) → IsAhead i j
+  by_node i j wi wj (inl x) = inl (columns_apart basis (node i).x (node j).x (offset i) (offset j) x (omega (arith, (in_kind i wi).1, below_stride basis (node i).kind)))
+  by_node i j wi wj (inr (x, inl r)) = inl (in_column_order i j x (omega (arith, (in_kind i wi).1, (in_kind j wj).0, kinds_apart basis (node i).kind (node j).kind r)))
+  by_node i j wi wj (inr (x, inr (r, inl y))) =
+      let k : (node i).kind ≡ (node j).kind = same_kind (node i).kind (node j).kind r in
+      inl (in_column_order i j x (subst (λ kind. offset i < offset_of basis kind (node j)) k (row_less basis (node i).kind (node i) (node j) wi.wire y)))
+  by_node i j wi wj (inr (x, inr (r, inr (y, n)))) =
+      let k : (node i).kind ≡ (node j).kind = same_kind (node i).kind (node j).kind r in
+      let o : offset i ≡ offset j = row_same basis (node i).kind (node i) (node j) wi.wire y ∙ ap (λ kind. offset_of basis kind (node j)) k in
+      let e : ((node i).x + 2) * stride_of basis ≡ ((node j).x + 2) * stride_of basis = ap (λ (x : ℕ). (x + 2) * stride_of basis) x in
+      inr (omega (arith, o, e), n)
+
+  -- wires are in the order of their places, and then of their tracks
+  pub wire_order : (i j : ℕ) → i < j → IsWireAt basis i → IsWireAt basis j → IsAhead i j
+  wire_order i j l wi wj = by_node i j wi wj ((lawful is).ordered i j l wj.within)
+
+  -- ---- heads
+
+  -- a wire that comes before another one, at places and on tracks
+  wires_first : (p q m n i j : ℕ) → IsWireOf basis p i → IsWireOf basis q j → (node i).n ≡ m → (node j).n ≡ n → i < j → (p < q) ⊎ ((p ≡ q) × (m < n))
+  wires_first p q m n i j wi wj ni nj l = elim (wire_order i j l wi.wire wj.wire) [
+    | inl place ↦ inl (omega (arith, place, wi.is_at, wj.is_at))
+    | inr (place, n) ↦ inr (omega (arith, place, wi.is_at, wj.is_at), omega (arith, n, ni, nj))
+  ]
+
+  abbrev Comes : Head → Head → Type 0
+  Comes q h = (q.track ≡ h.track) ⊎ ComesFirst q h
+
+  wire_no_pin : (k : NodeKind) → IsWire k → k ≡ Opin → ⊥
+  wire_no_pin k w e = subst IsWire e w
+
+  wire_no_source : (k : NodeKind) → IsWire k → k ≡ Source → ⊥
+  wire_no_source k w e = subst IsWire e w
+
+  -- the nodes after the same start, or after the same pin
+  after_pin : (q h : Head) (i j : ℕ) (xs ys : List ℕ) → q.start ≡ h.start → q.pin ≡ h.pin → IsWireOf basis q.place i → IsWireOf basis h.place j → (node i).n ≡ q.track → (node j).n ≡ h.track
+      → slice_cmp nat_cmp (i ∷ xs) (j ∷ ys) ≡ Less → Comes q h
+  after_pin q h i j xs ys s p wi wj ni nj less = elim (first_less i j xs ys less) [
+    | inl l ↦ inr (inr (s, inr (p, wires_first q.place h.place q.track h.track i j wi wj ni nj l)))
+    | inr (e, more) ↦ inl (sym ni ∙ (ap (λ (v : ℕ). (node v).n) e ∙ nj))
+  ]
+
+  -- the first nodes decide, if the two begin with different kinds
+  other_kind : (q h : Head) (a b : NodeKind) (xs ys : List ℕ) → (node q.start).kind ≡ a → (node h.start).kind ≡ b → (a ≡ b → ⊥) → slice_cmp nat_cmp (q.start ∷ xs) (h.start ∷ ys) ≡ Less → Comes q h
+  other_kind q h a b xs ys ka kb differ less = elim (first_less q.start h.start xs ys less) [
+    | inl l ↦ inr (inl l)
+    | inr (e, more) ↦ absurd (differ (sym ka ∙ (ap (λ (v : ℕ). (node v).kind) e ∙ kb)))
+  ]
+
+  wire_wire : (q h : Head) (xs ys : List ℕ) → (node q.start).n ≡ q.track → (node h.start).n ≡ h.track → slice_cmp nat_cmp (q.start ∷ xs) (h.start ∷ ys) ≡ Less → Comes q h
+  wire_wire q h xs ys nq nh less = elim (first_less q.start h.start xs ys less) [
+    | inl l ↦ inr (inl l)
+    | inr (e, more) ↦ inl (sym nq ∙ (ap (λ (v : ℕ). (node v).n) e ∙ nh))
+  ]
+
+  pin_pin : (q h : Head) (nodes known : List ℕ) (a : IsPinHead basis q nodes) (b : IsPinHead basis h known) → slice_cmp nat_cmp (q.start ∷ a.wire ∷ a.rest) (h.start ∷ b.wire ∷ b.rest) ≡ Less → Comes q h
+  pin_pin q h nodes known a b less = elim (first_less q.start h.start (a.wire ∷ a.rest) (b.wire ∷ b.rest) less) [
+    | inl l ↦ inr (inl l)
+    | inr (e, more) ↦ after_pin q h a.wire b.wire a.rest b.rest e (a.pin ∙ (e ∙ sym b.pin)) a.wire_is b.wire_is a.track b.track more
+  ]
+
+  source_source : (q h : Head) (nodes known : List ℕ) (a : IsSourceHead basis q nodes) (b : IsSourceHead basis h known) → slice_cmp nat_cmp (q.start ∷ q.pin ∷ a.wire ∷ a.rest) (h.start ∷ h.pin ∷ b.wire ∷ b.rest) ≡ Less → Comes q h
+  source_source q h nodes known a b less = elim (first_less q.start h.start (q.pin ∷ a.wire ∷ a.rest) (h.pin ∷ b.wire ∷ b.rest) less) [
+    | inl l ↦ inr (inl l)
+    | inr (e, more) ↦ elim (first_less q.pin h.pin (a.wire ∷ a.rest) (b.wire ∷ b.rest) more) [
+      | inl l ↦ inr (inr (e, inl l))
+      | inr (p, last) ↦ after_pin q h a.wire b.wire a.rest b.rest e p a.wire_is b.wire_is a.track b.track last
+    ]
+  ]
+
+  -- the two lists as they begin
+  begun : (xs us ys vs : List ℕ) → xs ≡ us → ys ≡ vs → slice_cmp nat_cmp xs ys ≡ Less → slice_cmp nat_cmp us vs ≡ Less
+  begun xs us ys vs e f less = subst (λ (v : List ℕ). slice_cmp nat_cmp v vs ≡ Less) e (subst (λ (v : List ℕ). slice_cmp nat_cmp xs v ≡ Less) f less)
+
+  opin_source : Opin ≡ Source → ⊥
+  opin_source e = cc
+
+  pub heads_order : (q h : Head) (nodes known : List ℕ) → IsHeadOf basis q nodes → IsHeadOf basis h known → slice_cmp nat_cmp nodes known ≡ Less → Comes q h
+  heads_order q h nodes known (inl a) (inl b) less = wire_wire q h a.rest b.rest a.track b.track (begun nodes (q.start ∷ a.rest) known (h.start ∷ b.rest) a.begins b.begins less)
+  heads_order q h nodes known (inl a) (inr (inl b)) less =
+      other_kind q h (node q.start).kind Opin a.rest (b.wire ∷ b.rest) refl b.kind (wire_no_pin (node q.start).kind a.wire_is.wire.wire) (begun nodes (q.start ∷ a.rest) known (h.start ∷ b.wire ∷ b.rest) a.begins b.begins less)
+  heads_order q h nodes known (inl a) (inr (inr b)) less =
+      other_kind q h (node q.start).kind Source a.rest (h.pin ∷ b.wire ∷ b.rest) refl b.kind (wire_no_source (node q.start).kind a.wire_is.wire.wire) (begun nodes (q.start ∷ a.rest) known (h.start ∷ h.pin ∷ b.wire ∷ b.rest) a.begins b.begins less)
+  heads_order q h nodes known (inr (inl a)) (inl b) less =
+      other_kind q h Opin (node h.start).kind (a.wire ∷ a.rest) b.rest a.kind refl (λ e. wire_no_pin (node h.start).kind b.wire_is.wire.wire (sym e)) (begun nodes (q.start ∷ a.wire ∷ a.rest) known (h.start ∷ b.rest) a.begins b.begins less)
+  heads_order q h nodes known (inr (inl a)) (inr (inl b)) less =
+      pin_pin q h nodes known a b (begun nodes (q.start ∷ a.wire ∷ a.rest) known (h.start ∷ b.wire ∷ b.rest) a.begins b.begins less)
+  heads_order q h nodes known (inr (inl a)) (inr (inr b)) less =
+      other_kind q h Opin Source (a.wire ∷ a.rest) (h.pin ∷ b.wire ∷ b.rest) a.kind b.kind opin_source (begun nodes (q.start ∷ a.wire ∷ a.rest) known (h.start ∷ h.pin ∷ b.wire ∷ b.rest) a.begins b.begins less)
+  heads_order q h nodes known (inr (inr a)) (inl b) less =
+      other_kind q h Source (node h.start).kind (q.pin ∷ a.wire ∷ a.rest) b.rest a.kind refl (λ e. wire_no_source (node h.start).kind b.wire_is.wire.wire (sym e)) (begun nodes (q.start ∷ q.pin ∷ a.wire ∷ a.rest) known (h.start ∷ b.rest) a.begins b.begins less)
+  heads_order q h nodes known (inr (inr a)) (inr (inl b)) less =
+      other_kind q h Source Opin (q.pin ∷ a.wire ∷ a.rest) (b.wire ∷ b.rest) a.kind b.kind (λ e. opin_source (sym e)) (begun nodes (q.start ∷ q.pin ∷ a.wire ∷ a.rest) known (h.start ∷ b.wire ∷ b.rest) a.begins b.begins less)
+  heads_order q h nodes known (inr (inr a)) (inr (inr b)) less =
+      source_source q h nodes known a b (begun nodes (q.start ∷ q.pin ∷ a.wire ∷ a.rest) known (h.start ∷ h.pin ∷ b.wire ∷ b.rest) a.begins b.begins less)
+
+  -- a path from a wire that comes before another one on another track begins at a lesser number
+  pub wire_first : (q h : Head) (nodes known : List ℕ) → IsWireHead basis q nodes → IsHeadOf basis h known → slice_cmp nat_cmp nodes known ≡ Less → (q.track ≡ h.track) ⊎ (q.start < h.start)
+  wire_first q h nodes known a b less = by (heads_order q h nodes known (inl a) b less) b
+    where
+      by : Comes q h → IsHeadOf basis h known → (q.track ≡ h.track) ⊎ (q.start < h.start)
+      by (inl e) b = inl e
+      by (inr (inl l)) b = inr l
+      by (inr (inr (s, more))) (inl w) = inl (sym a.track ∙ (ap (λ (v : ℕ). (node v).n) s ∙ w.track))
+      by (inr (inr (s, more))) (inr (inl p)) = absurd (wire_no_pin (node q.start).kind a.wire_is.wire.wire (ap (λ (v : ℕ). (node v).kind) s ∙ p.kind))
+      by (inr (inr (s, more))) (inr (inr p)) = absurd (wire_no_source (node q.start).kind a.wire_is.wire.wire (ap (λ (v : ℕ). (node v).kind) s ∙ p.kind))

@@ -1,0 +1,57 @@
+mod Labeled
+mod Joins
+mod Offsets
+mod Strips
+mod Nearer
+mod Crossing
+mod Spans
+mod Ends
+mod Bases
+mod Listed
+mod PlaneEnds
+mod PinSides
+mod PinLists
+mod PinRowsAt
+mod PinEnds
+mod SourceEnds
+mod PinsRowed
+mod PinAparts
+mod Consecutive
+mod Told
+mod Classes
+mod Found
+mod Differences
+mod SideWays
+mod PlaneWays
+mod Bounded
+pub mod Lowered
+mod Numbers
+mod StepEnds
+pub mod SideWires
+mod PinPaths
+mod HeadOrder
+pub mod Heads
+mod RivalLists
+mod RivalSides
+mod RivalStarts
+mod RivalPaths
+pub mod AheadWires
+pub mod Untold
+mod ListedStarts
+mod NetRoads
+pub mod Priced
+pub mod WireBounds
+pub mod StartLists
+pub mod TrackStarts
+pub mod SideRows
+pub mod FirstPaths
+mod OwnPins
+mod BoundedSides
+mod FarWires
+mod ShownPins
+mod ArrivalSteps
+mod ArrivalSites
+mod ArrivalColumns
+mod Arrivals
+mod ArrivalNumbers
+pub mod NetSearches

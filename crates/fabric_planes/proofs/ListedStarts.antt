@@ -1,0 +1,174 @@
+-- The starts that are in a track's plane.
+use Rattle.std.proofs.Common.{◌≡◌, ℕ, zero, suc, ◌+◌, ◌<◌, ◌⊎◌, List, [], ◌∷◌, ◌++◌, length, refl, sym, ap, ◌∙◌, subst, inl, inr, arith, Bool, true, false}
+use Rattle.std.specs.Prelude.{Contains, slice_index_or, ◌==◌, Some}
+use Rattle.std.specs.Bool.{MatchBool}
+use Rattle.std.proofs.lemmas.Bool.{cases_Bool, cases_lt, eqb-true, eq-eqb, false≢true}
+use Rattle.std.proofs.lemmas.List.{map-append}
+use Rattle.std.proofs.lemmas.List.Elements.{Contains-append_left, Contains-append_right, Contains-append_cases}
+use Rattle.rr_graph.specs.declared.node.NodeKind.{NodeKind}
+use Rattle.rr_graph.specs.declared.node.NodeKind.TheVariants.{Source, Sink, Opin, Ipin, ChanX, ChanY}
+use Rattle.rr_graph.specs.declared.node.Node.{Node}
+use Rattle.rr_graph.specs.Geometry.{IsWire, is_node}
+use Rattle.rr_graph.proofs.Columns.{member_small, member_of}
+use Rattle.rr_graph.specs.Graph.{Basis, IsBasis, graph_of}
+use Rattle.least_path.specs.LowerBound.{IsLowerBound}
+use Rattle.plane_search.specs.Planes.{Family, IsPlaneBound}
+use Rattle.plane_search.specs.Starts.{places_of}
+use Rattle.plane_search.specs.declared.planes.Start.{Start}
+use Rattle.fabric_planes.specs.declared.pins.PinAt.{PinAt}
+use Rattle.fabric_planes.specs.Labels.{node_at, family_of}
+use Rattle.fabric_planes.specs.Layout.{Terminals, place_of, place_count, shows, labels_of, planes_of, IsNetSearch}
+use Rattle.fabric_planes.specs.Pins.{IsShownPin, ArePins}
+use Rattle.fabric_planes.specs.Starts.{AreSomeStarts}
+use Rattle.fabric_planes.specs.Tables.{AreFirsts, IsNearby}
+use Rattle.fabric_planes.proofs.Labeled.{at_place, has_place, place_has}
+use Rattle.fabric_planes.proofs.Numbers.{same_shows, listed_there}
+use Rattle.fabric_planes.proofs.Strips.{lawful, are_labels, node_column, node_slot}
+
+-- a test says whether it holds
+match_test : (b : Bool) → MatchBool b (b ≡ true) (b ≡ true → ⊥)
+match_test true = refl
+match_test false = λ q. false≢true q
+
+-- a wire is shown in the planes of its track
+pub wire_shows : (strip : _) (t : Terminals) (track : ℕ) (kind : NodeKind) (v : Node) → IsWire kind → MatchBool (v.n == track) (shows strip t track kind v ≡ true) (shows strip t track kind v ≡ true → ⊥)
+wire_shows strip t track Source v w = absurd w
+wire_shows strip t track Sink v w = absurd w
+wire_shows strip t track Opin v w = absurd w
+wire_shows strip t track Ipin v w = absurd w
+wire_shows strip t track ChanX v w = match_test (v.n == track)
+wire_shows strip t track ChanY v w = match_test (v.n == track)
+
+module _ (basis : Basis) (t : Terminals) (cost : ℕ → ℕ) (starts : List ℕ) (goal : ℕ) where
+  abbrev pub IsShownIn : ℕ → ℕ → Type 0
+  IsShownIn track number = shows basis.strip t track ((graph_of basis).node number).kind ((graph_of basis).node number) ≡ true
+
+  -- each way to the goal costs at least this
+  abbrev pub LowIn : ℕ → ℕ → ℕ → ℕ → Type 0
+  LowIn track exit place ahead = IsLowerBound ((planes_of basis cost starts goal t).plane track) exit place (Some ahead)
+
+module _ {basis : Basis} (is : IsBasis basis) (t : Terminals) (cost : ℕ → ℕ) (starts : List ℕ) (goal : ℕ) (search : IsNetSearch basis cost starts goal t) where
+  abbrev node : ℕ → Node
+  node = (graph_of basis).node
+
+  abbrev IsShown : ℕ → ℕ → Type 0
+  IsShown track number = IsShownIn basis t cost starts goal track number
+
+  -- a node's fields are within their limits
+  pub near : (number : ℕ) → number < (graph_of basis).count → (v : Node) → v ≡ node number → IsNearby v
+  near number b v e =
+      let h : is_node basis.arch basis.strip v ≡ true = subst (λ (v : Node). is_node basis.arch basis.strip v ≡ true) (sym e) ((lawful is).nodes number b) in
+      let small = member_small basis.arch basis.strip is.arch is.strip (member_of v.kind v.y v.n) (node_slot basis v h) in
+      record { x = omega (arith, node_column basis v h, is.strip.width.1); y = omega (arith, small.0); n = omega (arith, small.1) }
+
+  -- ---- pins that are listed
+
+  pub pin_shows : (track number : ℕ) → IsShownPin basis t number → IsShown track number
+  pin_shows track number s = same_shows basis.strip t 0 track (node number).kind (node number) s.no_wire s.shown
+
+  pub shows_pin : (track number : ℕ) → number < (graph_of basis).count → (IsWire (node number).kind → ⊥) → IsShown track number → IsShownPin basis t number
+  shows_pin track number b n s = record { within = b; no_wire = n; shown = same_shows basis.strip t track 0 (node number).kind (node number) n s }
+
+  module _ (firsts : List ℕ) (told : AreFirsts basis firsts) (pins : List PinAt) (are_pins : ArePins basis t pins) where
+    pub listed_shown : (place number other : ℕ) → (pin : PinAt) × Contains pins pin × (pin.place ≡ place) × (pin.number ≡ other) → other ≡ number → IsShownPin basis t number
+    listed_shown place number other (pin, c, p, n) e = subst (λ (v : ℕ). IsShownPin basis t v) (n ∙ e) (are_pins.shown pin c)
+
+    pub other_listed : (place number other : ℕ) → (pin : PinAt) × Contains pins pin × (pin.place ≡ place) × (pin.number ≡ other) → place_of basis (node number) ≡ place → (other ≡ number → ⊥) → IsShownPin basis t number → ⊥
+    unfolding labels_of
+    other_listed place number other found at differ s =
+        let l = labels_of basis cost starts goal t in
+        let mine : node_at l 0 (place_of basis (node number)) ≡ number = at_place l (are_labels is cost starts goal t search) 0 number s.within s.shown in
+        let theirs = (listed_there is t cost starts goal search firsts told pins are_pins 0 place other found).0 in
+        differ (sym theirs ∙ (ap (node_at l 0) (sym at) ∙ mine))
+
+    pub none_shown : (place number : ℕ) → ((k : ℕ) (d : PinAt) → k < length pins → (slice_index_or pins k d).place ≡ place → ⊥) → place_of basis (node number) ≡ place → IsShownPin basis t number → ⊥
+    none_shown place number none at s = are_pins.all number s (λ k d b e. none k d b (e ∙ at))
+
+    pub listed_match : (place number other : ℕ) → (pin : PinAt) × Contains pins pin × (pin.place ≡ place) × (pin.number ≡ other) → place_of basis (node number) ≡ place
+        → MatchBool (other == number) (IsShownPin basis t number) (IsShownPin basis t number → ⊥)
+    listed_match place number other found at = elim (cases_Bool (other == number)) [
+      | inl e ↦ rw e (listed_shown place number other found (eqb-true other number e))
+      | inr e ↦ rw e (other_listed place number other found at (λ q. false≢true (sym e ∙ eq-eqb other number q)))
+    ]
+
+  -- a node that is no wire is shown if its pin is
+  pub shown_match : (track number : ℕ) (v : Node) (b : Bool) → number < (graph_of basis).count → node number ≡ v → (IsWire v.kind → ⊥) → MatchBool b (IsShownPin basis t number) (IsShownPin basis t number → ⊥)
+      → MatchBool b (shows basis.strip t track v.kind v ≡ true) (shows basis.strip t track v.kind v ≡ true → ⊥)
+  shown_match track number v true within e no_wire s = subst (λ (v : Node). shows basis.strip t track v.kind v ≡ true) e (pin_shows track number s)
+  shown_match track number v false within e no_wire n = λ s.
+      n (shows_pin track number within (λ w. no_wire (subst (λ (v : Node). IsWire v.kind) e w)) (subst (λ (v : Node). shows basis.strip t track v.kind v ≡ true) (sym e) s))
+
+  -- ---- lists of starts
+
+  -- the place of a node that is shown
+  pub shown_low : (track number : ℕ) → number < (graph_of basis).count → IsShown track number → place_of basis (node number) < place_count basis
+  unfolding labels_of
+  shown_low track number b s = (are_labels is cost starts goal t search).low track number b s
+
+  -- ---- entries
+
+  abbrev F : Family
+  F = planes_of basis cost starts goal t
+
+  -- a start that is shown is at an entry
+  pub entry_of : (track number : ℕ) → Contains starts number → IsShown track number → Contains (F.entries track) (place_of basis (node number))
+  unfolding family_of labels_of
+  entry_of track number c s = has_place (labels_of basis cost starts goal t) track starts number c s
+
+  -- an entry is the place of a start that is shown
+  pub record IsEntryOf (track entry : ℕ) : Type 0 where
+    pub number : ℕ
+    pub contained : Contains starts number
+    pub shown : IsShown track number
+    pub at : place_of basis (node number) ≡ entry
+
+  pub entry_start : (track entry : ℕ) → Contains (F.entries track) entry → IsEntryOf track entry
+  unfolding family_of labels_of
+  entry_start track entry c =
+      let p = place_has (labels_of basis cost starts goal t) track starts entry c in
+      record { number = p.node; contained = p.contained; shown = p.shown; at = p.is }
+
+  -- a bound of all paths of the plane is one of the ways from each entry
+  pub entry_bound : (track entry bound : ℕ) → IsPlaneBound F track bound → Contains (F.entries track) entry → IsLowerBound (F.plane track) F.exit entry (Some bound)
+  entry_bound track entry bound low c rest way = low (entry ∷ rest) (c, way)
+
+  -- ---- lists of starts
+
+  one : (start : Start) → Contains (start ∷ []) start
+  one start = (0, omega arith, refl)
+
+  only : (start other : Start) → Contains (start ∷ []) other → start ≡ other
+  only start other (zero, b, e) = e
+  only start other (suc k, b, e) = absurd (omega (arith, b))
+
+  pub some_none : (track : ℕ) → AreSomeStarts F track []
+  some_none track = record { among = λ start (k, b, e). absurd (omega (arith, b)); bounded = λ start (k, b, e). absurd (omega (arith, b)) }
+
+  pub some_more : (track : ℕ) (list : List Start) (start : Start) → AreSomeStarts F track list → Contains (F.entries track) start.place → IsLowerBound (F.plane track) F.exit start.place (Some start.ahead)
+      → AreSomeStarts F track (list ++ start ∷ [])
+  some_more track list start are entry low = record {
+    among = λ other c. elim (Contains-append_cases list (start ∷ []) other c) [
+      | inl before ↦ are.among other before
+      | inr last ↦ subst (λ (s : Start). Contains (F.entries track) s.place) (only start other last) entry
+    ];
+    bounded = λ other c. elim (Contains-append_cases list (start ∷ []) other c) [
+      | inl before ↦ are.bounded other before
+      | inr last ↦ subst (λ (s : Start). IsLowerBound (F.plane track) F.exit s.place (Some s.ahead)) (only start other last) low
+    ];
+  }
+
+-- the places with one more start
+places_more : (list : List Start) (start : Start) → places_of (list ++ start ∷ []) ≡ places_of list ++ start.place ∷ []
+places_more list start = map-append (λ (s : Start). s.place) list (start ∷ [])
+
+pub place_kept : (list : List Start) (start : Start) (place : ℕ) → Contains (places_of list) place → Contains (places_of (list ++ start ∷ [])) place
+place_kept list start place c = subst (λ (xs : List ℕ). Contains xs place) (sym (places_more list start)) (Contains-append_left (places_of list) (start.place ∷ []) place c)
+
+pub place_last : (list : List Start) (start : Start) (place : ℕ) → start.place ≡ place → Contains (places_of (list ++ start ∷ [])) place
+place_last list start place e = subst (λ (xs : List ℕ). Contains xs place) (sym (places_more list start)) (Contains-append_right (places_of list) (start.place ∷ []) place (0, omega arith, e))
+
+pub below : (k count : ℕ) → k < count + 1 → (k < count) ⊎ (k ≡ count)
+below k count b = elim (cases_lt k count) [
+  | inl l ↦ inl l
+  | inr m ↦ inr (omega (arith, b, m))
+]

@@ -1,0 +1,35 @@
+-- A search over a net's planes is one over the whole graph.
+use Rattle.std.proofs.Common.{◌≡◌, ℕ, ◌<◌, List, [], ◌∷◌}
+use Rattle.std.specs.List.{All, Contains}
+use Rattle.std.proofs.lemmas.List.Elements.{All-nil, All-cons, All-contains}
+use Rattle.least_path.specs.Graph.{Graph, AreNodes, IsLawful}
+use Rattle.least_path.specs.Path.{Leads, IsPath}
+use Rattle.least_path.specs.declared.path.Path.{Path}
+use Rattle.plane_search.specs.Planes.{IsFamily, IsKnown}
+use Rattle.rr_graph.specs.Graph.{Basis, graph_of}
+use Rattle.fabric_planes.specs.Labels.{family_of}
+use Rattle.fabric_planes.specs.Layout.{Terminals, graph_at, labels_of, planes_of}
+use Rattle.fabric_planes.specs.NetSearches.{IsPathAt}
+
+-- the nodes of a path are nodes of the graph
+module _ (g : Graph) (lawful : IsLawful g) (goal : ℕ) where
+  way_within : (node : ℕ) (rest : List ℕ) → node < g.count → Leads g goal node rest → AreNodes g rest
+  way_within node [] here leads = All-nil (λ n. n < g.count)
+  way_within node (next ∷ rest) here leads =
+      let there : next < g.count = All-contains (λ n. n < g.count) (g.ends node) next (lawful.ends_below node here) leads.0 in
+      All-cons (λ n. n < g.count) next rest there (way_within next rest there leads.1)
+
+  path_within : (starts path : List ℕ) → AreNodes g starts → IsPath g starts goal path → AreNodes g path
+  path_within starts [] are p = absurd p
+  path_within starts (start ∷ rest) are p =
+      let here : start < g.count = All-contains (λ n. n < g.count) starts start are p.0 in
+      All-cons (λ n. n < g.count) start rest here (way_within start rest here p.1)
+
+module _ (basis : Basis) (cost : ℕ → ℕ) (starts : List ℕ) (goal : ℕ) (t : Terminals) where
+  pub known_in : (path : Path) → IsPathAt basis cost starts goal path → IsKnown (planes_of basis cost starts goal t) path
+  unfolding family_of labels_of
+  known_in path p = record { is_path = p.is_path; cost = p.sum }
+
+  pub nodes_within : IsFamily (planes_of basis cost starts goal t) → (path : Path) → IsKnown (planes_of basis cost starts goal t) path → All (λ node. node < (graph_of basis).count) path.nodes.items
+  unfolding family_of labels_of
+  nodes_within family path known = path_within (graph_at basis cost) family.lawful goal starts path.nodes.items family.starts known.is_path

@@ -1,0 +1,190 @@
+-- Bounds of the paths from starts that come before a known path.
+use Rattle.std.proofs.Common.{◌≡◌, ℕ, zero, suc, ◌<◌, ◌≤◌, ◌⊎◌, List, [], ◌∷◌, length, get_or, set, Some, sym, ap, ◌∙◌, subst, inl, inr, arith}
+use Rattle.std.specs.Prelude.{Contains, slice_index, slice_index_or, sum_by}
+use Rattle.std.proofs.lemmas.Bool.{cases_eq}
+use Rattle.std.proofs.lemmas.List.{get_or_default, get_or-set_same}
+use Rattle.rr_graph.specs.declared.node.NodeKind.{NodeKind}
+use Rattle.rr_graph.specs.declared.node.NodeKind.TheVariants.{Source, Sink, Opin, Ipin, ChanX, ChanY}
+use Rattle.rr_graph.specs.declared.node.Node.{Node}
+use Rattle.rr_graph.specs.Geometry.{IsWire}
+use Rattle.rr_graph.specs.Graph.{Basis, IsBasis, graph_of}
+use Rattle.least_path.specs.LowerBound.{IsLowerBound}
+use Rattle.least_path.specs.Path.{Leads}
+use Rattle.plane_search.specs.Planes.{Family}
+use Rattle.fabric_planes.specs.Bounds.{AreLowered}
+use Rattle.fabric_planes.specs.Labels.{node_at}
+use Rattle.fabric_planes.specs.Layout.{Terminals, place_of, labels_of, IsNetSearch}
+use Rattle.fabric_planes.specs.Pins.{IsShownPin, ArePins}
+use Rattle.fabric_planes.specs.RivalBounds.{AreOverSide, AreOverPin, AreRivalsOver, AreFromSource, AreRivalsFrom, AreShownTo, AreWiresTo}
+use Rattle.fabric_planes.specs.Sides.{IsStartKind}
+use Rattle.fabric_planes.specs.declared.net_starts.StartWire.{StartWire}
+use Rattle.fabric_planes.specs.declared.pins.PinAt.{PinAt}
+use Rattle.fabric_planes.specs.declared.rival_bounds.Lead.{Lead}
+use Rattle.fabric_planes.specs.declared.rivals.Head.{Head}
+use Rattle.fabric_planes.proofs.Labeled.{at_place}
+use Rattle.fabric_planes.proofs.Strips.{are_labels}
+
+pub kind_by : (v w : Node) (k : NodeKind) → v ≡ w → v.kind ≡ k → w.kind ≡ k
+kind_by v w k e is = subst (λ (u : Node). u.kind ≡ k) e is
+
+module _ (basis : Basis) (cost : ℕ → ℕ) (f : Family) where
+  abbrev node : ℕ → Node
+  node = (graph_of basis).node
+
+  -- lesser bounds are still bounds
+  pub side_still : (head : Head) (lead : Lead) (side : ℕ) (xs ys : List ℕ) → AreOverSide basis cost f head lead side xs → AreLowered xs ys → AreOverSide basis cost f head lead side ys
+  side_still head lead side xs ys low falls wire met first way leads = omega (arith, low wire met first way leads, falls.falls (node wire).n)
+
+  pub over_still : (head : Head) (start pin more : ℕ) (xs ys : List ℕ) → AreRivalsOver basis cost f head start pin more xs → AreLowered xs ys → AreRivalsOver basis cost f head start pin more ys
+  over_still head start pin more xs ys are falls = record { low = λ side wire b met first way leads. omega (arith, are.low side wire b met first way leads, falls.falls (node wire).n) }
+
+  pub from_still : (t : Terminals) (head : Head) (start : ℕ) (xs ys : List ℕ) → AreRivalsFrom basis cost f t head start xs → AreLowered xs ys → AreRivalsFrom basis cost f t head start ys
+  from_still t head start xs ys are falls = record {
+    wire = λ w l way leads. omega (arith, are.wire w l way leads, falls.falls (node start).n);
+    output = λ k. over_still head start start 0 xs ys (are.output k) falls;
+    source = λ k pin shown o. over_still head start pin (cost pin) xs ys (are.source k pin shown o) falls;
+    other = λ k track b. omega (arith, are.other k track b, falls.falls track);
+  }
+
+  -- a pin's whole cost is no less
+  pub over_whole : (head : Head) (lead : Lead) (more : ℕ) (xs : List ℕ) → AreOverPin basis cost f head lead xs → lead.more ≤ more → AreRivalsOver basis cost f head lead.start lead.pin more xs
+  over_whole head lead more xs low l = record { low = λ side wire b met first way leads. omega (arith, low side b wire met first way leads, l) }
+
+  pub no_over : (head : Head) (start pin more : ℕ) (xs : List ℕ) → ⊥ → AreRivalsOver basis cost f head start pin more xs
+  no_over head start pin more xs none = absurd none
+
+  -- ---- starts by kind
+
+  source_opin : Source ≡ Opin → ⊥
+  source_opin e = cc
+
+  pub from_source : (t : Terminals) (head : Head) (start : ℕ) (xs : List ℕ) → (node start).kind ≡ Source → AreFromSource basis cost f t head start xs → AreRivalsFrom basis cost f t head start xs
+  from_source t head start xs k low = record {
+    wire = λ w l. absurd (subst IsWire k w);
+    output = λ o. absurd (source_opin (sym k ∙ o));
+    source = λ s. low;
+    other = λ n. absurd (n (subst IsStartKind (sym k) tt));
+  }
+
+  pub from_output : (t : Terminals) (head : Head) (start : ℕ) (lead : Lead) (xs : List ℕ) → (node start).kind ≡ Opin → lead.start ≡ start → lead.pin ≡ start → lead.more ≡ 0 → AreOverPin basis cost f head lead xs → AreRivalsFrom basis cost f t head start xs
+  from_output t head start lead xs k s p m low = record {
+    wire = λ w l. absurd (subst IsWire k w);
+    output = λ o. subst (λ (v : ℕ). AreRivalsOver basis cost f head v start 0 xs) s (subst (λ (v : ℕ). AreRivalsOver basis cost f head lead.start v 0 xs) p (over_whole head lead 0 xs low (omega (arith, m))));
+    source = λ o. absurd (source_opin (sym o ∙ k));
+    other = λ n. absurd (n (subst IsStartKind (sym k) tt));
+  }
+
+  -- all bounds are 0
+  pub from_other : (t : Terminals) (head : Head) (start : ℕ) (xs : List ℕ) → (IsWire (node start).kind → ⊥) → ((node start).kind ≡ Source → ⊥) → ((node start).kind ≡ Opin → ⊥) → ((track : ℕ) → track < basis.arch.tracks → slice_index xs track ≡ 0) → AreRivalsFrom basis cost f t head start xs
+  from_other t head start xs w s o none = record {
+    wire = λ k. absurd (w k);
+    output = λ k. absurd (o k);
+    source = λ k. absurd (s k);
+    other = λ n. none;
+  }
+
+  -- a wire
+  pub from_wire : (t : Terminals) (head : Head) (start : ℕ) (xs : List ℕ) → IsWire (node start).kind
+      → (start < head.start → (way : List ℕ) → Leads (f.plane (node start).n) f.exit (place_of basis (node start)) way → slice_index xs (node start).n ≤ sum_by (f.plane (node start).n).cost way)
+      → AreRivalsFrom basis cost f t head start xs
+  from_wire t head start xs w low = record {
+    wire = λ k. low;
+    output = λ k. absurd (subst IsWire k w);
+    source = λ k. absurd (subst IsWire k w);
+    other = λ n. absurd (none (node start).kind w n);
+  }
+    where
+      none : (k : NodeKind) → IsWire k → (IsStartKind k → ⊥) → ⊥
+      none Source w n = w
+      none Sink w n = w
+      none Opin w n = w
+      none Ipin w n = w
+      none ChanX w n = n tt
+      none ChanY w n = n tt
+
+  -- the bound of a wire's track is one of the ways from the wire
+  pub wire_set : (t : Terminals) (head : Head) (wire : StartWire) (xs : List ℕ) (ahead : ℕ) → IsWire (node wire.number).kind → wire.track ≡ (node wire.number).n → wire.place ≡ place_of basis (node wire.number) → wire.track < length xs
+      → IsLowerBound (f.plane wire.track) f.exit wire.place (Some ahead) → AreRivalsFrom basis cost f t head wire.number (set xs wire.track ahead)
+  wire_set t head wire xs ahead w track place b low = from_wire t head wire.number (set xs wire.track ahead) w (λ l way leads.
+      let here : slice_index (set xs wire.track ahead) (node wire.number).n ≡ ahead = ap (λ (n : ℕ). get_or (set xs wire.track ahead) n 0) (sym track) ∙ get_or-set_same xs wire.track ahead 0 b in
+      let led : Leads (f.plane wire.track) f.exit wire.place way = subst (λ (n : ℕ). Leads (f.plane n) f.exit wire.place way) (sym track) (subst (λ (p : ℕ). Leads (f.plane (node wire.number).n) f.exit p way) (sym place) leads) in
+      let sum : ahead ≤ sum_by (f.plane (node wire.number).n).cost way = subst (λ (n : ℕ). ahead ≤ sum_by (f.plane n).cost way) track (low way led) in
+      omega (arith, here, sum))
+
+-- ---- pins that are shown
+
+-- a pin of the list is at the place, or none is
+find_place : (pins : List PinAt) (place : ℕ) → ((k : ℕ) × (k < length pins) × ((d : PinAt) → (slice_index_or pins k d).place ≡ place)) ⊎ ((k : ℕ) (d : PinAt) → k < length pins → (slice_index_or pins k d).place ≡ place → ⊥)
+find_place [] place = inr (λ k d b. absurd (omega (arith, b)))
+find_place (x ∷ xs) place = elim (cases_eq x.place place) [
+  | inl e ↦ inl (0, omega arith, λ d. e)
+  | inr n ↦ elim (find_place xs place) [
+    | inl found ↦ inl (suc found.0, omega (arith, found.1), found.2)
+    | inr none ↦ inr (further n none)
+  ]
+]
+  where
+    further : (x.place ≡ place → ⊥) → ((k : ℕ) (d : PinAt) → k < length xs → (slice_index_or xs k d).place ≡ place → ⊥) → (k : ℕ) (d : PinAt) → k < length (x ∷ xs) → (slice_index_or (x ∷ xs) k d).place ≡ place → ⊥
+    further n none zero d b e = n e
+    further n none (suc k) d b e = none k d (omega (arith, b)) e
+
+pub index_in : {X : Type 0} (xs : List X) (k : ℕ) (d : X) → k < length xs → Contains xs (slice_index_or xs k d)
+index_in xs k d b = (k, b, get_or_default xs k (slice_index_or xs k d) d b)
+
+module _ {basis : Basis} (is : IsBasis basis) (t : Terminals) (cost : ℕ → ℕ) (starts : List ℕ) (goal : ℕ) (search : IsNetSearch basis cost starts goal t) (pins : List PinAt) (are_pins : ArePins basis t pins) where
+  -- of two pins that are shown at one place, both have one number
+  same_number : (number other : ℕ) → IsShownPin basis t number → IsShownPin basis t other → place_of basis ((graph_of basis).node number) ≡ place_of basis ((graph_of basis).node other) → number ≡ other
+  unfolding labels_of
+  same_number number other s r e =
+      let l = labels_of basis cost starts goal t in
+      let are = are_labels is cost starts goal t search in
+      sym (at_place l are 0 number s.within s.shown) ∙ (ap (node_at l 0) e ∙ at_place l are 0 other r.within r.shown)
+
+  -- a pin that is shown is listed
+  pub record IsListedAt (number : ℕ) : Type 0 where
+    pub k : ℕ
+    pub within : k < length pins
+    pub number_is : (d : PinAt) → (slice_index_or pins k d).number ≡ number
+
+  pub shown_listed : (number : ℕ) → IsShownPin basis t number → IsListedAt number
+  shown_listed number s = elim (find_place pins (place_of basis ((graph_of basis).node number))) [
+    | inl found ↦ record {
+      k = found.0;
+      within = found.1;
+      number_is = λ d.
+          let c = index_in pins found.0 d found.1 in
+          same_number (slice_index_or pins found.0 d).number number (are_pins.shown (slice_index_or pins found.0 d) c) s (are_pins.place (slice_index_or pins found.0 d) c ∙ found.2 d);
+    }
+    | inr none ↦ absurd (are_pins.all number s none)
+  ]
+
+  -- the bounds of all pins in the list are those of the pins that are shown
+  pub all_shown : (f : Family) (head : Head) (start : ℕ) (bounds : List ℕ) → ((k : ℕ) → k < length pins → AreShownTo basis cost f head start pins k bounds) → AreFromSource basis cost f t head start bounds
+  all_shown f head start bounds low number s o =
+      let a = shown_listed number s in
+      let x : PinAt = slice_index_or pins a.k (record { place = 0; number = 0; row = 0; per_track = 0; base = 0 }) in
+      let e : x.number ≡ number = a.number_is (record { place = 0; number = 0; row = 0; per_track = 0; base = 0 }) in
+      let there : slice_index_or pins a.k x ≡ x = get_or_default pins a.k x (record { place = 0; number = 0; row = 0; per_track = 0; base = 0 }) a.within in
+      subst (λ (v : ℕ). AreRivalsOver basis cost f head start v (cost v) bounds) e
+      (low a.k a.within x there (ap (λ (v : ℕ). ((graph_of basis).node v).kind) e ∙ o))
+
+pub contained_index : (xs : List ℕ) (x : ℕ) (c : Contains xs x) → slice_index xs c.0 ≡ x
+contained_index xs x c = get_or_default xs c.0 0 x c.1 ∙ c.2
+
+-- ---- one more of a list
+
+pub shown_here : (basis : Basis) (cost : ℕ → ℕ) (f : Family) (head : Head) (start : ℕ) (pins : List PinAt) (k : ℕ) (d : PinAt) (bounds : List ℕ) → k < length pins
+    → (((graph_of basis).node (slice_index_or pins k d).number).kind ≡ Opin → AreRivalsOver basis cost f head start (slice_index_or pins k d).number (cost (slice_index_or pins k d).number) bounds) → AreShownTo basis cost f head start pins k bounds
+shown_here basis cost f head start pins k d bounds b low pin e o =
+    let same : slice_index_or pins k d ≡ pin = get_or_default pins k d pin b ∙ e in
+    subst (λ (v : PinAt). AreRivalsOver basis cost f head start v.number (cost v.number) bounds) same (low (ap (λ (v : PinAt). ((graph_of basis).node v.number).kind) same ∙ o))
+
+pub wires_here : (basis : Basis) (cost : ℕ → ℕ) (f : Family) (t : Terminals) (head : Head) (wires : List StartWire) (k : ℕ) (d : StartWire) (bounds : List ℕ) → k < length wires
+    → AreRivalsFrom basis cost f t head (slice_index_or wires k d).number bounds → AreWiresTo basis cost f t head wires k bounds
+wires_here basis cost f t head wires k d bounds b low wire e = subst (λ (v : StartWire). AreRivalsFrom basis cost f t head v.number bounds) (get_or_default wires k d wire b ∙ e) low
+
+pub shown_still : (basis : Basis) (cost : ℕ → ℕ) (f : Family) (head : Head) (start : ℕ) (pins : List PinAt) (k : ℕ) (xs ys : List ℕ) → AreShownTo basis cost f head start pins k xs → AreLowered xs ys → AreShownTo basis cost f head start pins k ys
+shown_still basis cost f head start pins k xs ys low falls pin e o = over_still basis cost f head start pin.number (cost pin.number) xs ys (low pin e o) falls
+
+pub wires_still : (basis : Basis) (cost : ℕ → ℕ) (f : Family) (t : Terminals) (head : Head) (wires : List StartWire) (k : ℕ) (xs ys : List ℕ) → AreWiresTo basis cost f t head wires k xs → AreLowered xs ys → AreWiresTo basis cost f t head wires k ys
+wires_still basis cost f t head wires k xs ys low falls wire e = from_still basis cost f t head wire.number xs ys (low wire e) falls

@@ -1,0 +1,123 @@
+-- The pins that a net's planes show, as they are listed.
+use Rattle.std.proofs.Common.{◌≡◌, ℕ, ◌<◌, ◌⊎◌, true, List, [], ◌∷◌, ◌++◌, refl, sym, ap, subst, ◌∙◌, inl, inr, arith}
+use Rattle.std.specs.Prelude.{Contains, ◌==◌, ◌&&◌}
+use Rattle.std.proofs.lemmas.Bool.{and_parts, eqb-true, eq-eqb}
+use Rattle.std.proofs.lemmas.List.Elements.{Contains-append_left, Contains-push, Contains-push_cases}
+use Rattle.rr_graph.specs.declared.node.NodeKind.{NodeKind}
+use Rattle.rr_graph.specs.declared.node.NodeKind.TheVariants.{Source, Sink, Opin, Ipin, ChanX, ChanY}
+use Rattle.rr_graph.specs.declared.node.Node.{Node}
+use Rattle.rr_graph.specs.Geometry.{IsWire}
+use Rattle.rr_graph.specs.Graph.{Basis, IsBasis, graph_of, make_node}
+use Rattle.fabric_planes.specs.declared.pins.PinAt.{PinAt}
+use Rattle.fabric_planes.specs.Layout.{is_same_spot, place_of, shows}
+use Rattle.fabric_planes.specs.NetSearches.{terminals_of}
+use Rattle.fabric_planes.specs.Pins.{IsShownPin}
+use Rattle.fabric_planes.specs.Shown.{AddsPins, ArePinsFor, IsOutputOf, IsPinAt}
+use Rattle.fabric_planes.specs.Sides.{IsOwnPin}
+use Rattle.fabric_planes.proofs.Consecutive.{same_number}
+
+-- ---- lists with more pins
+
+module _ (basis : Basis) (rows : List (List ℕ)) where
+  pub one_added : (number : ℕ) (pin : PinAt) (old new : List PinAt) → new ≡ old ++ pin ∷ [] → pin.number ≡ number → IsPinAt basis rows pin → AddsPins basis rows (λ other. other ≡ number) old new
+  one_added number pin old new e is at = subst (AddsPins basis rows (λ other. other ≡ number) old) (sym e) (record {
+    before = λ p c. Contains-append_left old (pin ∷ []) p c;
+    sound = λ p c. elim (Contains-push_cases old pin p c) [
+      | inl o ↦ inl o
+      | inr same ↦ inr (subst (IsPinAt basis rows) same at, ap (λ (p : PinAt). p.number) (sym same) ∙ is)
+    ];
+    all = λ k is_k. record { pin = pin; contained = Contains-push old pin; is = is ∙ sym is_k };
+  })
+
+  pub both_added : (first second : ℕ → Type 0) (a b c : List PinAt) → AddsPins basis rows first a b → AddsPins basis rows second b c → AddsPins basis rows (λ k. first k ⊎ second k) a c
+  both_added first second a b c f s = record {
+    before = λ pin i. s.before pin (f.before pin i);
+    sound = λ pin i. elim (s.sound pin i) [
+      | inl i ↦ elim (f.sound pin i) [
+        | inl i ↦ inl i
+        | inr (at, is) ↦ inr (at, inl is)
+      ]
+      | inr (at, is) ↦ inr (at, inr is)
+    ];
+    all = λ k which. elim which [
+      | inl is ↦ (let h = f.all k is in record { pin = h.pin; contained = s.before h.pin h.contained; is = h.is })
+      | inr is ↦ s.all k is
+    ];
+  }
+
+  pub same_added : (first second : ℕ → Type 0) (old new : List PinAt) → ((k : ℕ) → first k → second k) → ((k : ℕ) → second k → first k) → AddsPins basis rows first old new → AddsPins basis rows second old new
+  same_added first second old new to from are = record {
+    before = are.before;
+    sound = λ pin i. elim (are.sound pin i) [
+      | inl i ↦ inl i
+      | inr (at, is) ↦ inr (at, to pin.number is)
+    ];
+    all = λ k is. are.all k (from k is);
+  }
+
+-- ---- the pins that are shown
+
+same_node : (a b : Node) → a.x ≡ b.x → a.kind ≡ b.kind → a.y ≡ b.y → a.n ≡ b.n → a ≡ b
+same_node a b x kind y n =
+    ap (λ (v : ℕ). make_node v a.kind a.y a.n) x ∙ (ap (λ (v : NodeKind). make_node b.x v a.y a.n) kind ∙ (ap (λ (v : ℕ). make_node b.x b.kind v a.n) y ∙ ap (λ (v : ℕ). make_node b.x b.kind b.y v) n))
+
+same_spot : (a b : Node) → a.kind ≡ b.kind → is_same_spot a b ≡ true → a ≡ b
+same_spot a b kind h =
+    let x = and_parts (a.x == b.x) ((a.y == b.y) && (a.n == b.n)) h in
+    let y = and_parts (a.y == b.y) (a.n == b.n) x.1 in
+    same_node a b (eqb-true a.x b.x x.0) kind (eqb-true a.y b.y y.0) (eqb-true a.n b.n y.1)
+
+own_spot : (a : Node) → is_same_spot a a ≡ true
+own_spot a = rw (eq-eqb a.x a.x refl) (rw (eq-eqb a.y a.y refl) (eq-eqb a.n a.n refl))
+
+module _ {basis : Basis} (is : IsBasis basis) (rows : List (List ℕ)) (source goal : ℕ) where
+  abbrev node : ℕ → Node
+  node = (graph_of basis).node
+
+  -- a net's source, its output pins, the sink's input pins, or the sink
+  abbrev pub IsNetPin : ℕ → Type 0
+  IsNetPin k = (((k ≡ source) ⊎ IsOutputOf basis (node source) k) ⊎ IsOwnPin basis (node goal) k) ⊎ (k ≡ goal)
+
+  is_shown : (kind : NodeKind) → (IsWire kind → ⊥) → (number : ℕ) → number < (graph_of basis).count → (node number).kind ≡ kind → shows basis.strip (terminals_of basis source goal) 0 kind (node number) ≡ true → IsShownPin basis (terminals_of basis source goal) number
+  is_shown kind no_wire number within is_kind shown = record {
+    within = within;
+    no_wire = λ w. no_wire (subst IsWire is_kind w);
+    shown = subst (λ (k : NodeKind). shows basis.strip (terminals_of basis source goal) 0 k (node number) ≡ true) (sym is_kind) shown;
+  }
+
+  shown_pin : source < (graph_of basis).count → goal < (graph_of basis).count → (node source).kind ≡ Source → (node goal).kind ≡ Sink → (number : ℕ) → IsNetPin number → IsShownPin basis (terminals_of basis source goal) number
+  shown_pin sb gb sk gk number (inl (inl (inl e))) = subst (IsShownPin basis (terminals_of basis source goal)) (sym e) (is_shown Source (λ w. w) source sb sk (own_spot (node source)))
+  shown_pin sb gb sk gk number (inl (inl (inr o))) = is_shown Opin (λ w. w) number o.within o.kind o.own
+  shown_pin sb gb sk gk number (inl (inr o)) = is_shown Ipin (λ w. w) number o.within o.kind o.own
+  shown_pin sb gb sk gk number (inr e) = subst (IsShownPin basis (terminals_of basis source goal)) (sym e) (is_shown Sink (λ w. w) goal gb gk (own_spot (node goal)))
+
+  net_pin : source < (graph_of basis).count → goal < (graph_of basis).count → (node source).kind ≡ Source → (node goal).kind ≡ Sink → (kind : NodeKind) (number : ℕ) → (node number).kind ≡ kind → number < (graph_of basis).count → (IsWire kind → ⊥)
+      → shows basis.strip (terminals_of basis source goal) 0 kind (node number) ≡ true → IsNetPin number
+  net_pin sb gb sk gk Source number k b n s = inl (inl (inl (same_number is number source b sb (same_spot (node number) (node source) (k ∙ sym sk) s))))
+  net_pin sb gb sk gk Sink number k b n s = inr (same_number is number goal b gb (same_spot (node number) (node goal) (k ∙ sym gk) s))
+  net_pin sb gb sk gk Opin number k b n s = inl (inl (inr (record { within = b; kind = k; own = s })))
+  net_pin sb gb sk gk Ipin number k b n s = inl (inr (record { within = b; kind = k; own = s }))
+  net_pin sb gb sk gk ChanX number k b n s = absurd (n tt)
+  net_pin sb gb sk gk ChanY number k b n s = absurd (n tt)
+
+  -- what a list has to which all of them are added
+  from_sound : (pins : List PinAt) → AddsPins basis rows IsNetPin [] pins → (pin : PinAt) → Contains pins pin → IsPinAt basis rows pin × IsNetPin pin.number
+  from_sound pins adds pin c = elim (adds.sound pin c) [
+    | inl (k, b, e) ↦ absurd (omega (arith, b))
+    | inr found ↦ found
+  ]
+
+  pub are_pins : source < (graph_of basis).count → goal < (graph_of basis).count → (node source).kind ≡ Source → (node goal).kind ≡ Sink → (pins : List PinAt) → AddsPins basis rows IsNetPin [] pins → ArePinsFor basis rows source goal pins
+  are_pins sb gb sk gk pins adds =
+      let shown : (pin : PinAt) → Contains pins pin → IsShownPin basis (terminals_of basis source goal) pin.number = λ pin c. shown_pin sb gb sk gk pin.number (from_sound pins adds pin c).1 in
+      record {
+        are_pins = record {
+          shown = shown;
+          place = λ pin c. sym (from_sound pins adds pin c).0.place;
+          all = λ number s none.
+              let h = adds.all number (net_pin sb gb sk gk (node number).kind number refl s.within s.no_wire s.shown) in
+              let at = (from_sound pins adds h.pin h.contained).0 in
+              none h.contained.0 h.pin h.contained.1 (ap (λ (p : PinAt). p.place) h.contained.2 ∙ (at.place ∙ ap (λ (k : ℕ). place_of basis (node k)) h.is));
+        };
+        have_ends = λ cost starts search pin c. (from_sound pins adds pin c).0.ends cost starts goal (terminals_of basis source goal) search (shown pin c);
+      }

@@ -1,0 +1,150 @@
+-- The wires at the sides of a sink's block or pad, by place.
+use Rattle.std.proofs.Common.{◌≡◌, ℕ, ◌+◌, ◌-◌, ◌<◌, ◌≤◌, true, false, List, cond, refl, ap, subst, sym, ◌∙◌, inl, inr, arith, leb}
+use Rattle.std.specs.Prelude.{slice_index, nat_le, nat_lt, ◌&&◌, ◌||◌}
+use Rattle.std.proofs.lemmas.Bool.{cases_lt, and_parts, leb-true, le-leb}
+use Rattle.arch_file.specs.declared.arch.Arch.{Arch}
+use Rattle.grid.specs.declared.Strip.{Strip}
+use Rattle.rr_graph.specs.declared.node.NodeKind.{NodeKind}
+use Rattle.rr_graph.specs.declared.node.NodeKind.TheVariants.{Source, Sink, Opin, Ipin, ChanX, ChanY}
+use Rattle.rr_graph.specs.declared.node.Node.{Node}
+use Rattle.rr_graph.specs.Geometry.{IsWire, is_node, is_slot, is_chan_y, is_block_row}
+use Rattle.rr_graph.specs.Graph.{Basis, IsBasis, graph_of}
+use Rattle.fabric_planes.specs.Aheads.{AreSides}
+use Rattle.fabric_planes.specs.Differences.{IsPinPlace}
+use Rattle.fabric_planes.specs.Laid.{IsWireOf}
+use Rattle.fabric_planes.specs.Layout.{band_of, level_at, upright_at, stride_of, in_column, offset_of, place_of, place_count}
+use Rattle.fabric_planes.specs.SidePlaces.{IsInStrip, side_places}
+use Rattle.fabric_planes.specs.Sides.{IsAtSide}
+use Rattle.fabric_planes.proofs.Strips.{lawful}
+use Rattle.fabric_planes.proofs.Found.{place_low}
+use Rattle.fabric_planes.proofs.Lowered.{by_four}
+use Rattle.fabric_planes.proofs.Offsets.{columns_apart, place_below}
+
+-- ---- places are apart
+
+-- a place determines its column and offset
+pub parts_of : (basis : Basis) (x y p q : ℕ) → p < stride_of basis → q < stride_of basis → in_column basis x p ≡ in_column basis y q → (x ≡ y) × (p ≡ q)
+parts_of basis x y p q few more e = elim (cases_lt x y) [
+  | inl less ↦ absurd (let l = columns_apart basis x y p q less few in omega (arith, l, e))
+  | inr no_less ↦ elim (cases_lt y x) [
+    | inl less ↦ absurd (let l = columns_apart basis y x q p less more in omega (arith, l, e))
+    | inr no_more ↦
+        (let same : x ≡ y = omega (arith, no_less, no_more) in
+        let e' : in_column basis y p ≡ in_column basis y q = subst (λ x. in_column basis x p ≡ in_column basis y q) same e in
+        (same, omega (arith, e')))
+  ]
+]
+
+-- a wire's row is one of the strip's
+slot_row : (arch : Arch) (strip : Strip) (kind : NodeKind) (y n : ℕ) → IsWire kind → is_slot arch strip kind y n ≡ true → y ≤ strip.rows
+slot_row arch strip Source y n w h = absurd w
+slot_row arch strip Sink y n w h = absurd w
+slot_row arch strip Opin y n w h = absurd w
+slot_row arch strip Ipin y n w h = absurd w
+slot_row arch strip ChanX y n w h = leb-true y strip.rows (and_parts (nat_le y strip.rows) (nat_lt n arch.tracks) h).0
+slot_row arch strip ChanY y n w h = leb-true y strip.rows (and_parts (nat_le 1 y) (nat_le y strip.rows) (and_parts (is_block_row strip y) (nat_lt n arch.tracks) h).0).1
+
+wire_row : (arch : Arch) (strip : Strip) (v : Node) → IsWire v.kind → is_node arch strip v ≡ true → v.y ≤ strip.rows
+wire_row arch strip v w there =
+    slot_row arch strip v.kind v.y v.n w (and_parts (nat_le 1 v.x || is_chan_y v.kind) (is_slot arch strip v.kind v.y v.n) (and_parts (nat_le v.x strip.width) ((nat_le 1 v.x || is_chan_y v.kind) && is_slot arch strip v.kind v.y v.n) there).1).1
+
+-- a horizontal wire, and a vertical one, by their places
+level_wire : (basis : Basis) (v : Node) (kind : NodeKind) → IsWire kind → v.y ≤ basis.strip.rows → (x r : ℕ) → r < band_of basis → in_column basis x (level_at basis + r) ≡ in_column basis v.x (offset_of basis kind v) → (kind ≡ ChanX) × (v.x ≡ x) × (v.y ≡ r)
+level_wire basis v Source w low x r few e = absurd w
+level_wire basis v Sink w low x r few e = absurd w
+level_wire basis v Opin w low x r few e = absurd w
+level_wire basis v Ipin w low x r few e = absurd w
+level_wire basis v ChanX w low x r few e =
+    let p = parts_of basis x v.x (level_at basis + r) (level_at basis + v.y) (omega (arith, few)) (omega (arith, low)) e in
+    (refl, sym p.0, omega (arith, p.1))
+level_wire basis v ChanY w low x r few e =
+    let p = parts_of basis x v.x (level_at basis + r) (upright_at basis + v.y) (omega (arith, few)) (omega (arith, low)) e in
+    absurd (omega (arith, p.1, few))
+
+upright_wire : (basis : Basis) (v : Node) (kind : NodeKind) → IsWire kind → v.y ≤ basis.strip.rows → (x r : ℕ) → r < band_of basis → in_column basis x (upright_at basis + r) ≡ in_column basis v.x (offset_of basis kind v) → (kind ≡ ChanY) × (v.x ≡ x) × (v.y ≡ r)
+upright_wire basis v Source w low x r few e = absurd w
+upright_wire basis v Sink w low x r few e = absurd w
+upright_wire basis v Opin w low x r few e = absurd w
+upright_wire basis v Ipin w low x r few e = absurd w
+upright_wire basis v ChanX w low x r few e =
+    let p = parts_of basis x v.x (upright_at basis + r) (level_at basis + v.y) (omega (arith, few)) (omega (arith, low)) e in
+    absurd (omega (arith, p.1, low))
+upright_wire basis v ChanY w low x r few e =
+    let p = parts_of basis x v.x (upright_at basis + r) (upright_at basis + v.y) (omega (arith, few)) (omega (arith, low)) e in
+    (refl, sym p.0, omega (arith, p.1))
+
+-- the place of a wire of a kind
+place_by : (basis : Basis) (v : Node) (kind : NodeKind) → v.kind ≡ kind → place_of basis v ≡ in_column basis v.x (offset_of basis kind v)
+place_by basis v kind e = ap (λ k. in_column basis v.x (offset_of basis k v)) e
+
+same_place : (basis : Basis) (x y p q : ℕ) → x ≡ y → p ≡ q → in_column basis x p ≡ in_column basis y q
+same_place basis x y p q e f = ap (λ x. in_column basis x p) e ∙ ap (λ p. in_column basis y p) f
+
+-- a place of wires is not one of pins
+no_pin_at : (basis : Basis) (x p y q : ℕ) → level_at basis ≤ p → p < stride_of basis → IsPinPlace basis y q → in_column basis x p ≡ in_column basis y q → ⊥
+no_pin_at basis x p y q from few pin e =
+    let parts = parts_of basis x y p q few (omega (arith, pin.few)) e in
+    omega (arith, parts.1, from, pin.few)
+
+no_pin_past : (basis : Basis) (y q : ℕ) → IsPinPlace basis y q → place_count basis ≡ in_column basis y q → ⊥
+no_pin_past basis y q pin e = let l = place_below basis y q pin.column (omega (arith, pin.few)) in omega (arith, l, e)
+
+module _ (basis : Basis) (is : IsBasis basis) (sink : Node) (inside : IsInStrip basis sink) where
+  abbrev node : ℕ → Node
+  node = (graph_of basis).node
+
+  at_level : (place number : ℕ) → IsWireOf basis place number → (x r : ℕ) → r < band_of basis → in_column basis x (level_at basis + r) ≡ place → ((node number).kind ≡ ChanX) × ((node number).x ≡ x) × ((node number).y ≡ r)
+  at_level place number w x r few e = level_wire basis (node number) (node number).kind w.wire.wire (wire_row basis.arch basis.strip (node number) w.wire.wire ((lawful is).nodes number w.wire.within)) x r few (e ∙ sym w.is_at)
+
+  at_upright : (place number : ℕ) → IsWireOf basis place number → (x r : ℕ) → r < band_of basis → in_column basis x (upright_at basis + r) ≡ place → ((node number).kind ≡ ChanY) × ((node number).x ≡ x) × ((node number).y ≡ r)
+  at_upright place number w x r few e = upright_wire basis (node number) (node number).kind w.wire.wire (wire_row basis.arch basis.strip (node number) w.wire.wire ((lawful is).nodes number w.wire.within)) x r few (e ∙ sym w.is_at)
+
+  no_wire_past : (place number : ℕ) → IsWireOf basis place number → place_count basis ≡ place → ⊥
+  no_wire_past place number w e = let l = place_low is place number w in omega (arith, l, e)
+
+  below : sink.y < band_of basis
+  below = omega (arith, inside.y)
+
+  side_is : (side place number : ℕ) → IsWireOf basis place number → side < 4 → slice_index (side_places basis sink) side ≡ place → IsAtSide sink side (node number).kind (node number).x (node number).y
+  side_is side place number w few e =
+      by_four (λ side. slice_index (side_places basis sink) side ≡ place → IsAtSide sink side (node number).kind (node number).x (node number).y)
+      (λ e. (let p = at_level place number w sink.x sink.y below e in record { few = omega arith; kind_is = p.0; column = omega (arith, p.1); row = omega (arith, p.2) }))
+      (λ e. elim (leb 1 sink.y) as (λ b. leb 1 sink.y ≡ b → cond b (in_column basis sink.x (level_at basis + (sink.y - 1))) (place_count basis) ≡ place → IsAtSide sink 1 (node number).kind (node number).x (node number).y) [
+        | true ↦ λ b e. (let p = at_level place number w sink.x (sink.y - 1) (omega (arith, below)) e in record { few = omega arith; kind_is = p.0; column = omega (arith, p.1); row = omega (arith, p.2, leb-true 1 sink.y b) })
+        | false ↦ λ b e. absurd (no_wire_past place number w e)
+      ] refl e)
+      (λ e. (let p = at_upright place number w sink.x sink.y below e in record { few = omega arith; kind_is = p.0; column = omega (arith, p.1); row = omega (arith, p.2) }))
+      (λ e. elim (leb 1 sink.x) as (λ b. leb 1 sink.x ≡ b → cond b (in_column basis (sink.x - 1) (upright_at basis + sink.y)) (place_count basis) ≡ place → IsAtSide sink 3 (node number).kind (node number).x (node number).y) [
+        | true ↦ λ b e. (let p = at_upright place number w (sink.x - 1) sink.y below e in record { few = omega arith; kind_is = p.0; column = omega (arith, p.1, leb-true 1 sink.x b); row = omega (arith, p.2) })
+        | false ↦ λ b e. absurd (no_wire_past place number w e)
+      ] refl e)
+      side few e
+
+  side_all : (side place number : ℕ) → IsWireOf basis place number → IsAtSide sink side (node number).kind (node number).x (node number).y → slice_index (side_places basis sink) side ≡ place
+  side_all side place number w at =
+      by_four (λ side. IsAtSide sink side (node number).kind (node number).x (node number).y → slice_index (side_places basis sink) side ≡ place)
+      (λ at. same_place basis sink.x (node number).x (level_at basis + sink.y) (level_at basis + (node number).y) (omega (arith, at.column)) (omega (arith, at.row)) ∙ sym (place_by basis (node number) ChanX at.kind_is) ∙ w.is_at)
+      (λ at. rw (le-leb 1 sink.y (omega (arith, at.row)))
+      (same_place basis sink.x (node number).x (level_at basis + (sink.y - 1)) (level_at basis + (node number).y) (omega (arith, at.column)) (omega (arith, at.row)) ∙ sym (place_by basis (node number) ChanX at.kind_is) ∙ w.is_at))
+      (λ at. same_place basis sink.x (node number).x (upright_at basis + sink.y) (upright_at basis + (node number).y) (omega (arith, at.column)) (omega (arith, at.row)) ∙ sym (place_by basis (node number) ChanY at.kind_is) ∙ w.is_at)
+      (λ at. rw (le-leb 1 sink.x (omega (arith, at.column)))
+      (same_place basis (sink.x - 1) (node number).x (upright_at basis + sink.y) (upright_at basis + (node number).y) (omega (arith, at.column)) (omega (arith, at.row)) ∙ sym (place_by basis (node number) ChanY at.kind_is) ∙ w.is_at))
+      side at.few at
+
+  side_no_pin : (side x offset : ℕ) → side < 4 → IsPinPlace basis x offset → slice_index (side_places basis sink) side ≡ in_column basis x offset → ⊥
+  side_no_pin side x offset few pin e =
+      by_four (λ side. slice_index (side_places basis sink) side ≡ in_column basis x offset → ⊥)
+      (λ e. no_pin_at basis sink.x (level_at basis + sink.y) x offset (omega arith) (omega (arith, below)) pin e)
+      (λ e. elim (leb 1 sink.y) as (λ b. cond b (in_column basis sink.x (level_at basis + (sink.y - 1))) (place_count basis) ≡ in_column basis x offset → ⊥) [
+        | true ↦ λ e. no_pin_at basis sink.x (level_at basis + (sink.y - 1)) x offset (omega arith) (omega (arith, below)) pin e
+        | false ↦ λ e. no_pin_past basis x offset pin e
+      ] e)
+      (λ e. no_pin_at basis sink.x (upright_at basis + sink.y) x offset (omega arith) (omega (arith, below)) pin e)
+      (λ e. elim (leb 1 sink.x) as (λ b. cond b (in_column basis (sink.x - 1) (upright_at basis + sink.y)) (place_count basis) ≡ in_column basis x offset → ⊥) [
+        | true ↦ λ e. no_pin_at basis (sink.x - 1) (upright_at basis + sink.y) x offset (omega arith) (omega (arith, below)) pin e
+        | false ↦ λ e. no_pin_past basis x offset pin e
+      ] e)
+      side few e
+
+  pub are_sides : (sides : List ℕ) → sides ≡ side_places basis sink → AreSides basis sink sides
+  are_sides sides same = subst (AreSides basis sink) (sym same) (record { four = refl; is_at = side_is; all = side_all; no_pin = side_no_pin })

@@ -1,0 +1,141 @@
+-- The starts that are wires, and the others.
+use Rattle.std.proofs.Common.{◌≡◌, ℕ, zero, suc, ◌⊎◌, List, [], ◌∷◌, ◌++◌, map, refl, sym, ap, ◌∙◌, subst, arith, inl, inr, Bool, true, false}
+use Rattle.std.specs.Prelude.{All, Contains, filter, if◌then◌else◌}
+use Rattle.std.proofs.lemmas.Bool.{cases_Bool, false≢true}
+use Rattle.std.proofs.lemmas.List.{map-append, append-nil}
+use Rattle.std.proofs.lemmas.List.Elements.{All-contains, All-append, All-nil, All-cons, filter-append}
+use Rattle.rr_graph.specs.declared.node.NodeKind.{NodeKind}
+use Rattle.rr_graph.specs.declared.node.NodeKind.TheVariants.{Source, Sink, Opin, Ipin, ChanX, ChanY}
+use Rattle.rr_graph.specs.Geometry.{IsWire, is_wire}
+use Rattle.rr_graph.specs.Graph.{Basis, graph_of}
+use Rattle.fabric_planes.specs.declared.net_starts.NetStarts.{NetStarts}
+use Rattle.fabric_planes.specs.declared.net_starts.StartWire.{StartWire}
+use Rattle.fabric_planes.specs.Starts.{HasStarts, IsStartWire, is_wire_number, is_pin_number}
+use Rattle.fabric_planes.specs.Ways.{IsWireAt}
+use Rattle.fabric_planes.proofs.Spans.{in_map, in_none, map_in}
+
+-- ---- kinds
+
+pub wire_true : (kind : NodeKind) → IsWire kind → is_wire kind ≡ true
+wire_true Source w = absurd w
+wire_true Sink w = absurd w
+wire_true Opin w = absurd w
+wire_true Ipin w = absurd w
+wire_true ChanX w = refl
+wire_true ChanY w = refl
+
+pub true_wire : (kind : NodeKind) → is_wire kind ≡ true → IsWire kind
+true_wire Source e = absurd (false≢true e)
+true_wire Sink e = absurd (false≢true e)
+true_wire Opin e = absurd (false≢true e)
+true_wire Ipin e = absurd (false≢true e)
+true_wire ChanX e = tt
+true_wire ChanY e = tt
+
+pub wire_false : (kind : NodeKind) → (IsWire kind → ⊥) → is_wire kind ≡ false
+wire_false Source n = refl
+wire_false Sink n = refl
+wire_false Opin n = refl
+wire_false Ipin n = refl
+wire_false ChanX n = absurd (n tt)
+wire_false ChanY n = absurd (n tt)
+
+pub wire_cases : (kind : NodeKind) → IsWire kind ⊎ (IsWire kind → ⊥)
+wire_cases Source = inr (λ w. w)
+wire_cases Sink = inr (λ w. w)
+wire_cases Opin = inr (λ w. w)
+wire_cases Ipin = inr (λ w. w)
+wire_cases ChanX = inl tt
+wire_cases ChanY = inl tt
+
+-- ---- filtered lists
+
+cases_in : (x y : ℕ) (xs : List ℕ) → Contains (x ∷ xs) y → (x ≡ y) ⊎ Contains xs y
+cases_in x y xs (zero, b, e) = inl e
+cases_in x y xs (suc k, b, e) = inr (k, omega arith, e)
+
+further : (x y : ℕ) (xs : List ℕ) → Contains xs y → Contains (x ∷ xs) y
+further x y xs c = (suc c.0, omega (arith, c.1), c.2)
+
+filter_in : (p : ℕ → Bool) (xs : List ℕ) (n : ℕ) → p n ≡ true → Contains xs n → Contains (filter p xs) n
+filter_in p [] n t c = absurd (in_none n c)
+filter_in p (x ∷ xs) n t c = elim (cases_Bool (p x)) [
+  | inl e ↦ rw e (elim (cases_in x n xs c) [
+    | inl same ↦ (0, omega arith, same)
+    | inr rest ↦ further x n (filter p xs) (filter_in p xs n t rest)
+  ])
+  | inr e ↦ rw e (elim (cases_in x n xs c) [
+    | inl same ↦ absurd (false≢true (sym e ∙ (ap p same ∙ t)))
+    | inr rest ↦ filter_in p xs n t rest
+  ])
+]
+
+filter_of : (p : ℕ → Bool) (xs : List ℕ) (n : ℕ) → Contains (filter p xs) n → Contains xs n × (p n ≡ true)
+filter_of p [] n c = absurd (in_none n c)
+filter_of p (x ∷ xs) n c = elim (cases_Bool (p x)) [
+  | inl e ↦ elim (cases_in x n (filter p xs) (rw e at c)) [
+    | inl same ↦ ((0, omega arith, same), ap p (sym same) ∙ e)
+    | inr rest ↦ (let h = filter_of p xs n rest in (further x n xs h.0, h.1))
+  ]
+  | inr e ↦ (let h = filter_of p xs n (rw e at c) in (further x n xs h.0, h.1))
+]
+
+filter_with : (p : ℕ → Bool) (xs : List ℕ) (n : ℕ) → p n ≡ true → filter p (xs ++ n ∷ []) ≡ filter p xs ++ n ∷ []
+filter_with p xs n e = filter-append p xs (n ∷ []) ∙ rw e refl
+
+filter_without : (p : ℕ → Bool) (xs : List ℕ) (n : ℕ) → p n ≡ false → filter p (xs ++ n ∷ []) ≡ filter p xs
+filter_without p xs n e = filter-append p xs (n ∷ []) ∙ rw e (append-nil (filter p xs))
+
+module _ (basis : Basis) where
+  pub wire_of_start : (wire : StartWire) → IsStartWire basis wire → IsWireAt basis wire.number
+  wire_of_start wire s = record { within = s.within; wire = true_wire ((graph_of basis).node wire.number).kind s.kind }
+
+  -- ---- one more start
+
+  pub with_wire : (starts : List ℕ) (number : ℕ) (old new : NetStarts) (wire : StartWire) → HasStarts basis starts old → IsStartWire basis wire → wire.number ≡ number
+      → new.pins.items ≡ old.pins.items → new.wires.items ≡ old.wires.items ++ wire ∷ [] → HasStarts basis (starts ++ number ∷ []) new
+  with_wire starts number old new wire has s n pe we =
+      let kind : is_wire_number basis number ≡ true = subst (λ (v : ℕ). is_wire_number basis v ≡ true) n s.kind in
+      let numbers : map (λ (wire : StartWire). wire.number) new.wires.items ≡ filter (is_wire_number basis) starts ++ number ∷ [] =
+      ap (map (λ (wire : StartWire). wire.number)) we ∙ (map-append (λ (wire : StartWire). wire.number) old.wires.items (wire ∷ []) ∙ (ap (λ (xs : List ℕ). xs ++ wire.number ∷ []) has.wires ∙ ap (λ (v : ℕ). filter (is_wire_number basis) starts ++ v ∷ []) n)) in
+      record {
+        pins = pe ∙ (has.pins ∙ sym (filter_without (is_pin_number basis) starts number (rw kind refl)));
+        wires = numbers ∙ sym (filter_with (is_wire_number basis) starts number kind);
+        wires_are = subst (All (IsStartWire basis)) (sym we) (All-append (IsStartWire basis) old.wires.items (wire ∷ []) has.wires_are (All-cons (IsStartWire basis) wire [] s (All-nil (IsStartWire basis))));
+      }
+
+  pub with_pin : (starts : List ℕ) (number : ℕ) (old new : NetStarts) → HasStarts basis starts old → (IsWire ((graph_of basis).node number).kind → ⊥)
+      → new.pins.items ≡ old.pins.items ++ number ∷ [] → new.wires.items ≡ old.wires.items → HasStarts basis (starts ++ number ∷ []) new
+  with_pin starts number old new has n pe we =
+      let kind : is_wire_number basis number ≡ false = wire_false ((graph_of basis).node number).kind n in
+      record {
+        pins = pe ∙ (ap (λ (xs : List ℕ). xs ++ number ∷ []) has.pins ∙ sym (filter_with (is_pin_number basis) starts number (rw kind refl)));
+        wires = ap (map (λ (wire : StartWire). wire.number)) we ∙ (has.wires ∙ sym (filter_without (is_wire_number basis) starts number kind));
+        wires_are = subst (All (IsStartWire basis)) (sym we) has.wires_are;
+      }
+
+  -- ---- members
+
+  module _ (starts : List ℕ) (net : NetStarts) (has : HasStarts basis starts net) where
+    pub pin_in : (number : ℕ) → Contains starts number → (IsWire ((graph_of basis).node number).kind → ⊥) → Contains net.pins.items number
+    pin_in number c n = subst (λ (xs : List ℕ). Contains xs number) (sym has.pins) (filter_in (is_pin_number basis) starts number (rw (wire_false ((graph_of basis).node number).kind n) refl) c)
+
+    pub pin_of : (number : ℕ) → Contains net.pins.items number → Contains starts number × (IsWire ((graph_of basis).node number).kind → ⊥)
+    pin_of number c =
+        let h = filter_of (is_pin_number basis) starts number (subst (λ (xs : List ℕ). Contains xs number) has.pins c) in
+        (h.0, λ w. no_pin ((graph_of basis).node number).kind w h.1)
+      where
+        no_pin : (kind : NodeKind) → IsWire kind → (if is_wire kind then false else true) ≡ true → ⊥
+        no_pin kind w e = false≢true (subst (λ (b : Bool). (if b then false else true) ≡ true) (wire_true kind w) e)
+
+    pub wire_in : (number : ℕ) → Contains starts number → IsWire ((graph_of basis).node number).kind → (wire : StartWire) × Contains net.wires.items wire × (wire.number ≡ number)
+    wire_in number c w =
+        map_in (λ (wire : StartWire). wire.number) number net.wires.items
+        (subst (λ (xs : List ℕ). Contains xs number) (sym has.wires) (filter_in (is_wire_number basis) starts number (wire_true ((graph_of basis).node number).kind w) c))
+
+    pub wire_of : (wire : StartWire) → Contains net.wires.items wire → IsStartWire basis wire
+    wire_of wire c = All-contains (IsStartWire basis) net.wires.items wire has.wires_are c
+
+    pub wire_from : (wire : StartWire) → Contains net.wires.items wire → Contains starts wire.number
+    wire_from wire c =
+        (filter_of (is_wire_number basis) starts wire.number (subst (λ (xs : List ℕ). Contains xs wire.number) has.wires (in_map (λ (wire : StartWire). wire.number) wire net.wires.items c))).0

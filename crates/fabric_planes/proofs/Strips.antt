@@ -1,0 +1,402 @@
+-- A strip's routing graph consists of planes.
+use Rattle.std.proofs.Common.{◌≡◌, ℕ, ◌+◌, ◌*◌, ◌^◌, ◌<◌, ◌≤◌, ◌⊎◌, List, [], ◌∷◌, length, refl, sym, ap, ◌∙◌, subst, inl, inr, arith, true, Some, ◌==◌, ◌&&◌, ◌||◌, nat_le}
+use Rattle.std.specs.Prelude.{All, Contains, nat_lt}
+use Rattle.std.proofs.lemmas.Bool.{and_parts, and_from, or_cases, eqb-true, eq-eqb, leb-true, ltb-true}
+use Rattle.std.proofs.lemmas.Nat.{mul-le}
+use Rattle.std.proofs.lemmas.List.Elements.{All-contains, All-contains_itself, All-nil, All-cons}
+use Rattle.arch_file.proofs.FewPins.{few_pins}
+use Rattle.arch_file.specs.Arch.{is_input_class, is_output_class}
+use Rattle.grid.specs.declared.Strip.{Strip}
+use Rattle.rr_graph.specs.declared.node.NodeKind.{NodeKind}
+use Rattle.rr_graph.specs.declared.node.NodeKind.TheVariants.{Source, Sink, Opin, Ipin, ChanX, ChanY}
+use Rattle.rr_graph.specs.declared.node.Node.{Node}
+use Rattle.rr_graph.specs.Node.{IsBefore, rank_of}
+use Rattle.rr_graph.specs.Geometry.{IsWire, is_node, is_slot, is_chan_y, is_pad_row, is_block_row, is_block_number, is_together}
+use Rattle.rr_graph.specs.Graph.{Basis, IsBasis, IsRoutingGraph, graph_of}
+use Rattle.rr_graph.proofs.Columns.{get_within, same_kind}
+use Rattle.rr_graph.proofs.Definition.{definition_lawful}
+use Rattle.rr_graph.proofs.FewEnds.{ends_few}
+use Rattle.rr_graph.proofs.FewNodes.{few_nodes}
+use Rattle.rr_graph.proofs.GeometryLaws.{edge_joins}
+use Rattle.least_path.specs.Graph.{IsLawful}
+use Rattle.least_path.specs.Path.{Leads}
+use Rattle.plane_search.specs.Planes.{IsFamily}
+use Rattle.fabric_planes.specs.Labels.{AreLabels}
+use Rattle.fabric_planes.specs.Layout.{Terminals, pins_of, stride_of, place_count, offset_of, place_of, is_same_spot, shows, track_by, graph_at, labels_of, planes_of, AreCosts, IsStart, AreTerminals, IsNetSearch}
+use Rattle.fabric_planes.proofs.Labeled.{is_family}
+use Rattle.fabric_planes.proofs.Joins.{IsReached, reached}
+use Rattle.fabric_planes.proofs.Offsets.{low_of, high_of, below_stride, kinds_apart, columns_apart, place_below}
+
+-- ---- tests
+
+pub spot_parts : (a b : Node) → is_same_spot a b ≡ true → (a.x ≡ b.x) × (a.y ≡ b.y) × (a.n ≡ b.n)
+spot_parts a b h =
+    let parts = and_parts (a.x == b.x) ((a.y == b.y) && (a.n == b.n)) h in
+    let more = and_parts (a.y == b.y) (a.n == b.n) parts.1 in
+    (eqb-true a.x b.x parts.0, eqb-true a.y b.y more.0, eqb-true a.n b.n more.1)
+
+pub spot_itself : (a b : Node) → a ≡ b → is_same_spot a b ≡ true
+spot_itself a b e = rw e (and_from (b.x == b.x) ((b.y == b.y) && (b.n == b.n)) (eq-eqb b.x b.x refl) (and_from (b.y == b.y) (b.n == b.n) (eq-eqb b.y b.y refl) (eq-eqb b.n b.n refl)))
+
+pub together_parts : (strip : Strip) (a b : Node) → is_together strip a b ≡ true → (a.x ≡ b.x) × (a.y ≡ b.y)
+together_parts strip a b h =
+    let parts = and_parts (a.x == b.x) ((a.y == b.y) && (is_block_row strip a.y || (a.n == b.n))) h in
+    (eqb-true a.x b.x parts.0, eqb-true a.y b.y (and_parts (a.y == b.y) (is_block_row strip a.y || (a.n == b.n)) parts.1).0)
+
+-- what is together with a node is together with one at the same spot
+pub together_spot : (strip : Strip) (a b c : Node) → is_same_spot a b ≡ true → is_together strip a c ≡ true → is_together strip b c ≡ true
+together_spot strip a b c s h = let e = spot_parts a b s in rw (sym e.0, sym e.1, sym e.2) h
+
+-- ---- nodes
+
+-- what is known of a node's row and number
+abbrev pub IsSlot : Basis → NodeKind → Node → Type 0
+IsSlot basis Source node = Unit {0}
+IsSlot basis Sink node = Unit {0}
+IsSlot basis Opin node = node.n < pins_of basis
+IsSlot basis Ipin node = node.n < pins_of basis
+IsSlot basis ChanX node = (node.y ≤ basis.strip.rows) × (node.n < basis.arch.tracks)
+IsSlot basis ChanY node = (node.y ≤ basis.strip.rows) × (node.n < basis.arch.tracks)
+
+pub slot_facts : (basis : Basis) (kind : NodeKind) (node : Node) → is_slot basis.arch basis.strip kind node.y node.n ≡ true → IsSlot basis kind node
+slot_facts basis Source node h = tt
+slot_facts basis Sink node h = tt
+slot_facts basis Opin node h = elim (or_cases (is_pad_row basis.strip node.y && nat_lt node.n basis.strip.io_rat) (is_block_row basis.strip node.y && is_block_number basis.arch Opin node.n) h) [
+  | inl pad ↦ omega (arith, ltb-true node.n basis.strip.io_rat (and_parts (is_pad_row basis.strip node.y) (nat_lt node.n basis.strip.io_rat) pad).1)
+  | inr block ↦ omega (arith, get_within (λ pin. is_output_class pin.class) basis.arch.pins node.n (and_parts (is_block_row basis.strip node.y) (is_block_number basis.arch Opin node.n) block).1)
+]
+slot_facts basis Ipin node h = elim (or_cases (is_pad_row basis.strip node.y && nat_lt node.n basis.strip.io_rat) (is_block_row basis.strip node.y && is_block_number basis.arch Ipin node.n) h) [
+  | inl pad ↦ omega (arith, ltb-true node.n basis.strip.io_rat (and_parts (is_pad_row basis.strip node.y) (nat_lt node.n basis.strip.io_rat) pad).1)
+  | inr block ↦ omega (arith, get_within (λ pin. is_input_class pin.class) basis.arch.pins node.n (and_parts (is_block_row basis.strip node.y) (is_block_number basis.arch Ipin node.n) block).1)
+]
+slot_facts basis ChanX node h =
+    let parts = and_parts (nat_le node.y basis.strip.rows) (nat_lt node.n basis.arch.tracks) h in
+    (leb-true node.y basis.strip.rows parts.0, ltb-true node.n basis.arch.tracks parts.1)
+slot_facts basis ChanY node h =
+    let parts = and_parts (is_block_row basis.strip node.y) (nat_lt node.n basis.arch.tracks) h in
+    (leb-true node.y basis.strip.rows (and_parts (nat_le 1 node.y) (nat_le node.y basis.strip.rows) parts.0).1, ltb-true node.n basis.arch.tracks parts.1)
+
+pub node_column : (basis : Basis) (node : Node) → is_node basis.arch basis.strip node ≡ true → node.x ≤ basis.strip.width
+node_column basis node h = leb-true node.x basis.strip.width (and_parts (nat_le node.x basis.strip.width) ((nat_le 1 node.x || is_chan_y node.kind) && is_slot basis.arch basis.strip node.kind node.y node.n) h).0
+
+pub node_slot : (basis : Basis) (node : Node) → is_node basis.arch basis.strip node ≡ true → is_slot basis.arch basis.strip node.kind node.y node.n ≡ true
+node_slot basis node h =
+    (and_parts (nat_le 1 node.x || is_chan_y node.kind) (is_slot basis.arch basis.strip node.kind node.y node.n)
+    (and_parts (nat_le node.x basis.strip.width) ((nat_le 1 node.x || is_chan_y node.kind) && is_slot basis.arch basis.strip node.kind node.y node.n) h).1).1
+
+-- of two nodes of a kind in a column and row the first one has the lesser number
+pub before_number : (a b : Node) → a.x ≡ b.x → rank_of a.kind ≡ rank_of b.kind → a.y ≡ b.y → IsBefore a b → a.n < b.n
+before_number a b x k y (inl l) = absurd (omega (arith, l, x))
+before_number a b x k y (inr (e, inl l)) = absurd (omega (arith, l, k))
+before_number a b x k y (inr (e, inr (f, inl l))) = absurd (omega (arith, l, y))
+before_number a b x k y (inr (e, inr (f, inr (g, l)))) = l
+
+-- ---- wires and ends
+
+abbrev IsEnd : NodeKind → Type 0
+IsEnd Ipin = Unit {0}
+IsEnd Sink = Unit {0}
+IsEnd _ = ⊥
+
+wire_end : (kind : NodeKind) → IsWire kind → IsEnd kind → ⊥
+wire_end Source w e = w
+wire_end Sink w e = w
+wire_end Opin w e = w
+wire_end Ipin w e = w
+wire_end ChanX w e = e
+wire_end ChanY w e = e
+
+-- an edge from a pin before a sink, or from a sink, leads to another such node
+end_next : (strip : Strip) (ka kb : NodeKind) (a b : Node) → IsEnd ka → IsReached strip ka kb a b → IsEnd kb
+end_next strip ka Source a b e r = r
+end_next strip ka Sink a b e r = tt
+end_next strip ka Opin a b e r = subst IsEnd r.0 e
+end_next strip ka Ipin a b e r = tt
+end_next strip ka ChanX a b e (inl o) = subst IsEnd o e
+end_next strip ka ChanX a b e (inr w) = absurd (wire_end ka w.0 e)
+end_next strip ka ChanY a b e (inl o) = subst IsEnd o e
+end_next strip ka ChanY a b e (inr w) = absurd (wire_end ka w.0 e)
+
+-- such a node is no wire
+end_track : (kind : NodeKind) (n track other : ℕ) → IsEnd kind → track_by kind n ≡ Some other → other ≡ track
+end_track Source n track other i e = absurd i
+end_track Sink n track other i e = cc
+end_track Opin n track other i e = absurd i
+end_track Ipin n track other i e = cc
+end_track ChanX n track other i e = absurd i
+end_track ChanY n track other i e = absurd i
+
+-- the track of a wire is its number
+pub track_number : (kind : NodeKind) (n track : ℕ) → track_by kind n ≡ Some track → IsWire kind × (n ≡ track)
+track_number Source n track e = cc
+track_number Sink n track e = cc
+track_number Opin n track e = cc
+track_number Ipin n track e = cc
+track_number ChanX n track e = (tt, cc)
+track_number ChanY n track e = (tt, cc)
+
+module _ {basis : Basis} (is : IsBasis basis) where
+  pub lawful : IsRoutingGraph basis (graph_of basis)
+  lawful = definition_lawful basis is
+
+  -- ---- edges
+
+  abbrev node : ℕ → Node
+  node = (graph_of basis).node
+
+  pub edge_reached : (i j : ℕ) → i < (graph_of basis).count → Contains ((graph_of basis).ends i) j → (j < (graph_of basis).count) × IsReached basis.strip (node i).kind (node j).kind (node i) (node j)
+  edge_reached i j b c =
+      let p = (lawful.pairs i j b).0 c in
+      (p.0, reached basis.arch basis.strip (node i).kind (node j).kind (node i) (node j) (edge_joins basis.arch basis.strip (node i) (node j) p.1))
+
+  abbrev On : ℕ → ℕ → Type 0
+  On track i = (other : ℕ) → track_by (node i).kind (node i).n ≡ Some other → other ≡ track
+
+  module _ (cost : ℕ → ℕ) (goal : ℕ) where
+    -- after a pin before a sink there is no wire
+    ends_stay : (rest : List ℕ) (i track : ℕ) → i < (graph_of basis).count → IsEnd (node i).kind → Leads (graph_at basis cost) goal i rest → All (On track) rest
+    ends_stay [] i track b e l = All-nil (On track)
+    ends_stay (j ∷ rest) i track b e l =
+        let r = edge_reached i j b l.0 in
+        let n = end_next basis.strip (node i).kind (node j).kind (node i) (node j) e r.1 in
+        All-cons (On track) j rest (λ other t. end_track (node j).kind (node j).n track other n t) (ends_stay rest j track r.0 n l.1)
+
+    abbrev Stays : List ℕ → Type 0
+    Stays rest = (i track : ℕ) → i < (graph_of basis).count → track_by (node i).kind (node i).n ≡ Some track → Leads (graph_at basis cost) goal i rest → All (On track) rest
+
+    stays_more : (kb : NodeKind) (j : ℕ) (rest : List ℕ) (i track : ℕ) → (node j).kind ≡ kb → i < (graph_of basis).count → track_by (node i).kind (node i).n ≡ Some track
+        → j < (graph_of basis).count → IsReached basis.strip (node i).kind kb (node i) (node j) → Leads (graph_at basis cost) goal j rest → Stays rest → All (On track) (j ∷ rest)
+    stays_more Source j rest i track e b t bj r l next = absurd r
+    stays_more Sink j rest i track e b t bj r l next =
+        let n : IsEnd (node j).kind = subst IsEnd (sym e) tt in
+        All-cons (On track) j rest (λ other s. end_track (node j).kind (node j).n track other n s) (ends_stay rest j track bj n l)
+    stays_more Opin j rest i track e b t bj r l next = absurd (subst IsWire r.0 (track_number (node i).kind (node i).n track t).0)
+    stays_more Ipin j rest i track e b t bj r l next =
+        let n : IsEnd (node j).kind = subst IsEnd (sym e) tt in
+        All-cons (On track) j rest (λ other s. end_track (node j).kind (node j).n track other n s) (ends_stay rest j track bj n l)
+    stays_more ChanX j rest i track e b t bj (inl o) l next = absurd (subst IsWire o (track_number (node i).kind (node i).n track t).0)
+    stays_more ChanX j rest i track e b t bj (inr w) l next =
+        let n : (node j).n ≡ track = sym w.1 ∙ (track_number (node i).kind (node i).n track t).1 in
+        let s : track_by (node j).kind (node j).n ≡ Some track = rw e (ap Some n) in
+        All-cons (On track) j rest (λ other o. cc) (next j track bj s l)
+    stays_more ChanY j rest i track e b t bj (inl o) l next = absurd (subst IsWire o (track_number (node i).kind (node i).n track t).0)
+    stays_more ChanY j rest i track e b t bj (inr w) l next =
+        let n : (node j).n ≡ track = sym w.1 ∙ (track_number (node i).kind (node i).n track t).1 in
+        let s : track_by (node j).kind (node j).n ≡ Some track = rw e (ap Some n) in
+        All-cons (On track) j rest (λ other o. cc) (next j track bj s l)
+
+    stays : (rest : List ℕ) → Stays rest
+    stays [] i track b t l = All-nil (On track)
+    stays (j ∷ rest) i track b t l =
+        let r = edge_reached i j b l.0 in
+        stays_more (node j).kind j rest i track refl b t r.0 r.1 l.1 (stays rest)
+
+    -- a sink leads nowhere
+    pub sink_last : (rest : List ℕ) (i : ℕ) → i < (graph_of basis).count → (node i).kind ≡ Sink → Leads (graph_at basis cost) goal i rest → (i ≡ goal) × (rest ≡ [])
+    sink_last [] i b e l = (l, refl)
+    sink_last (j ∷ rest) i b e l =
+        let r = edge_reached i j b l.0 in
+        absurd (none (node j).kind (node i) (node j) (subst (λ k. IsReached basis.strip k (node j).kind (node i) (node j)) e r.1))
+      where
+        none : (kb : NodeKind) (a b : Node) → IsReached basis.strip Sink kb a b → ⊥
+        none Source a b r = r
+        none Sink a b r = cc
+        none Opin a b r = cc
+        none Ipin a b r = r
+        none ChanX a b (inl o) = cc
+        none ChanX a b (inr w) = w.0
+        none ChanY a b (inl o) = cc
+        none ChanY a b (inr w) = w.0
+
+    -- an input pin leads to a sink of its block
+    pin_last : (rest : List ℕ) (i : ℕ) → i < (graph_of basis).count → (node i).kind ≡ Ipin → (node goal).kind ≡ Sink → Leads (graph_at basis cost) goal i rest → is_together basis.strip (node i) (node goal) ≡ true
+    pin_last [] i b e k l = absurd (none (sym e ∙ (ap (λ v. (node v).kind) l ∙ k)))
+      where
+        none : Ipin ≡ Sink → ⊥
+        none q = cc
+    pin_last (j ∷ rest) i b e k l =
+        let r = edge_reached i j b l.0 in
+        let s = only (node j).kind (node i) (node j) (subst (λ k. IsReached basis.strip k (node j).kind (node i) (node j)) e r.1) in
+        subst (λ v. is_together basis.strip (node i) (node v) ≡ true) (sink_last rest j r.0 s.0 l.1).0 s.1
+      where
+        only : (kb : NodeKind) (a b : Node) → IsReached basis.strip Ipin kb a b → (kb ≡ Sink) × (is_together basis.strip a b ≡ true)
+        only Source a b r = absurd r
+        only Sink a b r = (refl, r.1)
+        only Opin a b r = cc
+        only Ipin a b r = absurd r
+        only ChanX a b (inl o) = cc
+        only ChanX a b (inr w) = absurd w.0
+        only ChanY a b (inl o) = cc
+        only ChanY a b (inr w) = absurd w.0
+
+  -- ---- places
+
+  module _ (t : Terminals) where
+    abbrev pub Shown : ℕ → ℕ → Type 0
+    Shown track i = shows basis.strip t track (node i).kind (node i) ≡ true
+
+    slot_of : (i : ℕ) → i < (graph_of basis).count → IsSlot basis (node i).kind (node i)
+    slot_of i b = slot_facts basis (node i).kind (node i) (node_slot basis (node i) (lawful.nodes i b))
+
+    -- a node that is shown is among the places of its kind
+    pub offset_in : (track i : ℕ) → i < (graph_of basis).count → (kind : NodeKind) → (node i).kind ≡ kind → shows basis.strip t track kind (node i) ≡ true
+        → (low_of basis kind ≤ offset_of basis kind (node i)) × (offset_of basis kind (node i) < high_of basis kind)
+    offset_in track i b Source k h = (omega arith, omega arith)
+    offset_in track i b Sink k h = (omega arith, omega arith)
+    offset_in track i b Opin k h = let s = subst (λ kind. IsSlot basis kind (node i)) k (slot_of i b) in (omega arith, omega (arith, s))
+    offset_in track i b Ipin k h = let s = subst (λ kind. IsSlot basis kind (node i)) k (slot_of i b) in (omega arith, omega (arith, s))
+    offset_in track i b ChanX k h = let s = subst (λ kind. IsSlot basis kind (node i)) k (slot_of i b) in (omega arith, omega (arith, s.0))
+    offset_in track i b ChanY k h = let s = subst (λ kind. IsSlot basis kind (node i)) k (slot_of i b) in (omega arith, omega (arith, s.0))
+
+    pub offset_few : (track i : ℕ) → i < (graph_of basis).count → Shown track i → offset_of basis (node i).kind (node i) < stride_of basis
+    offset_few track i b s = omega (arith, (offset_in track i b (node i).kind refl s).1, below_stride basis (node i).kind)
+
+    pub low : (track i : ℕ) → i < (graph_of basis).count → Shown track i → place_of basis (node i) < place_count basis
+    low track i b s = place_below basis (node i).x (offset_of basis (node i).kind (node i)) (node_column basis (node i) (lawful.nodes i b)) (offset_few track i b s)
+
+    -- nodes of a kind in a column are in the order of their places
+    row_order : (track i j : ℕ) → i < j → i < (graph_of basis).count → j < (graph_of basis).count → (kind : NodeKind) → (node i).kind ≡ kind → (node j).kind ≡ kind
+        → shows basis.strip t track kind (node i) ≡ true → shows basis.strip t track kind (node j) ≡ true
+        → ((node i).y < (node j).y) ⊎ (((node i).y ≡ (node j).y) × ((node i).n < (node j).n)) → offset_of basis kind (node i) < offset_of basis kind (node j)
+    row_order track i j l bi bj Source ki kj si sj r =
+        let e = spot_parts (node i) t.source si in
+        let f = spot_parts (node j) t.source sj in
+        absurd (elim r [ inl y ↦ omega (arith, y, e.1, f.1) | inr n ↦ omega (arith, n.1, e.2, f.2) ])
+    row_order track i j l bi bj Sink ki kj si sj r =
+        let e = spot_parts (node i) t.sink si in
+        let f = spot_parts (node j) t.sink sj in
+        absurd (elim r [ inl y ↦ omega (arith, y, e.1, f.1) | inr n ↦ omega (arith, n.1, e.2, f.2) ])
+    row_order track i j l bi bj Opin ki kj si sj r =
+        let e = together_parts basis.strip t.source (node i) si in
+        let f = together_parts basis.strip t.source (node j) sj in
+        elim r [ inl y ↦ absurd (omega (arith, y, e.1, f.1)) | inr n ↦ omega (arith, n.1) ]
+    row_order track i j l bi bj Ipin ki kj si sj r =
+        let e = together_parts basis.strip (node i) t.sink si in
+        let f = together_parts basis.strip (node j) t.sink sj in
+        elim r [ inl y ↦ absurd (omega (arith, y, e.1, f.1)) | inr n ↦ omega (arith, n.1) ]
+    row_order track i j l bi bj ChanX ki kj si sj (inl y) = omega (arith, y)
+    row_order track i j l bi bj ChanX ki kj si sj (inr n) = absurd (omega (arith, n.1, eqb-true (node i).n track si, eqb-true (node j).n track sj))
+    row_order track i j l bi bj ChanY ki kj si sj (inl y) = omega (arith, y)
+    row_order track i j l bi bj ChanY ki kj si sj (inr n) = absurd (omega (arith, n.1, eqb-true (node i).n track si, eqb-true (node j).n track sj))
+
+    kind_order : (track i j : ℕ) → i < j → i < (graph_of basis).count → j < (graph_of basis).count → Shown track i → Shown track j
+        → (rank_of (node i).kind < rank_of (node j).kind) ⊎ ((rank_of (node i).kind ≡ rank_of (node j).kind) × (((node i).y < (node j).y) ⊎ (((node i).y ≡ (node j).y) × ((node i).n < (node j).n))))
+        → offset_of basis (node i).kind (node i) < offset_of basis (node j).kind (node j)
+    kind_order track i j l bi bj si sj (inl r) =
+        omega (arith, (offset_in track i bi (node i).kind refl si).1, (offset_in track j bj (node j).kind refl sj).0, kinds_apart basis (node i).kind (node j).kind r)
+    kind_order track i j l bi bj si sj (inr (r, more)) =
+        let k : (node j).kind ≡ (node i).kind = sym (same_kind (node i).kind (node j).kind r) in
+        subst (λ kind. offset_of basis (node i).kind (node i) < offset_of basis kind (node j)) (sym k)
+        (row_order track i j l bi bj (node i).kind refl k si (subst (λ kind. shows basis.strip t track kind (node j) ≡ true) k sj) more)
+
+    pub place_order : (track i j : ℕ) → i < j → i < (graph_of basis).count → j < (graph_of basis).count → Shown track i → Shown track j → IsBefore (node i) (node j) → place_of basis (node i) < place_of basis (node j)
+    place_order track i j l bi bj si sj (inl x) =
+        columns_apart basis (node i).x (node j).x (offset_of basis (node i).kind (node i)) (offset_of basis (node j).kind (node j)) x (offset_few track i bi si)
+    place_order track i j l bi bj si sj (inr (x, more)) =
+        let o = kind_order track i j l bi bj si sj more in
+        let e : (((node i).x + 2) * stride_of basis) ≡ (((node j).x + 2) * stride_of basis) = ap (λ (x : ℕ). (x + 2) * stride_of basis) x in
+        omega (arith, o, e)
+
+  module _ {goal : ℕ} {t : Terminals} (terminals : AreTerminals basis goal t) where
+    -- ---- what planes show
+
+    goal_shown : (track : ℕ) → Shown t track goal
+    goal_shown track =
+        subst (λ kind. shows basis.strip t track kind (node goal) ≡ true) (sym (ap (λ (v : Node). v.kind) terminals.goal_is ∙ terminals.kind)) (spot_itself (node goal) t.sink terminals.goal_is)
+
+    module _ (cost : ℕ → ℕ) where
+      -- a pin before the sink, the sink and wires of the track are shown
+      rest_shown : (track i : ℕ) (rest : List ℕ) → i < (graph_of basis).count → On track i → Leads (graph_at basis cost) goal i rest → (kind : NodeKind) → (node i).kind ≡ kind
+          → (kind ≡ Source → shows basis.strip t track Source (node i) ≡ true) → (kind ≡ Opin → shows basis.strip t track Opin (node i) ≡ true) → shows basis.strip t track kind (node i) ≡ true
+      rest_shown track i rest b on l Source k source output = source refl
+      rest_shown track i rest b on l Sink k source output = spot_itself (node i) t.sink (ap node (sink_last cost goal rest i b k l).0 ∙ terminals.goal_is)
+      rest_shown track i rest b on l Opin k source output = output refl
+      rest_shown track i rest b on l Ipin k source output =
+          subst (λ v. is_together basis.strip (node i) v ≡ true) terminals.goal_is (pin_last cost goal rest i b k (ap (λ (v : Node). v.kind) terminals.goal_is ∙ terminals.kind) l)
+      rest_shown track i rest b on l ChanX k source output = eq-eqb (node i).n track (on (node i).n (rw k refl))
+      rest_shown track i rest b on l ChanY k source output = eq-eqb (node i).n track (on (node i).n (rw k refl))
+
+      start_shown : (track i : ℕ) (rest : List ℕ) → IsStart basis t i → On track i → Leads (graph_at basis cost) goal i rest → Shown t track i
+      start_shown track i rest s on l =
+          rest_shown track i rest s.within on l (node i).kind refl s.source s.output
+
+      end_own : (track i j : ℕ) (ka kb : NodeKind) → ka ≡ (node i).kind → Shown t track i → IsReached basis.strip ka kb (node i) (node j) → (kb ≡ Source → shows basis.strip t track Source (node j) ≡ true) × (kb ≡ Opin → shows basis.strip t track Opin (node j) ≡ true)
+      end_own track i j ka Source k s r = absurd r
+      end_own track i j ka Sink k s r = (λ e. cc, λ e. cc)
+      end_own track i j ka Opin k s r =
+          (λ e. cc, λ e. together_spot basis.strip (node i) t.source (node j) (subst (λ kind. shows basis.strip t track kind (node i) ≡ true) (sym k ∙ r.0) s) r.1)
+      end_own track i j ka Ipin k s r = (λ e. cc, λ e. cc)
+      end_own track i j ka ChanX k s r = (λ e. cc, λ e. cc)
+      end_own track i j ka ChanY k s r = (λ e. cc, λ e. cc)
+
+      end_shown : (track i j : ℕ) (rest : List ℕ) → i < (graph_of basis).count → Shown t track i → Contains ((graph_of basis).ends i) j → On track j → Leads (graph_at basis cost) goal j rest → Shown t track j
+      end_shown track i j rest b s c on l =
+          let r = edge_reached i j b c in
+          let own = end_own track i j (node i).kind (node j).kind refl s r.1 in
+          rest_shown track j rest r.0 on l (node j).kind refl own.0 own.1
+
+  -- ---- all
+
+  pub wire_low : (i track : ℕ) → i < (graph_of basis).count → track_by (node i).kind (node i).n ≡ Some track → track < basis.arch.tracks
+  wire_low i track b e =
+      let w = track_number (node i).kind (node i).n track e in
+      subst (λ v. v < basis.arch.tracks) w.1 (number_low (node i).kind (node i) w.0 (slot_facts basis (node i).kind (node i) (node_slot basis (node i) (lawful.nodes i b))))
+    where
+      number_low : (kind : NodeKind) (v : Node) → IsWire kind → IsSlot basis kind v → v.n < basis.arch.tracks
+      number_low Source v w s = absurd w
+      number_low Sink v w s = absurd w
+      number_low Opin v w s = absurd w
+      number_low Ipin v w s = absurd w
+      number_low ChanX v w s = s.1
+      number_low ChanY v w s = s.1
+
+  graph_lawful : (cost : ℕ → ℕ) → AreCosts basis cost → IsLawful (graph_at basis cost)
+  graph_lawful cost costs = record {
+    few = few_nodes basis is;
+    ends_below = λ i b. All-from_contains ((graph_of basis).ends i) (λ j c. (edge_reached i j b c).0);
+    ends_few = λ i b. omega (arith, ends_few basis (graph_of basis) i lawful b, few_nodes basis is);
+    cost_from = costs.some;
+    cost_to = costs.few;
+  }
+    where
+      All-from_contains : (xs : List ℕ) → ((x : ℕ) → Contains xs x → x < (graph_of basis).count) → All (λ x. x < (graph_of basis).count) xs
+      All-from_contains xs each = λ k d b. each _ (All-contains_itself xs k d b)
+
+  pub places_few : place_count basis ≤ 2 ^ 22
+  places_few =
+      let pins : length basis.arch.pins ≤ 145 = few_pins basis.arch is.arch in
+      let columns : basis.strip.width + 3 ≤ 259 = omega (arith, is.strip.width.1) in
+      let stride : stride_of basis ≤ 638 = omega (arith, pins, is.strip.io_rat.1, is.strip.rows.1) in
+      omega (arith, mul-le (basis.strip.width + 3) (stride_of basis) 259 638 columns stride)
+
+  pub are_labels : (cost : ℕ → ℕ) (starts : List ℕ) (goal : ℕ) (t : Terminals) → IsNetSearch basis cost starts goal t → AreLabels (labels_of basis cost starts goal t)
+  unfolding labels_of
+  are_labels cost starts goal t s = record {
+    lawful = graph_lawful cost s.costs;
+    starts = λ k d b. (s.starts_are k d b).within;
+    goal = s.terminals.goal_within;
+    some = is.arch.tracks.0;
+    few = places_few;
+    wires = wire_low;
+    stays = λ i track rest b e l. stays cost goal rest i track b e l;
+    goal_shown = λ track few. goal_shown s.terminals track;
+    low = λ track i b h. low t track i b h;
+    order = λ track i j l b hi hj. place_order t track i j l (omega (arith, l, b)) b hi hj (lawful.ordered i j l b);
+    starts_shown = λ track i rest few c on l. start_shown s.terminals cost track i rest (All-contains (IsStart basis t) starts i s.starts_are c) on l;
+    ends_shown = λ track i j rest few b h c on l. end_shown s.terminals cost track i j rest b h c on l;
+  }
+
+  pub strip_family : (cost : ℕ → ℕ) (starts : List ℕ) (goal : ℕ) (t : Terminals) → IsNetSearch basis cost starts goal t → IsFamily (planes_of basis cost starts goal t)
+  strip_family cost starts goal t s = is_family (labels_of basis cost starts goal t) (are_labels cost starts goal t s)
+
+  -- the row of a wire
+  pub wire_row : (i : ℕ) → i < (graph_of basis).count → IsWire (node i).kind → (node i).y ≤ basis.strip.rows
+  wire_row i b w = row_low (node i).kind (node i) w (slot_facts basis (node i).kind (node i) (node_slot basis (node i) (lawful.nodes i b)))
+    where
+      row_low : (kind : NodeKind) (v : Node) → IsWire kind → IsSlot basis kind v → v.y ≤ basis.strip.rows
+      row_low Source v w s = absurd w
+      row_low Sink v w s = absurd w
+      row_low Opin v w s = absurd w
+      row_low Ipin v w s = absurd w
+      row_low ChanX v w s = s.0
+      row_low ChanY v w s = s.0

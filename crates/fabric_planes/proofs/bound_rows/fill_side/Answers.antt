@@ -1,0 +1,65 @@
+use Rattle.std.proofs.Common.{◌≡◌, ℕ, ◌+◌, ◌-◌, ◌*◌, ◌≤◌, List, length, take, drop, sym, ap, ◌∙◌, subst, arith}
+use Rattle.std.specs.Prelude.{slice_index}
+use Rattle.rr_graph.specs.Graph.{graph_of}
+use Rattle.fabric_planes.specs.BoundRows.{far_list}
+use Rattle.fabric_planes.specs.Layout.{Terminals, place_of, place_count}
+use Rattle.fabric_planes.proofs.RivalSides.{met_place, wire_few}
+use Rattle.fabric_planes.proofs.SideRows.{far_met, near_met, part_at, row_within}
+use Rattle.fabric_planes.proofs.bound_rows.fill_side.Goals as goal
+
+pub slice_bounds-costs-end : goal.slice_bounds-costs-end
+slice_bounds-costs-end g c =
+    let self = c.args.planes.now in
+    let basis = g.G.StripGraph.basis self.strip.graph.now in
+    let place = slice_index self.own_sides.now c.args.side in
+    let n = self.strip.layout.now.shape.tracks in
+    let many : n ≡ basis.arch.tracks = self.strip.laid.shape.tracks in
+    let long : length self.by_place.now ≡ place_count basis * n = self.are_by_place.long ∙ ap (λ (m : ℕ). place_count basis * m) (sym many) in
+    let le : (place + 1) * n ≤ place_count basis * n = row_within place (place_count basis) n c.requires.place in
+    omega (arith, long, le)
+
+pub returns-in-Some-clause-row : goal.returns-in-Some-clause-row
+returns-in-Some-clause-row g c = λ wire met.
+    let self = c.args.planes.now in
+    let t : Terminals = record { source = self.source; sink = self.sink } in
+    let costs = g.C.NodeCosts.costs self.costs.now in
+    let basis = g.G.StripGraph.basis self.strip.graph.now in
+    let is = c.laws.ensures.basis in
+    let v = (graph_of basis).node wire in
+    let place = slice_index self.own_sides.now c.args.side in
+    let m = self.strip.layout.now.shape.tracks in
+    let many : m ≡ basis.arch.tracks = self.strip.laid.shape.tracks in
+    let few = wire_few is wire met.wire_is in
+    let at : place ≡ place_of basis v = met_place is self.source c.args.pin self.own_sides.now c.args.side wire self.are_own_sides c.requires.pin met in
+    let price : slice_index (take ((place + 1) * m - place * m) (drop (place * m) self.by_place.now)) v.n ≡ slice_index self.by_place.now (place * m + v.n) =
+    part_at self.by_place.now (place * m) ((place + 1) * m) m v.n (omega arith) (omega (arith, few, many)) in
+    let low : slice_index self.by_place.now (place * m + v.n) ≤ costs wire = subst (λ (k : ℕ). slice_index self.by_place.now (place * k + v.n) ≤ costs wire) (sym many) (self.are_by_place.low place wire (record { wire = met.wire_is; is_at = sym at })) in
+    let found = c.in-Some.ensures.found in
+    near_met is t costs self.starts.now self.goal self.search self.pins.now self.lasts.now self.bounded c.args.more wire (slice_index (take ((place + 1) * m - place * m) (drop (place * m) self.by_place.now)) v.n)
+    (slice_index c.apart-apart.result.now v.n) (slice_index c.near_row.new.row v.n) met.wire_is (omega (arith, price, low)) (c.apart-apart.ensures.met wire met.wire_is met.at met.met) self.sides.now self.are_sides place at
+    c.in-Some.end self.least_lasts.now self.are_least found.0 found.1 (c.near_row.ensures.row v.n (omega (arith, few, c.requires.row)))
+
+pub returns-in-None-clause-row : goal.returns-in-None-clause-row
+returns-in-None-clause-row g c = λ wire met.
+    let self = c.args.planes.now in
+    let t : Terminals = record { source = self.source; sink = self.sink } in
+    let costs = g.C.NodeCosts.costs self.costs.now in
+    let basis = g.G.StripGraph.basis self.strip.graph.now in
+    let is = c.laws.ensures.basis in
+    let v = (graph_of basis).node wire in
+    let place = slice_index self.own_sides.now c.args.side in
+    let m = self.strip.layout.now.shape.tracks in
+    let many : m ≡ basis.arch.tracks = self.strip.laid.shape.tracks in
+    let few = wire_few is wire met.wire_is in
+    let at : place ≡ place_of basis v = met_place is self.source c.args.pin self.own_sides.now c.args.side wire self.are_own_sides c.requires.pin met in
+    let price : slice_index (take ((place + 1) * m - place * m) (drop (place * m) self.by_place.now)) v.n ≡ slice_index self.by_place.now (place * m + v.n) =
+    part_at self.by_place.now (place * m) ((place + 1) * m) m v.n (omega arith) (omega (arith, few, many)) in
+    let low : slice_index self.by_place.now (place * m + v.n) ≤ costs wire = subst (λ (k : ℕ). slice_index self.by_place.now (place * k + v.n) ≤ costs wire) (sym many) (self.are_by_place.low place wire (record { wire = met.wire_is; is_at = sym at })) in
+    let cheap = slice_index (take ((place + 1) * m - place * m) (drop (place * m) self.by_place.now)) v.n in
+    let apart = slice_index c.apart-apart.result.now v.n in
+    let r = slice_index c.far_row.new.row v.n in
+    far_met is t costs self.starts.now self.goal self.search self.pins.now self.lasts.now self.bounded c.args.more wire cheap apart r met.wire_is (omega (arith, price, low)) (c.apart-apart.ensures.met wire met.wire_is met.at met.met) self.sides.now self.are_sides place at
+    self.to_top.now self.to_bottom.now self.to_right.now self.to_left.now self.top_far self.bottom_far self.right_far self.left_far c.in-None.ensures.none
+    (λ side s. subst (λ (xs : List ℕ). r ≤ slice_index self.lasts.now (side * basis.arch.tracks + v.n) + slice_index xs side + (cheap + (apart + c.args.more))) c.far_sides.ensures.value
+    (subst (λ (k : ℕ). r ≤ slice_index self.lasts.now (side * k + v.n) + slice_index (far_list c.far_sides.result) side + (cheap + (apart + c.args.more))) c.requires.row
+    (c.far_row.ensures.row v.n (omega (arith, few, c.requires.row)) side s)))

@@ -1,0 +1,6 @@
+use Rattle.std.proofs.Common.{take}
+use Rattle.fabric_planes.specs.Starts.{HasStarts}
+use Rattle.fabric_planes.proofs.net_starts.NetStarts.fill.Given as goal
+
+abbrev pub invariant-loop-index : goal.invariant-loop-index
+invariant-loop-index g l = HasStarts (g.G.StripGraph.basis l.graph) (take l.index l.starts) l.self

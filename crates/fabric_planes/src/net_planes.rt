@@ -1,0 +1,262 @@
+//! The planes of a strip's graph at current costs, from a net's starts towards one of its sinks.
+ghost use Rattle.std.specs.Prelude.{All, ◌≡◌, ◌+◌, ◌*◌, ◌<◌, ◌≤◌, ℕ, IfSome, IfNone, Contains, length, map, slice_index, slice_index_or};
+ghost use Rattle.std.specs.List.Sorted.{IsNonDecreasing};
+ghost use Rattle.rr_graph.specs.Graph.{graph_of};
+ghost use Rattle.fabric_planes.specs.Pins.{AreArrivals, AreByPlace, ArePins, ArePrices, HaveEnds, IsAside};
+ghost use Rattle.plane_search.specs.Planes.{IsPlace};
+ghost use Rattle.least_path.specs.LowerBound.{IsLowerBound};
+ghost use Rattle.fabric_planes.specs.Differences.{IsPinPlace};
+ghost use Rattle.fabric_planes.specs.Laid.{IsWireOf};
+ghost use Rattle.fabric_planes.specs.Layout.{IsNetSearch, in_column, place_of, place_count, planes_of, stride_of};
+ghost use Rattle.fabric_planes.specs.Sides.{IsBySide};
+ghost use Rattle.fabric_planes.specs.declared.pins.PinAt.{PinAt};
+ghost use Rattle.fabric_planes.specs.Aheads.{AreAheads, AreFars, AreLeast, AreSides, HaveBounds};
+
+use crate::costs::NodeCosts;
+use crate::layout::NO_WIRE;
+use crate::pins::PinAt;
+use crate::strip_planes::StripPlanes;
+use least_path::Ends;
+use rows::Rows;
+use rr_graph::{Node, StripGraph};
+
+/// The planes of a strip's graph at current costs, from a net's starts towards one of its sinks.
+#[derive(Drop)]
+pub struct NetPlanes<'a, G: StripGraph, C: NodeCosts> {
+    pub(crate) strip: StripPlanes<'a, G>,
+    pub(crate) costs: &'a C,
+    /// The nodes at which paths may start.
+    pub(crate) starts: &'a [usize],
+    /// The number of the sink.
+    pub(crate) goal: usize,
+    pub(crate) source: Node,
+    pub(crate) sink: Node,
+    /// The place of the sink.
+    pub(crate) exit: usize,
+    /// The places of the wires at the sides of the sink's block or pad: above, below, to the right
+    /// and to the left.
+    pub(crate) sides: &'a [usize],
+    /// For each side a lower bound of the costs of the pins there.
+    pub(crate) pins: &'a [u16],
+    /// For each side and track a lower bound of the cost of the wire there and a pin.
+    pub(crate) lasts: &'a [u16],
+    /// For each track the least of these bounds.
+    pub(crate) least_lasts: &'a [u16],
+    /// For each place the wires up to one at a side, at least.
+    pub(crate) aheads: &'a [u8],
+    /// The source, the sink and their pins.
+    pub(crate) shown: &'a [PinAt],
+    /// For each place at most the wires up to the one above the sink's block or pad, and to those
+    /// below, to the right and to the left.
+    pub(crate) to_top: &'a [u8],
+    pub(crate) to_bottom: &'a [u8],
+    pub(crate) to_right: &'a [u8],
+    pub(crate) to_left: &'a [u8],
+    /// The places of the wires at the sides of the source's block or pad.
+    pub(crate) own_sides: &'a [usize],
+    /// The prices of the wires, track by track; 255 for those that are not told.
+    pub(crate) prices: &'a [u8],
+    /// The same place by place.
+    pub(crate) by_place: &'a [u8],
+    /// The ends of the wires at the sides of blocks and pads.
+    pub(crate) arrivals: &'a Rows,
+    /// For each side the row of the first track's wire.
+    pub(crate) first_arrivals: &'a [usize],
+    /// The ends of the shown pins.
+    pub(crate) pin_ends: &'a Rows,
+    /// The places of two columns.
+    pub(crate) back: usize,
+    ghost search: { IsNetSearch (G.basis strip.graph.now) (C.costs costs.now) starts.now goal
+        (record { source = source; sink = sink }) },
+    ghost exit_is: { exit ≡ place_of (G.basis strip.graph.now) sink },
+    ghost are_sides: { AreSides (G.basis strip.graph.now) sink sides.now },
+    ghost are_aheads: { AreAheads (G.basis strip.graph.now) sink aheads.now },
+    ghost are_least: { AreLeast (G.basis strip.graph.now).arch.tracks lasts.now least_lasts.now },
+    ghost four: { 4 ≤ length pins.now },
+    ghost few_pins: { All (λ bound. bound ≤ 19000) pins.now },
+    ghost few_lasts: { All (λ bound. bound ≤ 20000) lasts.now },
+    ghost lasts_long: { length lasts.now ≡ 4 * (G.basis strip.graph.now).arch.tracks },
+    ghost bounded: { HaveBounds (G.basis strip.graph.now) (C.costs costs.now) sink pins.now
+        lasts.now },
+    ghost are_pins: { ArePins (G.basis strip.graph.now)
+        (record { source = source; sink = sink }) shown.now },
+    ghost are_prices: { ArePrices (G.basis strip.graph.now) (C.costs costs.now) prices.now },
+    ghost are_by_place: { AreByPlace (G.basis strip.graph.now) (C.costs costs.now) by_place.now },
+    ghost top_far: { AreFars (G.basis strip.graph.now) sink 0 to_top.now },
+    ghost bottom_far: { AreFars (G.basis strip.graph.now) sink 1 to_bottom.now },
+    ghost right_far: { AreFars (G.basis strip.graph.now) sink 2 to_right.now },
+    ghost left_far: { AreFars (G.basis strip.graph.now) sink 3 to_left.now },
+    ghost are_own_sides: { AreSides (G.basis strip.graph.now) source own_sides.now },
+    ghost are_arrivals: { AreArrivals (G.basis strip.graph.now) sink arrivals.now
+        first_arrivals.now },
+    ghost have_ends: { HaveEnds (planes_of (G.basis strip.graph.now) (C.costs costs.now) starts.now
+        goal (record { source = source; sink = sink })) pin_ends.now shown.now },
+    ghost back_is: { back ≡ 2 * stride_of (G.basis strip.graph.now) },
+    ghost counted: { C.count costs.now ≡ (graph_of (G.basis strip.graph.now)).count },
+}
+
+impl<G: StripGraph, C: NodeCosts> NetPlanes<'_, G, C> {
+    /// The number of the side whose wires are at a place.
+    pub(crate) fn side_of(&self, place: usize) -> Option<usize>
+        ensures none { IfNone result ((side : ℕ) → side < 4 →
+            slice_index self.now.sides.now side ≡ place → ⊥) }
+        ensures found { IfSome result (λ side. (side < 4)
+            × (slice_index self.now.sides.now side ≡ place)) }
+    {
+        for side in 0..4 {
+            if self.sides[side] == place {
+                return Some(side);
+            }
+        }
+        None
+    }
+
+    /// A lower bound of the cost of a way from a place at a side, or from a pin.
+    #[inline(never)]
+    pub(crate) fn from_side(&self, track: usize, place: usize) -> u64
+        requires { track < (G.basis self.now.strip.graph.now).arch.tracks }
+        ensures wire { (number sum : ℕ) →
+            IsWireOf (G.basis self.now.strip.graph.now) place number →
+            ((graph_of (G.basis self.now.strip.graph.now)).node number).n ≡ track →
+            IsBySide (G.basis self.now.strip.graph.now) number self.now.sink
+            (λ side. slice_index self.now.pins.now side)
+            (λ side track. slice_index self.now.lasts.now
+            (side * (G.basis self.now.strip.graph.now).arch.tracks + track)) sum →
+            result ≤ sum }
+        ensures pin { (x offset : ℕ) → IsPinPlace (G.basis self.now.strip.graph.now) x offset →
+            place ≡ in_column (G.basis self.now.strip.graph.now) x offset → result ≡ 1 }
+    {
+        match self.side_of(place) {
+            Some(side) => {
+                let least = self.least_lasts[track] as u64;
+                (self.pins[side] as u64).min(least) + 1
+            }
+            None => 1,
+        }
+    }
+
+    /// A lower bound of the cost of any way from the place to the goal in its plane.
+    #[inline(always)]
+    pub(crate) fn at_least(&self, track: usize, place: usize) -> Option<u64>
+        requires track { track < (G.basis self.now.strip.graph.now).arch.tracks }
+        requires place { place < place_count (G.basis self.now.strip.graph.now) }
+        ensures { IsLowerBound ((planes_of (G.basis self.now.strip.graph.now)
+            (C.costs self.now.costs.now) self.now.starts.now self.now.goal
+            (record { source = self.now.source; sink = self.now.sink })).plane track)
+            self.now.exit place result }
+    {
+        self.strip.graph.laws();
+        let far = self.aheads[place];
+        if far != 0 {
+            return Some(far as u64 + self.least_lasts[track] as u64);
+        }
+        if place == self.exit {
+            return Some(0);
+        }
+        Some(self.from_side(track, place))
+    }
+
+    /// The pin that is shown at a place.
+    pub(crate) fn pin_at(&self, place: usize) -> Option<PinAt>
+        ensures found { IfSome result (λ pin. Contains self.now.shown.now pin
+            × (pin.place ≡ place)) }
+        ensures none { IfNone result ((k : ℕ) (d : PinAt) → k < length self.now.shown.now →
+            (slice_index_or self.now.shown.now k d).place ≡ place → ⊥) }
+    {
+        for pin in self.shown {
+            if pin.place == place {
+                return Some(*pin);
+            }
+        }
+        None
+    }
+
+    /// The number of the pin that is shown at a place.
+    pub(crate) fn pin_number(&self, place: usize) -> Option<usize>
+        ensures found { IfSome result (λ number. (pin : PinAt) × Contains self.now.shown.now pin
+            × (pin.place ≡ place) × (pin.number ≡ number)) }
+        ensures none { IfNone result ((k : ℕ) (d : PinAt) → k < length self.now.shown.now →
+            (slice_index_or self.now.shown.now k d).place ≡ place → ⊥) }
+    {
+        match self.pin_at(place) {
+            Some(pin) => Some(pin.number),
+            None => None,
+        }
+    }
+
+    /// The number of a place's node in the whole graph.
+    pub(crate) fn number(&self, track: usize, place: usize) -> usize
+        requires track { track < (G.basis self.now.strip.graph.now).arch.tracks }
+        requires place { IsPlace (planes_of (G.basis self.now.strip.graph.now)
+            (C.costs self.now.costs.now) self.now.starts.now self.now.goal
+            (record { source = self.now.source; sink = self.now.sink })) track place }
+        ensures { result ≡ (planes_of (G.basis self.now.strip.graph.now)
+            (C.costs self.now.costs.now) self.now.starts.now self.now.goal
+            (record { source = self.now.source; sink = self.now.sink })).number track place }
+    {
+        self.strip.graph.laws();
+        if self.strip.layout.firsts[place] != NO_WIRE {
+            return self.strip.wire_number(track, place);
+        }
+        match self.pin_number(place) {
+            Some(number) => number,
+            None => 0,
+        }
+    }
+
+    /// The cost of entering a place that is not told by the prices.
+    #[inline(never)]
+    fn dear_cost(&self, track: usize, place: usize) -> u64
+        requires track { track < (G.basis self.now.strip.graph.now).arch.tracks }
+        requires place { place < place_count (G.basis self.now.strip.graph.now) }
+        ensures { result ≡ ((planes_of (G.basis self.now.strip.graph.now)
+            (C.costs self.now.costs.now) self.now.starts.now self.now.goal
+            (record { source = self.now.source; sink = self.now.sink })).plane track).cost place }
+    {
+        self.strip.graph.laws();
+        if self.strip.layout.firsts[place] != NO_WIRE {
+            return self.costs.cost(self.strip.wire_number(track, place));
+        }
+        match self.pin_number(place) {
+            Some(number) => self.costs.cost(number),
+            None => 1,
+        }
+    }
+
+    /// The cost of entering a place.
+    #[inline(always)]
+    pub(crate) fn cost(&self, track: usize, place: usize) -> u64
+        requires track { track < (G.basis self.now.strip.graph.now).arch.tracks }
+        requires place { place < place_count (G.basis self.now.strip.graph.now) }
+        ensures { result ≡ ((planes_of (G.basis self.now.strip.graph.now)
+            (C.costs self.now.costs.now) self.now.starts.now self.now.goal
+            (record { source = self.now.source; sink = self.now.sink })).plane track).cost place }
+    {
+        self.strip.graph.laws();
+        let price = self.prices[track * self.aheads.len() + place];
+        if price != 255 {
+            return price as u64;
+        }
+        self.dear_cost(track, place)
+    }
+
+    /// The ends of the edges from a wire that is not at a side: steps to the wires around it.
+    #[inline(always)]
+    pub(crate) fn step_ends(&self, track: usize, place: usize) -> Ends<'_>
+        requires track { track < (G.basis self.now.strip.graph.now).arch.tracks }
+        requires place { place < place_count (G.basis self.now.strip.graph.now) }
+        requires wire { slice_index self.now.strip.layout.now.classes.items place ≡ 255 → ⊥ }
+        requires aside { IsAside (G.basis self.now.strip.graph.now) self.now.sink place }
+        ensures value { map (λ end. end + result.base) result.list.now
+            ≡ ((planes_of (G.basis self.now.strip.graph.now) (C.costs self.now.costs.now)
+            self.now.starts.now self.now.goal
+            (record { source = self.now.source; sink = self.now.sink })).plane track).ends place }
+        ensures rising { IsNonDecreasing result.list.now }
+    {
+        self.strip.graph.laws();
+        Ends {
+            list: self.strip.steps(place),
+            base: place - self.back,
+        }
+    }
+}

@@ -1,0 +1,220 @@
+//! Searches for the paths of nets.
+ghost use Rattle.std.specs.Prelude.{◌≡◌, ℕ, ◌<◌, true, Some, None, Ok, IfOk, OnOk, if◌then◌else◌};
+ghost use Rattle.least_path.specs.LeastPath.{HasNoPath, least_path};
+ghost use Rattle.plane_search.specs.Planes.{HoldsNothingLess, IsKnown, IsLeastOfTrack};
+ghost use Rattle.rr_graph.specs.Graph.{graph_of};
+ghost use Rattle.rr_graph.specs.declared.node.NodeKind.TheVariants.{Source};
+ghost use Rattle.fabric_planes.specs.Laid.{IsLayout};
+ghost use Rattle.fabric_planes.specs.Layout.{IsNetSearch, graph_at, planes_of};
+ghost use Rattle.fabric_planes.specs.NetSearches.{IsPathAt, terminals_of};
+ghost use Rattle.fabric_planes.specs.PlaneBounds.{AreBounds};
+ghost use Rattle.fabric_planes.specs.Prices.{HasPrices};
+ghost use Rattle.fabric_planes.specs.Starts.{HasStarts};
+
+use crate::bounded_planes::BoundedPlanes;
+use crate::bounds::Bounds;
+use crate::costs::NodeCosts;
+use crate::laws::planes_law;
+use crate::layout::Layout;
+use crate::net_planes::NetPlanes;
+use crate::net_starts::NetStarts;
+use crate::net_tables::NetTables;
+use crate::price_table::PriceTable;
+use crate::rivals::head_of;
+use least_path::{Path, least_path_law};
+use plane_search::PlaneSearch;
+use rr_graph::StripGraph;
+use std::alloc::{AllocError, Global};
+
+/// Replaces `path`, which is a path already, by the least path. If `done` is a track, `path` must
+/// be the least of its plane already, or less.
+fn improve<G: StripGraph, C: NodeCosts>(
+    search: &mut PlaneSearch,
+    bounds: &mut Bounds,
+    planes: &NetPlanes<'_, G, C>,
+    starts: &NetStarts,
+    done: usize,
+    path: &mut Path,
+) -> Result<(), AllocError>
+    requires starts { HasStarts (G.basis planes.now.strip.graph.now) planes.now.starts.now
+        starts.now }
+    requires all { AreBounds (planes_of (G.basis planes.now.strip.graph.now)
+        (C.costs planes.now.costs.now) planes.now.starts.now planes.now.goal
+        (record { source = planes.now.source; sink = planes.now.sink })) bounds.old.all.items }
+    requires known { IsKnown (planes_of (G.basis planes.now.strip.graph.now)
+        (C.costs planes.now.costs.now) planes.now.starts.now planes.now.goal
+        (record { source = planes.now.source; sink = planes.now.sink })) path.old }
+    requires done { done < (G.basis planes.now.strip.graph.now).arch.tracks →
+        HoldsNothingLess (planes_of (G.basis planes.now.strip.graph.now)
+        (C.costs planes.now.costs.now) planes.now.starts.now planes.now.goal
+        (record { source = planes.now.source; sink = planes.now.sink }))
+        done path.old.nodes.items }
+    ensures { OnOk result (least_path (graph_at (G.basis planes.now.strip.graph.now)
+        (C.costs planes.now.costs.now)) planes.now.starts.now planes.now.goal
+        ≡ Some path.new.nodes.items) }
+{
+    planes.strip.graph.laws();
+    planes_law();
+    let head = head_of(
+        planes.strip.graph,
+        planes.strip.layout.shape,
+        &path.nodes,
+        path.cost,
+    );
+    bounds.fill_rivals(planes, starts, head)?;
+    let bounded = BoundedPlanes {
+        planes,
+        starts,
+        bounds,
+    };
+    search.least_into(&bounded, done, path)
+}
+
+/// Replaces `path` by the least path of one plane, and returns its track; `None` if there is no
+/// path at all. Afterwards `bounds` has the bounds of all paths.
+fn first_into<G: StripGraph, C: NodeCosts>(
+    search: &mut PlaneSearch,
+    bounds: &mut Bounds,
+    planes: &NetPlanes<'_, G, C>,
+    starts: &NetStarts,
+    path: &mut Path,
+) -> Result<Option<usize>, AllocError>
+    requires { HasStarts (G.basis planes.now.strip.graph.now) planes.now.starts.now starts.now }
+    ensures all { OnOk result (AreBounds (planes_of (G.basis planes.now.strip.graph.now)
+        (C.costs planes.now.costs.now) planes.now.starts.now planes.now.goal
+        (record { source = planes.now.source; sink = planes.now.sink })) bounds.new.all.items) }
+    ensures found { (track : ℕ) → result ≡ Ok (Some track) →
+        IsLeastOfTrack (planes_of (G.basis planes.now.strip.graph.now)
+        (C.costs planes.now.costs.now) planes.now.starts.now planes.now.goal
+        (record { source = planes.now.source; sink = planes.now.sink })) track path.new }
+    ensures none { result ≡ Ok None →
+        least_path (graph_at (G.basis planes.now.strip.graph.now) (C.costs planes.now.costs.now))
+        planes.now.starts.now planes.now.goal ≡ None }
+{
+    planes.strip.graph.laws();
+    planes_law();
+    least_path_law();
+    bounds.fill_all(planes, starts, u64::MAX)?;
+    bounds.fill_rivals(planes, starts, None)?;
+    let bounded = BoundedPlanes {
+        planes,
+        starts,
+        bounds,
+    };
+    search.first_into(&bounded, path)
+}
+
+/// Replaces `path` by the least path of the planes, and returns whether there is a path. If
+/// `is_known`, `path` is a path already.
+fn least_over<G: StripGraph, C: NodeCosts>(
+    search: &mut PlaneSearch,
+    bounds: &mut Bounds,
+    planes: &NetPlanes<'_, G, C>,
+    starts: &NetStarts,
+    is_known: bool,
+    path: &mut Path,
+) -> Result<bool, AllocError>
+    requires starts { HasStarts (G.basis planes.now.strip.graph.now) planes.now.starts.now
+        starts.now }
+    requires known { is_known ≡ true → IsPathAt (G.basis planes.now.strip.graph.now)
+        (C.costs planes.now.costs.now) planes.now.starts.now planes.now.goal path.old }
+    ensures { IfOk result (λ is_found.
+        least_path (graph_at (G.basis planes.now.strip.graph.now) (C.costs planes.now.costs.now))
+        planes.now.starts.now planes.now.goal
+        ≡ (if is_found then Some path.new.nodes.items else None)) }
+{
+    if is_known {
+        let tracks = planes.strip.layout.shape.tracks as usize;
+        bounds.fill_all(planes, starts, path.cost)?;
+        improve(search, bounds, planes, starts, tracks, path)?;
+        return Ok(true);
+    }
+    match first_into(search, bounds, planes, starts, path)? {
+        None => Ok(false),
+        Some(track) => {
+            improve(search, bounds, planes, starts, track, path)?;
+            Ok(true)
+        }
+    }
+}
+
+/// A path that is wanted: from one of a net's starts to one of its sinks.
+#[derive(Clone, Copy)]
+pub struct Wanted<'a> {
+    /// The net's source.
+    pub source: usize,
+    /// The nodes at which the path may start.
+    pub starts: &'a [usize],
+    /// The sink.
+    pub goal: usize,
+}
+
+/// Searches for the paths of nets, and reuses its memory from one search to the next.
+#[derive(Drop)]
+pub struct NetSearch {
+    search: PlaneSearch,
+    tables: NetTables,
+    starts: NetStarts,
+    bounds: Bounds,
+}
+
+impl NetSearch {
+    /// A search without memory yet.
+    pub fn new(alloc: Global) -> Self {
+        NetSearch {
+            search: PlaneSearch::new(alloc),
+            tables: NetTables::new(alloc),
+            starts: NetStarts::new(alloc),
+            bounds: Bounds::new(alloc),
+        }
+    }
+
+    /// Replaces `path` by the least path at these costs, and returns whether there is a path. If
+    /// `is_known`, `path` is a path already, and the search is limited to its cost. Earlier
+    /// searches don't change the result. If there is no path, or memory runs out, the contents of
+    /// `path` mean nothing.
+    pub fn least_into<G: StripGraph, C: NodeCosts>(
+        &mut self,
+        graph: &G,
+        layout: &Layout,
+        costs: &C,
+        prices: &PriceTable,
+        wanted: Wanted<'_>,
+        is_known: bool,
+        path: &mut Path,
+    ) -> Result<bool, AllocError>
+        requires laid { IsLayout (G.basis graph.now) layout.now }
+        requires counted { C.count costs.now ≡ (graph_of (G.basis graph.now)).count }
+        requires priced { HasPrices (G.basis graph.now) (C.costs costs.now) prices.now }
+        requires within { wanted.source < (graph_of (G.basis graph.now)).count }
+        requires source { ((graph_of (G.basis graph.now)).node wanted.source).kind ≡ Source }
+        requires search { IsNetSearch (G.basis graph.now) (C.costs costs.now) wanted.starts.now
+            wanted.goal (terminals_of (G.basis graph.now) wanted.source wanted.goal) }
+        requires known { is_known ≡ true → IsPathAt (G.basis graph.now) (C.costs costs.now)
+            wanted.starts.now wanted.goal path.old }
+        ensures { IfOk result (λ is_found.
+            least_path (graph_at (G.basis graph.now) (C.costs costs.now)) wanted.entry.starts.now
+            wanted.entry.goal ≡ (if is_found then Some path.new.nodes.items else None)) }
+    {
+        self.tables
+            .fill(graph, layout, costs, prices, wanted.source, wanted.goal)?;
+        self.starts.fill(graph, layout, wanted.starts)?;
+        let planes = self.tables.planes(
+            graph,
+            layout,
+            costs,
+            prices,
+            wanted.source,
+            wanted.starts,
+            wanted.goal,
+        );
+        least_over(
+            &mut self.search,
+            &mut self.bounds,
+            &planes,
+            &self.starts,
+            is_known,
+            path,
+        )
+    }
+}

@@ -1,0 +1,188 @@
+//! The prices of a strip's wires, track by track and place by place.
+ghost use Rattle.std.specs.Prelude.{◌≡◌, ◌+◌, ◌*◌, ◌<◌, ℕ, All, IfOk, IfSome, IfNone};
+ghost use Rattle.rr_graph.specs.Geometry.{IsWire};
+ghost use Rattle.rr_graph.specs.Graph.{Basis, graph_of};
+ghost use Rattle.fabric_planes.specs.Laid.{IsLayout};
+ghost use Rattle.fabric_planes.specs.Pins.{ArePrices, AreByPlace};
+ghost use Rattle.fabric_planes.specs.Prices.{IsSpot, IsPrice, IsRepriced, AgreeBut, HasPrices, HasRoom, HasRoomByPlace};
+
+use crate::costs::NodeCosts;
+use crate::layout::Layout;
+use crate::untold_prices::untold_prices;
+use rr_graph::{NodeKind, StripGraph};
+use std::alloc::{AllocError, Global};
+
+/// In a table of prices: the cost is not told.
+const UNTOLD: u8 = 255;
+
+/// The price for a cost: the cost itself if it is small.
+#[inline(always)]
+fn price_for(cost: u64) -> u8
+    ensures { IsPrice cost result }
+{
+    cost.min(UNTOLD as u64) as u8
+}
+
+/// The indexes of a wire's price in the two tables.
+#[derive(Clone, Copy)]
+struct PriceAt {
+    by_track: usize,
+    by_place: usize,
+}
+
+/// Where the price of a node is; `None` if the node is no wire.
+#[inline(always)]
+fn spot_of<G: StripGraph>(graph: &G, layout: &Layout, number: usize) -> Option<PriceAt>
+    requires laid { IsLayout (G.basis graph.now) layout.now }
+    requires within { number < (graph_of (G.basis graph.now)).count }
+    ensures wire { IfSome result (λ spot. IsSpot (G.basis graph.now) number spot) }
+    ensures none { IfNone result (IsWire ((graph_of (G.basis graph.now)).node number).kind → ⊥) }
+{
+    graph.laws();
+    let node = graph.node(number);
+    match node.kind {
+        NodeKind::ChanX | NodeKind::ChanY => {
+            let place = layout.shape.place(node);
+            let (track, tracks) = (node.n as usize, layout.shape.tracks as usize);
+            let places = layout.firsts.as_slice().len();
+            Some(PriceAt {
+                by_track: track * places + place,
+                by_place: place * tracks + track,
+            })
+        }
+        _ => None,
+    }
+}
+
+/// Sets the price of a node, if it is a wire.
+#[inline(always)]
+fn set_price<G: StripGraph, C: NodeCosts>(
+    prices: &mut Vec<u8>,
+    by_place: &mut Vec<u8>,
+    graph: &G,
+    layout: &Layout,
+    costs: &C,
+    number: usize,
+)
+    requires laid { IsLayout (G.basis graph.now) layout.now }
+    requires counted { C.count costs.now ≡ (graph_of (G.basis graph.now)).count }
+    requires within { number < (graph_of (G.basis graph.now)).count }
+    requires long { HasRoom (G.basis graph.now) prices.old.items }
+    requires long_by_place { HasRoomByPlace (G.basis graph.now) by_place.old.items }
+    ensures { IsRepriced (G.basis graph.now) (C.costs costs.now number) number prices.old.items
+        prices.new.items by_place.old.items by_place.new.items }
+{
+    if let Some(spot) = spot_of(graph, layout, number) {
+        let price = price_for(costs.cost(number));
+        prices[spot.by_track] = price;
+        by_place[spot.by_place] = price;
+    }
+}
+
+/// Sets the prices of all wires.
+fn price_all<G: StripGraph, C: NodeCosts>(
+    prices: &mut Vec<u8>,
+    by_place: &mut Vec<u8>,
+    graph: &G,
+    layout: &Layout,
+    costs: &C,
+)
+    requires laid { IsLayout (G.basis graph.now) layout.now }
+    requires counted { C.count costs.now ≡ (graph_of (G.basis graph.now)).count }
+    requires before { ArePrices (G.basis graph.now) (C.costs costs.now) prices.old.items }
+    requires long_by_place { HasRoomByPlace (G.basis graph.now) by_place.old.items }
+    ensures told { ArePrices (G.basis graph.now) (C.costs costs.now) prices.new.items }
+    ensures low { AreByPlace (G.basis graph.now) (C.costs costs.now) by_place.new.items }
+{
+    for number in 0..graph.count() {
+        set_price(prices, by_place, graph, layout, costs, number);
+    }
+}
+
+/// Sets the prices of these nodes.
+fn set_prices<G: StripGraph, C: NodeCosts>(
+    prices: &mut Vec<u8>,
+    by_place: &mut Vec<u8>,
+    graph: &G,
+    layout: &Layout,
+    costs: &C,
+    nodes: &[usize],
+)
+    requires laid { IsLayout (G.basis graph.now) layout.now }
+    requires counted { C.count costs.now ≡ (graph_of (G.basis graph.now)).count }
+    requires within { All (λ node. node < (graph_of (G.basis graph.now)).count) nodes.now }
+    requires before { (old : ℕ → ℕ) × ArePrices (G.basis graph.now) old prices.old.items
+        × AreByPlace (G.basis graph.now) old by_place.old.items
+        × AgreeBut (G.basis graph.now) old (C.costs costs.now) nodes.now }
+    ensures told { ArePrices (G.basis graph.now) (C.costs costs.now) prices.new.items }
+    ensures low { AreByPlace (G.basis graph.now) (C.costs costs.now) by_place.new.items }
+{
+    graph.laws();
+    for node in nodes {
+        set_price(prices, by_place, graph, layout, costs, *node);
+    }
+}
+
+/// The prices of a strip's wires, track by track and place by place: those that cost less than 255.
+#[derive(Drop)]
+pub struct PriceTable {
+    pub(crate) prices: Vec<u8>,
+    pub(crate) by_place: Vec<u8>,
+}
+
+impl PriceTable {
+    /// The prices at these costs.
+    pub fn new<G: StripGraph, C: NodeCosts>(
+        alloc: Global,
+        graph: &G,
+        layout: &Layout,
+        costs: &C,
+    ) -> Result<Self, AllocError>
+        requires laid { IsLayout (G.basis graph.now) layout.now }
+        requires counted { C.count costs.now ≡ (graph_of (G.basis graph.now)).count }
+        ensures { IfOk result (λ table. HasPrices (G.basis graph.now) (C.costs costs.now) table) }
+    {
+        graph.laws();
+        let mut prices = untold_prices(alloc, layout.shape)?;
+        let mut by_place = untold_prices(alloc, layout.shape)?;
+        price_all(&mut prices, &mut by_place, graph, layout, costs);
+        Ok(PriceTable { prices, by_place })
+    }
+
+    /// Updates the prices of these nodes, the only ones whose costs may have changed.
+    pub fn update<G: StripGraph, C: NodeCosts>(
+        &mut self,
+        graph: &G,
+        layout: &Layout,
+        costs: &C,
+        nodes: &[usize],
+    )
+        requires laid { IsLayout (G.basis graph.now) layout.now }
+        requires counted { C.count costs.now ≡ (graph_of (G.basis graph.now)).count }
+        requires within { All (λ node. node < (graph_of (G.basis graph.now)).count) nodes.now }
+        requires before { (old : ℕ → ℕ) × HasPrices (G.basis graph.now) old self.old
+            × AgreeBut (G.basis graph.now) old (C.costs costs.now) nodes.now }
+        ensures { HasPrices (G.basis graph.now) (C.costs costs.now) self.new }
+    {
+        let (prices, by_place) = (&mut self.prices, &mut self.by_place);
+        set_prices(prices, by_place, graph, layout, costs, nodes);
+    }
+
+    /// The prices, track by track; 255 for those that are not told.
+    #[inline(always)]
+    pub fn as_slice(&self) -> &[u8]
+        ensures { (basis : Basis) (cost : ℕ → ℕ) → HasPrices basis cost self.now →
+            ArePrices basis cost result.now }
+    {
+        self.prices.as_slice()
+    }
+
+    /// The prices, place by place, as far as they are counted: none is more than the cost.
+    #[inline(always)]
+    pub fn by_place(&self) -> &[u8]
+        ensures { (basis : Basis) (cost : ℕ → ℕ) → HasPrices basis cost self.now →
+            AreByPlace basis cost result.now }
+    {
+        self.by_place.as_slice()
+    }
+}

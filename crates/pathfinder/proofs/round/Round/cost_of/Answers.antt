@@ -1,0 +1,32 @@
+use Rattle.std.proofs.Common.{◌∙◌, get_or, take, arith, sym}
+use Rattle.least_path.specs.Path.{cost_of}
+use Rattle.pathfinder.specs.PlacedNets.{wiring_of}
+use Rattle.pathfinder.specs.Tables.{tabled_graph}
+use Rattle.pathfinder.proofs.Ways.{cost_first, cost_more, cost_step, cost_whole}
+use Rattle.pathfinder.proofs.round.Round.cost_of.Goals as goal
+
+pub loop-place-init : goal.loop-place-init
+loop-place-init g c =
+    let round = c.args.self.now in
+    let graph = tabled_graph (wiring_of (g.G.StripGraph.basis round.graph.now)) round.iterations round.history.now c.args.held.now in
+    record { some = omega arith; low = omega arith; sum = sym (cost_first graph c.args.nodes.now) }
+
+pub overflow_add-cost : goal.overflow_add-cost
+overflow_add-cost g c = omega (arith, c.loop-place.invariant.low, c.price-cost.ensures.few, c.requires.few, c.loop-place-test.true)
+
+pub loop-place-preserved : goal.loop-place-preserved
+loop-place-preserved g c =
+    let round = c.args.self.now in
+    let graph = tabled_graph (wiring_of (g.G.StripGraph.basis round.graph.now)) round.iterations round.history.now c.args.held.now in
+    let more = cost_more graph c.args.nodes.now c.loop-place.place c.loop-place.invariant.some c.loop-place-test.true in
+    record {
+      some = omega arith;
+      low = omega (arith, c.loop-place.invariant.low, c.price-cost.ensures.few);
+      sum = sym (more ∙ sym (cost_step c.loop-place.cost (cost_of graph (take c.loop-place.place c.args.nodes.now)) c.price-cost.result (graph.cost (get_or c.args.nodes.now c.loop-place.place 0)) c.loop-place.invariant.sum c.price-cost.ensures.value));
+    }
+
+pub returns : goal.returns
+returns g c =
+    let round = c.args.self.now in
+    let graph = tabled_graph (wiring_of (g.G.StripGraph.basis round.graph.now)) round.iterations round.history.now c.args.held.now in
+    c.loop-place.invariant.sum ∙ cost_whole graph c.args.nodes.now c.loop-place.place c.loop-place-test.false
