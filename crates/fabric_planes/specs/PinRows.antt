@@ -21,7 +21,7 @@ beside pin side track = make_node (pin.x - columns_less side) (side_kind side) (
 abbrev pub is_met : Arch → Strip → Node → ℕ → ℕ → Bool
 is_met arch strip pin side track = is_on_side (sides_at arch strip pin) side && meets_track (flexibility_of arch strip pin) arch.tracks pin.n track
 
--- ---- rows of a column, by the differences of their places from the first place of the column before
+-- ---- rows of a column, by the differences of their places from the column before
 
 -- for an output pin the wires that it meets, by these differences less the pin's row: to the left,
 -- below, above and to the right
@@ -46,7 +46,7 @@ sink_row stride = (stride + 1) ∷ []
 
 -- ---- all rows
 
--- rows of a kind have the same output pins: 0 for the pads below, 1 for blocks, 2 for the pads above
+-- rows of a kind have the same output pins: 0 for pads below, 1 for blocks, 2 for pads above
 abbrev pub site_of : Strip → ℕ → ℕ
 site_of strip y = if y == 0 then 0 else if y == strip.rows + 1 then 2 else 1
 
@@ -65,7 +65,7 @@ abbrev pub departure_row : Arch → Strip → ℕ → ℕ → ℕ → ℕ → Li
 departure_row arch strip level band pins at =
     departures arch strip level band (output_at strip (at / arch.tracks / pins) (at / arch.tracks % pins)) (at % arch.tracks)
 
--- the one of a sink, of an input pin, of a block's source, those of pads' sources and of output pins
+-- the one of a sink, of an input pin, of a block's source, those of pads' sources and output pins
 abbrev pub rows_by : Arch → Strip → ℕ → ℕ → ℕ → List (List ℕ)
 rows_by arch strip level band pins = [] ∷ sink_row (level + 4 * band) ∷ block_outputs arch (level + 4 * band) pins
     ∷ (map (pad_output (level + 4 * band)) (range_with_len 0 pins) ++ map (departure_row arch strip level band pins) (range_with_len 0 (3 * pins * arch.tracks)))

@@ -17,8 +17,8 @@ is_on_side sides (suc (suc zero)) = sides.right
 is_on_side sides (suc (suc (suc zero))) = sides.left
 is_on_side sides (suc (suc (suc (suc more)))) = false
 
--- the wires above and below are horizontal ones, the wire below is one row less, and the wire to the
--- left one column less
+-- the wires above and below are horizontal ones, the wire below is one row less, and the wire to
+-- the left one column less
 abbrev pub side_kind : ℕ → NodeKind
 side_kind side = if nat_lt side 2 then ChanX else ChanY
 

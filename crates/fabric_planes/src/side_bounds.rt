@@ -215,8 +215,8 @@ impl SideBounds {
         }
     }
 
-    /// Replaces the bounds by those of a sink. `sides` are the places of the wires at its sides, and
-    /// `by_place` the prices.
+    /// Replaces the bounds by those of a sink. `sides` are the places of the wires at its sides,
+    /// and `by_place` the prices.
     pub(crate) fn fill<G: StripGraph, C: NodeCosts>(
         &mut self,
         graph: &G,
