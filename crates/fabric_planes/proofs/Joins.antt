@@ -9,7 +9,7 @@ use Rattle.rr_graph.specs.declared.node.Node.{Node}
 use Rattle.rr_graph.specs.Geometry.{IsWire, joins, is_together}
 use Rattle.rr_graph.proofs.GeometryLaws.{own_track}
 
--- what an edge between nodes of two kinds says of the second node, if it is one that ways lead on from
+-- what an edge between nodes of two kinds says of the second node, if ways lead on from it
 abbrev pub IsReached : Strip → NodeKind → NodeKind → Node → Node → Type 0
 IsReached strip ka Source a b = ⊥
 IsReached strip ka Sink a b = (ka ≡ Ipin) × (is_together strip a b ≡ true)

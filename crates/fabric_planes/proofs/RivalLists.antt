@@ -14,7 +14,7 @@ lowered_then xs ys zs a b = record { long = b.long ∙ a.long; falls = λ track.
 pub limited_then : (most : ℕ) (xs ys : List ℕ) → AreLimited most xs → AreLowered xs ys → AreLimited most ys
 limited_then most xs ys a b = record { low = λ track. omega (arith, a.low track, b.falls track) }
 
--- what holds of the bounds for the first indices, and still holds of lesser bounds, holds for one more
+-- what holds of the bounds for the first indices, and of lesser bounds too, holds for one more
 pub each_more : (P : ℕ → List ℕ → Type 0) → ((i : ℕ) (xs ys : List ℕ) → P i xs → AreLowered xs ys → P i ys) → (now new : List ℕ) (k : ℕ) → ((i : ℕ) → i < k → P i now) → AreLowered now new → P k new → (i : ℕ) → i < k + 1 → P i new
 each_more P still now new k low falls here i b = elim (cases_lt i k) [
   | inl l ↦ still i now new (low i l) falls

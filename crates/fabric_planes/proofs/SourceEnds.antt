@@ -1,4 +1,4 @@
--- In each plane, the ends of a source's edges, of an input pin's and of a sink's are those of their rows.
+-- In each plane the ends of the edges of a source, an input pin and a sink are those of their rows.
 use Rattle.std.proofs.Common.{◌≡◌, ℕ, ◌+◌, ◌*◌, ◌<◌, ◌⊎◌, List, [], ◌∷◌, map, refl, sym, ap, ◌∙◌, subst, inl, inr, arith, Bool, true, false, ◌==◌, ◌&&◌, ◌||◌, nat_le}
 use Rattle.std.specs.Prelude.{Contains, filter, nat_lt, if◌then◌else◌}
 use Rattle.std.specs.List.{range_with_len}
