@@ -1,5 +1,5 @@
 //! Columns, rows and tracks.
-ghost use Rattle.std.specs.Prelude.{◌-◌, ◌+◌, ◌*◌, ◌≤◌};
+ghost use Rattle.std.specs.Prelude.{◌≡◌, ◌-◌, ◌+◌, ◌*◌, ◌≤◌, ◌⊎◌};
 ghost use Rattle.arch_file.specs.declared.arch.TheConstants.{MAX_PINS};
 ghost use Rattle.grid.specs.declared.TheConstants.{MAX_COLUMNS};
 
@@ -29,6 +29,7 @@ impl Lattice {
         ensures small { result ≤ 130 }
         ensures block { self.now.block ≤ result }
         ensures some { 5 ≤ result }
+        ensures value { result ≡ self.now.block + self.now.channel }
     {
         self.block + self.channel
     }
@@ -36,7 +37,8 @@ impl Lattice {
     /// The position at which column or row `number` begins.
     pub fn start(&self, number: u32) -> u32
         requires { number ≤ MAX_COLUMNS + 1 }
-        ensures { result ≤ 33_410 }
+        ensures small { result ≤ 33_410 }
+        ensures value { result ≡ number * (self.now.block + self.now.channel) }
     {
         number * self.pitch()
     }
@@ -45,7 +47,9 @@ impl Lattice {
     pub fn track(&self, number: u32, track: u32) -> u32
         requires number { number ≤ MAX_COLUMNS + 1 }
         requires track { track ≤ MAX_PINS - 1 }
-        ensures { result ≤ 33_700 }
+        ensures small { result ≤ 33_700 }
+        ensures value { result
+            ≡ number * (self.now.block + self.now.channel) + self.now.block + track + 1 }
     {
         self.start(number) + self.block + track + 1
     }
@@ -53,14 +57,17 @@ impl Lattice {
     /// The length of `count` columns or rows.
     pub fn span(&self, count: u32) -> u32
         requires { count ≤ MAX_COLUMNS + 1 }
-        ensures { result ≤ 33_410 }
+        ensures small { result ≤ 33_410 }
+        ensures value { result ≡ count * (self.now.block + self.now.channel) }
     {
         count * self.pitch()
     }
+
     /// How many columns, or rows, go with one number beside them, so that the numbers are at least
     /// that distance apart.
     pub fn step(&self, apart: u32) -> u32
-        ensures { 1 ≤ result }
+        ensures some { 1 ≤ result }
+        ensures apart { (apart ≤ result * (self.now.block + self.now.channel)) ⊎ (result ≡ 100) }
     {
         for step in [1, 2, 5, 10, 20, 50].iter() {
             if *step * self.pitch() >= apart {
