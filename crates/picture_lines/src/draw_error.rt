@@ -1,4 +1,7 @@
 //! Why a picture was not drawn.
+ghost use Rattle.std.specs.Prelude.{◌≡◌};
+ghost use Rattle.picture_lines.specs.declared.draw_error.DrawError.TheVariants.{Failed, NoMemory};
+
 use line_text::Failed;
 use std::alloc::AllocError;
 
@@ -12,13 +15,17 @@ pub enum DrawError {
 }
 
 impl From<AllocError> for DrawError {
-    fn from(_error: AllocError) -> Self {
+    fn from(_error: AllocError) -> Self
+        ensures { result ≡ NoMemory }
+    {
         DrawError::NoMemory
     }
 }
 
 impl From<Failed> for DrawError {
-    fn from(_failed: Failed) -> Self {
+    fn from(_failed: Failed) -> Self
+        ensures { result ≡ Failed }
+    {
         DrawError::Failed
     }
 }
