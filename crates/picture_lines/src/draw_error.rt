@@ -1,6 +1,6 @@
 //! Why a picture was not drawn.
 ghost use Rattle.std.specs.Prelude.{◌≡◌};
-ghost use Rattle.picture_lines.specs.declared.draw_error.DrawError.TheVariants.{Failed, NoMemory};
+ghost use Rattle.picture_lines.specs.declared.draw_error.DrawError.TheVariants.{NoMemory};
 
 use line_text::Failed;
 use std::alloc::AllocError;
@@ -23,9 +23,7 @@ impl From<AllocError> for DrawError {
 }
 
 impl From<Failed> for DrawError {
-    fn from(_failed: Failed) -> Self
-        ensures { result ≡ Failed }
-    {
+    fn from(_failed: Failed) -> Self {
         DrawError::Failed
     }
 }
