@@ -343,6 +343,13 @@ impl Reach {
             ≤ measure_of self.old.marks self.old.next.items self.old.later.items) }
     {
         let _tracks = view.planes.tracks();
+        let Some(ahead) = view.planes.at_least(view.track, place) else {
+            return Ok(limit);
+        };
+        let room = limit.saturating_sub(item.cost as u64);
+        if room <= ahead {
+            return Ok(limit);
+        }
         let cost = item.cost as u64 + view.planes.cost(view.track, place);
         if limit < cost {
             return Ok(limit);
@@ -354,9 +361,6 @@ impl Reach {
             let below = cost - 1;
             return Ok(below);
         }
-        let Some(ahead) = view.planes.at_least(view.track, place) else {
-            return Ok(limit);
-        };
         let left = limit - cost;
         if left < ahead {
             return Ok(limit);

@@ -81,13 +81,16 @@ fn fitting_cost<P: Planes>(
         (before + ((P.family aim.now.planes.now).plane aim.now.track).cost place)) }
 {
     let _tracks = aim.planes.tracks();
+    let Some(ahead) = aim.planes.at_least(aim.track, place) else {
+        return None;
+    };
+    if aim.best - before <= ahead {
+        return None;
+    }
     let cost = before + aim.planes.cost(aim.track, place);
     if aim.best < cost {
         return None;
     }
-    let Some(ahead) = aim.planes.at_least(aim.track, place) else {
-        return None;
-    };
     let left = aim.best - cost;
     if left < ahead || marks.is_entered(place, cost) {
         return None;

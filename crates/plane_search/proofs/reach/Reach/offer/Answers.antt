@@ -15,6 +15,12 @@ overflow_sub-below g c =
 pub wait-requires-clause-place : goal.wait-requires-clause-place
 wait-requires-clause-place g c = omega (arith, c.requires.place, c.tracks-tracks.ensures.lawful.few)
 
+pub returns-then-room-ahead-clause-on : goal.returns-then-room-ahead-clause-on
+returns-then-room-ahead-clause-on g c =
+    let plane = c.tracks-tracks.ensures.lawful.planes c.args.view.now.track c.args.view.now.on in
+    let some = plane.lawful.cost_from c.args.place (omega (arith, plane.count, c.requires.place)) in
+    λ starts k is w. end_passed c.args.place c.args.limit (omega arith) is.is (inr (λ rest leads. omega (arith, some, c.saturating_sub-room.ensures, c.in-Some.ensures rest leads, c.if-room-ahead.true))) w
+
 pub returns-then-limit-cost-clause-on : goal.returns-then-limit-cost-clause-on
 returns-then-limit-cost-clause-on g c = λ starts k is w. end_passed c.args.place c.args.limit (omega arith) is.is (inr (λ rest leads. omega (arith, c.cost.ensures, c.if-limit-cost.true))) w
 
