@@ -1,9 +1,10 @@
 //! The contents of a script, and the device that it needs.
-ghost use Rattle.std.specs.Prelude.{◌≡◌, ◌+◌, ◌*◌, ◌/◌, ◌≤◌, ◌<◌, IfSome};
+ghost use Rattle.std.specs.Prelude.{◌≡◌, ◌+◌, ◌*◌, ◌/◌, ◌≤◌, ◌<◌, IfNone, IfSome};
 ghost use Rattle.arch_file.specs.declared.arch.TheConstants.{MAX_CLUSTER_SIZE, MAX_LUT_SIZE, MAX_TRACKS};
 ghost use Rattle.strips.specs.declared.layout.TheConstants.{MAX_STRIPS};
 ghost use Rattle.random_script.specs.declared.plan.TheConstants.{MAX_TABLES};
 ghost use Rattle.grid.specs.declared.TheConstants.{MAX_COLUMNS, MAX_ROWS};
+ghost use Rattle.random_script.specs.Plans.{AreWithin, HasRoom, HavePlan};
 
 use arch_file::{MAX_CLUSTER_SIZE, MAX_LUT_SIZE, MAX_TRACKS};
 use grid::{MAX_COLUMNS, MAX_ROWS};
@@ -68,6 +69,26 @@ pub struct Plan {
     ghost strips_fit: { wishes.tenancies * (width + 1) ≤ MAX_COLUMNS + 1 },
 }
 
+/// The wishes, if each is within its limits.
+fn check(wishes: LoadParameters) -> Option<Checked>
+    ensures some { IfSome result (λ checked. checked.wishes ≡ wishes) }
+    ensures none { IfNone result (AreWithin wishes → ⊥) }
+{
+    if wishes.tables < 1 || wishes.tables > MAX_TABLES {
+        return None;
+    }
+    if wishes.tenancies < 1 || wishes.tenancies > MAX_STRIPS as u32 {
+        return None;
+    }
+    if wishes.inputs < 1 || wishes.inputs > MAX_LUT_SIZE {
+        return None;
+    }
+    if wishes.cluster < 1 || wishes.cluster > MAX_CLUSTER_SIZE {
+        return None;
+    }
+    Some(Checked { wishes })
+}
+
 impl Plan {
     /// Returns a plan for these wishes; `None` if a wish is beyond its limits, or if the strips
     /// don't fit on any device.
@@ -75,19 +96,13 @@ impl Plan {
     /// The device has a quarter more places for logic blocks than there are full clusters; it is a
     /// square, as far as 64 rows and 256 columns allow.
     pub fn new(wishes: LoadParameters) -> Option<Self>
-        ensures { IfSome result (λ plan. plan.wishes ≡ wishes) }
+        ensures wishes { IfSome result (λ plan. plan.wishes ≡ wishes) }
+        ensures none { IfNone result (HavePlan wishes → ⊥) }
     {
-        let circuit = (1..=MAX_TABLES).contains(&wishes.tables)
-            && (1..=MAX_STRIPS as u32).contains(&wishes.tenancies);
-        let device = (1..=MAX_LUT_SIZE).contains(&wishes.inputs)
-            && (1..=MAX_CLUSTER_SIZE).contains(&wishes.cluster);
-        if !circuit || !device {
-            return None;
-        }
+        let checked = check(wishes)?;
         let clusters = wishes.tables.div_ceil(wishes.cluster);
         let places = clusters + clusters / 4 + 1;
         let square = side_of(places, MAX_ROWS);
-        let checked = Checked { wishes };
         if let Some(plan) = Plan::with_rows(checked, places, square) {
             return Some(plan);
         }
@@ -99,7 +114,8 @@ impl Plan {
     fn with_rows(checked: Checked, places: u32, rows: u32) -> Option<Self>
         requires places { (1 ≤ places) × (places ≤ 10_000) }
         requires rows { (1 ≤ rows) × (rows ≤ MAX_ROWS) }
-        ensures { IfSome result (λ plan. plan.wishes ≡ checked.wishes) }
+        ensures wishes { IfSome result (λ plan. plan.wishes ≡ checked.wishes) }
+        ensures none { IfNone result (HasRoom checked.wishes.tenancies places rows → ⊥) }
     {
         let wishes = checked.wishes;
         let width = places.div_ceil(rows);
