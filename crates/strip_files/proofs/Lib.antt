@@ -1,1 +1,2 @@
+mod NetsBegun
 pub mod Told

@@ -1,6 +1,7 @@
 //! The three files together.
-ghost use Rattle.std.specs.Prelude.{◌≡◌, ◌+◌, length, position, IfOk};
+ghost use Rattle.std.specs.Prelude.{◌≡◌, ◌+◌, [], position, IfOk};
 ghost use Rattle.std.specs.Str.{bytes_eq};
+ghost use Rattle.strip_files.specs.NetLines.{AreBegun};
 ghost use Rattle.strip_files.specs.NodeLines.{AreTold, node_lines};
 ghost use Rattle.strip_files.specs.Parts.{elements_of, first_element, first_node, nodes_of, stretch};
 
@@ -139,7 +140,9 @@ pub fn read_strip(
     alloc: Global,
     texts: StripTexts<'_>,
 ) -> Result<RoutedStrip<'_>, TextError<FileFault>>
-    ensures { IfOk result (λ strip. AreTold (node_lines texts.entry.route.now) strip.nodes.items) }
+    ensures nodes { IfOk result (λ strip.
+        AreTold (node_lines texts.entry.route.now) strip.nodes.items) }
+    ensures nets { IfOk result (λ strip. AreBegun texts.entry.route.now strip.nets.items) }
 {
     let mut listed = Listed::new(alloc);
     let mut placed = Placed::new(alloc);
@@ -163,9 +166,11 @@ fn read_all<'t>(
     placed: &mut Placed<'t>,
     routed: &mut Routed<'t>,
 ) -> Result<StripSize, TextError<FileFault>>
-    requires { length routed.old.nodes.items ≡ 0 }
-    ensures { IfOk result (λ size. AreTold (node_lines texts.entry.route.now)
+    requires no_nodes { routed.old.nodes.items ≡ [] }
+    requires no_nets { routed.old.nets.items ≡ [] }
+    ensures nodes { IfOk result (λ size. AreTold (node_lines texts.entry.route.now)
         routed.new.nodes.items) }
+    ensures nets { IfOk result (λ size. AreBegun texts.entry.route.now routed.new.nets.items) }
 {
     listed.read(texts.net)?;
     let size = placed.read(texts.place, &listed.blocks)?;
@@ -189,7 +194,8 @@ fn strip_of<'t>(
     placed: Placed<'t>,
     routed: Routed<'t>,
 ) -> RoutedStrip<'t>
-    ensures { result.nodes.items ≡ routed.entry.nodes.items }
+    ensures nodes { result.nodes.items ≡ routed.entry.nodes.items }
+    ensures nets { result.nets.items ≡ routed.entry.nets.items }
 {
     let Listed {
         pins,

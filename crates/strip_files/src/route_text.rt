@@ -1,7 +1,8 @@
 //! The `.route` file: the nets, and the nodes of their routes.
-ghost use Rattle.std.specs.Prelude.{◌≡◌, ◌≤◌, ◌++◌, ◌∷◌, [], length, OnOk};
+ghost use Rattle.std.specs.Prelude.{◌≡◌, ◌≤◌, ◌++◌, ◌∷◌, [], length, true, false, OnOk};
 ghost use Rattle.strip_files.specs.declared.route_node.RouteNode.{RouteNode};
-ghost use Rattle.strip_files.specs.NodeLines.{AreTold, IsReadOn, IsTailOf, node_lines};
+ghost use Rattle.strip_files.specs.NetLines.{AreBegun, IsNetReadAs, is_net_line};
+ghost use Rattle.strip_files.specs.NodeLines.{AreTold, IsReadOn, IsTailOf, is_node_line, node_lines};
 
 use crate::fault::{Fault, File, FileFault, in_file};
 use crate::node_line::{read_node, take_kind};
@@ -53,7 +54,8 @@ pub(crate) struct Routed<'t> {
 impl<'t> Routed<'t> {
     /// Returns empty contents.
     pub(crate) fn new(alloc: Global) -> Self
-        ensures { length result.nodes.items ≡ 0 }
+        ensures nodes { result.nodes.items ≡ [] }
+        ensures nets { result.nets.items ≡ [] }
     {
         Routed {
             nets: Vec::new(alloc),
@@ -69,8 +71,10 @@ impl<'t> Routed<'t> {
         text: &'t [u8],
         size: StripSize,
     ) -> Result<(), TextError<FileFault>>
-        requires { length self.old.nodes.items ≡ 0 }
-        ensures { OnOk result (AreTold (node_lines text.now) self.new.nodes.items) }
+        requires nodes { self.old.nodes.items ≡ [] }
+        requires nets { self.old.nets.items ≡ [] }
+        ensures nodes { OnOk result (AreTold (node_lines text.now) self.new.nodes.items) }
+        ensures nets { OnOk result (AreBegun text.now self.new.nets.items) }
     {
         let mut number = 0usize;
         let mut rest = text;
@@ -95,7 +99,12 @@ impl<'t> Routed<'t> {
         number: usize,
         size: StripSize,
     ) -> Result<(), TextError<Fault>>
-        ensures { OnOk result (IsReadOn line.now self.old.nodes.items self.new.nodes.items) }
+        ensures nodes { OnOk result (IsReadOn line.now self.old.nodes.items self.new.nodes.items) }
+        ensures nets { OnOk result (is_node_line line.now ≡ true →
+            self.new.nets.items ≡ self.old.nets.items) }
+        ensures other { OnOk result (is_node_line line.now ≡ false →
+            IsNetReadAs (is_net_line line.now) (length self.old.nodes.items) self.old.nets.items
+            self.new.nets.items) }
     {
         let mut scanner = Scanner::new(line);
         match take_kind(&mut scanner) {
@@ -111,9 +120,10 @@ impl<'t> Routed<'t> {
         kind: NodeKind,
         tail: Scanner<'_>,
     ) -> Result<(), TextError<Fault>>
-        ensures { OnOk result ((read : RouteNode)
+        ensures nodes { OnOk result ((read : RouteNode)
             × (self.new.nodes.items ≡ self.old.nodes.items ++ read ∷ []) × (read.node.kind ≡ kind)
             × IsTailOf tail.entry read.node) }
+        ensures nets { OnOk result (self.new.nets.items ≡ self.old.nets.items) }
     {
         if self.nets.is_empty() {
             return Err(TextError::Fault(Fault::UnknownLine));
@@ -165,7 +175,35 @@ impl<'t> Routed<'t> {
         number: usize,
         size: StripSize,
     ) -> Result<(), TextError<Fault>>
-        ensures { self.new.nodes.items ≡ self.old.nodes.items }
+        ensures nodes { self.new.nodes.items ≡ self.old.nodes.items }
+        ensures nets { OnOk result (IsNetReadAs (is_net_line line.now) (length self.old.nodes.items)
+            self.old.nets.items self.new.nets.items) }
+    {
+        if line.starts_with(b"Net ") {
+            self.read_net(line, number)
+        } else {
+            self.read_between(line, size)
+        }
+    }
+
+    /// Reads the first line of a net, where one may be.
+    fn read_net(&mut self, line: &'t [u8], number: usize) -> Result<(), TextError<Fault>>
+        ensures nodes { self.new.nodes.items ≡ self.old.nodes.items }
+        ensures nets { OnOk result (IsNetReadAs true (length self.old.nodes.items)
+            self.old.nets.items self.new.nets.items) }
+    {
+        match self.section {
+            Section::Size => Err(TextError::Fault(Fault::BadSize)),
+            Section::Before => Err(TextError::Fault(Fault::UnknownLine)),
+            Section::Nets if self.is_inside_path() => Err(TextError::Fault(Fault::OpenPath)),
+            Section::Nets => self.net(line, number),
+        }
+    }
+
+    /// Reads a line that is neither a node's nor the first one of a net.
+    fn read_between(&mut self, line: &[u8], size: StripSize) -> Result<(), TextError<Fault>>
+        ensures nodes { self.new.nodes.items ≡ self.old.nodes.items }
+        ensures nets { self.new.nets.items ≡ self.old.nets.items }
     {
         match self.section {
             Section::Size => self.read_heading(line, size),
@@ -176,13 +214,15 @@ impl<'t> Routed<'t> {
             _ if line.is_empty() => Ok(()),
             Section::Before => Err(TextError::Fault(Fault::UnknownLine)),
             Section::Nets if line.starts_with(b"Block ") && !self.nets.is_empty() => Ok(()),
-            Section::Nets => self.net(line, number),
+            Section::Nets if self.is_inside_path() => Err(TextError::Fault(Fault::OpenPath)),
+            Section::Nets => Err(TextError::Fault(Fault::UnknownLine)),
         }
     }
 
     /// Reads the first line, which has the size.
     fn read_heading(&mut self, line: &[u8], size: StripSize) -> Result<(), TextError<Fault>>
-        ensures { self.new.nodes.items ≡ self.old.nodes.items }
+        ensures nodes { self.new.nodes.items ≡ self.old.nodes.items }
+        ensures nets { self.new.nets.items ≡ self.old.nets.items }
     {
         let Some(told) = size_in(line, " logic blocks.") else {
             return Err(TextError::Fault(Fault::BadSize));
@@ -196,14 +236,10 @@ impl<'t> Routed<'t> {
 
     /// Reads the first line of a net.
     fn net(&mut self, line: &'t [u8], at: usize) -> Result<(), TextError<Fault>>
-        ensures { self.new.nodes.items ≡ self.old.nodes.items }
+        ensures nodes { self.new.nodes.items ≡ self.old.nodes.items }
+        ensures nets { OnOk result (IsNetReadAs true (length self.old.nodes.items)
+            self.old.nets.items self.new.nets.items) }
     {
-        if self.is_inside_path() {
-            return Err(TextError::Fault(Fault::OpenPath));
-        }
-        if !line.starts_with(b"Net ") {
-            return Err(TextError::Fault(Fault::UnknownLine));
-        }
         let Some((number, name, is_global)) = net_in(line) else {
             return Err(TextError::Fault(Fault::BadNet));
         };

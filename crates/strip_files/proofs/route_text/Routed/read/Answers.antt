@@ -1,13 +1,16 @@
-use Rattle.std.proofs.Common.{◌≡◌, ◌<◌, List, [], ℕ, length, arith, sym, subst, filter, append-nil}
+use Rattle.std.proofs.Common.{◌≡◌, ◌<◌, ◌∙◌, ◌++◌, List, [], ℕ, length, ap, arith, sym, subst, filter, append-nil}
 use Rattle.std.proofs.lemmas.Bool.Decides.{nat_tests}
 use Rattle.line_text.specs.Lines.{physical_lines}
 use Rattle.strip_files.specs.declared.route_node.RouteNode.{RouteNode}
+use Rattle.strip_files.specs.declared.route_text.Net.{Net}
+use Rattle.strip_files.specs.NetLines.{first_nodes, net_starts}
 use Rattle.strip_files.specs.NodeLines.{AreTold, IsReadOn, is_node_line, node_lines}
+use Rattle.strip_files.proofs.NetsBegun.{net_step}
 use Rattle.strip_files.proofs.Told.{nothing, told_step}
 use Rattle.strip_files.proofs.route_text.Routed.read.Goals as goal
 
 pub loop-rest-preserved : goal.loop-rest-preserved
-loop-rest-preserved c more told =
+loop-rest-preserved c =
     let rest : List ℕ = c.loop-rest.rest.now in
     let line : List ℕ = c.split_line.result.0.now in
     let later : List ℕ = c.split_line.result.1.now in
@@ -15,15 +18,29 @@ loop-rest-preserved c more told =
     let new : List RouteNode = c.line.new.self.nodes.items in
     let all : List (List ℕ) = node_lines c.args.text.now in
     let filled : 0 < length rest = grind (arith, nat_tests, c.loop-rest-test.ensures) in
-    let read : IsReadOn line old new = c.in_default.ensures in
-    let step = told_step line (physical_lines later) old new more read told in
-    let here : AreTold (node_lines rest) step.0 = subst (λ (lines : List (List ℕ)). AreTold (filter is_node_line lines) step.0) (sym (c.split_line.ensures.lines filled)) step.1 in
-    subst (λ (nodes : List RouteNode). AreTold all nodes) (sym step.2) (c.loop-rest.invariant step.0 here)
+    let read : IsReadOn line old new = c.in_default.ensures.nodes in
+    let lines_are = c.split_line.ensures.lines filled in
+    let nets : List Net = c.loop-rest.self.nets.items in
+    let nodes_told : (more : List RouteNode) → AreTold (node_lines later) more → AreTold all (new ++ more) = λ more told.
+        (let step = told_step line (physical_lines later) old new more read told in
+        let here : AreTold (node_lines rest) step.0 = subst (λ (lines : List (List ℕ)). AreTold (filter is_node_line lines) step.0) (sym lines_are) step.1 in
+        subst (λ (nodes : List RouteNode). AreTold all nodes) (sym step.2) (c.loop-rest.invariant.0 step.0 here)) in
+    let begun = net_step line (physical_lines later) old new nets c.line.new.self.nets.items read c.in_default.ensures.nets c.in_default.ensures.other in
+    (nodes_told, begun ∙ ap (λ (lines : List (List ℕ)). first_nodes nets ++ net_starts (length old) lines) (sym lines_are) ∙ c.loop-rest.invariant.1)
 
-pub returns : goal.returns
-returns c =
+pub returns-clause-nets : goal.returns-clause-nets
+unfolding net_starts
+returns-clause-nets c =
+    let short : length c.loop-rest.rest.now ≡ 0 = grind (arith, nat_tests, c.loop-rest-test.ensures) in
+    let none : c.loop-rest.rest.now ≡ [] = nothing c.loop-rest.rest.now short in
+    let nets : List Net = c.loop-rest.self.nets.items in
+    let count = length c.loop-rest.self.nodes.items in
+    sym (append-nil (first_nodes nets)) ∙ ap (λ (rest : List ℕ). first_nodes nets ++ net_starts count (physical_lines rest)) (sym none) ∙ c.loop-rest.invariant.1
+
+pub returns-clause-nodes : goal.returns-clause-nodes
+returns-clause-nodes c =
     let short : length c.loop-rest.rest.now ≡ 0 = grind (arith, nat_tests, c.loop-rest-test.ensures) in
     let none : c.loop-rest.rest.now ≡ [] = nothing c.loop-rest.rest.now short in
     let all : List (List ℕ) = node_lines c.args.text.now in
     subst (λ (nodes : List RouteNode). AreTold all nodes) (append-nil c.loop-rest.self.nodes.items)
-    (c.loop-rest.invariant [] (subst (λ (rest : List ℕ). AreTold (node_lines rest) []) (sym none) tt))
+    (c.loop-rest.invariant.0 [] (subst (λ (rest : List ℕ). AreTold (node_lines rest) []) (sym none) tt))
