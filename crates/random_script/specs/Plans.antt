@@ -19,7 +19,8 @@ pub record AreWithin (wishes : LoadParameters) : Type 0 where
 abbrev pub places_for : LoadParameters → ℕ
 places_for wishes = div_ceil wishes.tables wishes.cluster + div_ceil wishes.tables wishes.cluster / 4 + 1
 
--- strips with so many places in that number of rows fit on a device, with a guard column between two
+-- strips with that number of places in that number of rows fit on a device, and a guard column
+-- between two
 pub record HasRoom (tenancies places rows : ℕ) : Type 0 where
   pub narrow : div_ceil places rows ≤ MAX_COLUMNS
   pub together : tenancies * (div_ceil places rows + 1) ≤ MAX_COLUMNS + 1

@@ -24,7 +24,8 @@ net_starts count (line ∷ lines) = net_starts_as (is_node_line line) (is_net_li
 abbrev pub first_nodes : List Net → List ℕ
 first_nodes nets = map (λ net. net.first_node) nets
 
--- after a net's line, with so many nodes before it, there is its net; after another line nothing new
+-- after a net's line there is its net, which begins after that number of nodes; after another line
+-- nothing new
 abbrev pub IsNetReadAs : Bool → ℕ → List Net → List Net → Type 0
 IsNetReadAs true count old new = (net : Net) × (new ≡ old ++ net ∷ []) × (net.first_node ≡ count)
 IsNetReadAs false count old new = new ≡ old

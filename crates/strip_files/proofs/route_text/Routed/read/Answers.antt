@@ -22,9 +22,9 @@ loop-rest-preserved c =
     let lines_are = c.split_line.ensures.lines filled in
     let nets : List Net = c.loop-rest.self.nets.items in
     let nodes_told : (more : List RouteNode) → AreTold (node_lines later) more → AreTold all (new ++ more) = λ more told.
-        (let step = told_step line (physical_lines later) old new more read told in
-        let here : AreTold (node_lines rest) step.0 = subst (λ (lines : List (List ℕ)). AreTold (filter is_node_line lines) step.0) (sym lines_are) step.1 in
-        subst (λ (nodes : List RouteNode). AreTold all nodes) (sym step.2) (c.loop-rest.invariant.0 step.0 here)) in
+    (let step = told_step line (physical_lines later) old new more read told in
+    let here : AreTold (node_lines rest) step.0 = subst (λ (lines : List (List ℕ)). AreTold (filter is_node_line lines) step.0) (sym lines_are) step.1 in
+    subst (λ (nodes : List RouteNode). AreTold all nodes) (sym step.2) (c.loop-rest.invariant.0 step.0 here)) in
     let begun = net_step line (physical_lines later) old new nets c.line.new.self.nets.items read c.in_default.ensures.nets c.in_default.ensures.other in
     (nodes_told, begun ∙ ap (λ (lines : List (List ℕ)). first_nodes nets ++ net_starts (length old) lines) (sym lines_are) ∙ c.loop-rest.invariant.1)
 
