@@ -1,2 +1,2 @@
-mod NetsBegun
+mod Begun
 pub mod Told

@@ -1,4 +1,4 @@
-pub mod NetLines
 pub mod NodeLines
 pub mod Parts
 pub mod Sizes
+pub mod Starts

@@ -1,5 +1,6 @@
 //! The `.net` file: the blocks, and the BLEs of each.
-ghost use Rattle.std.specs.Prelude.{length};
+ghost use Rattle.std.specs.Prelude.{◌≡◌, ◌+◌, ◌++◌, ◌∷◌, [], length, true, false, MatchOption, OnOk};
+ghost use Rattle.strip_files.specs.Starts.{AddsTo, block_starts, is_block_line, is_element_line, listed_elements};
 
 use crate::block::{BlockKind, ListedBlock};
 use crate::fault::{Fault, File, FileFault, in_file};
@@ -35,7 +36,10 @@ pub(crate) struct Listed<'t> {
 
 impl<'t> Listed<'t> {
     /// Returns empty contents.
-    pub(crate) fn new(alloc: Global) -> Self {
+    pub(crate) fn new(alloc: Global) -> Self
+        ensures blocks { result.blocks.items ≡ [] }
+        ensures elements { result.elements.items ≡ [] }
+    {
         Listed {
             pins: Vec::new(alloc),
             blocks: Vec::new(alloc),
@@ -44,7 +48,11 @@ impl<'t> Listed<'t> {
     }
 
     /// Reads the lines of a `.net` file. At a fault it has the contents before that line.
-    pub(crate) fn read(&mut self, text: &'t [u8]) -> Result<(), TextError<FileFault>> {
+    pub(crate) fn read(&mut self, text: &'t [u8]) -> Result<(), TextError<FileFault>>
+        requires no_blocks { self.old.blocks.items ≡ [] }
+        requires no_elements { self.old.elements.items ≡ [] }
+        ensures { OnOk result (listed_elements self.new.blocks.items ≡ block_starts text.now) }
+    {
         let mut number = 0usize;
         let mut rest = text;
         while !rest.is_empty() {
@@ -59,7 +67,26 @@ impl<'t> Listed<'t> {
     }
 
     /// Reads the line of that number.
-    fn line(&mut self, line: &'t [u8], number: usize) -> Result<(), TextError<Fault>> {
+    fn line(&mut self, line: &'t [u8], number: usize) -> Result<(), TextError<Fault>>
+        ensures { OnOk result (AddsTo (is_element_line line.now) (is_block_line line.now)
+            (length self.old.elements.items) (length self.new.elements.items)
+            (listed_elements self.old.blocks.items) (listed_elements self.new.blocks.items)) }
+    {
+        let mut scanner = Scanner::new(line);
+        if scanner.takes("subblock: ") {
+            return self.element(scanner.word());
+        }
+        match take_kind(&mut scanner) {
+            Some(kind) => self.block(kind, scanner.word()),
+            None => self.read_other(line, number),
+        }
+    }
+
+    /// Reads a line that is neither a BLE's nor the first one of a block.
+    fn read_other(&mut self, line: &'t [u8], number: usize) -> Result<(), TextError<Fault>>
+        ensures elements { self.new.elements.items ≡ self.old.elements.items }
+        ensures blocks { self.new.blocks.items ≡ self.old.blocks.items }
+    {
         let mut scanner = Scanner::new(line);
         if line.is_empty() || scanner.takes(".global ") {
             return Ok(());
@@ -67,23 +94,14 @@ impl<'t> Listed<'t> {
         if scanner.takes("pinlist:") {
             return self.pin_list(&mut scanner, number);
         }
-        if scanner.takes("subblock: ") {
-            return self.element(scanner.word());
-        }
-        let kind = if scanner.takes(".input ") {
-            BlockKind::InputPad
-        } else if scanner.takes(".output ") {
-            BlockKind::OutputPad
-        } else if scanner.takes(".clb ") {
-            BlockKind::Cluster
-        } else {
-            return Err(TextError::Fault(Fault::UnknownLine));
-        };
-        self.block(kind, scanner.word())
+        Err(TextError::Fault(Fault::UnknownLine))
     }
 
     /// Adds the pins of the last block that have nets.
-    fn pin_list(&mut self, scanner: &mut Scanner<'t>, line: usize) -> Result<(), TextError<Fault>> {
+    fn pin_list(&mut self, scanner: &mut Scanner<'t>, line: usize) -> Result<(), TextError<Fault>>
+        ensures elements { self.new.elements.items ≡ self.old.elements.items }
+        ensures blocks { self.new.blocks.items ≡ self.old.blocks.items }
+    {
         let Some(block) = self.blocks.len().checked_sub(1) else {
             return Err(TextError::Fault(Fault::UnknownLine));
         };
@@ -103,7 +121,11 @@ impl<'t> Listed<'t> {
     }
 
     /// Adds a block of that kind and name.
-    fn block(&mut self, kind: BlockKind, name: &'t [u8]) -> Result<(), TextError<Fault>> {
+    fn block(&mut self, kind: BlockKind, name: &'t [u8]) -> Result<(), TextError<Fault>>
+        ensures elements { self.new.elements.items ≡ self.old.elements.items }
+        ensures blocks { OnOk result (listed_elements self.new.blocks.items
+            ≡ listed_elements self.old.blocks.items ++ length self.old.elements.items ∷ []) }
+    {
         if self.blocks.len() >= MAX_BLOCKS {
             return Err(TextError::Fault(Fault::OverLimit));
         }
@@ -116,7 +138,11 @@ impl<'t> Listed<'t> {
     }
 
     /// Adds a BLE of that name to the last block, which must be a cluster.
-    fn element(&mut self, name: &'t [u8]) -> Result<(), TextError<Fault>> {
+    fn element(&mut self, name: &'t [u8]) -> Result<(), TextError<Fault>>
+        ensures elements { OnOk result (length self.new.elements.items
+            ≡ length self.old.elements.items + 1) }
+        ensures blocks { self.new.blocks.items ≡ self.old.blocks.items }
+    {
         match self.blocks.last() {
             Some(block) if block.kind == BlockKind::Cluster => {
                 self.elements.push(name)?;
@@ -125,4 +151,18 @@ impl<'t> Listed<'t> {
             _ => Err(TextError::Fault(Fault::UnknownLine)),
         }
     }
+}
+
+/// Reads the word for a kind of blocks; `None` if the line does not begin with one.
+fn take_kind(scanner: &mut Scanner<'_>) -> Option<BlockKind>
+    ensures { MatchOption result (is_block_line scanner.old ≡ false)
+        (λ kind. is_block_line scanner.old ≡ true) }
+{
+    if scanner.takes(".input ") {
+        return Some(BlockKind::InputPad);
+    }
+    if scanner.takes(".output ") {
+        return Some(BlockKind::OutputPad);
+    }
+    scanner.takes(".clb ").then_some(BlockKind::Cluster)
 }

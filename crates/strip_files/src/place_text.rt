@@ -1,6 +1,7 @@
 //! The `.place` file: the size of the strip, and the places of its blocks.
-ghost use Rattle.std.specs.Prelude.{◌+◌, ◌≡◌, ◌≤◌, length, true};
+ghost use Rattle.std.specs.Prelude.{◌+◌, ◌≡◌, ◌≤◌, [], length, take, true, OnOk, IfOk};
 ghost use Rattle.grid.specs.declared.TheConstants.{MAX_COLUMNS, MAX_ROWS};
+ghost use Rattle.strip_files.specs.Starts.{ArePlaced, first_elements, listed_elements};
 
 use crate::block::{ListedBlock, PlacedBlock};
 use crate::fault::{Fault, File, FileFault, in_file};
@@ -21,7 +22,9 @@ pub(crate) struct Placed<'t> {
 
 impl<'t> Placed<'t> {
     /// Returns empty contents.
-    pub(crate) fn new(alloc: Global) -> Self {
+    pub(crate) fn new(alloc: Global) -> Self
+        ensures { result.blocks.items ≡ [] }
+    {
         Placed {
             size: None,
             blocks: Vec::new(alloc),
@@ -34,7 +37,11 @@ impl<'t> Placed<'t> {
         &mut self,
         text: &[u8],
         listed: &[ListedBlock<'t>],
-    ) -> Result<StripSize, TextError<FileFault>> {
+    ) -> Result<StripSize, TextError<FileFault>>
+        requires { self.old.blocks.items ≡ [] }
+        ensures { IfOk result (λ size.
+            first_elements self.new.blocks.items ≡ listed_elements listed.now) }
+    {
         let mut number = 0usize;
         let mut rest = text;
         while !rest.is_empty() {
@@ -57,7 +64,10 @@ impl<'t> Placed<'t> {
         line: &[u8],
         number: usize,
         listed: &[ListedBlock<'t>],
-    ) -> Result<(), TextError<Fault>> {
+    ) -> Result<(), TextError<Fault>>
+        requires { ArePlaced listed.now self.old.blocks.items }
+        ensures { OnOk result (ArePlaced listed.now self.new.blocks.items) }
+    {
         match (number, self.size) {
             (1, _) if line.starts_with(b"Netlist file: ") => Ok(()),
             (1, _) => Err(TextError::Fault(Fault::UnknownLine)),
@@ -79,7 +89,10 @@ impl<'t> Placed<'t> {
         size: StripSize,
         line: &[u8],
         listed: &[ListedBlock<'t>],
-    ) -> Result<(), TextError<Fault>> {
+    ) -> Result<(), TextError<Fault>>
+        requires { ArePlaced listed.now self.old.blocks.items }
+        ensures { OnOk result (ArePlaced listed.now self.new.blocks.items) }
+    {
         let Some((name, place, number)) = place_in(line) else {
             return Err(TextError::Fault(Fault::BadBlock));
         };

@@ -1,9 +1,9 @@
 //! The three files together.
 ghost use Rattle.std.specs.Prelude.{◌≡◌, ◌+◌, [], position, IfOk};
 ghost use Rattle.std.specs.Str.{bytes_eq};
-ghost use Rattle.strip_files.specs.NetLines.{AreBegun};
 ghost use Rattle.strip_files.specs.NodeLines.{AreTold, node_lines};
 ghost use Rattle.strip_files.specs.Parts.{elements_of, first_element, first_node, nodes_of, stretch};
+ghost use Rattle.strip_files.specs.Starts.{AreBegun, AreBlocksBegun};
 
 use crate::block::PlacedBlock;
 use crate::ends::{PinsAndRoutes, check_ends};
@@ -143,6 +143,7 @@ pub fn read_strip(
     ensures nodes { IfOk result (λ strip.
         AreTold (node_lines texts.entry.route.now) strip.nodes.items) }
     ensures nets { IfOk result (λ strip. AreBegun texts.entry.route.now strip.nets.items) }
+    ensures blocks { IfOk result (λ strip. AreBlocksBegun texts.entry.net.now strip.blocks.items) }
 {
     let mut listed = Listed::new(alloc);
     let mut placed = Placed::new(alloc);
@@ -168,9 +169,14 @@ fn read_all<'t>(
 ) -> Result<StripSize, TextError<FileFault>>
     requires no_nodes { routed.old.nodes.items ≡ [] }
     requires no_nets { routed.old.nets.items ≡ [] }
+    requires no_blocks { listed.old.blocks.items ≡ [] }
+    requires no_elements { listed.old.elements.items ≡ [] }
+    requires none_placed { placed.old.blocks.items ≡ [] }
     ensures nodes { IfOk result (λ size. AreTold (node_lines texts.entry.route.now)
         routed.new.nodes.items) }
     ensures nets { IfOk result (λ size. AreBegun texts.entry.route.now routed.new.nets.items) }
+    ensures blocks { IfOk result (λ size.
+        AreBlocksBegun texts.entry.net.now placed.new.blocks.items) }
 {
     listed.read(texts.net)?;
     let size = placed.read(texts.place, &listed.blocks)?;
@@ -196,6 +202,7 @@ fn strip_of<'t>(
 ) -> RoutedStrip<'t>
     ensures nodes { result.nodes.items ≡ routed.entry.nodes.items }
     ensures nets { result.nets.items ≡ routed.entry.nets.items }
+    ensures blocks { result.blocks.items ≡ placed.entry.blocks.items }
 {
     let Listed {
         pins,

@@ -1,8 +1,8 @@
 //! The `.route` file: the nets, and the nodes of their routes.
-ghost use Rattle.std.specs.Prelude.{◌≡◌, ◌≤◌, ◌++◌, ◌∷◌, [], length, true, false, OnOk};
+ghost use Rattle.std.specs.Prelude.{◌≡◌, ◌≤◌, ◌++◌, ◌∷◌, [], length, false, OnOk};
 ghost use Rattle.strip_files.specs.declared.route_node.RouteNode.{RouteNode};
-ghost use Rattle.strip_files.specs.NetLines.{AreBegun, IsNetReadAs, is_net_line};
 ghost use Rattle.strip_files.specs.NodeLines.{AreTold, IsReadOn, IsTailOf, is_node_line, node_lines};
+ghost use Rattle.strip_files.specs.Starts.{AddsTo, AreBegun, first_nodes, is_net_line};
 
 use crate::fault::{Fault, File, FileFault, in_file};
 use crate::node_line::{read_node, take_kind};
@@ -100,11 +100,9 @@ impl<'t> Routed<'t> {
         size: StripSize,
     ) -> Result<(), TextError<Fault>>
         ensures nodes { OnOk result (IsReadOn line.now self.old.nodes.items self.new.nodes.items) }
-        ensures nets { OnOk result (is_node_line line.now ≡ true →
-            self.new.nets.items ≡ self.old.nets.items) }
-        ensures other { OnOk result (is_node_line line.now ≡ false →
-            IsNetReadAs (is_net_line line.now) (length self.old.nodes.items) self.old.nets.items
-            self.new.nets.items) }
+        ensures nets { OnOk result (AddsTo (is_node_line line.now) (is_net_line line.now)
+            (length self.old.nodes.items) (length self.new.nodes.items)
+            (first_nodes self.old.nets.items) (first_nodes self.new.nets.items)) }
     {
         let mut scanner = Scanner::new(line);
         match take_kind(&mut scanner) {
@@ -176,8 +174,9 @@ impl<'t> Routed<'t> {
         size: StripSize,
     ) -> Result<(), TextError<Fault>>
         ensures nodes { self.new.nodes.items ≡ self.old.nodes.items }
-        ensures nets { OnOk result (IsNetReadAs (is_net_line line.now) (length self.old.nodes.items)
-            self.old.nets.items self.new.nets.items) }
+        ensures nets { OnOk result (AddsTo false (is_net_line line.now)
+            (length self.old.nodes.items) (length self.new.nodes.items)
+            (first_nodes self.old.nets.items) (first_nodes self.new.nets.items)) }
     {
         if line.starts_with(b"Net ") {
             self.read_net(line, number)
@@ -189,8 +188,8 @@ impl<'t> Routed<'t> {
     /// Reads the first line of a net, where one may be.
     fn read_net(&mut self, line: &'t [u8], number: usize) -> Result<(), TextError<Fault>>
         ensures nodes { self.new.nodes.items ≡ self.old.nodes.items }
-        ensures nets { OnOk result (IsNetReadAs true (length self.old.nodes.items)
-            self.old.nets.items self.new.nets.items) }
+        ensures nets { OnOk result (first_nodes self.new.nets.items
+            ≡ first_nodes self.old.nets.items ++ length self.old.nodes.items ∷ []) }
     {
         match self.section {
             Section::Size => Err(TextError::Fault(Fault::BadSize)),
@@ -237,8 +236,8 @@ impl<'t> Routed<'t> {
     /// Reads the first line of a net.
     fn net(&mut self, line: &'t [u8], at: usize) -> Result<(), TextError<Fault>>
         ensures nodes { self.new.nodes.items ≡ self.old.nodes.items }
-        ensures nets { OnOk result (IsNetReadAs true (length self.old.nodes.items)
-            self.old.nets.items self.new.nets.items) }
+        ensures nets { OnOk result (first_nodes self.new.nets.items
+            ≡ first_nodes self.old.nets.items ++ length self.old.nodes.items ∷ []) }
     {
         let Some((number, name, is_global)) = net_in(line) else {
             return Err(TextError::Fault(Fault::BadNet));

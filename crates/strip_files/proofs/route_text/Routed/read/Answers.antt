@@ -3,9 +3,9 @@ use Rattle.std.proofs.lemmas.Bool.Decides.{nat_tests}
 use Rattle.line_text.specs.Lines.{physical_lines}
 use Rattle.strip_files.specs.declared.route_node.RouteNode.{RouteNode}
 use Rattle.strip_files.specs.declared.route_text.Net.{Net}
-use Rattle.strip_files.specs.NetLines.{first_nodes, net_starts}
 use Rattle.strip_files.specs.NodeLines.{AreTold, IsReadOn, is_node_line, node_lines}
-use Rattle.strip_files.proofs.NetsBegun.{net_step}
+use Rattle.strip_files.specs.Starts.{first_nodes, is_net_line, starts_of}
+use Rattle.strip_files.proofs.Begun.{begun_step}
 use Rattle.strip_files.proofs.Told.{nothing, told_step}
 use Rattle.strip_files.proofs.route_text.Routed.read.Goals as goal
 
@@ -25,17 +25,17 @@ loop-rest-preserved c =
     (let step = told_step line (physical_lines later) old new more read told in
     let here : AreTold (node_lines rest) step.0 = subst (λ (lines : List (List ℕ)). AreTold (filter is_node_line lines) step.0) (sym lines_are) step.1 in
     subst (λ (nodes : List RouteNode). AreTold all nodes) (sym step.2) (c.loop-rest.invariant.0 step.0 here)) in
-    let begun = net_step line (physical_lines later) old new nets c.line.new.self.nets.items read c.in_default.ensures.nets c.in_default.ensures.other in
-    (nodes_told, begun ∙ ap (λ (lines : List (List ℕ)). first_nodes nets ++ net_starts (length old) lines) (sym lines_are) ∙ c.loop-rest.invariant.1)
+    let begun = begun_step is_node_line is_net_line (physical_lines later) (length old) (length new) (first_nodes nets) (first_nodes c.line.new.self.nets.items) line c.in_default.ensures.nets in
+    (nodes_told, begun ∙ ap (λ (lines : List (List ℕ)). first_nodes nets ++ starts_of is_node_line is_net_line (length old) lines) (sym lines_are) ∙ c.loop-rest.invariant.1)
 
 pub returns-clause-nets : goal.returns-clause-nets
-unfolding net_starts
+unfolding starts_of
 returns-clause-nets c =
     let short : length c.loop-rest.rest.now ≡ 0 = grind (arith, nat_tests, c.loop-rest-test.ensures) in
     let none : c.loop-rest.rest.now ≡ [] = nothing c.loop-rest.rest.now short in
     let nets : List Net = c.loop-rest.self.nets.items in
     let count = length c.loop-rest.self.nodes.items in
-    sym (append-nil (first_nodes nets)) ∙ ap (λ (rest : List ℕ). first_nodes nets ++ net_starts count (physical_lines rest)) (sym none) ∙ c.loop-rest.invariant.1
+    sym (append-nil (first_nodes nets)) ∙ ap (λ (rest : List ℕ). first_nodes nets ++ starts_of is_node_line is_net_line count (physical_lines rest)) (sym none) ∙ c.loop-rest.invariant.1
 
 pub returns-clause-nodes : goal.returns-clause-nodes
 returns-clause-nodes c =

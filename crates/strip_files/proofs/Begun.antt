@@ -1,0 +1,35 @@
+-- Heads and items that are read line by line.
+use Rattle.std.proofs.Common.{ℕ, zero, suc, ◌≡◌, Bool, true, false, List, [], ◌∷◌, ◌++◌, ◌<◌, length, take, get_or, ap, sym, refl, append_assoc, arith, ◌∙◌}
+use Rattle.std.proofs.lemmas.List.{length_push, map_push}
+use Rattle.strip_files.specs.declared.block.ListedBlock.{ListedBlock}
+use Rattle.strip_files.specs.declared.block.PlacedBlock.{PlacedBlock}
+use Rattle.strip_files.specs.Starts.{AddsTo, ArePlaced, first_elements, listed_elements, starts_as, starts_of}
+
+module _ (is_item is_head : List ℕ → Bool) (lines : List (List ℕ)) (old new : ℕ) (starts starts' : List ℕ) where
+  step_as : (item head : Bool) → AddsTo item head old new starts starts'
+      → starts' ++ starts_of is_item is_head new lines ≡ starts ++ starts_as item head old (λ more. starts_of is_item is_head more lines)
+  step_as true head (raised, same) = rw (raised, same) refl
+  step_as false true (same, noted) = rw (same, noted) (append_assoc starts (old ∷ []) (starts_of is_item is_head old lines))
+  step_as false false (same, all) = rw (same, all) refl
+
+  -- a line, and the heads of the lines after it
+  pub begun_step : (line : List ℕ) → AddsTo (is_item line) (is_head line) old new starts starts'
+      → starts' ++ starts_of is_item is_head new lines ≡ starts ++ starts_of is_item is_head old (line ∷ lines)
+  unfolding starts_of
+  begun_step line adds = step_as (is_item line) (is_head line) adds
+
+-- one more of the listed blocks is placed
+listed_next : (listed : List ListedBlock) (k : ℕ) (block : ListedBlock) → k < length listed → block ≡ get_or listed k block
+    → take (suc k) (listed_elements listed) ≡ take k (listed_elements listed) ++ block.first_element ∷ []
+listed_next [] k block within is = absurd (omega (arith, within))
+listed_next (other ∷ listed) zero block within is = ap (λ (first : ListedBlock). first.first_element ∷ []) (sym is)
+listed_next (other ∷ listed) (suc k) block within is = ap (λ (rest : List ℕ). other.first_element ∷ rest) (listed_next listed k block (omega (arith, within)) is)
+
+pub placed_push : (listed : List ListedBlock) (old new : List PlacedBlock) (n : ℕ) (block : ListedBlock) (placed : PlacedBlock) → ArePlaced listed old → n ≡ length old → n < length listed
+    → block ≡ get_or listed n block → placed.first_element ≡ block.first_element → new ≡ old ++ placed ∷ [] → ArePlaced listed new
+placed_push listed old new n block placed before n_is within is same added =
+    let starts : List ℕ = listed_elements listed in
+    let begins : first_elements new ≡ first_elements old ++ placed.first_element ∷ [] = ap first_elements added ∙ map_push (λ (block : PlacedBlock). block.first_element) old placed in
+    let count : suc n ≡ length new = omega (arith, n_is, ap length added, length_push old placed) in
+    begins ∙ ap (λ (firsts : List ℕ). firsts ++ placed.first_element ∷ []) (before ∙ ap (λ (k : ℕ). take k starts) (sym n_is)) ∙ ap (λ (first : ℕ). take n starts ++ first ∷ []) same
+    ∙ sym (listed_next listed n block within is) ∙ ap (λ (k : ℕ). take k starts) count
