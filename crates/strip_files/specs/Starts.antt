@@ -1,5 +1,5 @@
--- Where the nodes of a net and the BLEs of a block begin, by the lines of a `.route` and of a `.net`
--- file.
+-- Where the nodes of a net and the BLEs of a block begin, by the lines of the `.route` and the
+-- `.net` file.
 use Rattle.std.specs.Prelude.{ℕ, ◌≡◌, ◌+◌, ◌++◌, Bool, true, false, List, [], ◌∷◌, map, length, take, codes, eqb}
 use Rattle.std.specs.List.{list_any, starts_with}
 use Rattle.line_text.specs.Lines.{physical_lines}
