@@ -59,12 +59,6 @@ pub record IsFollowing (g : Graph) (starts : List ℕ) (goal limit : ℕ) (item 
   pub first : (k : ℕ) → k < count
       → IsUnfit g goal limit entered (get_or (g.ends item.place) k 0) (item.cost + g.cost (get_or (g.ends item.place) k 0))
 
--- The first entries of a list are in two others, which have no further ones.
-pub record IsParted (items : List Open) (count : ℕ) (next kept : List Open) : Type 0 where
-  pub all : (k : ℕ) (other : Open) → k < count → IsIn next kept (get_or items k other)
-  pub only : (item : Open) → IsIn next kept item → Contains items item
-  pub size : length next + length kept ≡ count
-
 -- The entry is appended to one of two lists.
 abbrev pub IsPut : Open → List Open → List Open → List Open → List Open → Type 0
 IsPut item next later new_next new_later = ((new_next ≡ next ++ item ∷ []) × (new_later ≡ later))

@@ -7,12 +7,11 @@ ghost use Rattle.least_path.specs.Graph.{AreNodes};
 ghost use Rattle.least_path.specs.LowerBound.{IsLowerBound};
 ghost use Rattle.plane_search.specs.Starts.{places_of};
 ghost use Rattle.plane_search.specs.Walk.{AreNoCheaper, AreBoundedStarts};
-ghost use Rattle.plane_search.specs.Reach.{AreSound, IsUnderWay, IsFollowing, IsParted, IsPut, IsAdded, IsRemoved, AreSame, IsEnd, IsStart, IsBeginning, measure_of};
+ghost use Rattle.plane_search.specs.Reach.{AreSound, IsUnderWay, IsFollowing, IsPut, IsAdded, IsRemoved, AreSame, IsEnd, IsStart, IsBeginning, measure_of};
 
 use crate::marks::Marks;
 use crate::planes::{Planes, Start};
 use std::alloc::{AllocError, Global};
-use std::mem;
 
 /// A plane.
 #[derive(Drop)]
@@ -41,8 +40,6 @@ pub(crate) struct Reach {
     /// The entries that come next.
     next: Vec<Open>,
     later: Vec<Open>,
-    /// Where the later entries are gathered that stay.
-    kept: Vec<Open>,
 }
 
 /// The lower of two numbers.
@@ -78,20 +75,31 @@ fn put(item: Open, key: u64, next: &mut Vec<Open>, later: &mut Vec<Open>) -> Res
     Ok(())
 }
 
-/// Appends each entry with at most this key to `next`, and each other one to `kept`.
-fn part(
-    waiting: &[Open],
-    key: u64,
-    next: &mut Vec<Open>,
-    kept: &mut Vec<Open>,
-) -> Result<(), AllocError>
-    requires next { next.old.items ≡ [] }
-    requires kept { kept.old.items ≡ [] }
-    ensures { OnOk result (IsParted waiting.now (length waiting.now) next.new.items
-        kept.new.items) }
+/// Moves an entry from `waiting` to the end of `next`.
+#[inline(always)]
+fn move_entry(waiting: &mut Vec<Open>, index: usize, next: &mut Vec<Open>) -> Result<(), AllocError>
+    requires { index < length waiting.old.items }
+    ensures same { OnOk result (AreSame next.old.items waiting.old.items next.new.items
+        waiting.new.items) }
+    ensures fewer { OnOk result (length waiting.new.items + 1 ≡ length waiting.old.items) }
 {
-    for item in waiting {
-        put(*item, key, next, kept)?;
+    let item = waiting.swap_remove(index);
+    next.push(item)?;
+    Ok(())
+}
+
+/// Moves the entries with at most this key from `waiting` to the end of `next`.
+fn move_low(waiting: &mut Vec<Open>, key: u64, next: &mut Vec<Open>) -> Result<(), AllocError>
+    ensures { OnOk result (AreSame next.old.items waiting.old.items next.new.items
+        waiting.new.items) }
+{
+    let mut index = 0;
+    while index < waiting.len() {
+        if key < waiting[index].key as u64 {
+            index += 1;
+        } else {
+            move_entry(waiting, index, next)?;
+        }
     }
     Ok(())
 }
@@ -103,7 +111,6 @@ impl Reach {
             marks: Marks::new(alloc),
             next: Vec::new(alloc),
             later: Vec::new(alloc),
-            kept: Vec::new(alloc),
         }
     }
 
@@ -260,19 +267,15 @@ impl Reach {
     /// Does as `refill` does, if no entry comes next.
     #[inline(never)]
     fn sort_out(&mut self, limit: u64) -> Result<(), AllocError>
-        requires { self.old.next.items ≡ [] }
         ensures marks { OnOk result (self.new.marks ≡ self.old.marks) }
         ensures refilled { OnOk result (AreSame self.old.next.items self.old.later.items
             self.new.next.items self.new.later.items) }
     {
-        let waiting = self.later.as_slice();
-        let key = least_key(waiting);
+        let key = least_key(self.later.as_slice());
         if key > limit {
             return Ok(());
         }
-        self.kept.clear();
-        part(self.later.as_slice(), key, &mut self.next, &mut self.kept)?;
-        mem::swap(&mut self.later, &mut self.kept);
+        move_low(&mut self.later, key, &mut self.next)?;
         Ok(())
     }
 
