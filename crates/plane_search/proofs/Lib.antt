@@ -6,7 +6,7 @@ mod Tests
 mod Marking
 mod Walking
 mod Starting
-mod Parting
+mod Entries
 mod Reaching
 mod Sorting
 mod Bests

@@ -10,7 +10,7 @@ use Rattle.plane_search.specs.Walk.{CostsAtLeast, IsUnfit, AreNoCheaper}
 use Rattle.plane_search.specs.Reach.{IsIn, IsKeyed, IsOpen, IsFollowed, IsReaching, IsUnderWay, IsFollowing, IsBeginning, IsAdded, IsRemoved, AreSame, measure_of}
 use Rattle.plane_search.specs.declared.reach.Open.{Open}
 use Rattle.plane_search.proofs.Members.{at_index, below_next}
-use Rattle.plane_search.proofs.Parting.{no_entry}
+use Rattle.plane_search.proofs.Entries.{no_entry}
 use Rattle.plane_search.proofs.Walking.{cost_cases, end_within, least_on}
 
 -- ---- marks and limits that fall

@@ -1,6 +1,6 @@
 //! A pass over a plane that finds what each path costs at least: best first, by the cost of a way
 //! and the bound of the rest.
-ghost use Rattle.std.specs.Prelude.{◌≡◌, ◌≢◌, ℕ, List, Some, ◌+◌, ◌<◌, ◌≤◌, ◌^◌, ◌++◌, [], IfOk, OnOk, IfNone, length};
+ghost use Rattle.std.specs.Prelude.{◌≡◌, ◌≢◌, ◌⊎◌, ℕ, List, Some, ◌+◌, ◌<◌, ◌≤◌, ◌^◌, ◌++◌, [], IfOk, OnOk, IfNone, length, slice_index_or};
 ghost use Rattle.std.specs.List.{Contains, All};
 ghost use Rattle.std.specs.Option.{option_to_list};
 ghost use Rattle.least_path.specs.Graph.{AreNodes};
@@ -82,6 +82,10 @@ fn move_entry(waiting: &mut Vec<Open>, index: usize, next: &mut Vec<Open>) -> Re
     ensures same { OnOk result (AreSame next.old.items waiting.old.items next.new.items
         waiting.new.items) }
     ensures fewer { OnOk result (length waiting.new.items + 1 ≡ length waiting.old.items) }
+    ensures before { OnOk result ((k : ℕ) (d : Open) → k < index →
+        slice_index_or waiting.new.items k d ≡ slice_index_or waiting.old.items k d) }
+    ensures only { OnOk result ((item : Open) → Contains next.new.items item →
+        Contains next.old.items item ⊎ (slice_index_or waiting.old.items index item ≡ item)) }
 {
     let item = waiting.swap_remove(index);
     next.push(item)?;
@@ -90,8 +94,11 @@ fn move_entry(waiting: &mut Vec<Open>, index: usize, next: &mut Vec<Open>) -> Re
 
 /// Moves the entries with at most this key from `waiting` to the end of `next`.
 fn move_low(waiting: &mut Vec<Open>, key: u64, next: &mut Vec<Open>) -> Result<(), AllocError>
-    ensures { OnOk result (AreSame next.old.items waiting.old.items next.new.items
+    ensures same { OnOk result (AreSame next.old.items waiting.old.items next.new.items
         waiting.new.items) }
+    ensures low { OnOk result ((item : Open) → Contains waiting.new.items item → key < item.key) }
+    ensures only { OnOk result ((item : Open) → Contains next.new.items item →
+        Contains next.old.items item ⊎ (item.key ≤ key)) }
 {
     let mut index = 0;
     while index < waiting.len() {

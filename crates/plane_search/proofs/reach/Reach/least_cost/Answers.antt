@@ -4,7 +4,7 @@ use Rattle.std.proofs.lemmas.List.Elements.{All-contains}
 use Rattle.plane_search.specs.Starts.{places_of}
 use Rattle.plane_search.specs.Reach.{IsUnderWay}
 use Rattle.plane_search.specs.declared.reach.Open.{Open}
-use Rattle.plane_search.proofs.Parting.{no_entry, removed_next}
+use Rattle.plane_search.proofs.Entries.{no_entry, removed_next}
 use Rattle.plane_search.proofs.Reaching.{moved, none_cheaper}
 use Rattle.plane_search.proofs.reach.Reach.least_cost.Goals as goal
 

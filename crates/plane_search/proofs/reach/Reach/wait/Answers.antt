@@ -1,4 +1,4 @@
-use Rattle.plane_search.proofs.Parting.{added_put}
+use Rattle.plane_search.proofs.Entries.{added_put}
 use Rattle.plane_search.proofs.reach.Reach.wait.Goals as goal
 
 pub returns-clause-added : goal.returns-clause-added

@@ -1,9 +1,9 @@
 -- Entries in lists.
-use Rattle.std.proofs.Common.{◌≡◌, ℕ, ◌+◌, ◌<◌, ◌⊎◌, zero, suc, refl, List, [], ◌∷◌, ◌++◌, length, get_or, arith, inl, inr, sym, ap, subst}
-use Rattle.std.specs.List.{Contains}
+use Rattle.std.proofs.Common.{◌≡◌, ℕ, ◌+◌, ◌<◌, refl, List, [], ◌∷◌, ◌++◌, length, get_or, arith, inl, inr, sym, ap, subst}
+use Rattle.std.specs.List.{Contains, swap_remove}
 use Rattle.std.proofs.lemmas.List.Elements.{Contains-append_left, Contains-push_cases, Contains-push, Contains-get_or}
-use Rattle.std.specs.List.{swap_remove}
 use Rattle.std.proofs.lemmas.List.Sorted.{IsPermutation-swap_remove, IsPermutation-sym, Contains-permutation, length_permutation}
+use Rattle.plane_search.proofs.Members.{Contains_cases, Contains_further}
 use Rattle.plane_search.specs.Reach.{IsPut, IsAdded, IsRemoved, AreSame}
 use Rattle.plane_search.specs.declared.reach.Open.{Open}
 
@@ -56,16 +56,6 @@ removed_next next later item items e = subst (λ (xs : List Open). IsRemoved xs 
 pub same_lists : (next later : List Open) → AreSame next later next later
 same_lists next later = record { kept = λ item has. has; only = λ item has. has; size = omega arith }
 
-first_or_later_at : (x z : Open) (xs : List Open) (k : ℕ) → k < length (x ∷ xs) → get_or (x ∷ xs) k z ≡ z → (x ≡ z) ⊎ Contains xs z
-first_or_later_at x z xs zero l e = inl e
-first_or_later_at x z xs (suc k) l e = inr (k, omega (arith, l), e)
-
-first_or_later : (x z : Open) (xs : List Open) → Contains (x ∷ xs) z → (x ≡ z) ⊎ Contains xs z
-first_or_later x z xs c = first_or_later_at x z xs c.0 c.1 c.2
-
-still_in : (x z : Open) (xs : List Open) → Contains xs z → Contains (x ∷ xs) z
-still_in x z xs c = (suc c.0, omega (arith, c.1), c.2)
-
 -- an entry is moved from one list to the end of the other
 pub same_moved : (next waiting : List Open) (index : ℕ) (item : Open) (items : List Open) → index < length waiting
     → item ≡ get_or waiting index item → items ≡ next ++ item ∷ [] → AreSame next waiting items (swap_remove waiting index item)
@@ -75,7 +65,7 @@ same_moved next waiting index item items b is e =
     subst (λ (xs : List Open). AreSame next waiting xs rest) (sym e) (record {
       kept = λ other has. elim has [
         | inl c ↦ inl (Contains-append_left next (item ∷ []) other c)
-        | inr c ↦ elim (first_or_later item other rest (Contains-permutation waiting (item ∷ rest) other moved c)) [
+        | inr c ↦ elim (Contains_cases item other rest (Contains-permutation waiting (item ∷ rest) other moved c)) [
           | inl same ↦ inl (subst (λ (x : Open). Contains (next ++ item ∷ []) x) same (Contains-push next item))
           | inr d ↦ inr d
         ]
@@ -85,7 +75,7 @@ same_moved next waiting index item items b is e =
           | inl d ↦ inl d
           | inr same ↦ inr (subst (λ (x : Open). Contains waiting x) same (subst (λ (x : Open). Contains waiting x) (sym is) (Contains-get_or waiting index item b)))
         ]
-        | inr c ↦ inr (Contains-permutation (item ∷ rest) waiting other (IsPermutation-sym waiting (item ∷ rest) moved) (still_in item other rest c))
+        | inr c ↦ inr (Contains-permutation (item ∷ rest) waiting other (IsPermutation-sym waiting (item ∷ rest) moved) (Contains_further item other rest c))
       ];
       size = omega (arith, length_push next item, length_permutation waiting (item ∷ rest) moved);
     })
