@@ -29,8 +29,8 @@ pub fn laws_of_configurations()
 {}
 
 /// A configuration names only what is of its strip. So the configurations of two strips on one
-/// device name no common pin, wire, pad or place of a BLE, if one strip ends before the other
-/// begins: loading one of them changes nothing that the other one names.
+/// device name no common pin, wire, pad or place of a BLE, if an unused column is between the
+/// strips: loading one of them changes nothing that the other one names.
 pub fn own_things()
     ensures named { (lines : List JoinedLine) (circuit : Circuit) (arch : Arch) (strip : Strip)
         (layout : Layout) → IsStripSize strip → Implements circuit arch strip layout →
