@@ -21,7 +21,7 @@ the service has read its log, and the sockets are there.
 SIGTERM and SIGINT end the service's input: it answers what it was given, and ends. A second one ends it at once.
 The status is the service's, or 128 and the signal that ended it; 1 if a socket can't be made or the folder has
 another front, 2 if the words are wrong."""
-import asyncio, fcntl, os, re, resource, shutil, signal, socket, stat, sys
+import asyncio, contextlib, fcntl, os, re, resource, shutil, signal, socket, stat, sys
 
 LINE = 262144      # the most bytes of a line: no line of a netlist may have more words
 TEXT = 1048576     # the most bytes of a netlist; a longer one is handed over up to the line that makes it too long
@@ -208,7 +208,8 @@ class Front:
         status = await process.wait()
         say(f"the service ended with status {status}" if status >= 0 else f"signal {-status} ended the service")
         for path in self.paths:
-            os.unlink(path)
+            with contextlib.suppress(FileNotFoundError):
+                os.unlink(path)
         if self.busy:
             await asyncio.wait(self.busy, timeout=PATIENCE)
         return 1 if not await opening else status if status >= 0 else 128 - status
