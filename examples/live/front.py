@@ -13,7 +13,8 @@ the service has read its log, and the sockets are there.
 - The service has one command of each name at a time, and one of the operator. So a reply belongs to the connection
   that asked, and all that waits is bounded: a connection has one command, and the reply to the one before. Its next
   command is taken when it has read that reply. If it reads nothing for PATIENCE seconds, it is closed.
-- A connection that has said all (and shut its writing half) is closed after its last reply.
+- A connection that has said all (and shut its writing half) is closed after its last reply. One that is lost loses
+  the commands that are not handed over yet.
 - What the front says itself begins with `front: `. No reply of the service does.
 - If a service was killed within a netlist, its log may have a beginning of it. The front makes it no netlist, and
   ends it, before the sockets are there.
@@ -23,7 +24,7 @@ The status is the service's, or 128 and the signal that ended it; 1 if a socket 
 another front, 2 if the words are wrong."""
 import asyncio, contextlib, fcntl, os, re, resource, shutil, signal, socket, stat, sys
 
-LINE = 262144      # the most bytes of a line: no line of a netlist may have more words
+LINE = 262144      # the most bytes of a line; a netlist with a longer line of words is refused anyway
 TEXT = 1048576     # the most bytes of a netlist; a longer one is handed over up to the line that makes it too long
 COMMAND = 4096     # the most bytes of a line outside of netlists; a longer one is no command
 CLIENTS = 8        # the most connections to one socket
