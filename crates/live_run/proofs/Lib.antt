@@ -1,2 +1,2 @@
-mod Beginning
+mod LineRuns
 mod RunLemmas
