@@ -1,2 +1,2 @@
-mod Exiting
+mod Beginning
 mod RunLemmas

@@ -2,8 +2,7 @@
 //!
 //! - [`read_options`] reads the command line. [`first_line`] is the line that a log begins with.
 //! - [`serve`] serves the lines of a dialogue as they come, after those of a log if there is one.
-//! - [`run_program`] is the program: it reads its words, serves, and returns the status.
-//!   [`Outcome`] says how a service ended.
+//! - [`run_line`] serves as a command line says. [`Outcome`] says how a service ended.
 //! - [`LockLog`] keeps a log to one service at a time.
 #![tactic(auto)]
 
@@ -19,5 +18,5 @@ pub use beginning::first_line;
 pub use log_lock::LockLog;
 pub use options::{CommandLine, Options, read_options};
 pub use outcome::Outcome;
-pub use program::{read_architecture, report_outcome, report_refusal, run_program, run_words};
+pub use program::{read_architecture, run_line};
 pub use serving::serve;

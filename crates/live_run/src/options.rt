@@ -100,8 +100,6 @@ const BEYOND: &str = "a number is beyond its limits";
 
 const NO_ARCH: &str = "--arch FILE is missing";
 
-const NO_WORKERS: &str = "--workers must be 0 here";
-
 const LOG_ALONE: &str =
     "--log and --workers exclude each other: without workers a log leads to one state";
 
@@ -206,11 +204,6 @@ pub fn read_options<'a, S: AsStr>(alloc: Global, words: &'a [S]) -> Result<Comma
         Ok(line) => Ok(line),
         Err(why) => Err(refusal(alloc, &PROGRAM, words, why)),
     }
-}
-
-/// The refusal of these words by a program that has no workers.
-pub(crate) fn refuse_workers<S: AsStr>(alloc: Global, words: &[S]) -> Error {
-    refusal(alloc, &PROGRAM, words, NO_WORKERS)
 }
 
 /// The command line that the options give, or why they are refused.

@@ -1,6 +1,5 @@
 //! How a service ended.
 ghost use Rattle.std.specs.Prelude.{◌≡◌};
-ghost use Rattle.std.specs.Process.{exit_status};
 ghost use Rattle.live_run.specs.Outcomes.{outcome_of, status_of};
 
 use arch_file::ArchFault;
@@ -8,7 +7,6 @@ use dialogue::FailedDevice;
 use line_service::ConversationEnd;
 use line_text::ReadError;
 use std::fmt;
-use std::process::ExitCode;
 
 /// How a live service ended.
 #[derive(Clone, Copy, PartialEq, Eq)]
@@ -33,7 +31,7 @@ pub enum Outcome {
 }
 
 impl Outcome {
-    /// The status that the program ends with.
+    /// The status of a program that ends so.
     pub fn status(&self) -> u8
         ensures { result ≡ status_of self.now }
     {
@@ -48,13 +46,6 @@ impl Outcome {
             | Outcome::Stopped(_)
             | Outcome::TooManyLines => 1,
         }
-    }
-
-    /// The status as an exit code.
-    pub fn exit_code(&self) -> ExitCode
-        ensures { exit_status result ≡ status_of self.now }
-    {
-        ExitCode::from(self.status())
     }
 
     /// How a service ends whose conversation ended so.

@@ -1,1 +1,2 @@
 mod ReplySteps
+mod RunEnds

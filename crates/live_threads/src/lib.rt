@@ -5,7 +5,9 @@
 //!   inbox of its name. So a `wait` holds back its own name alone.
 //! - [`serve_with_workers`] serves the lines of an input to its end, and then compares what the
 //!   sessions were answered with the journals.
-//! - [`run_program`] is the program: without workers it is that of `live_run`.
+//! - [`run_program`] is the program, with workers or without: it reads its words, serves, and
+//!   returns the status. [`run_words`] is the same for words that could be read, and returns how
+//!   the run ended ([`ProgramOutcome`]).
 //! - In `specs/`, `Answers` says what the thread that reads answers to each line, and `Endings` how
 //!   a service ends.
 #![tactic(auto)]
@@ -14,11 +16,13 @@ mod answering;
 mod asked;
 mod ending;
 mod listing;
+mod outcome;
 mod program;
 mod replies;
 mod running;
 mod talking;
 
 pub use ending::ServiceEnd;
-pub use program::{ProgramEnd, run_program};
+pub use outcome::ProgramOutcome;
+pub use program::{ProgramEnd, ProgramRun, run_program, run_words};
 pub use running::{Workers, serve_with_workers};

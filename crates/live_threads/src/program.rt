@@ -1,18 +1,25 @@
-//! The program with workers or without.
-ghost use Rattle.std.specs.Prelude.{◌≡◌, IfOk, is_some, option_map};
+//! The program, with workers or without.
+ghost use Rattle.std.specs.Prelude.{◌≡◌, ◌⊎◌, IfOk, is_some, option_map};
 ghost use Rattle.std.specs.Process.{exit_status};
-ghost use Rattle.live_threads.specs.Endings.{IsProgramEnd, IsThreadedStatus, threaded_status};
+ghost use Rattle.live_run.specs.declared.outcome.Outcome.TheVariants.{NoMemory};
+ghost use Rattle.live_threads.specs.declared.outcome.ProgramOutcome.TheVariants.{Ended};
+ghost use Rattle.live_threads.specs.Endings.{IsProgramEnd, IsProgramRun, program_status, run_status, threaded_outcome};
 ghost use Rattle.service_core.specs.Kept.{IsDevice};
 
 use crate::ending::ServiceEnd;
+use crate::outcome::ProgramOutcome;
 use crate::running::{Workers, serve_with_workers};
 use arch_file::{ArchError, read_arch};
+use clap::Error;
+use clap::error::ErrorKind;
 use dialogue::{Connection, Dialogue, FileLog};
 use line_text::{ReadError, Sink, Source};
-use live_run::{CommandLine, LockLog, Outcome, read_architecture, read_options, report_outcome};
+use live_run::{CommandLine, LockLog, Outcome, read_architecture, read_options, run_line};
 use service_core::{Device, Service};
 use sessions::device_graph;
 use std::alloc::Global;
+use std::convert::AsStr;
+use std::fmt::Display;
 use std::io;
 use std::process::ExitCode;
 use std::rt::Files;
@@ -20,18 +27,26 @@ use std::sync::Wait;
 use std::thread::Threads;
 use std::time::Clock;
 
-/// The status if what the sessions were answered is not what the journals say.
-const NOT_SETTLED: u8 = 5;
-
-/// How the program ended: its status and, if it ran without workers, the connection.
+/// What the program leaves at its end.
 #[derive(Drop)]
 pub struct ProgramEnd<D> {
     pub status: ExitCode,
+    /// The connection as it was left. With workers there is none.
     pub connection: Option<D>,
 }
 
-/// Serves the lines of a reader as the words say, the first being the program's name. Messages go
-/// to standard error, if that can be written.
+/// What a run of the program's words leaves.
+#[derive(Drop)]
+pub struct ProgramRun<D> {
+    /// How it ended. An error is clap's: the words are refused, or ask for help.
+    pub outcome: Result<ProgramOutcome, Error>,
+    /// The connection as it was left. With workers there is none.
+    pub connection: Option<D>,
+}
+
+/// The program: serves the lines of a reader as the words say, the first being the program's name.
+/// The status is 2 if the words are refused. Messages go to standard error, if that can be
+/// written.
 pub fn run_program<
     H: Files + Threads + Wait + Clock + AllocGlobal + Eprint + Sync,
     S: Source + Drop,
@@ -44,85 +59,111 @@ pub fn run_program<
 ) -> ProgramEnd<Connection<S, W, FileLog<H::File>>>
 where
     H::File: LockLog,
-    // Without workers it is the program of `live_run`. With workers the status is that of how the
-    // service ended, or 5 if it was served to its end and is not settled.
     ensures { IsProgramEnd (S.remaining reader) (W.contents writer)
         (option_map (⟦<Connection<S, W, FileLog<H::File>> as Dialogue>⟧.view) result.connection)
         (exit_status result.status) }
 {
     match words {
-        Ok(words) => run_words(rt, words, reader, writer),
-        Err(error) => run_alone(rt, Err(error), reader, writer),
+        Ok(words) => run_called(rt, words.as_slice(), reader, writer),
+        Err(error) => ProgramEnd {
+            status: report_unread(rt, error),
+            connection: Some(Connection::new(reader, writer)),
+        },
     }
 }
 
 /// Runs it with words that could be read.
-fn run_words<
+fn run_called<
     H: Files + Threads + Wait + Clock + AllocGlobal + Eprint + Sync,
     S: Source + Drop,
     W: Sink + Drop + Send,
->(
-    rt: &H,
-    words: Vec<String>,
-    reader: S,
-    writer: W,
-) -> ProgramEnd<Connection<S, W, FileLog<H::File>>>
+>(rt: &H, words: &[String], reader: S, writer: W) -> ProgramEnd<Connection<S, W, FileLog<H::File>>>
 where
     H::File: LockLog,
     ensures { IsProgramEnd (S.remaining reader) (W.contents writer)
         (option_map (⟦<Connection<S, W, FileLog<H::File>> as Dialogue>⟧.view) result.connection)
         (exit_status result.status) }
 {
-    match read_options(rt.alloc(), words.as_slice()) {
-        Ok(line) if line.workers > 0 => ProgramEnd {
-            status: run_line(rt, &line, reader, writer),
-            connection: None,
-        },
-        Ok(_) => run_alone(rt, Ok(words), reader, writer),
-        Err(error) => {
-            drop(error);
-            run_alone(rt, Ok(words), reader, writer)
-        }
+    let ProgramRun {
+        outcome,
+        connection,
+    } = run_words(rt, words, reader, writer);
+    ProgramEnd {
+        status: report_run(rt, outcome),
+        connection,
     }
 }
 
-/// Runs it without workers. It refuses words that ask for some.
-fn run_alone<H: Files + Wait + AllocGlobal + Eprint, S: Source + Drop, W: Sink + Drop>(
-    rt: &H,
-    words: io::Result<Vec<String>>,
-    reader: S,
-    writer: W,
-) -> ProgramEnd<Connection<S, W, FileLog<H::File>>>
+/// What the program does with its words, the first being its name: reads the options and the
+/// architecture's file, and the log if there is one, and serves the lines of the reader, with
+/// workers if the options ask for some.
+pub fn run_words<
+    H: Files + Threads + Wait + Clock + AllocGlobal + Sync,
+    T: AsStr,
+    S: Source + Drop,
+    W: Sink + Drop + Send,
+>(rt: &H, words: &[T], reader: S, writer: W) -> ProgramRun<Connection<S, W, FileLog<H::File>>>
 where
     H::File: LockLog,
-    ensures { IsProgramEnd (S.remaining reader) (W.contents writer)
+    ensures { IsProgramRun (S.remaining reader) (W.contents writer)
         (option_map (⟦<Connection<S, W, FileLog<H::File>> as Dialogue>⟧.view) result.connection)
-        (exit_status result.status) }
+        result.outcome }
+{
+    match read_options(rt.alloc(), words) {
+        Ok(line) if line.workers > 0 => ProgramRun {
+            outcome: Ok(run_threads(rt, &line, reader, writer)),
+            connection: None,
+        },
+        Ok(line) => run_alone(rt, &line, reader, writer),
+        Err(error) => ProgramRun {
+            outcome: refusal_of(error),
+            connection: Some(Connection::new(reader, writer)),
+        },
+    }
+}
+
+/// Words that are refused, unless memory ran out.
+fn refusal_of(error: Error) -> Result<ProgramOutcome, Error>
+    ensures { IfOk result (λ outcome. outcome ≡ Ended NoMemory) }
+{
+    if error.kind() == ErrorKind::OutOfMemory {
+        return Ok(ProgramOutcome::Ended(Outcome::NoMemory));
+    }
+    Err(error)
+}
+
+/// Serves without workers as the command line says.
+fn run_alone<H: Files + Wait + AllocGlobal, S: Source + Drop, W: Sink + Drop>(
+    rt: &H,
+    line: &CommandLine<'_>,
+    reader: S,
+    writer: W,
+) -> ProgramRun<Connection<S, W, FileLog<H::File>>>
+where
+    H::File: LockLog,
+    ensures { IsProgramRun (S.remaining reader) (W.contents writer)
+        (option_map (⟦<Connection<S, W, FileLog<H::File>> as Dialogue>⟧.view) result.connection)
+        result.outcome }
 {
     let mut connection = Connection::new(reader, writer);
-    let status = live_run::run_program(rt, words, &mut connection);
-    ProgramEnd {
-        status,
+    let outcome = run_line(rt, line, &mut connection);
+    ProgramRun {
+        outcome: Ok(ProgramOutcome::Ended(outcome)),
         connection: Some(connection),
     }
 }
 
 /// Serves with workers as the command line says.
-fn run_line<
-    H: Files + Threads + Wait + Clock + AllocGlobal + Eprint + Sync,
+fn run_threads<
+    H: Files + Threads + Wait + Clock + AllocGlobal + Sync,
     S: Source + Drop,
     W: Sink + Drop + Send,
->(rt: &H, line: &CommandLine<'_>, reader: S, writer: W) -> ExitCode
-    ensures { IsThreadedStatus (exit_status result) }
-{
+>(rt: &H, line: &CommandLine<'_>, reader: S, writer: W) -> ProgramOutcome {
     match read_device(rt, line) {
-        Ok(device) => match run_device(rt, line, device, reader, writer) {
-            Ok(end) => report_end(rt, end),
-            Err(outcome) => report_outcome(rt, outcome),
-        },
+        Ok(device) => run_device(rt, line, device, reader, writer),
         Err(outcome) => {
             drop((reader, writer));
-            report_outcome(rt, outcome)
+            ProgramOutcome::Ended(outcome)
         }
     }
 }
@@ -154,44 +195,70 @@ fn run_device<
     H: Files + Threads + Wait + Clock + AllocGlobal + Sync,
     S: Source + Drop,
     W: Sink + Drop + Send,
->(
-    rt: &H,
-    line: &CommandLine<'_>,
-    device: Device,
-    reader: S,
-    writer: W,
-) -> Result<ServiceEnd, Outcome>
+>(rt: &H, line: &CommandLine<'_>, device: Device, reader: S, writer: W) -> ProgramOutcome
     requires { IsDevice device }
 {
     let Ok(graph) = device_graph(rt.alloc(), &device) else {
         drop((device, reader, writer));
-        return Err(Outcome::NoMemory);
+        return ProgramOutcome::Ended(Outcome::NoMemory);
     };
     let workers = Workers {
         count: line.workers,
         graph: &graph,
     };
     match Service::with_text_limit(rt.alloc(), device, line.options.text_limit()) {
-        Ok(service) => Ok(serve_with_workers(rt, workers, service, reader, writer)),
+        Ok(service) => outcome_of(serve_with_workers(rt, workers, service, reader, writer)),
         Err(_) => {
             drop((reader, writer));
-            Err(Outcome::NoMemory)
+            ProgramOutcome::Ended(Outcome::NoMemory)
         }
     }
 }
 
-/// Writes the message of how the service ended to standard error, and returns its status.
-fn report_end<H: Eprint>(rt: &H, end: ServiceEnd) -> ExitCode
-    ensures { exit_status result ≡ threaded_status (is_some end.service) end.outcome }
+/// The outcome of a service with workers that ended so.
+fn outcome_of(end: ServiceEnd) -> ProgramOutcome
+    ensures { result ≡ threaded_outcome (is_some end.service) end.outcome }
 {
     let ServiceEnd { outcome, service } = end;
     let is_settled = service.is_some();
     drop(service);
-    match (outcome, is_settled) {
-        (Outcome::Done, false) => {
-            let _ = rt.eprintln("settle");
-            ExitCode::from(NOT_SETTLED)
-        }
-        (outcome, _) => report_outcome(rt, outcome),
+    ProgramOutcome::of_threads(is_settled, outcome)
+}
+
+/// Writes the last message of a run to standard error, and returns its status.
+fn report_run<H: Eprint>(rt: &H, outcome: Result<ProgramOutcome, Error>) -> ExitCode
+    ensures { exit_status result ≡ run_status outcome }
+{
+    match outcome {
+        Ok(outcome) => report_outcome(rt, outcome),
+        Err(error) => report_refusal(rt, error),
     }
+}
+
+/// Reports words that can't be read.
+fn report_unread<H: Eprint>(rt: &H, error: io::Error) -> ExitCode
+    ensures { (exit_status result ≡ 2) ⊎ (exit_status result ≡ program_status (Ended NoMemory)) }
+{
+    if error.kind() == io::ErrorKind::OutOfMemory {
+        return report_outcome(rt, ProgramOutcome::Ended(Outcome::NoMemory));
+    }
+    report_refusal(rt, "error: an argument is no text\n")
+}
+
+/// Writes the message of how a run ended to standard error, and returns its status.
+fn report_outcome<H: Eprint>(rt: &H, outcome: ProgramOutcome) -> ExitCode
+    ensures { exit_status result ≡ program_status outcome }
+{
+    if outcome.status() != 0 {
+        let _ = rt.eprintln(outcome);
+    }
+    outcome.exit_code()
+}
+
+/// Writes why the words are refused to standard error, and returns status 2.
+fn report_refusal<H: Eprint, M: Display + Drop>(rt: &H, message: M) -> ExitCode
+    ensures { exit_status result ≡ 2 }
+{
+    let _ = rt.eprint(message);
+    ExitCode::from(2)
 }

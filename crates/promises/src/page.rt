@@ -36,7 +36,7 @@ pub fn serve<H: Threads + Wait + Clock + AllocGlobal + Sync, R: Source, W: Sink>
     reader: &mut R,
     writer: &mut W,
 ) -> Outcome
-    // 1. It returns, and its end has a name: the first fault of the architecture, or else of the
+    // 1. If it returns, its end has a name: the first fault of the architecture, or else of the
     // script, decides it. No index, sum or cast goes wrong (the compiler sees to that). (507 lines)
     ensures ends { EndsAsDecided options.now architecture.entry (R.remaining reader.old) result }
     // 2. If it ends because a file, the input or the output failed, that is so. (0 lines)

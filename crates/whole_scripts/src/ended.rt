@@ -8,6 +8,8 @@ use std::fmt::Display;
 #[derive(Drop)]
 pub(crate) struct Ended {
     pub written: Vec<u8>,
+    /// Whether each write of the live service ended a line.
+    pub is_whole: bool,
     /// Its messages on standard error.
     pub told: Vec<u8>,
     pub status: u8,
@@ -18,6 +20,7 @@ impl Ended {
     pub(crate) fn silent_end(alloc: Global, is_done: bool) -> Self {
         Ended {
             written: Vec::new(alloc),
+            is_whole: true,
             told: Vec::new(alloc),
             status: if is_done { 0 } else { 1 },
         }
@@ -28,15 +31,15 @@ impl Ended {
 /// last message.
 pub(crate) fn ended_by<O: Display + Drop>(
     alloc: Global,
-    writer: MemorySink,
+    written: Vec<u8>,
     teller: MemorySink,
     status: u8,
     outcome: Result<O, Error>,
 ) -> Result<Ended, AllocError> {
-    let written = writer.into_bytes();
     match told_with(alloc, teller, status, outcome) {
         Ok(told) => Ok(Ended {
             written,
+            is_whole: true,
             told,
             status,
         }),

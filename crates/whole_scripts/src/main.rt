@@ -6,10 +6,13 @@
 //! `fpgad_live WORDS`, `fpgad_desk WORDS`, or `cmp FILE FILE`, which ends with 0 if the files have
 //! equal bytes. A run reads NAME.script; it must end with that status, write NAME.stdout to
 //! standard output and NAME.stderr to standard error, byte for byte. A file that does not exist
-//! counts as empty. Each run that does not agree is printed with what differs, and then how many
-//! agree. The status is 0 if all agree, and 1 if one does not, or if input or output failed.
+//! counts as empty. A client of the live service sends a line `# after N lines`, and what follows,
+//! once N lines of replies have come in all. Each run that does not agree is printed with what
+//! differs, and then `all agree`, or how many don't. The status is 0 if all agree, and 1 if one
+//! does not, or if input or output failed.
 #![tactic(auto)]
 
+mod client;
 mod difference;
 mod ended;
 mod row;
@@ -43,19 +46,19 @@ fn run_all<H: Input + Print + Files + Threads + Wait + Clock + AllocGlobal + Syn
 where
     H::File: LockLog,
 {
-    let mut runs = 0u64;
-    let mut agreeing = 0u64;
+    let mut differing = 0u64;
     for line in rt.lines(rt.alloc()) {
         let line = line?;
-        if !line.as_str().starts_with('#') {
-            runs = runs.saturating_add(1);
-            if agrees(rt, line.as_str())? {
-                agreeing = agreeing.saturating_add(1);
-            }
+        if !line.as_str().starts_with('#') && !agrees(rt, line.as_str())? {
+            differing = differing.saturating_add(1);
         }
     }
-    println!(rt; "{agreeing} of {runs} agree")?;
-    Ok(agreeing == runs)
+    if differing == 0 {
+        println!(rt; "all agree")?;
+    } else {
+        println!(rt; "{differing} do not agree")?;
+    }
+    Ok(differing == 0)
 }
 
 /// Runs one line of the list, prints it if it does not agree, and returns whether it does.

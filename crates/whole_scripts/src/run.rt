@@ -1,12 +1,13 @@
 //! How a row is run, and what is compared.
+use crate::client::{Client, Replies, ReplySink, ReplyText};
 use crate::difference::first_difference;
 use crate::ended::{Ended, ended_by};
 use crate::row::Row;
 use crate::verdict::Verdict;
 use desk::Streams;
-use dialogue::Connection;
 use line_text::{MemorySink, MemorySource, ReadError, StdSource, read_all};
 use live_run::LockLog;
+use live_threads::ProgramRun;
 use std::alloc::{AllocError, AllocGlobal, Global};
 use std::fs::File;
 use std::io::Read;
@@ -81,15 +82,15 @@ fn run_script<H: Files + Threads + Wait + Clock + AllocGlobal + Sync>(
     };
     ended_by(
         rt.alloc(),
-        writer,
+        writer.into_bytes(),
         MemorySink::new(rt.alloc()),
         status,
         outcome,
     )
 }
 
-/// Serves the lines of an input as the live service does under these words.
-fn run_live<H: Files + Wait + AllocGlobal>(
+/// Serves the lines of a client as the live service does under these words.
+fn run_live<H: Files + Threads + Wait + Clock + AllocGlobal + Sync>(
     rt: &H,
     words: &[&str],
     lines: &[u8],
@@ -97,21 +98,27 @@ fn run_live<H: Files + Wait + AllocGlobal>(
 where
     H::File: LockLog,
 {
-    let reader = MemorySource::new(lines);
-    let mut connection = Connection::new(reader, MemorySink::new(rt.alloc()));
-    let outcome = live_run::run_words(rt, words, &mut connection);
+    let replies = Replies::new(rt.alloc());
+    let reader = Client::new(rt, &replies, lines);
+    let writer = ReplySink::new(rt, &replies);
+    let ProgramRun {
+        outcome,
+        connection,
+    } = live_threads::run_words(rt, words, reader, writer);
+    drop(connection);
+    let ReplyText {
+        bytes,
+        is_whole,
+        ..
+    } = replies.into_text();
     let status = match &outcome {
         Ok(outcome) => outcome.status(),
         Err(_) => 2,
     };
     let teller = MemorySink::new(rt.alloc());
-    ended_by(
-        rt.alloc(),
-        connection.into_output(),
-        teller,
-        status,
-        outcome,
-    )
+    let mut ended = ended_by(rt.alloc(), bytes, teller, status, outcome)?;
+    ended.is_whole = is_whole;
+    Ok(ended)
 }
 
 /// Runs the desk with these words.
@@ -135,7 +142,7 @@ fn run_tool<H: Files + AllocGlobal>(
         Ok(outcome) => outcome.status(),
         Err(_) => 2,
     };
-    ended_by(rt.alloc(), writer, teller, status, outcome)
+    ended_by(rt.alloc(), writer.into_bytes(), teller, status, outcome)
 }
 
 /// Compares two files: the status is 0 if they have equal bytes.
@@ -171,6 +178,9 @@ fn verdict_of<H: Files + AllocGlobal>(
     let expected = row_file(rt, row.name, "stdout");
     if let Some(byte) = difference_from(ended.written.as_slice(), expected)? {
         return Ok(Verdict::WritesOther(byte));
+    }
+    if !ended.is_whole {
+        return Ok(Verdict::WritesParts);
     }
     let expected = row_file(rt, row.name, "stderr");
     if let Some(byte) = difference_from(ended.told.as_slice(), expected)? {

@@ -11,6 +11,8 @@ pub(crate) enum Verdict {
     EndsWith(u8),
     /// Its output differs from this byte on, counted from 0.
     WritesOther(usize),
+    /// The live service wrote a part of a line, so another reply could come within it.
+    WritesParts,
     /// Its messages on standard error differ from this byte on, counted from 0.
     TellsOther(usize),
 }
@@ -29,6 +31,7 @@ impl fmt::Display for Verdict {
             Verdict::NoRow => write!(f, "is not a row"),
             Verdict::EndsWith(status) => write!(f, "ends with status {status}"),
             Verdict::WritesOther(byte) => write!(f, "differs at byte {byte}"),
+            Verdict::WritesParts => write!(f, "writes a part of a line"),
             Verdict::TellsOther(byte) => write!(f, "standard error differs at byte {byte}"),
         }
     }

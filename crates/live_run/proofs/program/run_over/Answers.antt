@@ -1,4 +1,4 @@
-use Rattle.live_run.proofs.Exiting.{begins_logged, begins_plain}
+use Rattle.live_run.proofs.Beginning.{begins_logged, begins_plain}
 use Rattle.live_run.proofs.program.run_over.Goals as goal
 
 pub returns-in-None : goal.returns-in-None

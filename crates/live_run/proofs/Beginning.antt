@@ -1,18 +1,12 @@
--- A command line that runs, and the status of the program.
-use Rattle.std.proofs.Common.{◌≡◌, ◌∙◌, ℕ, List, [], Bool, true, false, Option, Some, None, inl, inr, ap, subst, sym, refl}
-use Rattle.std.specs.Prelude.{◌⊎◌, is_some}
+-- A command line that runs.
+use Rattle.std.proofs.Common.{◌≡◌, ◌∙◌, ℕ, List, [], true, false, Option, Some, None, inr, ap, subst, sym, refl}
+use Rattle.std.specs.Prelude.{is_some}
 use Rattle.std.specs.Borrow.{Bor}
 use Rattle.dialogue.specs.History.{View}
 use Rattle.live_run.specs.declared.options.CommandLine.{CommandLine}
 use Rattle.live_run.specs.declared.outcome.Outcome.{Outcome}
-use Rattle.live_run.specs.declared.outcome.Outcome.TheVariants.{NoMemory}
-use Rattle.live_run.specs.Commands.{Begins, Exits, RunsLine}
-use Rattle.live_run.specs.Outcomes.{status_of}
+use Rattle.live_run.specs.Commands.{Begins, RunsLine}
 use Rattle.live_run.specs.Runs.{Runs}
-
-pub exits : (before after : View) (outcome : Outcome) (status : ℕ) → status ≡ status_of outcome → ((outcome ≡ NoMemory) × (after.output ≡ before.output)) ⊎ ((line : CommandLine) × RunsLine line before after outcome) → Exits before after status
-exits before after outcome status is (inl out) = inr (inl (is ∙ ap status_of out.0, out.1))
-exits before after outcome status is (inr runs) = inr (inr (outcome, is, runs))
 
 -- without a log
 pub begins_plain : (line : CommandLine) (architecture : List ℕ) (before after : View) (outcome : Outcome) → before.has_log ≡ false → line.log ≡ None → Runs line.options architecture false (Some []) before after outcome → RunsLine line before after outcome

@@ -1,0 +1,20 @@
+-- The end of a program, from its run.
+use Rattle.std.proofs.Common.{◌≡◌, ◌⊎◌, ℕ, List, Option, Some, None, Result, Ok, Err, inl, inr, false, refl}
+use Rattle.dialogue.specs.History.{View}
+use Rattle.live_run.specs.declared.outcome.Outcome.TheVariants.{NoMemory}
+use Rattle.live_threads.specs.declared.outcome.ProgramOutcome.{ProgramOutcome}
+use Rattle.live_threads.specs.declared.outcome.ProgramOutcome.TheVariants.{Ended, NotSettled}
+use Rattle.live_threads.specs.Endings.{IsProgramEnd, IsProgramRun, RunsAlone, RunsWords, program_status, run_status}
+
+-- words that can't be read: nothing was done over the connection
+pub unread : (input output : Option (List ℕ)) (view : View) (status : ℕ) → view.remaining ≡ input → view.output ≡ output → view.has_log ≡ false → (status ≡ 2) ⊎ (status ≡ program_status (Ended NoMemory)) → IsProgramEnd input output (Some view) status
+unread input output view status remaining written none (inl is) = (Err tt, record { before = view; remaining = remaining; written = written; has_log = none; runs = refl }, is)
+unread input output view status remaining written none (inr is) = (Ok (Ended NoMemory), record { before = view; remaining = remaining; written = written; has_log = none; runs = inl (refl, refl) }, is)
+
+-- the outcome of a run without clap's error
+pub ends : {E : Type 0} (input output : Option (List ℕ)) (connection : Option View) (outcome : Result ProgramOutcome E) (status : ℕ) → IsProgramRun input output connection outcome → status ≡ run_status outcome → IsProgramEnd input output connection status
+ends input output (Some after) (Ok (Ended outcome)) status run is = (Ok (Ended outcome), record { before = run.before; remaining = run.remaining; written = run.written; has_log = run.has_log; runs = run.runs }, is)
+ends input output (Some after) (Ok NotSettled) status run is = absurd run.runs
+ends input output (Some after) (Err error) status run is = (Err tt, record { before = run.before; remaining = run.remaining; written = run.written; has_log = run.has_log; runs = run.runs }, is)
+ends input output None (Ok outcome) status run is = (Ok outcome, tt, is)
+ends input output None (Err error) status run is = absurd run
