@@ -41,7 +41,7 @@ def stated(lines):
         depth += sum(line.count(it) for it in "({[") - sum(line.count(it) for it in ")}]")
         if is_begun and (line == head + "{" or line.endswith("{") and (found or line.startswith(head + ")"))):
             ends, is_begun = head + "}", False
-        elif not depth and (line.endswith(";") or found and line.endswith("}")):
+        elif not depth and (line.endswith(";") or line.endswith("}") and (found or line == head + "{}")):
             is_begun = False
     return kept
 
