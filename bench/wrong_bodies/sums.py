@@ -1,0 +1,97 @@
+"""Over which text an edit was refused: the sums that `edits/ledger.txt` has, one line an edit.
+
+An edit's sum is of its own text, of its crate's src, specs and proofs, and of what the crates below state: their specs, and their sources
+without the functions' bodies and without private functions. So a body that changes below asks for nothing. Comments and empty lines count nowhere."""
+import fcntl
+import hashlib
+import os
+import re
+
+from wrong_bodies.edits import BLOCK, FUNCTION, TOP, crates, edits_of, read
+
+LEDGER = f"{TOP}/edits/ledger.txt"
+
+
+def sum_of(*parts):
+    return hashlib.sha256(repr(parts).encode()).hexdigest()
+
+
+def code(text):
+    """The lines that are not empty and not comments."""
+    return [line for line in text.split("\n") if line.strip() and not line.strip().startswith(("//", "--"))]
+
+
+def stated(lines):
+    """The lines of a source that other crates can rest on: all but bodies and private functions. `rt fmt` has laid the file out."""
+    kept, ends, of_trait = [], None, False
+    # Of the function whose signature and clauses are being read.
+    head, depth, is_begun, is_seen = "", 0, False, True
+    for line in lines:
+        if ends is not None:
+            ends = None if line == ends else ends
+            continue
+        block, found = BLOCK.match(line), FUNCTION.match(line)
+        if block:
+            of_trait = "trait" in block[2] or " for " in line
+        if found:
+            head, depth, is_begun = found[1], 0, True
+            is_seen = found[2] == "pub " or of_trait and head != ""
+        if not is_begun or is_seen:
+            kept.append(line)
+        depth += sum(line.count(it) for it in "({[") - sum(line.count(it) for it in ")}]")
+        if is_begun and (line == head + "{" or line.endswith("{") and (found or line.startswith(head + ")"))):
+            ends, is_begun = head + "}", False
+        elif not depth and (line.endswith(";") or line.endswith("}") and (found or line == head + "{}")):
+            is_begun = False
+    return kept
+
+
+def texts(top, crate, *parts):
+    for part in parts:
+        for at, folders, names in os.walk(f"{top}/crates/{crate}/{part}"):
+            folders.sort()
+            for name in sorted(names):
+                yield os.path.relpath(f"{at}/{name}", f"{top}/crates/{crate}"), code(read(f"{at}/{name}"))
+
+
+def crate_sums(top=TOP):
+    """For each crate the sum of what its edits rest on, beside their own text."""
+    uses = crates(top)
+    below, says = {}, {}
+
+    def under(name):
+        if name not in below:
+            below[name] = sorted({it for use in uses[name] for it in (use, *under(use))})
+        return below[name]
+
+    for name in uses:
+        sources = [(path, stated(lines)) for path, lines in texts(top, name, "src")]
+        says[name] = sum_of(*texts(top, name, "specs"), *sources)
+    own = {name: sum_of(*texts(top, name, "src", "specs", "proofs")) for name in uses}
+    return {name: sum_of(own[name], [(it, says[it]) for it in under(name)]) for name in uses}
+
+
+def sum_of_edit(edit, sums):
+    return sum_of(sums[edit.crate], edit.text)[:24]
+
+
+def every_edit(top=TOP):
+    return [edit for crate in sorted(crates(top)) for edit in edits_of(crate, top)]
+
+
+def noted():
+    """The sum over which each edit was refused last, by the edit's key."""
+    if not os.path.isfile(LEDGER):
+        return {}
+    return dict(line.split() for line in read(LEDGER).splitlines())
+
+
+def note(found):
+    """Adds sums to the ledger, by the edits' keys; lines of edits that are gone go."""
+    turn = os.open(f"{TOP}/edits", os.O_RDONLY)
+    fcntl.flock(turn, fcntl.LOCK_EX)
+    whole, known = {**noted(), **found}, {edit.key for edit in every_edit()}
+    with open(f"{LEDGER}.new", "w", encoding="utf-8") as it:
+        it.writelines(f"{key} {whole[key]}\n" for key in sorted(known & {*whole}))
+    os.replace(f"{LEDGER}.new", LEDGER)
+    os.close(turn)
