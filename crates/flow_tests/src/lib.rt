@@ -5,6 +5,7 @@
 //! - `packings`, `places`, `kept`: BLEs, and the places of blocks, also if places are kept.
 //! - `graphs`, `windows`: nodes and pairs of strips, and what windows show of a device.
 //! - `tables`, `unit_roads`: least paths over graphs of a few nodes, and over a strip's.
+//! - `routings`: how a test routes placed blocks.
 //! - `counted`: routing over a window whose reads are counted.
 //! - `sinks`: how a sink's failure is reported.
 #![tactic(auto)]
@@ -27,6 +28,8 @@ mod netlists;
 mod packings;
 #[cfg(test)]
 mod places;
+#[cfg(test)]
+mod routings;
 #[cfg(test)]
 mod sinks;
 #[cfg(test)]
