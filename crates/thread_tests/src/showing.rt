@@ -8,7 +8,7 @@ ghost use Rattle.thread_tests.specs.Devices.{IsSmall};
 use crate::cores::{new_core, new_device, new_graph};
 use crate::failing::all_end_so;
 use crate::gates::Point;
-use crate::meanwhile::{ACTS, Act, acts_under_a_held_job};
+use crate::meanwhile::{ACTS, Case, Kind, acts_under_a_held_job};
 use crate::same_told::tells_the_same;
 use crate::waiting::{Work, waits_are_told};
 use crate::workers::is_worked;
@@ -26,7 +26,7 @@ use strips::DeviceGraph;
 #[derive(Clone, Copy)]
 enum Shown {
     Worked(Worked),
-    Meanwhile(Act, Point),
+    Meanwhile(Case),
     FailingDevices,
     FourSessions(usize),
     Waits(Work),
@@ -51,7 +51,7 @@ fn is_shown<
 {
     match shown {
         Shown::Worked(worked) => is_worked(rt, core, graph, worked),
-        Shown::Meanwhile(act, at) => acts_under_a_held_job(rt, core, graph, act, at),
+        Shown::Meanwhile(case) => acts_under_a_held_job(rt, core, graph, case),
         Shown::FailingDevices => all_end_so(rt, core),
         Shown::FourSessions(workers) => tells_the_same(rt, core, graph, workers),
         Shown::Waits(work) => waits_are_told(rt, core, graph, work),
@@ -131,18 +131,43 @@ fn a_step_is_made_without_the_lock(rt: HostRuntime) {
 }
 
 /// Whether each act is done while a worker waits at that point, and leaves what it should.
-fn each_act_is_shown<R: Threads + Wait + Clock + AllocGlobal + Sync>(rt: &R, at: Point) -> bool {
+fn each_act_is_shown_at<R: Threads + Wait + Clock + AllocGlobal + Sync>(
+    rt: &R,
+    kind: Kind,
+    at: Point,
+) -> bool {
     let mut are_shown = true;
     for act in ACTS.iter() {
-        are_shown &= shows(rt, Shown::Meanwhile(*act, at));
+        let case = Case {
+            kind,
+            act: *act,
+            at,
+        };
+        are_shown &= shows(rt, Shown::Meanwhile(case));
     }
     are_shown
 }
 
+/// Whether each act is done while a worker waits with a step of that job, before it is made and
+/// after it, and leaves what it should.
+fn each_act_is_shown<R: Threads + Wait + Clock + AllocGlobal + Sync>(rt: &R, kind: Kind) -> bool {
+    each_act_is_shown_at(rt, kind, Point::BeforeStep)
+        && each_act_is_shown_at(rt, kind, Point::AfterStep)
+}
+
+#[test]
+fn acts_under_a_held_packing_step_leave_what_they_should(rt: HostRuntime) {
+    assert!(rt; each_act_is_shown(&rt, Kind::Packing));
+}
+
+#[test]
+fn acts_under_a_held_placing_step_leave_what_they_should(rt: HostRuntime) {
+    assert!(rt; each_act_is_shown(&rt, Kind::Placing));
+}
+
 #[test]
 fn acts_under_a_held_step_leave_what_they_should(rt: HostRuntime) {
-    assert!(rt; each_act_is_shown(&rt, Point::BeforeStep));
-    assert!(rt; each_act_is_shown(&rt, Point::AfterStep));
+    assert!(rt; each_act_is_shown(&rt, Kind::Routing));
 }
 
 #[test]
