@@ -8,9 +8,9 @@ use crate::cores::{
 use crate::gates::{Held, Point, is_raised};
 use crate::seats::{Worker, a_worker};
 use fixtures::ROUTED_AND;
-use job_queue::{Pass, Ready, a_pass};
+use job_queue::{Pass, Ready, Seat, a_pass};
 use service_core::{Owned, Service};
-use shared_core::{Begun, Core, Share, Shared};
+use shared_core::{Begun, Core, Share};
 use std::alloc::{AllocGlobal, Global};
 use std::sync::Wait;
 use std::sync::atomic::Ordering::SeqCst;
@@ -185,7 +185,7 @@ impl Case {
     /// Whether the step leaves what it should when it is put. It counts if the strip moved. It is
     /// an entry, and stale, if the job was given up, also if another one like it has begun. It is
     /// no entry if the tenancy is gone or its journal is full.
-    fn is_left<C: Begun, P: Ledger>(self, core: &Core<C, P>) -> bool {
+    fn is_left<C: Begun, P: Ledger>(self, core: &mut Core<C, P>) -> bool {
         let kind = self.kind;
         match self.act {
             Act::Move => {
@@ -345,69 +345,52 @@ fn begins<C: Begun, P: Ledger, R: Wait + AllocGlobal>(
     }
 }
 
-/// A closed queue with the number of the tenancy, which begins the job, and a worker that serves
-/// the queue.
+/// Closes the queue with the number of the tenancy, which begins the job, and seats a worker to
+/// serve it.
 fn set_up<C: Begun, P: Ledger, R: Wait + AllocGlobal>(
-    rt: &R,
-    core: &mut Core<C, P>,
-    graph: &DeviceGraph,
+    pool: Pool<'_, R, C, P>,
+    seats: &mut Vec<Seat>,
+    passes: &mut Vec<Pass>,
     kind: Kind,
-) -> Option<(Ready, Worker<P>)>
-    requires { C.stay ≡ false }
-    ensures { IfSome result (λ both. both.1.seat.of ≡ both.0) }
+) -> Option<Worker<P>>
+    requires seats { All (λ s. s.of ≡ pool.ready.now) seats.old.items }
+    requires passes { All (λ p. p.of ≡ pool.ready.now) passes.old.items }
+    requires stay { C.stay ≡ false }
+    ensures { IfSome result (λ worker. worker.seat.of ≡ pool.ready.now) }
 {
-    let (ready, mut seats, mut passes) = Ready::new(rt.alloc(), 1, 1).ok()?;
-    let worker = if begins(rt, core, graph, &ready, &mut passes, kind) {
-        a_worker(core, &ready, &mut seats)
+    let (rt, ready) = (pool.rt, pool.ready);
+    if begins(
+        rt,
+        &mut *pool.shared.core.lock(rt),
+        pool.graph,
+        ready,
+        passes,
+        kind,
+    ) {
+        a_worker(&mut *pool.shared.core.lock(rt), ready, seats)
     } else {
         None
-    };
-    drop(seats);
-    drop(passes);
-    match worker {
-        Some(worker) => Some((ready, worker)),
-        None => {
-            drop(ready);
-            None
-        }
     }
 }
 
 /// Whether the act is done while a worker has a step of the tenancy, and leaves what it should. The
-/// core has no tenancies.
+/// core has no tenancies, and the queue is open, with a seat and a pass.
 pub(crate) fn acts_under_a_held_job<
     C: Begun + Send + Sync,
     P: Ledger + Send + Sync,
     R: Threads + Wait + Clock + AllocGlobal + Sync,
->(rt: &R, core: Core<C, P>, graph: &DeviceGraph, case: Case) -> bool
-    requires { C.stay ≡ false }
+>(pool: Pool<'_, R, C, P>, seats: &mut Vec<Seat>, passes: &mut Vec<Pass>, case: Case) -> bool
+    requires seats { All (λ s. s.of ≡ pool.ready.now) seats.old.items }
+    requires passes { All (λ p. p.of ≡ pool.ready.now) passes.old.items }
+    requires stay { C.stay ≡ false }
 {
-    let mut core = core;
-    match set_up(rt, &mut core, graph, case.kind) {
-        Some((ready, worker)) => {
-            let shared = Shared::new(core);
-            let pool = Pool {
-                rt,
-                shared: &shared,
-                ready: &ready,
-                graph,
-            };
-            let is_done = is_done_meanwhile(pool, worker, case);
-            drop(ready);
-            is_left_so(shared.into_core(), case) && is_done
+    match set_up(pool, seats, passes, case.kind) {
+        Some(worker) => {
+            is_done_meanwhile(pool, worker, case)
+                && case.is_left(&mut *pool.shared.core.lock(pool.rt))
         }
-        None => {
-            drop(core);
-            false
-        }
+        None => false,
     }
-}
-
-/// Whether the act left what it should.
-fn is_left_so<C: Begun, P: Ledger>(core: Core<C, P>, case: Case) -> bool {
-    let is_left = case.is_left(&core);
-    drop(core);
-    is_left
 }
 
 /// Whether a worker waits with a step until the act is done.
