@@ -1,6 +1,6 @@
-//! What is done to a tenancy at two points of a step of its job: before the job is taken, before the
-//! step, after the step, or after the job came back. The job is put, or given back, with its step
-//! made or not. By the rules of jobs a step counts only if nothing was done while the job was out;
+//! What is done to a tenancy at two points of a step of its job: before the job is taken, before
+//! the step, after the step, or after the job came back. The job is put, or given back, with its
+//! step made or not. By the rules of jobs a step counts only if nothing was done while the job was out;
 //! it is stale if the job was cancelled or begun again, or if its netlist is gone; a full journal
 //! takes no step; and a tenancy that was evicted takes none either. A job that is given back can be
 //! taken again only if it still runs and the journal has room.
@@ -36,7 +36,7 @@ impl Kind {
     }
 
     /// The state before the job, to which a cancel leads back. The job can begin in it.
-    fn before(self) -> StateName {
+    fn state_before(self) -> StateName {
         match self {
             Kind::Packing => StateName::Loaded,
             Kind::Placing => StateName::Packed,
@@ -45,7 +45,7 @@ impl Kind {
     }
 
     /// The state while the job runs.
-    fn running(self) -> StateName {
+    fn running_state(self) -> StateName {
         match self {
             Kind::Packing => StateName::Packing,
             Kind::Placing => StateName::Placing,
@@ -148,7 +148,7 @@ impl Solo {
     fn new(kind: Kind) -> Self {
         Solo {
             kind,
-            state: kind.running(),
+            state: kind.running_state(),
             is_live: true,
             is_full: false,
             is_same: true,
@@ -156,7 +156,7 @@ impl Solo {
     }
 
     /// The tenancy after an act. A full journal takes no command.
-    fn after(self, act: Act) -> Self {
+    fn after_act(self, act: Act) -> Self {
         if act == Act::Evict || act == Act::Replace {
             return Solo {
                 is_live: false,
@@ -171,8 +171,8 @@ impl Solo {
                 is_full: true,
                 ..self
             },
-            Act::Cancel => self.cancelled(),
-            Act::BeginAgain => self.cancelled().begun(),
+            Act::Cancel => self.after_cancel(),
+            Act::BeginAgain => self.after_cancel().after_begin(),
             Act::Change if self.state != StateName::Empty => self.moved_to(StateName::Loaded),
             Act::Withdraw => self.moved_to(StateName::Empty),
             _ => self,
@@ -188,24 +188,24 @@ impl Solo {
         }
     }
 
-    fn cancelled(self) -> Self {
-        if self.state == self.kind.running() {
-            self.moved_to(self.kind.before())
+    fn after_cancel(self) -> Self {
+        if self.state == self.kind.running_state() {
+            self.moved_to(self.kind.state_before())
         } else {
             self
         }
     }
 
-    fn begun(self) -> Self {
-        if self.state == self.kind.before() {
-            self.moved_to(self.kind.running())
+    fn after_begin(self) -> Self {
+        if self.state == self.kind.state_before() {
+            self.moved_to(self.kind.running_state())
         } else {
             self
         }
     }
 
     /// The tenancy after its job was taken.
-    fn taken(self) -> Self {
+    fn after_take(self) -> Self {
         Solo {
             is_same: true,
             ..self
@@ -226,7 +226,7 @@ impl Solo {
     }
 
     /// The tenancy after a put.
-    fn put(self) -> Self {
+    fn after_put(self) -> Self {
         if self.expects() == Expected::Counts {
             Solo {
                 state: self.kind.after_a_step(),
@@ -239,7 +239,7 @@ impl Solo {
 
     /// Whether a job can be taken.
     fn has_job(self) -> bool {
-        self.is_live && !self.is_full && self.state == self.kind.running()
+        self.is_live && !self.is_full && self.state == self.kind.running_state()
     }
 
     /// Whether the core has the tenancy in that state.
@@ -358,9 +358,9 @@ fn come_back(alloc: Global, core: &mut Service, graph: &DeviceGraph, case: Case)
         return false;
     }
     case.act(alloc, core, graph, case.first);
-    let solo = Solo::new(case.kind).after(case.first);
+    let solo = Solo::new(case.kind).after_act(case.first);
     match core.take(1) {
-        Some(job) => goes_out(alloc, core, graph, case, solo.taken(), job) && solo.has_job(),
+        Some(job) => goes_out(alloc, core, graph, case, solo.after_take(), job) && solo.has_job(),
         None => !solo.has_job() && is_left(core, case, solo, 0),
     }
 }
@@ -376,7 +376,7 @@ fn goes_out(
 ) -> bool {
     let generation = job.generation();
     case.act(alloc, core, graph, case.before);
-    let solo = solo.after(case.before);
+    let solo = solo.after_act(case.before);
     if case.back == Return::Unstepped {
         core.give_back(job.into_back());
         return is_left(core, case, solo, generation);
@@ -398,15 +398,15 @@ fn is_stepped(
 ) -> bool {
     let generation = done.generation();
     case.act(alloc, core, graph, case.after);
-    let solo = solo.after(case.after);
+    let solo = solo.after_act(case.after);
     let (is_so, solo) = if case.back == Return::Put {
-        (is_put(core, done, solo.expects()), solo.put())
+        (is_put(core, done, solo.expects()), solo.after_put())
     } else {
         core.give_back(done.into_back());
         (true, solo)
     };
     case.act(alloc, core, graph, case.last);
-    is_left(core, case, solo.after(case.last), generation) && is_so
+    is_left(core, case, solo.after_act(case.last), generation) && is_so
 }
 
 /// Makes the step of a job. If memory runs out the job is given back.

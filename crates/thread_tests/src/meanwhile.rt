@@ -41,7 +41,7 @@ impl Kind {
     }
 
     /// The state before the job, to which a cancel leads back.
-    fn before(self) -> StateName {
+    fn state_before(self) -> StateName {
         match self {
             Kind::Packing => StateName::Loaded,
             Kind::Placing => StateName::Packed,
@@ -50,7 +50,7 @@ impl Kind {
     }
 
     /// The state while the job runs.
-    fn running(self) -> StateName {
+    fn running_state(self) -> StateName {
         match self {
             Kind::Packing => StateName::Packing,
             Kind::Placing => StateName::Placing,
@@ -59,7 +59,7 @@ impl Kind {
     }
 
     /// The state after the job.
-    fn done(self) -> StateName {
+    fn done_state(self) -> StateName {
         match self {
             Kind::Packing => StateName::Packed,
             Kind::Placing => StateName::Placed,
@@ -69,7 +69,7 @@ impl Kind {
 
     /// The number of entries of a tenancy that has begun the job: those of its commands, and those
     /// of the steps that ended the jobs before.
-    fn begun(self) -> u32
+    fn entry_count(self) -> u32
         ensures few { 2 ≤ result }
         ensures many { result ≤ 8 }
     {
@@ -189,12 +189,12 @@ impl Case {
         let kind = self.kind;
         match self.act {
             Act::Move => {
-                core.offset(1) == Some(LAST_COLUMN) && is_over(core, kind, kind.begun())
+                core.offset(1) == Some(LAST_COLUMN) && is_over(core, kind, kind.entry_count())
             }
-            Act::Cancel => is_stale(core, kind, kind.before()),
+            Act::Cancel => is_stale(core, kind, kind.state_before()),
             Act::BeginAgain => {
-                is_told(core, kind.begun() + 2, &Reply::Step(StepReply::Stale))
-                    && is_over(core, kind, kind.begun() + 3)
+                is_told(core, kind.entry_count() + 2, &Reply::Step(StepReply::Stale))
+                    && is_over(core, kind, kind.entry_count() + 3)
             }
             Act::Change => is_stale(core, kind, StateName::Loaded),
             Act::Withdraw => is_stale(core, kind, StateName::Empty),
@@ -238,7 +238,7 @@ fn is_filled<C: Begun, P: Ledger>(core: &mut Core<C, P>, kind: Kind) -> bool
     requires { C.stay ≡ false }
 {
     let mut are_served = true;
-    for _ in kind.begun()..LAST_ENTRY + 1 {
+    for _ in kind.entry_count()..LAST_ENTRY + 1 {
         are_served &= is_served(core, 1, Command::Status);
     }
     are_served && !is_served(core, 1, Command::Status)
@@ -251,14 +251,14 @@ fn is_full<C: Begun, P: Ledger>(core: &Core<C, P>, kind: Kind) -> bool {
         Some(entry) => matches!(&entry.reply, Reply::Status(_)),
         None => false,
     };
-    ends_so && core.state(1) == Some(kind.running()) && core.idle(1)
+    ends_so && core.state(1) == Some(kind.running_state()) && core.idle(1)
 }
 
 /// Whether the first tenancy's job is over, by exactly its steps, whose entries begin at that
 /// number.
 fn is_over<C: Begun, P: Ledger>(core: &Core<C, P>, kind: Kind, first: u32) -> bool {
     let end = first.saturating_add(kind.steps());
-    core.state(1) == Some(kind.done())
+    core.state(1) == Some(kind.done_state())
         && is_told(
             core,
             end.saturating_sub(1),
@@ -270,15 +270,19 @@ fn is_over<C: Begun, P: Ledger>(core: &Core<C, P>, kind: Kind, first: u32) -> bo
 /// Whether the first tenancy's last entry is of a stale step, after one command.
 fn is_stale<C: Begun, P: Ledger>(core: &Core<C, P>, kind: Kind, state: StateName) -> bool {
     core.state(1) == Some(state)
-        && is_told(core, kind.begun() + 1, &Reply::Step(StepReply::Stale))
-        && core.entry(1, kind.begun() + 2).is_none()
+        && is_told(core, kind.entry_count() + 1, &Reply::Step(StepReply::Stale))
+        && core.entry(1, kind.entry_count() + 2).is_none()
 }
 
 /// Whether the first tenancy is gone, and its journal didn't change.
 fn is_gone<C: Begun, P: Ledger>(core: &Core<C, P>, kind: Kind) -> bool {
     core.state(1).is_none()
-        && is_told(core, kind.begun() - 1, &Reply::Accepted(kind.running()))
-        && core.entry(1, kind.begun()).is_none()
+        && is_told(
+            core,
+            kind.entry_count() - 1,
+            &Reply::Accepted(kind.running_state()),
+        )
+        && core.entry(1, kind.entry_count()).is_none()
 }
 
 /// Whether the second tenancy is as it was before the step was put: routed in the first column, and
