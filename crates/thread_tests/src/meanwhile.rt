@@ -362,16 +362,16 @@ fn set_up<C: Begun, P: Ledger, R: Wait + AllocGlobal>(
     requires stay { C.stay ≡ false }
     ensures { IfSome result (λ worker. worker.seat.of ≡ pool.ready.now) }
 {
-    let (rt, ready) = (pool.rt, pool.ready);
+    let core = &pool.shared.core;
     if begins(
-        rt,
-        &mut *pool.shared.core.lock(rt),
+        pool.rt,
+        &mut *core.lock(pool.rt),
         pool.graph,
-        ready,
+        pool.ready,
         passes,
         kind,
     ) {
-        a_worker(&mut *pool.shared.core.lock(rt), ready, seats)
+        a_worker(&mut *core.lock(pool.rt), pool.ready, seats)
     } else {
         None
     }

@@ -117,12 +117,10 @@ pub(crate) fn waits_are_told<
     requires passes { All (λ p. p.of ≡ pool.ready.now) passes.old.items }
     requires stay { C.stay ≡ false }
 {
-    let (rt, ready) = (pool.rt, pool.ready);
-    let pair = a_pair(&mut *pool.shared.core.lock(rt), ready, seats, passes);
+    let core = &pool.shared.core;
+    let pair = a_pair(&mut *core.lock(pool.rt), pool.ready, seats, passes);
     match pair {
-        Some(pair) => {
-            are_told(pool, pair, work) && work.is_left(&mut *pool.shared.core.lock(rt))
-        }
+        Some(pair) => are_told(pool, pair, work) && work.is_left(&mut *core.lock(pool.rt)),
         None => false,
     }
 }

@@ -88,15 +88,15 @@ fn set_up<C: Begun, P: Ledger, R: Wait + AllocGlobal>(
     ensures { IfSome result (λ both. (both.0.seat.of ≡ pool.ready.now)
         × (both.1.seat.of ≡ pool.ready.now)) }
 {
-    let (rt, ready) = (pool.rt, pool.ready);
+    let core = &pool.shared.core;
     if both_begin(
-        rt,
-        &mut *pool.shared.core.lock(rt),
+        pool.rt,
+        &mut *core.lock(pool.rt),
         pool.graph,
-        ready,
+        pool.ready,
         passes,
     ) {
-        two_workers(&mut *pool.shared.core.lock(rt), ready, seats)
+        two_workers(&mut *core.lock(pool.rt), pool.ready, seats)
     } else {
         None
     }
