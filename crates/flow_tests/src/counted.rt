@@ -247,25 +247,18 @@ fn are_found<G: StripGraph>(
 fn reads_the_window(
     alloc: Global,
     window: &Window<'_>,
-    placing: &Placing,
+    routing: Routing,
     routes: &Routes,
     case: Case,
 ) -> bool
-    requires arch { placing.now.packed.arch ≡ window.now.arch }
-    requires strip { placing.now.strip ≡ window.now.strip }
+    requires { IsAfter (wiring_of window.now) routing More }
 {
     let reads = Reads::new();
     let counted = Counted {
-        window,
+        window: &*window,
         reads: &reads,
     };
-    match begin_routing(alloc, window, placing) {
-        Some(routing) => {
-            are_found(alloc, &counted, routing, routes, case)
-                && case.has_reads(&reads, window.count())
-        }
-        None => false,
-    }
+    are_found(alloc, &counted, routing, routes, case) && case.has_reads(&reads, counted.count())
 }
 
 /// The routes that a routing over a window itself finds.
@@ -279,6 +272,23 @@ fn routed_on(alloc: Global, window: &Window<'_>, placing: &Placing, case: Case) 
     }
 }
 
+/// Returns whether a routing reads from a counted window what it should, and finds these routes.
+fn finds_again(
+    alloc: Global,
+    window: &Window<'_>,
+    placing: &Placing,
+    routes: &Routes,
+    case: Case,
+) -> bool
+    requires arch { placing.now.packed.arch ≡ window.now.arch }
+    requires strip { placing.now.strip ≡ window.now.strip }
+{
+    match begin_routing(alloc, window, placing) {
+        Some(routing) => reads_the_window(alloc, window, routing, routes, case),
+        None => false,
+    }
+}
+
 /// Returns whether a routing over a counted window reads what it should, and finds what a routing
 /// over the window itself finds.
 fn reads_and_finds(alloc: Global, window: &Window<'_>, placing: &Placing, case: Case) -> bool
@@ -287,7 +297,7 @@ fn reads_and_finds(alloc: Global, window: &Window<'_>, placing: &Placing, case: 
 {
     match routed_on(alloc, window, placing, case) {
         Some(routes) => {
-            let is_so = reads_the_window(alloc, window, placing, &routes, case);
+            let is_so = finds_again(alloc, window, placing, &routes, case);
             drop(routes);
             is_so
         }

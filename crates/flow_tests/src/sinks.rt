@@ -98,7 +98,7 @@ fn routed_on(alloc: Global, fabric: &Fabric, placing: &Placing) -> Option<Routes
 }
 
 /// The routes of placed blocks.
-fn routed(alloc: Global, placing: &Placing) -> Option<Routes> {
+fn routes_between(alloc: Global, placing: &Placing) -> Option<Routes> {
     match Fabric::new(alloc, placing.packed().arch(), placing.strip()) {
         Ok(fabric) => {
             let routes = routed_on(alloc, &fabric, placing);
@@ -111,7 +111,7 @@ fn routed(alloc: Global, placing: &Placing) -> Option<Routes> {
 
 /// Returns whether the `.route` file of placed blocks is written as far as it fits.
 fn goes_when_routed(alloc: Global, placing: &Placing) -> bool {
-    match routed(alloc, placing) {
+    match routes_between(alloc, placing) {
         Some(routes) => {
             let is_so = first_wrong_route(alloc, placing, &routes).is_none();
             drop(routes);
