@@ -106,6 +106,16 @@ const ACTS: [Act; 8] = [
     Act::Replace,
 ];
 
+/// What is done after a job was put: no job is out then that a full journal could refuse.
+const LATER: [Act; 6] = [
+    Act::Cancel,
+    Act::BeginAgain,
+    Act::Change,
+    Act::Withdraw,
+    Act::Evict,
+    Act::Replace,
+];
+
 /// Asks the core in the first tenancy's name. The answer does not matter.
 fn ask(core: &mut Service, command: Command) {
     drop(core.tenant(1, command));
@@ -512,7 +522,7 @@ fn late_ones_come_back(alloc: Global, graph: &DeviceGraph, kind: Kind) -> bool {
 /// Whether a job is put as it should be, whatever is done after its step and after the put.
 fn are_put_before(alloc: Global, graph: &DeviceGraph, kind: Kind, after: Act) -> bool {
     let mut are_so = true;
-    for last in ACTS.iter() {
+    for last in LATER.iter() {
         let case = Case {
             after,
             last: *last,
