@@ -1,9 +1,9 @@
 //! What is done to a tenancy at two points of a step of its job: before the job is taken, before
 //! the step, after the step, or after the job came back. The job is put, or given back, with its
-//! step made or not. By the rules of jobs a step counts only if nothing was done while the job was out;
-//! it is stale if the job was cancelled or begun again, or if its netlist is gone; a full journal
-//! takes no step; and a tenancy that was evicted takes none either. A job that is given back can be
-//! taken again only if it still runs and the journal has room.
+//! step made or not. By the rules of jobs a step counts only if nothing was done while the job was
+//! out; it is stale if the job was cancelled or begun again, or if its netlist is gone; a full
+//! journal takes no step; and a tenancy that was evicted takes none either. A job that is given
+//! back can be taken again only if it still runs and the journal has room.
 ghost use Rattle.std.specs.Prelude.{◌≡◌};
 ghost use Rattle.job_state.specs.JobValue.{basis_in};
 
