@@ -1,3 +1,4 @@
 mod UnitGraph
 mod Street
 mod Pairs
+mod TwoLanes

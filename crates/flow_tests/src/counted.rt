@@ -1,36 +1,77 @@
-//! Routing over a window whose reads are counted.
+//! Routing over a window whose reads are counted, by kind.
+//!
+//! An iteration reads the nodes of its window, their numbers and their capacities. It reads edges
+//! only to check whether the paths of the iteration before it are still paths.
 ghost use Rattle.std.specs.Prelude.{◌≡◌, ◌<◌, ◌≤◌, length};
-ghost use Rattle.block_places.specs.Placed.{ArePlaced};
 ghost use Rattle.pathfinder.specs.Negotiation.{More};
 ghost use Rattle.pathfinder.specs.PlacedNets.{wiring_of};
 ghost use Rattle.pathfinder.specs.Routings.{IsAfter};
 
 use crate::circuits::{packed_netlist, placed_anew};
 use crate::graphs::NARROW;
+use crate::routings::{begin_routing, finish_in_one, finish_in_two};
 use arch_file::Arch;
-use cluster::{Packed, SharedPacked};
+use cluster::SharedPacked;
 use fixtures::AND;
-use grid::{Place, Strip};
-use pathfinder::{IterEnd, Routes, Routing};
+use grid::Strip;
+use pathfinder::{Routes, Routing};
 use rr_graph::{EdgeEnds, Node, NodeKind, Numbers, StripGraph};
 use std::alloc::Global;
 use std::cell::Cell;
 use strip_place::Placing;
 use strips::{DeviceGraph, Window};
 
-/// A window, and the number of reads of its nodes' edges: by `ends`, `ends_towards` and `edge`
-/// together, since a router asks for many at once.
+/// The number of reads of each kind.
+#[derive(Drop)]
+struct Reads {
+    /// The reads of a node by its number.
+    nodes: Cell<u64>,
+    /// The reads of a number by its node, and of the numbers at a place.
+    numbers: Cell<u64>,
+    capacities: Cell<u64>,
+    /// The reads of a node's edges, by `ends`, `edge` and `ends_towards` together.
+    edges: Cell<u64>,
+    /// The reads of what the graph states of the ways to a sink.
+    ways: Cell<u64>,
+}
+
+impl Reads {
+    fn new() -> Self {
+        Reads {
+            nodes: Cell::new(0),
+            numbers: Cell::new(0),
+            capacities: Cell::new(0),
+            edges: Cell::new(0),
+            ways: Cell::new(0),
+        }
+    }
+
+    /// Returns whether these are the reads of one iteration over `count` nodes: each node at least
+    /// once, numbers and capacities, but no edge and no way.
+    fn are_of_one(&self, count: usize) -> bool {
+        self.have_nodes(count) && self.edges.get() == 0 && self.ways.get() == 0
+    }
+
+    /// Returns whether these are the reads of two iterations: the same, and edges.
+    fn are_of_two(&self, count: usize) -> bool {
+        self.have_nodes(count) && self.edges.get() > 0 && self.ways.get() == 0
+    }
+
+    fn have_nodes(&self, count: usize) -> bool {
+        self.nodes.get() >= count as u64 && self.numbers.get() > 0 && self.capacities.get() > 0
+    }
+}
+
+/// Counts a read.
+fn note(reads: &Cell<u64>) {
+    reads.set(reads.get().saturating_add(1));
+}
+
+/// A window, and the number of reads of it.
 #[derive(Drop)]
 struct Counted<'a> {
     window: &'a Window<'a>,
-    reads: &'a Cell<u64>,
-}
-
-impl Counted<'_> {
-    /// Counts a read.
-    fn note(&self) {
-        self.reads.set(self.reads.get().saturating_add(1));
-    }
+    reads: &'a Reads,
 }
 
 impl StripGraph for Counted<'_> {
@@ -41,45 +82,52 @@ impl StripGraph for Counted<'_> {
     }
 
     fn node(&self, node: usize) -> Node {
+        note(&self.reads.nodes);
         self.window.node(node)
     }
 
     fn number(&self, node: Node) -> Option<usize> {
+        note(&self.reads.numbers);
         self.window.number(node)
     }
 
     fn numbers_at(&self, kind: NodeKind, x: u32, y: u32) -> Numbers {
+        note(&self.reads.numbers);
         self.window.numbers_at(kind, x, y)
     }
 
     fn ends(&self, node: usize) -> EdgeEnds<'_> {
-        self.note();
+        note(&self.reads.edges);
         self.window.ends(node)
     }
 
     fn edge(&self, node: usize, k: usize) -> Option<usize> {
-        self.note();
+        note(&self.reads.edges);
         self.window.edge(node, k)
     }
 
     fn ends_towards(&self, node: usize, place: Node, sink: Node) -> EdgeEnds<'_> {
-        self.note();
+        note(&self.reads.edges);
         self.window.ends_towards(node, place, sink)
     }
 
     fn further_to(&self, node: usize, sink: Node) -> Option<u64> {
+        note(&self.reads.ways);
         self.window.further_to(node, sink)
     }
 
     fn further_from(&self, node: Node, sink: Node) -> Option<u64> {
+        note(&self.reads.ways);
         self.window.further_from(node, sink)
     }
 
     fn met_tracks(&self, sink: Node) -> &[bool] {
+        note(&self.reads.ways);
         self.window.met_tracks(sink)
     }
 
     fn capacity(&self, node: usize) -> u32 {
+        note(&self.reads.capacities);
         self.window.capacity(node)
     }
 
@@ -92,53 +140,55 @@ impl StripGraph for Counted<'_> {
     }
 }
 
-/// The result of a routing, if it takes less than 40 iterations.
-fn finish_routing<G: StripGraph>(alloc: Global, graph: &G, routing: Routing) -> Option<Routes>
-    requires { IsAfter (wiring_of (G.basis graph.now)) routing More }
-{
-    let mut routing = routing;
-    for _turn in 0..40u32 {
-        match routing.iteration(alloc, graph) {
-            Ok(IterEnd::Again(next)) => routing = next,
-            Ok(IterEnd::Done(routes)) => return Some(routes),
-            other => {
-                drop(other);
-                return None;
-            }
-        }
-    }
-    drop(routing);
-    None
+/// A netlist, and its routing on a strip of one column.
+#[derive(Clone, Copy)]
+struct Case {
+    netlist: &'static str,
+    nets: usize,
+    /// Whether the nets need the same wire in the first iteration, so that there is a second one.
+    has_two: bool,
 }
 
-/// The routes between places on a graph.
-fn routed_between<G: StripGraph>(
-    alloc: Global,
-    graph: &G,
-    packed: &Packed,
-    places: &[Place],
-) -> Option<Routes>
-    requires arch { packed.now.arch ≡ (G.basis graph.now).arch }
-    requires placed { ArePlaced (G.basis graph.now).strip packed.now places.now }
-{
-    match Routing::start(alloc, graph, packed, places) {
-        Ok(routing) => finish_routing(alloc, graph, routing),
-        Err(_) => None,
-    }
-}
+/// The routes of an input that is an output too, and of a table that copies it, have no node in
+/// common. Two inputs of one table want the same wire first.
+const CASES: [Case; 2] = [
+    Case {
+        netlist: "\
+.model s
+.inputs a
+.outputs a f
+.names a f
+1 1
+",
+        nets: 2,
+        has_two: false,
+    },
+    Case {
+        netlist: AND,
+        nets: 3,
+        has_two: true,
+    },
+];
 
-/// The routes of placed blocks on a graph.
-fn routed_on<G: StripGraph>(alloc: Global, graph: &G, placing: &Placing) -> Option<Routes>
-    requires arch { placing.now.packed.arch ≡ (G.basis graph.now).arch }
-    requires strip { placing.now.strip ≡ (G.basis graph.now).strip }
-{
-    match placing.places(alloc) {
-        Ok(places) => {
-            let routes = routed_between(alloc, graph, placing.packed(), &places);
-            drop(places);
-            routes
+impl Case {
+    /// The routes that a routing finds in exactly as many iterations as the case says.
+    fn finish<G: StripGraph>(self, alloc: Global, graph: &G, routing: Routing) -> Option<Routes>
+        requires { IsAfter (wiring_of (G.basis graph.now)) routing More }
+    {
+        if self.has_two {
+            finish_in_two(alloc, graph, routing)
+        } else {
+            finish_in_one(alloc, graph, routing)
         }
-        Err(_) => None,
+    }
+
+    /// Returns whether the reads are those of a routing in as many iterations.
+    fn has_reads(self, reads: &Reads, count: usize) -> bool {
+        if self.has_two {
+            reads.are_of_two(count)
+        } else {
+            reads.are_of_one(count)
+        }
     }
 }
 
@@ -159,12 +209,12 @@ fn has_same_paths(routes: &Routes, others: &Routes, net: usize) -> bool
     true
 }
 
-/// Returns whether both are equal routes of three nets.
-fn are_same(routes: &Routes, others: &Routes) -> bool {
-    if routes.len() != 3 || others.len() != 3 {
+/// Returns whether both are equal routes of this number of nets.
+fn are_same(routes: &Routes, others: &Routes, nets: usize) -> bool {
+    if routes.len() != nets || others.len() != nets {
         return false;
     }
-    for net in 0..3 {
+    for net in 0..nets {
         if !has_same_paths(routes, others, net) {
             return false;
         }
@@ -172,14 +222,19 @@ fn are_same(routes: &Routes, others: &Routes) -> bool {
     true
 }
 
-/// Returns whether placed blocks get these routes on a graph.
-fn routes_again<G: StripGraph>(alloc: Global, graph: &G, placing: &Placing, routes: &Routes) -> bool
-    requires arch { placing.now.packed.arch ≡ (G.basis graph.now).arch }
-    requires strip { placing.now.strip ≡ (G.basis graph.now).strip }
+/// Returns whether these are the routes that a routing over a graph finds.
+fn are_found<G: StripGraph>(
+    alloc: Global,
+    graph: &G,
+    routing: Routing,
+    routes: &Routes,
+    case: Case,
+) -> bool
+    requires { IsAfter (wiring_of (G.basis graph.now)) routing More }
 {
-    match routed_on(alloc, graph, placing) {
+    match case.finish(alloc, graph, routing) {
         Some(others) => {
-            let is_so = are_same(routes, &others);
+            let is_so = are_same(routes, &others, case.nets);
             drop(others);
             is_so
         }
@@ -187,33 +242,75 @@ fn routes_again<G: StripGraph>(alloc: Global, graph: &G, placing: &Placing, rout
     }
 }
 
-/// Returns whether a routing over a counted window reads the window's edges, and finds what a
-/// routing over the window itself finds.
-fn reads_the_window(alloc: Global, window: &Window<'_>, placing: &Placing) -> bool
+/// Returns whether the iterations of a routing read from a counted window what they should, and
+/// find these routes.
+fn reads_the_window(
+    alloc: Global,
+    window: &Window<'_>,
+    routing: Routing,
+    routes: &Routes,
+    case: Case,
+) -> bool
+    requires { IsAfter (wiring_of window.now) routing More }
+{
+    let reads = Reads::new();
+    let counted = Counted {
+        window: &*window,
+        reads: &reads,
+    };
+    are_found(alloc, &counted, routing, routes, case) && case.has_reads(&reads, counted.count())
+}
+
+/// The routes that a routing over a window itself finds.
+fn routed_on(alloc: Global, window: &Window<'_>, placing: &Placing, case: Case) -> Option<Routes>
     requires arch { placing.now.packed.arch ≡ window.now.arch }
     requires strip { placing.now.strip ≡ window.now.strip }
 {
-    let reads = Cell::new(0);
-    let counted = Counted {
-        window,
-        reads: &reads,
-    };
-    match routed_on(alloc, window, placing) {
+    match begin_routing(alloc, window, placing) {
+        Some(routing) => case.finish(alloc, window, routing),
+        None => None,
+    }
+}
+
+/// Returns whether a routing reads from a counted window what it should, and finds these routes.
+fn finds_again(
+    alloc: Global,
+    window: &Window<'_>,
+    placing: &Placing,
+    routes: &Routes,
+    case: Case,
+) -> bool
+    requires arch { placing.now.packed.arch ≡ window.now.arch }
+    requires strip { placing.now.strip ≡ window.now.strip }
+{
+    match begin_routing(alloc, window, placing) {
+        Some(routing) => reads_the_window(alloc, window, routing, routes, case),
+        None => false,
+    }
+}
+
+/// Returns whether a routing over a counted window reads what it should, and finds what a routing
+/// over the window itself finds.
+fn reads_and_finds(alloc: Global, window: &Window<'_>, placing: &Placing, case: Case) -> bool
+    requires arch { placing.now.packed.arch ≡ window.now.arch }
+    requires strip { placing.now.strip ≡ window.now.strip }
+{
+    match routed_on(alloc, window, placing, case) {
         Some(routes) => {
-            let is_so = routes_again(alloc, &counted, placing, &routes);
+            let is_so = finds_again(alloc, window, placing, &routes, case);
             drop(routes);
-            is_so && reads.get() > 0
+            is_so
         }
         None => false,
     }
 }
 
 /// Returns whether this holds on the third of five columns, for a placed circuit.
-fn reads_a_window(alloc: Global, placing: &Placing) -> bool {
+fn reads_a_window(alloc: Global, placing: &Placing, case: Case) -> bool {
     match DeviceGraph::new(alloc, placing.packed().arch(), 5, 1) {
         Ok(graph) => {
             let is_so = match Window::new(&graph, 2, placing.strip()) {
-                Some(window) => reads_the_window(alloc, &window, placing),
+                Some(window) => reads_and_finds(alloc, &window, placing, case),
                 None => false,
             };
             drop(graph);
@@ -224,11 +321,23 @@ fn reads_a_window(alloc: Global, placing: &Placing) -> bool {
 }
 
 /// Returns whether this holds for a packed circuit.
-fn reads_when_placed(alloc: Global, packed: &SharedPacked) -> bool {
+fn reads_when_placed(alloc: Global, packed: &SharedPacked, case: Case) -> bool {
     match placed_anew(alloc, packed, NARROW, 7, 0) {
         Some(placing) => {
-            let is_so = reads_a_window(alloc, &placing);
+            let is_so = reads_a_window(alloc, &placing, case);
             drop(placing);
+            is_so
+        }
+        None => false,
+    }
+}
+
+/// Returns whether this holds in a case.
+fn is_read(alloc: Global, case: Case) -> bool {
+    match packed_netlist(alloc, case.netlist) {
+        Some(packed) => {
+            let is_so = reads_when_placed(alloc, &packed, case);
+            drop(packed);
             is_so
         }
         None => false,
@@ -237,13 +346,9 @@ fn reads_when_placed(alloc: Global, packed: &SharedPacked) -> bool {
 
 #[test]
 fn routing_reads_its_window(rt: HostRuntime) {
-    let is_so = match packed_netlist(rt.alloc(), AND) {
-        Some(packed) => {
-            let is_so = reads_when_placed(rt.alloc(), &packed);
-            drop(packed);
-            is_so
-        }
-        None => false,
-    };
-    assert!(rt; is_so);
+    let mut are_read = true;
+    for case in CASES.iter() {
+        are_read &= is_read(rt.alloc(), *case);
+    }
+    assert!(rt; are_read);
 }

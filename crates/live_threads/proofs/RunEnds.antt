@@ -1,7 +1,10 @@
 -- The end of a program, from its run.
-use Rattle.std.proofs.Common.{◌≡◌, ◌⊎◌, ℕ, List, Option, Some, None, Result, Ok, Err, inl, inr, false, refl}
+use Rattle.std.proofs.Common.{◌≡◌, ◌⊎◌, ℕ, List, Option, Some, None, Result, Ok, Err, IfOk, inl, inr, false, refl, subst, sym}
 use Rattle.dialogue.specs.History.{View}
+use Rattle.live_run.specs.declared.options.CommandLine.{CommandLine}
+use Rattle.live_run.specs.declared.outcome.Outcome.{Outcome}
 use Rattle.live_run.specs.declared.outcome.Outcome.TheVariants.{NoMemory}
+use Rattle.live_run.specs.Commands.{RunsLine}
 use Rattle.live_threads.specs.declared.outcome.ProgramOutcome.{ProgramOutcome}
 use Rattle.live_threads.specs.declared.outcome.ProgramOutcome.TheVariants.{Ended, NotSettled}
 use Rattle.live_threads.specs.Endings.{IsProgramEnd, IsProgramRun, RunsAlone, RunsWords, program_status, run_status}
@@ -18,3 +21,14 @@ ends input output (Some after) (Ok NotSettled) status run is = absurd run.runs
 ends input output (Some after) (Err error) status run is = (Err tt, record { before = run.before; remaining = run.remaining; written = run.written; has_log = run.has_log; runs = run.runs }, is)
 ends input output None (Ok outcome) status run is = (Ok outcome, tt, is)
 ends input output None (Err error) status run is = absurd run
+
+-- words that are refused, or for which memory ran out: nothing was done over the connection
+pub refused : {E : Type 0} (input output : Option (List ℕ)) (view : View) (outcome : Result ProgramOutcome E) → view.remaining ≡ input → view.output ≡ output → view.has_log ≡ false → IfOk outcome (λ it. it ≡ Ended NoMemory) → IsProgramRun input output (Some view) outcome
+refused {E} input output view (Ok outcome) remaining written none is =
+    let P : ProgramOutcome → Type 0 = λ it. RunsAlone {E = E} input output view (Ok it) in
+    subst P (sym is) (record { before = view; remaining = remaining; written = written; has_log = none; runs = inl (refl, refl) })
+refused input output view (Err error) remaining written none is = record { before = view; remaining = remaining; written = written; has_log = none; runs = refl }
+
+-- a command line that runs without workers
+pub alone : {E : Type 0} (input output : Option (List ℕ)) (before after : View) (line : CommandLine) (outcome : Outcome) → before.remaining ≡ input → before.output ≡ output → before.has_log ≡ false → RunsLine line before after outcome → IsProgramRun {E = E} input output (Some after) (Ok (Ended outcome))
+alone input output before after line outcome remaining written none runs = record { before = before; remaining = remaining; written = written; has_log = none; runs = inr (line, runs) }

@@ -48,7 +48,8 @@ fn crew_of(ready: Ready, seats: Vec<Seat>, passes: Vec<Pass>) -> Option<Crew>
     let second = a_seat(&mut seats, &ready);
     let first = a_seat(&mut seats, &ready);
     let pass = a_pass(&mut passes, &ready);
-    drop((seats, passes));
+    drop(seats);
+    drop(passes);
     match (first, second, third, pass) {
         (Some(first), Some(second), Some(third), Some(pass)) => Some(Crew {
             ready,

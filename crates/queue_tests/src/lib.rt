@@ -6,6 +6,7 @@
 //! - `order`: which number is popped first.
 //! - `meeting`: seats that push and pop on threads of their own.
 //! - `first_queue`: equal pushes and pops in a queue of one line.
+//! - `showing`: what is shown of a queue that is made, lent and dropped in one place.
 //! - `crew`, `numbers`: a queue with three seats and a pass, and many pushes and pops.
 #![tactic(auto)]
 
@@ -23,3 +24,5 @@ mod meeting;
 mod numbers;
 #[cfg(test)]
 mod order;
+#[cfg(test)]
+mod showing;

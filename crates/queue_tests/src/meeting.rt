@@ -4,6 +4,7 @@ ghost use Rattle.std.specs.Prelude.{◌≡◌};
 use crate::crew::Crew;
 use crate::numbers::{Counts, NUMBERS, pop_numbers, push_own_numbers};
 use job_queue::{Popped, Ready, Seat};
+use std::alloc::AllocGlobal;
 use std::sync::Wait;
 use std::thread;
 use std::thread::Threads;
@@ -73,16 +74,18 @@ fn by_two<R: Threads + Wait + Sync>(
 }
 
 /// Returns whether each of the 1,000 numbers was popped once.
-fn is_each_popped_once<R: Threads + Wait + Sync>(rt: &R, crew: Crew) -> bool {
-    let Crew {
-        ready,
-        first,
-        second,
-        third,
-        pass,
-    } = crew;
-    let (one, (two, three)) = by_three(rt, &ready, first, second, third);
-    drop((ready, pass));
+fn is_each_popped_once<R: Threads + Wait + Sync>(
+    rt: &R,
+    ready: &Ready,
+    first: Seat,
+    second: Seat,
+    third: Seat,
+) -> bool
+    requires first { first.of ≡ ready.now }
+    requires second { second.of ≡ ready.now }
+    requires third { third.of ≡ ready.now }
+{
+    let (one, (two, three)) = by_three(rt, ready, first, second, third);
     is_each_once(&one, &two, &three)
 }
 
@@ -93,14 +96,9 @@ fn is_each_once(one: &Counts, two: &Counts, three: &Counts) -> bool {
         let times = one[number]
             .saturating_add(two[number])
             .saturating_add(three[number]);
-        once = once && times == 1;
+        once &= times == 1;
     }
     once
-}
-
-#[test]
-fn three_seats_pop_each_number_once(rt: HostRuntime) {
-    assert!(rt; Crew::new(rt.alloc()).is_some_and(|crew| is_each_popped_once(&rt, crew)));
 }
 
 /// Does nothing for that many turns.
@@ -110,38 +108,36 @@ fn idle(turns: u32) {
     }
 }
 
-/// The results of two pops that begin while the queue is empty: a number is pushed later, and the
-/// queue is closed later still.
-fn two_pops<R: Threads + Wait + Sync>(
-    rt: &R,
-    ready: &Ready,
-    first: Seat,
-    second: Seat,
-) -> (Popped, Popped)
+/// Returns whether two pops that begin while the queue is empty give a number that is pushed later,
+/// and that the queue is closed, which is later still.
+fn waits<R: Threads + Wait + Sync>(rt: &R, ready: &Ready, first: Seat, second: Seat) -> bool
     requires first { first.of ≡ ready.now }
     requires second { second.of ≡ ready.now }
 {
-    let (popped, ()) = thread::join(
+    let (are_popped, ()) = thread::join(
         rt,
-        move || -> (Popped, Popped)
+        move || -> bool
             requires { first.of ≡ ready.now }
         { pop_twice(rt, ready, first) },
         move || -> ()
             requires { second.of ≡ ready.now }
         { push_and_close(rt, ready, second) },
     );
-    popped
+    are_popped
 }
 
-fn pop_twice<R: Wait>(rt: &R, ready: &Ready, seat: Seat) -> (Popped, Popped)
+/// Pops twice. Returns whether a number comes first, and then the end.
+fn pop_twice<R: Wait>(rt: &R, ready: &Ready, seat: Seat) -> bool
     requires { seat.of ≡ ready.now }
 {
     let mut seat = seat;
-    let popped = (ready.pop(rt, &mut seat), ready.pop(rt, &mut seat));
+    let is_first = ready.pop(rt, &mut seat) == Popped::Number(7);
+    let is_closed = ready.pop(rt, &mut seat) == Popped::Closed;
     drop(seat);
-    popped
+    is_first & is_closed
 }
 
+/// Pushes a number later, and closes the queue later still.
 fn push_and_close<R: Wait>(rt: &R, ready: &Ready, seat: Seat)
     requires { seat.of ≡ ready.now }
 {
@@ -153,9 +149,17 @@ fn push_and_close<R: Wait>(rt: &R, ready: &Ready, seat: Seat)
     drop(seat);
 }
 
-/// Returns whether a pop waits for a number that another worker pushes, and the next one for the
-/// closing.
-fn waits<R: Threads + Wait + Sync>(rt: &R, crew: Crew) -> bool {
+/// What seats on threads of their own are to show.
+#[derive(Clone, Copy)]
+enum Met {
+    /// They pop each number once.
+    EachOnce,
+    /// A pop waits for a number that another worker pushes, and the next one for the closing.
+    Waiting,
+}
+
+/// Returns whether the seats of a crew show that.
+fn is_met<R: Threads + Wait + Sync>(rt: &R, crew: Crew, met: Met) -> bool {
     let Crew {
         ready,
         first,
@@ -163,12 +167,32 @@ fn waits<R: Threads + Wait + Sync>(rt: &R, crew: Crew) -> bool {
         third,
         pass,
     } = crew;
-    let popped = two_pops(rt, &ready, first, second);
-    drop((ready, third, pass));
-    popped == (Popped::Number(7), Popped::Closed)
+    drop(pass);
+    let is_so = match met {
+        Met::EachOnce => is_each_popped_once(rt, &ready, first, second, third),
+        Met::Waiting => {
+            drop(third);
+            waits(rt, &ready, first, second)
+        }
+    };
+    drop(ready);
+    is_so
+}
+
+/// Returns whether the seats of a new crew show that.
+fn meets<R: Threads + Wait + AllocGlobal + Sync>(rt: &R, met: Met) -> bool {
+    match Crew::new(rt.alloc()) {
+        Some(crew) => is_met(rt, crew, met),
+        None => false,
+    }
+}
+
+#[test]
+fn three_seats_pop_each_number_once(rt: HostRuntime) {
+    assert!(rt; meets(&rt, Met::EachOnce));
 }
 
 #[test]
 fn a_pop_waits_for_a_number_or_the_end(rt: HostRuntime) {
-    assert!(rt; Crew::new(rt.alloc()).is_some_and(|crew| waits(&rt, crew)));
+    assert!(rt; meets(&rt, Met::Waiting));
 }

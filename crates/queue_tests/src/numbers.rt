@@ -12,8 +12,9 @@ pub(crate) type Counts = [u32; NUMBERS];
 
 /// Counts a number that was popped.
 pub(crate) fn count(counts: &mut Counts, number: u32) {
-    if let Some(times) = counts.get_mut(number as usize) {
-        *times = times.saturating_add(1);
+    let place = number as usize;
+    if place < NUMBERS {
+        counts[place] = counts[place].saturating_add(1);
     }
 }
 
@@ -30,7 +31,7 @@ pub(crate) fn push_numbers<R: Wait>(
 {
     let mut are_pushed = true;
     for number in numbers.0..numbers.1 {
-        are_pushed = ready.push(rt, pass, number).is_ok() && are_pushed;
+        are_pushed &= ready.push(rt, pass, number).is_ok();
     }
     are_pushed
 }
@@ -48,7 +49,7 @@ pub(crate) fn push_own_numbers<R: Wait>(
 {
     let mut are_pushed = true;
     for number in numbers.0..numbers.1 {
-        are_pushed = ready.push_own(rt, seat, number).is_ok() && are_pushed;
+        are_pushed &= ready.push_own(rt, seat, number).is_ok();
     }
     are_pushed
 }
@@ -60,7 +61,7 @@ pub(crate) fn gives<R: Wait>(rt: &R, ready: &Ready, seat: &mut Seat, numbers: (u
 {
     let mut are_popped = true;
     for number in numbers.0..numbers.1 {
-        are_popped = ready.pop(rt, seat) == Popped::Number(number) && are_popped;
+        are_popped &= ready.pop(rt, seat) == Popped::Number(number);
     }
     are_popped
 }

@@ -12,12 +12,12 @@ use arch_file::{Arch, read_arch};
 use fixtures::{AND, ARCHITECTURE};
 use job_state::{AnyJob, Done};
 use line_text::Text;
-use service_core::{Device, window_for};
+use service_core::{Device, Receipt, window_for};
 use shared_core::{Begun, Core};
 use std::alloc::Global;
 use std::sync::ledger::{Blank, Ledger};
 use strips::{DeviceGraph, Window};
-use tenant_slot::{Command, SharedText};
+use tenant_slot::{Command, Reply, SharedText};
 
 /// The columns of the device, which has one row.
 const COLUMNS: u32 = 8;
@@ -99,6 +99,26 @@ pub(crate) fn text(alloc: Global) -> Option<SharedText> {
     }
 }
 
+/// Admits a tenancy, uploads a netlist, and begins to pack it. Returns the slot's number, which is
+/// marked.
+pub(crate) fn begin_packing<C: Begun, P: Ledger>(
+    alloc: Global,
+    core: &mut Core<C, P>,
+    id: u32,
+) -> Option<u32>
+    requires { C.stay ≡ false }
+{
+    match text(alloc) {
+        Some(text) => {
+            let begins = core.admit(1).is_ok()
+                && is_served(core, id, Command::Upload(text))
+                && is_served(core, id, Command::Pack);
+            if begins { core.mark_ready(id) } else { None }
+        }
+        None => None,
+    }
+}
+
 /// Admits a tenancy, uploads a netlist, packs it by one step and begins to place it. Returns the
 /// slot's number, which is marked.
 pub(crate) fn begin_placing<C: Begun, P: Ledger>(
@@ -109,17 +129,10 @@ pub(crate) fn begin_placing<C: Begun, P: Ledger>(
 ) -> Option<u32>
     requires { C.stay ≡ false }
 {
-    match text(alloc) {
-        Some(text) => {
-            let begins = core.admit(1).is_ok()
-                && is_served(core, id, Command::Upload(text))
-                && is_served(core, id, Command::Pack)
-                && is_stepped(core, graph, id)
-                && is_served(core, id, Command::Place { seed: 7, effort: 0 });
-            if begins { core.mark_ready(id) } else { None }
-        }
-        None => None,
-    }
+    let slot = begin_packing(alloc, core, id);
+    let begins = is_stepped(core, graph, id)
+        && is_served(core, id, Command::Place { seed: 7, effort: 0 });
+    if begins { slot } else { None }
 }
 
 /// Admits a tenancy, uploads a netlist, packs it by one step, places it by three, and begins to
@@ -150,8 +163,36 @@ pub(crate) fn is_served<C: Begun, P: Ledger>(
     core.tenant(id, command).is_ok()
 }
 
+/// Whether the file that the command asks for has these bytes.
+pub(crate) fn has_file<C: Begun, P: Ledger>(
+    core: &mut Core<C, P>,
+    id: u32,
+    command: Command,
+    file: &str,
+) -> bool
+    requires { C.stay ≡ false }
+{
+    match core.tenant(id, command) {
+        Ok(receipt) => tells_file(receipt, file),
+        Err(_) => false,
+    }
+}
+
+fn tells_file(receipt: Receipt, file: &str) -> bool {
+    let is_so = match receipt.reply() {
+        Reply::File { kind: _, text } => text.as_bytes() == file.as_bytes(),
+        _ => false,
+    };
+    drop(receipt);
+    is_so
+}
+
 /// Makes the next step, which the core counts as its own.
-fn is_stepped<C: Begun, P: Ledger>(core: &mut Core<C, P>, graph: &DeviceGraph, id: u32) -> bool
+pub(crate) fn is_stepped<C: Begun, P: Ledger>(
+    core: &mut Core<C, P>,
+    graph: &DeviceGraph,
+    id: u32,
+) -> bool
     requires { C.stay ≡ false }
 {
     match core.take(id) {

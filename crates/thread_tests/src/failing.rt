@@ -224,12 +224,9 @@ fn writes_end_so<C: Begun, P: Ledger, R: Wait + AllocGlobal>(rt: &R, shared: &Sh
 /// Whether sessions end as they should, whichever call fails. The core has no tenancies.
 pub(crate) fn all_end_so<C: Begun, P: Ledger, R: Wait + AllocGlobal>(
     rt: &R,
-    core: Core<C, P>,
+    shared: &Shared<C, P>,
 ) -> bool
     requires { C.stay ≡ false }
 {
-    let shared = Shared::new(core);
-    let are_so = reads_end_so(rt, &shared) && writes_end_so(rt, &shared);
-    drop(shared.into_core());
-    are_so
+    reads_end_so(rt, shared) && writes_end_so(rt, shared)
 }

@@ -1,5 +1,5 @@
 //! What is shown, each of a core of its own.
-ghost use Rattle.std.specs.Prelude.{◌+◌, ◌≡◌, false};
+ghost use Rattle.std.specs.Prelude.{◌+◌, ◌≡◌, All, false};
 ghost use Rattle.shared_core.specs.declared.shared.TheConstants.{MAX_WORKERS};
 ghost use Rattle.service_core.specs.declared.service.TheConstants.{MAX_ADMISSIONS};
 ghost use Rattle.service_core.specs.Service.{empty_service};
@@ -8,12 +8,13 @@ ghost use Rattle.thread_tests.specs.Devices.{IsSmall};
 use crate::cores::{new_core, new_device, new_graph};
 use crate::failing::all_end_so;
 use crate::gates::Point;
-use crate::meanwhile::{ACTS, Act, acts_under_a_held_job};
+use crate::meanwhile::{ACTS, Case, Kind, acts_under_a_held_job};
 use crate::same_told::tells_the_same;
 use crate::waiting::{Work, waits_are_told};
 use crate::workers::is_worked;
+use job_queue::{Pass, Ready, Seat};
 use service_core::Device;
-use shared_core::{Begun, Core};
+use shared_core::{Begun, Core, Shared};
 use std::alloc::AllocGlobal;
 use std::marker::Brand;
 use std::sync::Wait;
@@ -21,12 +22,13 @@ use std::sync::ledger::{Blank, Ledger};
 use std::thread::Threads;
 use std::time::Clock;
 use strips::DeviceGraph;
+use worker_pool::Pool;
 
 /// What a core is to show.
 #[derive(Clone, Copy)]
 enum Shown {
     Worked(Worked),
-    Meanwhile(Act, Point),
+    Meanwhile(Case),
     FailingDevices,
     FourSessions(usize),
     Waits(Work),
@@ -41,6 +43,77 @@ pub(crate) enum Worked {
     StepWithoutTheLock,
 }
 
+impl Shown {
+    /// The workers that have a seat in the queue.
+    fn workers(self) -> usize {
+        match self {
+            Shown::Worked(_) => 2,
+            _ => 1,
+        }
+    }
+}
+
+/// Whether that is shown by a core without tenancies, beside an open queue with these seats and
+/// passes.
+fn is_shown_beside<
+    C: Begun + Send + Sync,
+    P: Ledger + Send + Sync,
+    R: Threads + Wait + Clock + AllocGlobal + Sync,
+>(pool: Pool<'_, R, C, P>, seats: &mut Vec<Seat>, passes: &mut Vec<Pass>, shown: Shown) -> bool
+    requires seats { All (λ s. s.of ≡ pool.ready.now) seats.old.items }
+    requires passes { All (λ p. p.of ≡ pool.ready.now) passes.old.items }
+    requires stay { C.stay ≡ false }
+{
+    match shown {
+        Shown::Worked(worked) => is_worked(pool, seats, passes, worked),
+        Shown::Meanwhile(case) => acts_under_a_held_job(pool, seats, passes, case),
+        Shown::FailingDevices => all_end_so(pool.rt, pool.shared),
+        Shown::Waits(work) => waits_are_told(pool, seats, passes, work),
+        Shown::FourSessions(_) => false,
+    }
+}
+
+/// Whether that is shown by a shared core without tenancies.
+fn is_shown_by<
+    C: Begun + Send + Sync,
+    P: Ledger + Send + Sync,
+    R: Threads + Wait + Clock + AllocGlobal + Sync,
+>(rt: &R, shared: &Shared<C, P>, graph: &DeviceGraph, shown: Shown) -> bool
+    requires { C.stay ≡ false }
+{
+    match Ready::new(rt.alloc(), shown.workers(), 1) {
+        Ok((ready, mut seats, mut passes)) => {
+            let pool = Pool {
+                rt,
+                shared,
+                ready: &ready,
+                graph,
+            };
+            let is_so = is_shown_beside(pool, &mut seats, &mut passes, shown);
+            drop(seats);
+            drop(passes);
+            drop(ready);
+            is_so
+        }
+        Err(_) => false,
+    }
+}
+
+/// Whether that is shown by a core without tenancies, which is shared, and dropped when all threads
+/// have ended.
+fn is_shown_if_shared<
+    C: Begun + Send + Sync,
+    P: Ledger + Send + Sync,
+    R: Threads + Wait + Clock + AllocGlobal + Sync,
+>(rt: &R, core: Core<C, P>, graph: &DeviceGraph, shown: Shown) -> bool
+    requires { C.stay ≡ false }
+{
+    let shared = Shared::new(core);
+    let is_so = is_shown_by(rt, &shared, graph, shown);
+    drop(shared.into_core());
+    is_so
+}
+
 /// Whether that is shown by a core without tenancies.
 fn is_shown<
     C: Begun + Send + Sync,
@@ -50,32 +123,8 @@ fn is_shown<
     requires { C.stay ≡ false }
 {
     match shown {
-        Shown::Worked(worked) => is_worked(rt, core, graph, worked),
-        Shown::Meanwhile(act, at) => acts_under_a_held_job(rt, core, graph, act, at),
-        Shown::FailingDevices => all_end_so(rt, core),
         Shown::FourSessions(workers) => tells_the_same(rt, core, graph, workers),
-        Shown::Waits(work) => waits_are_told(rt, core, graph, work),
-    }
-}
-
-/// Whether that is shown by a core without tenancies, with a graph made here.
-fn is_shown_on_graph<
-    C: Begun + Send + Sync,
-    P: Ledger + Send + Sync,
-    R: Threads + Wait + Clock + AllocGlobal + Sync,
->(rt: &R, core: Core<C, P>, shown: Shown) -> bool
-    requires { C.stay ≡ false }
-{
-    match new_graph(rt.alloc()) {
-        Some(graph) => {
-            let is_so = is_shown(rt, core, &graph, shown);
-            drop(graph);
-            is_so
-        }
-        None => {
-            drop(core);
-            false
-        }
+        _ => is_shown_if_shared(rt, core, graph, shown),
     }
 }
 
@@ -84,7 +133,7 @@ fn shows_on<
     C: Begun + Send + Sync,
     P: Ledger + Send + Sync,
     R: Threads + Wait + Clock + AllocGlobal + Sync,
->(rt: &R, device: Device, commands: Blank, puts: Blank, shown: Shown) -> bool
+>(rt: &R, device: Device, commands: Blank, puts: Blank, graph: &DeviceGraph, shown: Shown) -> bool
     requires small { IsSmall device }
     requires commands { (commands.name ≡ C.name) × (commands.parts ≡ C.parts)
         × (commands.parts ≡ MAX_ADMISSIONS + 1) }
@@ -93,18 +142,34 @@ fn shows_on<
     requires stay { C.stay ≡ false }
 {
     match new_core::<C, P>(rt.alloc(), device, commands, puts) {
-        Some(core) => is_shown_on_graph(rt, core, shown),
+        Some(core) => is_shown(rt, core, graph, shown),
         None => false,
     }
 }
 
 /// Whether that is shown by a core made here.
-fn shows<R: Threads + Wait + Clock + AllocGlobal + Sync>(rt: &R, shown: Shown) -> bool {
+fn shows_with<R: Threads + Wait + Clock + AllocGlobal + Sync>(
+    rt: &R,
+    graph: &DeviceGraph,
+    shown: Shown,
+) -> bool {
     match new_device(rt.alloc()) {
         Some(device) => {
             let commands = Blank::new(65_536);
             let puts = Blank::new(17);
-            shows_on::<Brand, Brand, R>(rt, device, commands, puts, shown)
+            shows_on::<Brand, Brand, R>(rt, device, commands, puts, graph, shown)
+        }
+        None => false,
+    }
+}
+
+/// Whether that is shown by a core made here, with the graph of its device.
+fn shows<R: Threads + Wait + Clock + AllocGlobal + Sync>(rt: &R, shown: Shown) -> bool {
+    match new_graph(rt.alloc()) {
+        Some(graph) => {
+            let is_so = shows_with(rt, &graph, shown);
+            drop(graph);
+            is_so
         }
         None => false,
     }
@@ -131,18 +196,43 @@ fn a_step_is_made_without_the_lock(rt: HostRuntime) {
 }
 
 /// Whether each act is done while a worker waits at that point, and leaves what it should.
-fn each_act_is_shown<R: Threads + Wait + Clock + AllocGlobal + Sync>(rt: &R, at: Point) -> bool {
+fn each_act_is_shown_at<R: Threads + Wait + Clock + AllocGlobal + Sync>(
+    rt: &R,
+    kind: Kind,
+    at: Point,
+) -> bool {
     let mut are_shown = true;
     for act in ACTS.iter() {
-        are_shown &= shows(rt, Shown::Meanwhile(*act, at));
+        let case = Case {
+            kind,
+            act: *act,
+            at,
+        };
+        are_shown &= shows(rt, Shown::Meanwhile(case));
     }
     are_shown
 }
 
+/// Whether each act is done while a worker waits with a step of that job, before it is made and
+/// after it, and leaves what it should.
+fn each_act_is_shown<R: Threads + Wait + Clock + AllocGlobal + Sync>(rt: &R, kind: Kind) -> bool {
+    each_act_is_shown_at(rt, kind, Point::BeforeStep)
+        && each_act_is_shown_at(rt, kind, Point::AfterStep)
+}
+
+#[test]
+fn acts_under_a_held_packing_step_leave_what_they_should(rt: HostRuntime) {
+    assert!(rt; each_act_is_shown(&rt, Kind::Packing));
+}
+
+#[test]
+fn acts_under_a_held_placing_step_leave_what_they_should(rt: HostRuntime) {
+    assert!(rt; each_act_is_shown(&rt, Kind::Placing));
+}
+
 #[test]
 fn acts_under_a_held_step_leave_what_they_should(rt: HostRuntime) {
-    assert!(rt; each_act_is_shown(&rt, Point::BeforeStep));
-    assert!(rt; each_act_is_shown(&rt, Point::AfterStep));
+    assert!(rt; each_act_is_shown(&rt, Kind::Routing));
 }
 
 #[test]

@@ -8,14 +8,13 @@ use crate::gates::Holding;
 use crate::seats::{Speaker, Worker, a_speaker, a_worker};
 use crate::telling::{Told, run_over};
 use job_queue::{Pass, Ready, Seat};
-use shared_core::{Begun, Core, Share, Shared};
-use std::alloc::{AllocGlobal, Global};
+use shared_core::{Begun, Core, Share};
+use std::alloc::AllocGlobal;
 use std::sync::Wait;
 use std::sync::ledger::Ledger;
 use std::thread;
 use std::thread::Threads;
 use std::time::Clock;
-use strips::DeviceGraph;
 use tenant_slot::StateName;
 use transcripts::SessionEnd;
 use worker_pool::{Pool, run_worker};
@@ -107,107 +106,67 @@ fn a_pair<C: Begun, P: Ledger>(
     }
 }
 
-/// An open queue, and a session and a worker beside it.
-fn set_up<C: Begun, P: Ledger>(alloc: Global, core: &mut Core<C, P>) -> Option<(Ready, Pair<C, P>)>
-    requires { C.stay ≡ false }
-    ensures speaker { IfSome result (λ all. (all.1.speaker.pass.of ≡ all.0)
-        × (all.1.speaker.lease.made ≡ 0)) }
-    ensures worker { IfSome result (λ all. all.1.worker.seat.of ≡ all.0) }
-{
-    let (ready, mut seats, mut passes) = Ready::new(alloc, 1, 1).ok()?;
-    let pair = a_pair(core, &ready, &mut seats, &mut passes);
-    drop(seats);
-    drop(passes);
-    match pair {
-        Some(pair) => Some((ready, pair)),
-        None => {
-            drop(ready);
-            None
-        }
-    }
-}
-
-/// Whether each `wait` is answered as it should be, by a core without tenancies.
+/// Whether each `wait` is answered as it should be, by a core without tenancies, beside an open
+/// queue with a seat and a pass.
 pub(crate) fn waits_are_told<
     C: Begun + Send + Sync,
     P: Ledger + Send + Sync,
     R: Threads + Wait + Clock + AllocGlobal + Sync,
->(rt: &R, core: Core<C, P>, graph: &DeviceGraph, work: Work) -> bool
-    requires { C.stay ≡ false }
+>(pool: Pool<'_, R, C, P>, seats: &mut Vec<Seat>, passes: &mut Vec<Pass>, work: Work) -> bool
+    requires seats { All (λ s. s.of ≡ pool.ready.now) seats.old.items }
+    requires passes { All (λ p. p.of ≡ pool.ready.now) passes.old.items }
+    requires stay { C.stay ≡ false }
+{
+    let core = &pool.shared.core;
+    let pair = a_pair(&mut *core.lock(pool.rt), pool.ready, seats, passes);
+    match pair {
+        Some(pair) => are_told(pool, pair, work) && work.is_left(&mut *core.lock(pool.rt)),
+        None => false,
+    }
+}
+
+/// Whether each `wait` is answered as it should be. A worker that gives numbers up has the graph of
+/// another device.
+fn are_told<
+    C: Begun + Send + Sync,
+    P: Ledger + Send + Sync,
+    R: Threads + Wait + Clock + AllocGlobal + Sync,
+>(pool: Pool<'_, R, C, P>, pair: Pair<C, P>, work: Work) -> bool
+    requires speaker { (pair.speaker.pass.of ≡ pool.ready.now) × (pair.speaker.lease.made ≡ 0) }
+    requires worker { pair.worker.seat.of ≡ pool.ready.now }
 {
     match work {
-        Work::Held => are_told_on(rt, core, graph, work),
-        Work::GivenUp => are_told_elsewhere(rt, core, work),
+        Work::Held => is_told_beside(pool, pair, work),
+        Work::GivenUp => is_told_elsewhere(pool, pair, work),
     }
 }
 
-/// Whether each `wait` is answered as it should be, with the graph of another device.
-fn are_told_elsewhere<
+/// Whether the session has its answers beside a worker that has the graph of another device.
+fn is_told_elsewhere<
     C: Begun + Send + Sync,
     P: Ledger + Send + Sync,
     R: Threads + Wait + Clock + AllocGlobal + Sync,
->(rt: &R, core: Core<C, P>, work: Work) -> bool
-    requires { C.stay ≡ false }
+>(pool: Pool<'_, R, C, P>, pair: Pair<C, P>, work: Work) -> bool
+    requires speaker { (pair.speaker.pass.of ≡ pool.ready.now) × (pair.speaker.lease.made ≡ 0) }
+    requires worker { pair.worker.seat.of ≡ pool.ready.now }
 {
-    match other_graph(rt.alloc()) {
+    match other_graph(pool.rt.alloc()) {
         Some(graph) => {
-            let are_told = are_told_on(rt, core, &graph, work);
+            let elsewhere = Pool {
+                rt: pool.rt,
+                shared: pool.shared,
+                ready: pool.ready,
+                graph: &graph,
+            };
+            let is_told = is_told_beside(elsewhere, pair, work);
             drop(graph);
-            are_told
+            is_told
         }
         None => {
-            drop(core);
+            drop(pair);
             false
         }
     }
-}
-
-/// Whether each `wait` is answered as it should be, with this graph.
-fn are_told_on<
-    C: Begun + Send + Sync,
-    P: Ledger + Send + Sync,
-    R: Threads + Wait + Clock + AllocGlobal + Sync,
->(rt: &R, core: Core<C, P>, graph: &DeviceGraph, work: Work) -> bool
-    requires { C.stay ≡ false }
-{
-    let mut core = core;
-    match set_up(rt.alloc(), &mut core) {
-        Some((ready, pair)) => are_told_in_turn(rt, core, graph, &ready, pair, work),
-        None => {
-            drop(core);
-            false
-        }
-    }
-}
-
-/// Whether each `wait` is answered, and the tenancy is left as it should be.
-fn are_told_in_turn<
-    C: Begun + Send + Sync,
-    P: Ledger + Send + Sync,
-    R: Threads + Wait + Clock + AllocGlobal + Sync,
->(
-    rt: &R,
-    core: Core<C, P>,
-    graph: &DeviceGraph,
-    ready: &Ready,
-    pair: Pair<C, P>,
-    work: Work,
-) -> bool
-    requires speaker { (pair.speaker.pass.of ≡ ready.now) × (pair.speaker.lease.made ≡ 0) }
-    requires worker { pair.worker.seat.of ≡ ready.now }
-{
-    let shared = Shared::new(core);
-    let pool = Pool {
-        rt,
-        shared: &shared,
-        ready,
-        graph,
-    };
-    let is_told = is_told_beside(pool, pair, work);
-    let mut core = shared.into_core();
-    let is_left = work.is_left(&mut core);
-    drop(core);
-    is_told && is_left
 }
 
 /// Whether the session has its answers beside the worker.

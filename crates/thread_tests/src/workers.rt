@@ -7,7 +7,7 @@ use crate::gates::{Counting, Meeting, Watched, is_raised};
 use crate::seats::{Worker, a_worker};
 use crate::showing::Worked;
 use job_queue::{Pass, Popped, Ready, Seat, a_pass};
-use shared_core::{Begun, Core, Share, Shared};
+use shared_core::{Begun, Core, Share};
 use std::alloc::AllocGlobal;
 use std::sync::Wait;
 use std::sync::atomic::Ordering::SeqCst;
@@ -75,70 +75,57 @@ fn two_workers<C: Begun, P: Ledger>(
     }
 }
 
-/// A closed queue with the numbers of two tenancies, which begin to place, and two workers that
-/// serve it.
+/// Closes the queue with the numbers of two tenancies, which begin to place, and seats two workers
+/// to serve it.
 fn set_up<C: Begun, P: Ledger, R: Wait + AllocGlobal>(
-    rt: &R,
-    core: &mut Core<C, P>,
-    graph: &DeviceGraph,
-) -> Option<(Ready, Worker<P>, Worker<P>)>
-    requires { C.stay ≡ false }
-    ensures { IfSome result (λ all. (all.1.seat.of ≡ all.0) × (all.2.seat.of ≡ all.0)) }
+    pool: Pool<'_, R, C, P>,
+    seats: &mut Vec<Seat>,
+    passes: &mut Vec<Pass>,
+) -> Option<(Worker<P>, Worker<P>)>
+    requires seats { All (λ s. s.of ≡ pool.ready.now) seats.old.items }
+    requires passes { All (λ p. p.of ≡ pool.ready.now) passes.old.items }
+    requires stay { C.stay ≡ false }
+    ensures { IfSome result (λ both. (both.0.seat.of ≡ pool.ready.now)
+        × (both.1.seat.of ≡ pool.ready.now)) }
 {
-    let (ready, mut seats, mut passes) = Ready::new(rt.alloc(), 2, 1).ok()?;
-    let both = if both_begin(rt, core, graph, &ready, &mut passes) {
-        two_workers(core, &ready, &mut seats)
+    let core = &pool.shared.core;
+    if both_begin(
+        pool.rt,
+        &mut *core.lock(pool.rt),
+        pool.graph,
+        pool.ready,
+        passes,
+    ) {
+        two_workers(&mut *core.lock(pool.rt), pool.ready, seats)
     } else {
         None
-    };
-    drop(seats);
-    drop(passes);
-    match both {
-        Some((one, other)) => Some((ready, one, other)),
-        None => {
-            drop(ready);
-            None
-        }
     }
 }
 
-/// Whether that is shown by a core without tenancies.
+/// Whether that is shown by a core without tenancies, beside an open queue with two seats and a
+/// pass.
 pub(crate) fn is_worked<
     C: Begun + Send + Sync,
     P: Ledger + Send + Sync,
     R: Threads + Wait + Clock + AllocGlobal + Sync,
->(rt: &R, core: Core<C, P>, graph: &DeviceGraph, worked: Worked) -> bool
-    requires { C.stay ≡ false }
+>(pool: Pool<'_, R, C, P>, seats: &mut Vec<Seat>, passes: &mut Vec<Pass>, worked: Worked) -> bool
+    requires seats { All (λ s. s.of ≡ pool.ready.now) seats.old.items }
+    requires passes { All (λ p. p.of ≡ pool.ready.now) passes.old.items }
+    requires stay { C.stay ≡ false }
 {
-    let mut core = core;
-    match set_up(rt, &mut core, graph) {
-        Some((ready, one, other)) => {
-            let shared = Shared::new(core);
-            let pool = Pool {
-                rt,
-                shared: &shared,
-                ready: &ready,
-                graph,
-            };
-            let is_so = works(pool, one, other, worked);
-            drop(ready);
-            are_placed(shared.into_core()) && is_so
+    match set_up(pool, seats, passes) {
+        Some((one, other)) => {
+            works(pool, one, other, worked) && are_placed(&mut *pool.shared.core.lock(pool.rt))
         }
-        None => {
-            drop(core);
-            false
-        }
+        None => false,
     }
 }
 
 /// Whether both tenancies are placed, and the first can be evicted.
-fn are_placed<C: Begun, P: Ledger>(core: Core<C, P>) -> bool
+fn are_placed<C: Begun, P: Ledger>(core: &mut Core<C, P>) -> bool
     requires { C.stay ≡ false }
 {
-    let mut core = core;
-    let are_placed = is_placed(&core, 1) && is_placed(&core, 2) && core.evict(1) == Ok(());
-    drop(core);
-    are_placed
+    is_placed(core, 1) && is_placed(core, 2) && core.evict(1) == Ok(())
 }
 
 /// Whether that is shown.

@@ -12,7 +12,7 @@ use Rattle.least_path.specs.declared.path.Path.{Path}
 use Rattle.plane_search.specs.Planes.{Family, IsOn, IsPlane, IsFamily, IsPlaneBound, IsKnown}
 use Rattle.plane_search.specs.Starts.{AreStarts}
 use Rattle.plane_search.specs.declared.planes.Start.{Start}
-use Rattle.plane_tests.specs.Lanes.{steps, number, track_of, lanes_graph, lane, lanes}
+use Rattle.flow_tests.specs.Lanes.{steps, number, track_of, lanes_graph, lane, lanes}
 
 -- ---- members
 

@@ -2,7 +2,7 @@
 //! one after it, and from the last two to the goal.
 ghost use Rattle.std.specs.Prelude.{◌≡◌, ◌<◌, IfOk};
 ghost use Rattle.plane_search.specs.Planes.{IsKnown};
-ghost use Rattle.plane_tests.specs.Lanes.{lanes};
+ghost use Rattle.flow_tests.specs.Lanes.{lanes};
 
 use least_path::{Ends, Path};
 use plane_search::{PlaneSearch, Planes, Start};

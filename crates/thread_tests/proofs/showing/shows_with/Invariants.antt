@@ -1,6 +1,6 @@
 use Rattle.std.proofs.Common.{false}
 use Rattle.service_core.specs.Service.{empty_service}
-use Rattle.thread_tests.proofs.showing.shows.Given as goal
+use Rattle.thread_tests.proofs.showing.shows_with.Given as goal
 
 abbrev pub ghosts-shows_on-C-Ledger : goal.ghosts-shows_on-C-Ledger
 ghosts-shows_on-C-Ledger g a = record { name = a.commands.name; parts = a.commands.parts }

@@ -1,7 +1,7 @@
 use Rattle.std.proofs.Common.{◌∷◌, ◌++◌, [], List, ap, ◌∙◌}
 use Rattle.plane_search.specs.declared.planes.Start.{Start}
-use Rattle.plane_tests.proofs.TwoLanes.{the_starts}
-use Rattle.plane_tests.proofs.lanes.LanesPlanes.list_starts.Goals as goal
+use Rattle.flow_tests.proofs.TwoLanes.{the_starts}
+use Rattle.flow_tests.proofs.lanes.LanesPlanes.list_starts.Goals as goal
 
 pub returns : goal.returns
 returns c =

@@ -1,0 +1,5 @@
+use Rattle.flow_tests.proofs.TwoLanes.{plane_bound}
+use Rattle.flow_tests.proofs.lanes.LanesPlanes.bound.Goals as goal
+
+pub returns : goal.returns
+returns c = plane_bound c.args.self.now.factor c.args._track

@@ -1,5 +1,0 @@
-use Rattle.plane_tests.proofs.TwoLanes.{plane_bound}
-use Rattle.plane_tests.proofs.lanes.LanesPlanes.bound.Goals as goal
-
-pub returns : goal.returns
-returns c = plane_bound c.args.self.now.factor c.args._track
