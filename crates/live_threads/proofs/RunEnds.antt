@@ -7,7 +7,7 @@ use Rattle.live_run.specs.declared.outcome.Outcome.TheVariants.{NoMemory}
 use Rattle.live_run.specs.Commands.{RunsLine}
 use Rattle.live_threads.specs.declared.outcome.ProgramOutcome.{ProgramOutcome}
 use Rattle.live_threads.specs.declared.outcome.ProgramOutcome.TheVariants.{Ended, NotSettled}
-use Rattle.live_threads.specs.Endings.{IsProgramEnd, IsProgramRun, RunsAlone, RunsWords, program_status, run_status}
+use Rattle.live_threads.specs.Endings.{IsProgramEnd, IsProgramRun, RunsAlone, program_status, run_status}
 
 -- words that can't be read: nothing was done over the connection
 pub unread : (input output : Option (List ℕ)) (view : View) (status : ℕ) → view.remaining ≡ input → view.output ≡ output → view.has_log ≡ false → (status ≡ 2) ⊎ (status ≡ program_status (Ended NoMemory)) → IsProgramEnd input output (Some view) status

@@ -15,8 +15,8 @@ use Rattle.service_core.specs.Owners.{ListsOwnersOf}
 use Rattle.service_core.specs.Service.{ServiceState}
 use Rattle.operator.specs.OperatorText.{admitted_text, evicted_text, list_text, moved_text, refused_text}
 use Rattle.operator.specs.OwnersText.{owners_text}
-use Rattle.tagged_lines.specs.Tags.{Tagged, output_of, tagged_text}
-use Rattle.live_lines.specs.Live.{Asked, asked_of, for_name, operator_told}
+use Rattle.tagged_lines.specs.Tags.{output_of, tagged_text}
+use Rattle.live_lines.specs.Live.{Asked, asked_of, operator_told}
 use Rattle.live_lines.specs.Live.Asked.{Nothing, NoForm, Operates, Says}
 use Rattle.name_threads.specs.Members.{Hears, MembersState, name_of, place_of, with_member}
 use Rattle.name_threads.specs.Naming.{AdmitsName}
