@@ -360,7 +360,7 @@ fn set_up<C: Begun, P: Ledger, R: Wait + AllocGlobal>(
     requires seats { All (λ s. s.of ≡ pool.ready.now) seats.old.items }
     requires passes { All (λ p. p.of ≡ pool.ready.now) passes.old.items }
     requires stay { C.stay ≡ false }
-    ensures { IfSome result (λ worker. worker.seat.of ≡ pool.ready.now) }
+    ensures { IfSome result (λ worker. worker.seat.of ≡ pool.entry.ready.now) }
 {
     let core = &pool.shared.core;
     if begins(

@@ -85,8 +85,8 @@ fn set_up<C: Begun, P: Ledger, R: Wait + AllocGlobal>(
     requires seats { All (λ s. s.of ≡ pool.ready.now) seats.old.items }
     requires passes { All (λ p. p.of ≡ pool.ready.now) passes.old.items }
     requires stay { C.stay ≡ false }
-    ensures { IfSome result (λ both. (both.0.seat.of ≡ pool.ready.now)
-        × (both.1.seat.of ≡ pool.ready.now)) }
+    ensures { IfSome result (λ both. (both.0.seat.of ≡ pool.entry.ready.now)
+        × (both.1.seat.of ≡ pool.entry.ready.now)) }
 {
     let core = &pool.shared.core;
     if both_begin(
