@@ -19,6 +19,7 @@ use operator::Operator;
 use script_text::{OperatorLine, RunReplies, SessionInput, SessionReplies, ThreadedScript};
 use service_core::{Device, Service};
 use sessions::device_graph;
+use shared_core::end_service;
 use std::alloc::AllocGlobal;
 use std::marker::Brand;
 use std::sync::Wait;
@@ -142,7 +143,7 @@ fn serve_parts<'t, R: Threads + Wait + Clock + AllocGlobal + Sync>(
     ) {
         Ok(()) => serve_sessions(setup, operator, service, sessions, rest, reply),
         Err(error) => {
-            drop(service);
+            end_service(service);
             drop(sessions);
             drop(rest);
             Err(Unserved::from(error))
@@ -197,7 +198,7 @@ fn serve_rest<'t, R: AllocGlobal>(
     let mut service = service;
     end_jobs(graph, &mut service);
     let served = serve_lines(setup.rt.alloc(), graph, operator, &mut service, rest, reply);
-    drop(service);
+    end_service(service);
     match served {
         Ok(()) => Ok(sections),
         Err(error) => {

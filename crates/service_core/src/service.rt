@@ -1,5 +1,5 @@
 ghost use Rattle.std.specs.Prelude.{◌≡◌, ◌≤◌, ◌+◌, IfOk, IfSome, None, MatchBool, is_some, length, option_map, option_copied, slice_get};
-ghost use Rattle.strips.specs.Plan.{IsLaidOut, offset_of};
+ghost use Rattle.strips.specs.Plan.{IsLaidOut};
 ghost use Rattle.service_core.specs.History.{state_of};
 ghost use Rattle.service_core.specs.Service.{AreAlone, empty_service, history_of, journal_of, live_of};
 ghost use Rattle.service_core.specs.Texts.{FitInto};
@@ -7,6 +7,8 @@ ghost use Rattle.service_core.specs.Calls.{IsAdmitted, IsEvicted, IsGivenBack, I
 ghost use Rattle.service_core.specs.Kept.{CanTakeUp, ChecksAdmission, IsDevice, IsLiveIn, IsPlaceOf, TakesUp};
 ghost use Rattle.service_core.specs.Owners.{HasOneOwner, ListsOwnersOf};
 ghost use Rattle.service_core.specs.Headline.{AreParted};
+
+mod strip_sizes;
 
 use crate::device::Device;
 use crate::entry::Entry;
@@ -30,7 +32,6 @@ pub const MAX_ADMISSIONS: usize = 65_535;
 /// The tenancies on one device. The tenancy of an id is at the index `id - 1`, live or closed. The
 /// value is the device, the strips of the live tenancies with their offsets, and each tenancy's
 /// history.
-#[derive(Drop)]
 pub struct Service {
     alloc: Global,
     arch: SharedArch,
@@ -57,6 +58,24 @@ impl Model for Service {
     ghost invariant = { λ s. IsSound s.book
         (record { arch = s.arch; columns = s.layout.columns; rows = s.rows }) s.layout.strips
         s.tenancies.items };
+}
+
+impl Drop for Service {
+    fn drop(self) {
+        let Service {
+            alloc: _,
+            arch,
+            rows: _,
+            layout,
+            tenancies,
+            book,
+            text_limit: _,
+        } = self;
+        drop(arch);
+        drop(layout);
+        drop(tenancies);
+        drop(book);
+    }
 }
 
 impl Service {
@@ -123,35 +142,6 @@ impl Service {
         ensures { result ≡ takeable_in (live_of self.now.histories id) }
     {
         is_live(&self.tenancies, id) && self.tenancies[id as usize - 1].has_step()
-    }
-
-    /// The number of the device's rows of logic blocks.
-    pub fn rows(&self) -> u32
-        ensures value { result ≡ self.now.device.rows }
-    {
-        self.rows
-    }
-
-    /// The width of a live tenancy's strip, in columns; `None` if the tenancy isn't live.
-    pub fn width(&self, id: u32) -> Option<u32>
-        ensures value { result ≡ option_map (λ h. h.strip.width) (live_of self.now.histories id) }
-        ensures alone { AreAlone self.now }
-    {
-        if !is_live(&self.tenancies, id) {
-            return None;
-        }
-        Some(self.tenancies[id as usize - 1].width())
-    }
-
-    /// The offset of a live tenancy's strip: the number of columns to the left of it. All strips
-    /// are separated. `None` if the tenancy isn't live.
-    pub fn offset(&self, id: u32) -> Option<u32>
-        ensures value { result ≡ offset_of self.now.plan.strips id }
-        ensures laid_out { IsLaidOut self.now.plan }
-        ensures parted { AreParted self.now.device self.now }
-        ensures alone { AreAlone self.now }
-    {
-        self.layout.offset(id)
     }
 
     /// An entry of a journal, also of a closed tenancy; `None` if there is no such entry. Each

@@ -8,14 +8,13 @@ use crate::counting::{merge_leases, merge_shares};
 use crate::filling::first_not_full;
 use crate::not_settled::{Cause, NotSettled};
 use service_core::Service;
-use shared_core::{Begun, Core, LeaseMarks, Share};
+use shared_core::{Begun, Core, LeaseMarks, Share, end_service};
 use std::marker::Model;
 use std::sync::ledger::Ledger;
 use transcripts::Transcript;
 
 /// All answers are settled: the service, and the marks of the entries by which its journals were
 /// compared. Only `settle` makes it.
-#[derive(Drop)]
 pub struct Settled {
     service: Service,
     marks: Vec<LeaseMarks>,
@@ -27,6 +26,13 @@ impl Model for Settled {
     ghost Value = { SettledState };
 
     ghost view = { λ s. record { service = s.service; marks = s.marks.items } };
+}
+
+impl Drop for Settled {
+    fn drop(self) {
+        let Settled { service, marks: _ } = self;
+        end_service(service);
+    }
 }
 
 impl Settled {

@@ -13,7 +13,6 @@ use tenant_slot::Command;
 
 /// Whether the tenancy's lease was given, and the places of the entries that it made, in rising
 /// order.
-#[derive(Drop)]
 pub struct LeaseMarks {
     given: bool,
     places: Vec<u32>,
@@ -25,6 +24,15 @@ impl Model for LeaseMarks {
     ghost Value = { Marked };
 
     ghost view = { λ m. record { given = m.given; places = m.places.items } };
+}
+
+impl Drop for LeaseMarks {
+    fn drop(self) {
+        let LeaseMarks {
+            given: _,
+            places: _,
+        } = self;
+    }
 }
 
 impl LeaseMarks {

@@ -14,9 +14,12 @@
 //! - [`Shared`] is the core under its lock: everybody who gets the lock finds a core that keeps
 //!   what its type promises, knows which service it was made with ([`Begun`]), and that its service
 //!   goes on from that one.
+//! - The types of this crate have a `drop` that is written out, so it is proved here once. A crate
+//!   that drops a type with a derived `Drop` proves it again, for each type within.
 #![tactic(auto)]
 
 mod begun;
+mod ending;
 mod lease_marks;
 mod locked;
 mod shared;
@@ -25,6 +28,7 @@ mod tokens;
 mod wrapping;
 
 pub use begun::Begun;
+pub use ending::end_service;
 pub use lease_marks::LeaseMarks;
 pub use locked::Shared;
 pub use shared::{Core, MAX_WORKERS};

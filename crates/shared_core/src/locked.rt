@@ -4,12 +4,18 @@ use std::sync::ledger::Ledger;
 use std::sync::{Condvar, Mutex};
 
 /// The core that threads share.
-#[derive(Drop)]
 pub struct Shared<C: Begun, P: Ledger> {
     /// The core under its lock.
     pub core: Mutex<Core<C, P>>,
     /// Notified after each step that a worker made.
     pub changed: Condvar,
+}
+
+impl<C: Begun, P: Ledger> Drop for Shared<C, P> {
+    fn drop(self) {
+        let Shared { core, changed: _ } = self;
+        drop(core);
+    }
 }
 
 impl<C: Begun, P: Ledger> Shared<C, P> {

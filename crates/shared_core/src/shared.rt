@@ -1,5 +1,5 @@
 //! The service with its account.
-ghost use Rattle.std.specs.Prelude.{◌+◌, ◌≡◌, ◌≤◌, IfErr, IfOk, Some, length, option_copied, option_map, slice_get, true, false};
+ghost use Rattle.std.specs.Prelude.{◌+◌, ◌≡◌, ◌≤◌, IfErr, IfOk, length, option_copied, option_map, slice_get, true, false};
 ghost use Rattle.service_core.specs.declared.service.TheConstants.{MAX_ADMISSIONS};
 ghost use Rattle.strips.specs.Plan.{offset_of};
 ghost use Rattle.service_core.specs.Calls.{IsAdmitted, IsEvicted, IsGivenBack, IsMoved, IsServed, IsTaken, Puts};
@@ -8,9 +8,10 @@ ghost use Rattle.service_core.specs.History.{state_of};
 ghost use Rattle.service_core.specs.Kept.{IsDevice};
 ghost use Rattle.service_core.specs.Service.{AreAlone, empty_service, journal_of, live_of};
 ghost use Rattle.shared_core.specs.CoreCalls.{Admits, ChangesService, CountsCommand, CountsOwnPut, CountsPut, Evicts, GivesLease, GivesShare, IsWrapped, MarksEntry};
-ghost use Rattle.shared_core.specs.CoreState.{AreSlotted, can_lease, has_room_in, holder_of, is_idle_in, is_leased, is_live, is_marked, ready_number, with_mark};
+ghost use Rattle.shared_core.specs.CoreState.{can_lease, has_room_in, is_idle_in, is_leased, is_live, is_marked};
 
 mod closing;
+mod numbers;
 
 use crate::begun::Begun;
 use crate::lease_marks::{LeaseMarks, marks_of};
@@ -28,7 +29,6 @@ use tenant_slot::{Command, MAX_ENTRIES, StateName};
 pub const MAX_WORKERS: u32 = 16;
 
 /// All tenancies, and the account of what sessions and workers entered.
-#[derive(Drop)]
 pub struct Core<C: Begun, P: Ledger> {
     alloc: Global,
     service: Service,
@@ -52,6 +52,23 @@ impl<C: Begun, P: Ledger> Model for Core<C, P> {
     ghost invariant = { λ c. IsAccount C.begun C.stay c.service c.marks.items c.slots.holders
         (c.commands.total, c.spare.parts, c.spare.amount, C.parts)
         (c.puts.total, c.own.parts, P.parts) c.shares };
+}
+
+impl<C: Begun, P: Ledger> Drop for Core<C, P> {
+    fn drop(self) {
+        let Core {
+            alloc: _,
+            service,
+            marks,
+            slots: _,
+            commands: _,
+            spare: _,
+            puts: _,
+            own: _,
+            shares: _,
+        } = self;
+        drop((service, marks));
+    }
 }
 
 impl<C: Begun, P: Ledger> Core<C, P> {
@@ -371,30 +388,5 @@ impl<C: Begun, P: Ledger> Core<C, P> {
         let part = self.own.split_off(1, 0);
         self.shares += 1;
         Some(Share { part })
-    }
-
-    /// Marks and returns the slot number of a tenancy from which `take` would give a job. None if
-    /// it wouldn't or the number is marked. Exactly the live tenancies have numbers, and no two
-    /// have the same. Takes no memory.
-    pub fn mark_ready(&mut self, id: u32) -> Option<u32>
-        ensures value { result ≡ ready_number self.old id }
-        ensures core { self.new ≡ record self.old { slots = with_mark self.old.slots result true } }
-        ensures slotted { AreSlotted (is_live self.old.service.histories) self.old.slots.holders }
-    {
-        if !self.service.has_step(id) {
-            return None;
-        }
-        self.slots.mark(id)
-    }
-
-    /// Unmarks a slot number, and returns the live tenancy whose number it is. Takes no memory.
-    pub fn unmark_number(&mut self, slot: u32) -> Option<u32>
-        ensures value { result ≡ holder_of self.old.slots.holders slot }
-        ensures core { self.new ≡ record self.old {
-          slots = with_mark self.old.slots (Some slot) false;
-        } }
-        ensures slotted { AreSlotted (is_live self.old.service.histories) self.old.slots.holders }
-    {
-        self.slots.unmark(slot)
     }
 }

@@ -8,7 +8,6 @@ use std::sync::ledger::Ledger;
 
 /// The right to enter marked commands of one tenancy, and the number of those that it entered. Only
 /// the core makes it, and while the tenancies stay its tenancy is live.
-#[derive(Drop)]
 pub struct Lease<C: Begun> {
     pub(crate) id: u32,
     pub(crate) part: ledger::Share<C>,
@@ -24,6 +23,12 @@ impl<C: Begun> Model for Lease<C> {
 
     ghost invariant = { λ l. (l.part.parts ≡ 1)
         × (C.stay ≡ true → is_live C.begun.histories l.id ≡ true) };
+}
+
+impl<C: Begun> Drop for Lease<C> {
+    fn drop(self) {
+        let Lease { id: _, part: _ } = self;
+    }
 }
 
 impl<C: Begun> Lease<C> {
@@ -45,7 +50,6 @@ impl<C: Begun> Lease<C> {
 }
 
 /// The number of recorded puts of one worker. Only the core makes it.
-#[derive(Drop)]
 pub struct Share<P: Ledger> {
     pub(crate) part: ledger::Share<P>,
 }
@@ -59,6 +63,12 @@ impl<P: Ledger> Model for Share<P> {
     ghost view = { λ s. record { puts = s.part.amount } };
 
     ghost invariant = { λ s. s.part.parts ≡ 1 };
+}
+
+impl<P: Ledger> Drop for Share<P> {
+    fn drop(self) {
+        let Share { part: _ } = self;
+    }
 }
 
 impl<P: Ledger> Share<P> {

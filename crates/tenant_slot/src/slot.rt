@@ -31,7 +31,6 @@ pub const MAX_ENTRIES: u32 = 65_536;
 
 /// One tenancy. Its value is its id, the state of the service for a single user, and whether the
 /// running job's next step is here and was made already.
-#[derive(Drop)]
 pub struct Slot {
     alloc: Global,
     id: u32,
@@ -50,6 +49,21 @@ impl Model for Slot {
     ghost view = { λ s. slot_state s.id s.arch s.strip s.standing s.entries };
 
     ghost invariant = { λ s. IsSlot s.id s.arch s.strip s.standing s.entries };
+}
+
+impl Drop for Slot {
+    fn drop(self) {
+        let Slot {
+            alloc: _,
+            id: _,
+            arch,
+            strip: _,
+            standing,
+            entries: _,
+        } = self;
+        drop(arch);
+        drop(standing);
+    }
 }
 
 impl Slot {

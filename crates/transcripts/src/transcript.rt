@@ -15,7 +15,6 @@ use tenant_slot::Command;
 /// A lease, and the answers to the items of its session, in order: there is a receipt for each
 /// entry that the lease made. While the tenancies stay no item has the answer that the tenancy
 /// isn't live.
-#[derive(Drop)]
 pub struct Transcript<C: Begun> {
     lease: Lease<C>,
     items: Vec<Item>,
@@ -32,6 +31,18 @@ impl<C: Begun> Model for Transcript<C> {
     ghost view = { λ t. record { id = t.lease.id; items = t.items.items; no_memory = t.no_memory; end = t.end } };
 
     ghost invariant = { λ t. IsTranscript t.lease.made t.items.items (C.stay ≡ true) };
+}
+
+impl<C: Begun> Drop for Transcript<C> {
+    fn drop(self) {
+        let Transcript {
+            lease: _,
+            items,
+            no_memory: _,
+            end: _,
+        } = self;
+        drop(items);
+    }
 }
 
 impl<C: Begun> Transcript<C> {
