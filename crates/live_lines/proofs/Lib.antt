@@ -3,6 +3,7 @@ mod EndLemmas
 mod EndSteps
 mod Examples
 mod ItemLemmas
+mod KeptNames
 mod LawLemmas
 mod LineLemmas
 mod SaidLemmas

@@ -6,7 +6,7 @@ use line_text::NameSet;
 use script_text::OperatorLine;
 use std::alloc::{AllocError, Global};
 
-/// Keeps names of the operator's lines to the program's end.
+/// Keeps the names of the operator's lines to the program's end, each once.
 #[derive(Drop)]
 pub(crate) struct Lasting {
     alloc: Global,
@@ -25,7 +25,12 @@ impl Lasting {
     fn name(&mut self, name: &[u8]) -> Result<&'static [u8], AllocError>
         ensures { IfOk result (λ kept. kept.now ≡ name.now) }
     {
+        let number = self.names.number(name);
+        if number < self.names.len() {
+            return Ok(self.names.name(number));
+        }
         let kept: &'static [u8] = Vec::from_slice(self.alloc, name)?.leak();
+        let _ = self.names.add(kept)?;
         Ok(kept)
     }
 
