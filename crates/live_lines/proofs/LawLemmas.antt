@@ -24,7 +24,7 @@ use Rattle.live_lines.specs.Live.Asked.{NoForm, Nothing, Operates, Says}
 use Rattle.live_lines.proofs.AnswerLemmas.{answer_whole}
 
 -- a line says something only under a name
-abbrev IsNamed : Asked → Type 0
+abbrev pub IsNamed : Asked → Type 0
 IsNamed (Says name rest) = is_name name ≡ true
 IsNamed asked = ⊤
 
@@ -50,11 +50,11 @@ named_by (b ∷ name) line rest =
     (says_named name rest (is_name name) refl)
     (either_named (bytes_eq (b ∷ name) (codes "op")) (operator_asks (script_of 1 line)) NoForm (operated_named (script_of 1 line)) tt)
 
-named : (line : List ℕ) → IsNamed (asked_of line)
+pub named : (line : List ℕ) → IsNamed (asked_of line)
 named line = either_named (is_passed line) Nothing (asked_by (tag_of line) line (rest_of line)) tt (named_by (tag_of line) line (rest_of line))
 
 -- a line with another tag isn't of the name
-abbrev IsNotOf : List ℕ → Asked → Type 0
+abbrev pub IsNotOf : List ℕ → Asked → Type 0
 IsNotOf name (Says other rest) = bytes_eq name other ≡ false
 IsNotOf name asked = ⊤
 
@@ -87,7 +87,7 @@ not_of_by name (b ∷ other) line rest apart =
     (λ at. either_not_of name (is_name other) (Says other rest) NoForm (λ n. other_name b other name at apart) tt)
     (either_not_of name (bytes_eq (b ∷ other) (codes "op")) (operator_asks (script_of 1 line)) NoForm (λ e. operated_not_of name (script_of 1 line)) tt)
 
-not_of : (name line : List ℕ) → bytes_eq (tag_of line) (64 ∷ name) ≡ false → IsNotOf name (asked_of line)
+pub not_of : (name line : List ℕ) → bytes_eq (tag_of line) (64 ∷ name) ≡ false → IsNotOf name (asked_of line)
 not_of name line apart = either_not_of name (is_passed line) Nothing (asked_by (tag_of line) line (rest_of line)) (λ e. tt) (not_of_by name (tag_of line) line (rest_of line) apart)
 
 -- a line with the name's tag is what the name says
@@ -108,7 +108,7 @@ not_passed : (line name : List ℕ) → tag_of line ≡ 64 ∷ name → is_passe
 not_passed [] name is = absurd (cc)
 not_passed (x ∷ line) name is = ap (λ y. is_passed (y ∷ line)) (first_byte x line name is)
 
-says : (name line : List ℕ) → is_name name ≡ true → bytes_eq (tag_of line) (64 ∷ name) ≡ true → asked_of line ≡ Says name (rest_of line)
+pub says : (name line : List ℕ) → is_name name ≡ true → bytes_eq (tag_of line) (64 ∷ name) ≡ true → asked_of line ≡ Says name (rest_of line)
 says name line ok is =
     let tag : tag_of line ≡ 64 ∷ name = (bytes_eq-Decides (tag_of line) (64 ∷ name)).0 is in
     ap (λ b. cond b Nothing (asked_by (tag_of line) line (rest_of line))) (not_passed line name tag)
@@ -160,7 +160,7 @@ line_items name line old number tellings told new more ok takes =
           sym (ap (λ is. is ++ items_to_come (new.texts name) more) none ∙ ap (λ t. items_to_come t more) stays)
     ] refl
 
-items_with : (name : List ℕ) (old new : LiveState) (number : ℕ) (lines : List (List ℕ)) (tellings : List Telling) (told : List Tagged) (more : List (List ℕ)) → is_name name ≡ true → Takes old number lines tellings told new →
+pub items_with : (name : List ℕ) (old new : LiveState) (number : ℕ) (lines : List (List ℕ)) (tellings : List Telling) (told : List Tagged) (more : List (List ℕ)) → is_name name ≡ true → Takes old number lines tellings told new →
     items_to_come (old.texts name) (said_by name lines ++ more) ≡ items_for name tellings ++ items_to_come (new.texts name) more
 items_with name old new number [] tellings told more ok (none, nothing, stays) =
     sym (ap (λ ts. items_for name ts ++ items_to_come (new.texts name) more) none ∙ ap (λ (s : LiveState). items_to_come (s.texts name) more) stays)

@@ -1,13 +1,17 @@
 //! The law.
-ghost use Rattle.std.specs.Prelude.{ℕ, List};
+ghost use Rattle.std.specs.Prelude.{◌++◌, ℕ, List};
 ghost use Rattle.line_service.specs.Conversation.{AreAnswered};
 ghost use Rattle.live_input.specs.Serving.{AnswersLine, begins};
 ghost use Rattle.live_lines.specs.Live.{LiveState};
+ghost use Rattle.live_machine.specs.Account.{IsAccount};
+ghost use Rattle.live_machine.specs.Machine.{Call, Machine, Run, begins_with};
+ghost use Rattle.live_machine.specs.Turn.{replies_of, served_lines};
 ghost use Rattle.live_promises.specs.Told.{IsToldLive};
 ghost use Rattle.service_core.specs.declared.device.Device.{Device};
 
 use live_input::served_law;
 use live_lines::live_law;
+use live_machine::machine_law;
 use service_core::headline;
 use sessions::end_to_end;
 
@@ -22,4 +26,17 @@ pub fn live_promises()
     end_to_end();
     served_law();
     live_law();
+}
+
+/// With workers it is the same: whatever calls are made of a machine over an empty device, there is
+/// an account of them, and the lines that were served, those of workers among them, are answered as
+/// those of a script are.
+pub fn machine_promises()
+    ensures { (device : Device) (calls : List Call) (now : Machine) →
+        Run (begins_with (begins device) 1) calls now →
+        (a : IsAccount (begins device) 1 calls now) × IsToldLive device
+        (served_lines (a.taken ++ a.rest)) (replies_of (a.taken ++ a.rest)) now.live }
+{
+    machine_law();
+    live_promises();
 }

@@ -1,0 +1,36 @@
+-- Steps that are out with workers.
+use Rattle.std.specs.Prelude.{ℕ, ◌≡◌, List, length, map, false, Some, is_some, ⊤}
+use Rattle.script_text.specs.declared.operator_line.OperatorLine.TheVariants.{Step}
+use Rattle.sessions.specs.declared.steps.StepOutcome.TheVariants.{NoMemory}
+use Rattle.operator.specs.OperatorText.{outcome_text}
+use Rattle.service_core.specs.History.{with_here}
+use Rattle.service_core.specs.Service.{ServiceState, journal_of, live_of}
+use Rattle.tagged_lines.specs.Tags.{output_of}
+use Rattle.live_lines.specs.Live.{Asked, LiveState, operator_told}
+use Rattle.live_lines.specs.Live.Asked.{Says}
+use Rattle.live_machine.specs.Machine.{must_wait}
+
+-- the service with each step here, and not made: what workers have is no part of it
+abbrev pub all_here : ServiceState → ServiceState
+all_here service = record service { histories = map (with_here (Some false)) service.histories }
+
+abbrev pub without_workers : LiveState → LiveState
+without_workers live = record live { stage = record live.stage { service = all_here live.stage.service } }
+
+-- both services have the same device, the same plan and the same journals, and the same tenancies
+-- are live
+pub record IsLeftAlone (service other : ServiceState) : Type 0 where
+  pub device : other.device ≡ service.device
+  pub plan : other.plan ≡ service.plan
+  pub count : length other.histories ≡ length service.histories
+  pub journals : (id : ℕ) → journal_of other id ≡ journal_of service id
+  pub live : (id : ℕ) → is_some (live_of other.histories id) ≡ is_some (live_of service.histories id)
+
+-- if a name says the line, it is no `wait` that can't be answered yet
+abbrev pub NeedNotWait : LiveState → Asked → List ℕ → Type 0
+NeedNotWait live (Says name said) line = must_wait live name line ≡ false
+NeedNotWait live asked line = ⊤
+
+-- the reply that a step of that name's job ran out of memory
+abbrev pub nomemory_reply : List ℕ → List ℕ
+nomemory_reply name = output_of (operator_told (Step name 1) (outcome_text NoMemory))
