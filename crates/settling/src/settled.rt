@@ -30,7 +30,10 @@ impl Model for Settled {
 
 impl Drop for Settled {
     fn drop(self) {
-        let Settled { service: _, marks: _ } = self;
+        let Settled {
+            service: _,
+            marks: _,
+        } = self;
     }
 }
 
