@@ -17,9 +17,10 @@ use Rattle.live_lines.specs.Live.Asked.{NoForm, Nothing, Operates, Says}
 use Rattle.line_service.specs.Conversation.{AreAnswered}
 use Rattle.live_input.specs.Serving.{AnswersLine}
 use Rattle.live_machine.specs.Account.{IsAccount, IsSaid, is_nobodys, line_in, lines_in, log_drained, nobodys_lines, told_drained}
-use Rattle.live_machine.specs.Held.{Held, HeldItem, HearsForm, HearsIn, OpenText, calls_off, form_of, held_of, is_wait, with_held, without_name}
-use Rattle.live_machine.specs.Held.OpenText.{NoText, Begun, Lost}
-use Rattle.live_machine.specs.Machine.{Call, EndsHold, Frees, FreesIf, GivesUp, Happens, HearsAfter, HearsAsked, HearsFree, HearsName, Machine, Run, ServesFirst, WaitsAfter, begins_with, is_busy, is_by_hand, is_outside, must_wait}
+use Rattle.live_machine.specs.Held.{Held, HeldItem, HearsForm, HearsIn, calls_off, form_of, held_of, is_wait, with_held, without_name}
+use Rattle.live_machine.specs.declared.held.OpenText.{OpenText}
+use Rattle.live_machine.specs.declared.held.OpenText.TheVariants.{NoText, Begun, Lost}
+use Rattle.live_machine.specs.Machine.{Call, EndsHold, Frees, FreesIf, GivesUp, Happens, HearsAfter, HearsAsked, HearsFree, HearsName, MachineState, Run, ServesFirst, WaitsAfter, begins_with, is_busy, is_by_hand, is_outside, must_wait}
 use Rattle.live_machine.specs.Machine.Call.{Drain, GiveUp, Line, PutStep, ServeHeld}
 use Rattle.live_machine.specs.Turn.{IsDay, IsServedTurn, Turn, heard_lines, log_of, replies_of, served_lines, told_of}
 use Rattle.live_machine.proofs.Books.{Books, books_nobody, books_worked}
@@ -55,11 +56,11 @@ called_off NoText line is = refl
 called_off (Begun lines) line is = absurd (cc)
 called_off Lost line is = absurd (cc)
 
-pub ended_none : (h : Held) (old new : Machine) (text : OpenText) → h.text ≡ text → text ≡ NoText → EndsHold (Some h) old new → held_of new.held h.name ≡ None
+pub ended_none : (h : Held) (old new : MachineState) (text : OpenText) → h.text ≡ text → text ≡ NoText → EndsHold (Some h) old new → held_of new.held h.name ≡ None
 ended_none h old new text is none (mid, items, frees) =
     let P : OpenText → Type 0 = λ t. Frees t h.name mid new in
     let freed : new ≡ record mid { held = without_name mid.held h.name } = subst P (is ∙ none) frees in
-    ap (λ (m : Machine). held_of m.held h.name) freed ∙ freed_own mid.held h.name
+    ap (λ (m : MachineState). held_of m.held h.name) freed ∙ freed_own mid.held h.name
 
 pub waits_outside : (text : Option TextSoFar) (rest : Bool) → is_outside text && rest ≡ true → (text ≡ None) × (rest ≡ true)
 waits_outside None rest is = (refl, is)
@@ -70,14 +71,14 @@ waits_form true b is = refl
 waits_form false b is = is
 
 -- the calls so far
-pub record Accounts (begun : LiveState) (first : ℕ) (calls : List Call) (now : Machine) : Type 0 where
+pub record Accounts (begun : LiveState) (first : ℕ) (calls : List Call) (now : MachineState) : Type 0 where
   pub taken : List Turn
   pub books : Books begun first (lines_in calls) taken now
   pub log_taken : flat_map log_drained calls ≡ log_of taken
   pub told_taken : flat_map told_drained calls ≡ told_of taken
 
 -- one more call, which takes nothing
-accounts_more : (begun : LiveState) (first : ℕ) (calls : List Call) (old new : Machine) (call : Call) (a : Accounts begun first calls old) → log_drained call ≡ [] → told_drained call ≡ [] → Books begun first (lines_in calls ++ line_in call) a.taken new → Accounts begun first (calls ++ call ∷ []) new
+accounts_more : (begun : LiveState) (first : ℕ) (calls : List Call) (old new : MachineState) (call : Call) (a : Accounts begun first calls old) → log_drained call ≡ [] → told_drained call ≡ [] → Books begun first (lines_in calls ++ line_in call) a.taken new → Accounts begun first (calls ++ call ∷ []) new
 accounts_more begun first calls old new call a no_log nothing_told books =
     let P : List (List ℕ) → Type 0 = λ x. Books begun first x a.taken new in
     let lines : lines_in calls ++ line_in call ≡ lines_in (calls ++ call ∷ []) = ap (λ x. lines_in calls ++ x) (sym (append-nil (line_in call))) ∙ sym (flat_map-append line_in calls (call ∷ [])) in
@@ -88,20 +89,20 @@ accounts_more begun first calls old new call a no_log nothing_told books =
       told_taken = flat_map-append told_drained calls (call ∷ []) ∙ (ap (λ x. flat_map told_drained calls ++ (x ++ [])) nothing_told ∙ (append-nil (flat_map told_drained calls) ∙ a.told_taken));
     }
 
-silent : (begun : LiveState) (first : ℕ) (lines : List (List ℕ)) (taken : List Turn) (now : Machine) → Books begun first lines taken now → Books begun first (lines ++ []) taken now
+silent : (begun : LiveState) (first : ℕ) (lines : List (List ℕ)) (taken : List Turn) (now : MachineState) → Books begun first lines taken now → Books begun first (lines ++ []) taken now
 silent begun first lines taken now b = let P : List (List ℕ) → Type 0 = λ x. Books begun first x taken now in subst P (sym (append-nil lines)) b
 
 -- a name that waits for nothing is served at once
-waits_after : (begun : LiveState) (first : ℕ) (lines : List (List ℕ)) (taken : List Turn) (old new : Machine) (items : List HeldItem) (after : Held) → Books begun first lines taken old → held_of old.held after.name ≡ Some after → WaitsAfter items after old new → Books begun first lines taken new
+waits_after : (begun : LiveState) (first : ℕ) (lines : List (List ℕ)) (taken : List Turn) (old new : MachineState) (items : List HeldItem) (after : Held) → Books begun first lines taken old → held_of old.held after.name ≡ Some after → WaitsAfter items after old new → Books begun first lines taken new
 waits_after begun first lines taken old new [] after b is ends = books_ended begun first lines taken old new after.name (Some after) b is ends
-waits_after begun first lines taken old new (item ∷ items) after b is same = let P : Machine → Type 0 = λ m. Books begun first lines taken m in subst P (sym same) b
+waits_after begun first lines taken old new (item ∷ items) after b is same = let P : MachineState → Type 0 = λ m. Books begun first lines taken m in subst P (sym same) b
 
-frees_if : (begun : LiveState) (first : ℕ) (lines : List (List ℕ)) (taken : List Turn) (old new : Machine) (items : List HeldItem) (h : Held) → IsOn begun first lines taken old h → h.items ≡ items → FreesIf items h old new → Books begun first lines taken new
+frees_if : (begun : LiveState) (first : ℕ) (lines : List (List ℕ)) (taken : List Turn) (old new : MachineState) (items : List HeldItem) (h : Held) → IsOn begun first lines taken old h → h.items ≡ items → FreesIf items h old new → Books begun first lines taken new
 frees_if begun first lines taken old new [] h on none frees = books_freed begun first lines taken old new h h.text on.books on.held_is none refl frees
-frees_if begun first lines taken old new (item ∷ items) h on is same = let P : Machine → Type 0 = λ m. Books begun first lines taken m in subst P (sym same) on.books
+frees_if begun first lines taken old new (item ∷ items) h on is same = let P : MachineState → Type 0 = λ m. Books begun first lines taken m in subst P (sym same) on.books
 
 -- a line of a name
-after_name : (begun : LiveState) (first : ℕ) (lines : List (List ℕ)) (taken : List Turn) (old new : Machine) (name line : List ℕ) (h : Held) (off : Bool) → Books begun first lines taken old → is_name name ≡ true → IsOf name line → held_of old.held name ≡ Some h → calls_off h.text line ≡ off → HearsAfter off h name line old new →
+after_name : (begun : LiveState) (first : ℕ) (lines : List (List ℕ)) (taken : List Turn) (old new : MachineState) (name line : List ℕ) (h : Held) (off : Bool) → Books begun first lines taken old → is_name name ≡ true → IsOf name line → held_of old.held name ≡ Some h → calls_off h.text line ≡ off → HearsAfter off h name line old new →
     Books begun first (lines ++ line ∷ []) taken new
 after_name begun first lines taken old new name line h true b ok of is off (mid, ends, serves) =
     let ended = books_ended begun first lines taken old mid name (Some h) b is ends in
@@ -110,25 +111,25 @@ after_name begun first lines taken old new name line h true b ok of is off (mid,
     books_own begun first lines taken mid new line name ended ok of gone serves
 after_name begun first lines taken old new name line h false b ok of is off (after, hears, waits) =
     let named : after.name ≡ name = heard_name h.text (ends_text (rest_of line)) h after line hears ∙ name_of_held old.held name h is in
-    let mid : Machine = record old { held = with_held old.held after } in
+    let mid : MachineState = record old { held = with_held old.held after } in
     let P : List ℕ → Type 0 = λ n. held_of old.held n ≡ Some h in
     let own = changed_own old.held h after (subst P (sym named) is) in
     waits_after begun first (lines ++ line ∷ []) taken mid new h.items after (books_heard begun first lines taken old mid line name h after b ok of is named hears refl) own waits
 
-free_name : (begun : LiveState) (first : ℕ) (lines : List (List ℕ)) (taken : List Turn) (old new : Machine) (name line : List ℕ) (waits : Bool) → Books begun first lines taken old → is_name name ≡ true → IsOf name line → held_of old.held name ≡ None → must_wait old.live name line ≡ waits → HearsFree waits name line old new →
+free_name : (begun : LiveState) (first : ℕ) (lines : List (List ℕ)) (taken : List Turn) (old new : MachineState) (name line : List ℕ) (waits : Bool) → Books begun first lines taken old → is_name name ≡ true → IsOf name line → held_of old.held name ≡ None → must_wait old.live name line ≡ waits → HearsFree waits name line old new →
     Books begun first (lines ++ line ∷ []) taken new
 free_name begun first lines taken old new name line true b ok of free waits holds =
     let (outside, rest) = waits_outside (old.live.texts name) (is_wait (form_of line) && is_busy old.live name) waits in
     books_holds begun first lines taken old new line name b ok of free outside (waits_form (is_wait (form_of line)) (is_busy old.live name) rest) holds
 free_name begun first lines taken old new name line false b ok of free waits serves = books_own begun first lines taken old new line name b ok of free serves
 
-heard : (begun : LiveState) (first : ℕ) (lines : List (List ℕ)) (taken : List Turn) (old new : Machine) (name line : List ℕ) (held : Option Held) → Books begun first lines taken old → is_name name ≡ true → IsOf name line → held_of old.held name ≡ held → HearsName held name line old new →
+heard : (begun : LiveState) (first : ℕ) (lines : List (List ℕ)) (taken : List Turn) (old new : MachineState) (name line : List ℕ) (held : Option Held) → Books begun first lines taken old → is_name name ≡ true → IsOf name line → held_of old.held name ≡ held → HearsName held name line old new →
     Books begun first (lines ++ line ∷ []) taken new
 heard begun first lines taken old new name line (Some h) b ok of is hears = after_name begun first lines taken old new name line h (calls_off h.text line) b ok of is refl hears
 heard begun first lines taken old new name line None b ok of is hears = free_name begun first lines taken old new name line (must_wait old.live name line) b ok of is refl hears
 
 -- a line of the input
-heard_operator : (begun : LiveState) (first : ℕ) (lines : List (List ℕ)) (taken : List Turn) (old new : Machine) (line : List ℕ) (asked : OperatorLine (List ℕ)) → Books begun first lines taken old → asked_of line ≡ Operates asked → HearsAsked (Operates asked) line old new → Books begun first (lines ++ line ∷ []) taken new
+heard_operator : (begun : LiveState) (first : ℕ) (lines : List (List ℕ)) (taken : List Turn) (old new : MachineState) (line : List ℕ) (asked : OperatorLine (List ℕ)) → Books begun first lines taken old → asked_of line ≡ Operates asked → HearsAsked (Operates asked) line old new → Books begun first (lines ++ line ∷ []) taken new
 heard_operator begun first lines taken old new line (Evict name) b is (mid, serves, ends) =
     let served = books_nobody begun first lines taken old mid line false b (ap is_nobodys is) (ap is_by_hand is) serves in
     books_ended begun first (lines ++ line ∷ []) taken mid new name (held_of mid.held name) served refl ends
@@ -140,7 +141,7 @@ heard_operator begun first lines taken old new line (Move name offset) b is serv
 heard_operator begun first lines taken old new line ListAll b is serves = books_nobody begun first lines taken old new line false b (ap is_nobodys is) (ap is_by_hand is) serves
 heard_operator begun first lines taken old new line Owners b is serves = books_nobody begun first lines taken old new line false b (ap is_nobodys is) (ap is_by_hand is) serves
 
-heard_line : (begun : LiveState) (first : ℕ) (lines : List (List ℕ)) (taken : List Turn) (old new : Machine) (line : List ℕ) (asked : Asked) → Books begun first lines taken old → asked_of line ≡ asked → HearsAsked asked line old new → Books begun first (lines ++ line ∷ []) taken new
+heard_line : (begun : LiveState) (first : ℕ) (lines : List (List ℕ)) (taken : List Turn) (old new : MachineState) (line : List ℕ) (asked : Asked) → Books begun first lines taken old → asked_of line ≡ asked → HearsAsked asked line old new → Books begun first (lines ++ line ∷ []) taken new
 heard_line begun first lines taken old new line Nothing b is serves = books_nobody begun first lines taken old new line false b (ap is_nobodys is) (ap is_by_hand is) serves
 heard_line begun first lines taken old new line NoForm b is serves = books_nobody begun first lines taken old new line false b (ap is_nobodys is) (ap is_by_hand is) serves
 heard_line begun first lines taken old new line (Operates asked) b is hears = heard_operator begun first lines taken old new line asked b is hears
@@ -149,19 +150,19 @@ heard_line begun first lines taken old new line (Says name said) b is hears =
     heard begun first lines taken old new name line (held_of old.held name) b ok of refl hears
 
 -- a name that is held has its turn
-first_served : (begun : LiveState) (first : ℕ) (lines : List (List ℕ)) (taken : List Turn) (old new : Machine) (h : Held) (items : List HeldItem) → Books begun first lines taken old → held_of old.held h.name ≡ Some h → h.items ≡ items → ServesFirst items h old new → Books begun first lines taken new
+first_served : (begun : LiveState) (first : ℕ) (lines : List (List ℕ)) (taken : List Turn) (old new : MachineState) (h : Held) (items : List HeldItem) → Books begun first lines taken old → held_of old.held h.name ≡ Some h → h.items ≡ items → ServesFirst items h old new → Books begun first lines taken new
 first_served begun first lines taken old new h [] b is none serves = absurd serves
 first_served begun first lines taken old new h (item ∷ items) b is first_is (mid, free, serves, frees) =
     frees_if begun first lines taken mid new items (record h { items = items }) (books_item begun first lines taken old mid h item items b is first_is serves) refl frees
 
-given_up : (begun : LiveState) (first : ℕ) (lines : List (List ℕ)) (taken : List Turn) (old new : Machine) (h : Held) (items : List HeldItem) → Books begun first lines taken old → held_of old.held h.name ≡ Some h → h.items ≡ items → GivesUp items h old new → Books begun first lines taken new
+given_up : (begun : LiveState) (first : ℕ) (lines : List (List ℕ)) (taken : List Turn) (old new : MachineState) (h : Held) (items : List HeldItem) → Books begun first lines taken old → held_of old.held h.name ≡ Some h → h.items ≡ items → GivesUp items h old new → Books begun first lines taken new
 given_up begun first lines taken old new h [] b is none gives = absurd gives
 given_up begun first lines taken old new h (None ∷ items) b is first_is gives = absurd gives
 given_up begun first lines taken old new h (Some item ∷ items) b is first_is (mid, waits, lost, frees) =
     frees_if begun first lines taken mid new items (record h { items = items }) (item_lost begun first lines taken old mid h (Some item) items b is first_is lost) refl frees
 
 -- each call
-pub happened : (begun : LiveState) (first : ℕ) (calls : List Call) (old new : Machine) (call : Call) → Accounts begun first calls old → Happens old call new → Accounts begun first (calls ++ call ∷ []) new
+pub happened : (begun : LiveState) (first : ℕ) (calls : List Call) (old new : MachineState) (call : Call) → Accounts begun first calls old → Happens old call new → Accounts begun first (calls ++ call ∷ []) new
 happened begun first calls old new (Line line) a hears =
     accounts_more begun first calls old new (Line line) a refl refl (heard_line begun first (lines_in calls) a.taken old new line (asked_of line) a.books refl hears)
 happened begun first calls old new (ServeHeld name) a (h, is, serves) =
@@ -177,7 +178,7 @@ happened begun first calls old new (PutStep name) a (made, asks, works) =
     (silent begun first (lines_in calls) a.taken new (books_worked begun first (lines_in calls) a.taken old new made name a.books asks works))
 happened begun first calls old new (Drain log told) a (log_is, told_is, drained) =
     let b = a.books in
-    let P : Machine → Type 0 = λ m. Books begun first (lines_in (calls ++ Drain log told ∷ [])) b.turns m in
+    let P : MachineState → Type 0 = λ m. Books begun first (lines_in (calls ++ Drain log told ∷ [])) b.turns m in
     let Q : List (List ℕ) → Type 0 = λ x. Books begun first x b.turns (record old { log = []; told = [] }) in
     let lines : lines_in calls ≡ lines_in (calls ++ Drain log told ∷ []) = sym (append-nil (lines_in calls)) ∙ sym (flat_map-append line_in calls (Drain log told ∷ [])) in
     record {
@@ -197,10 +198,10 @@ happened begun first calls old new (Drain log told) a (log_is, told_is, drained)
           ∙ (sym (told_both a.taken b.rest) ∙ ap told_of (sym b.all)))));
     }
 
-all_happened : (begun : LiveState) (first : ℕ) (before calls : List Call) (old new : Machine) → Accounts begun first before old → Run old calls new → Accounts begun first (before ++ calls) new
+all_happened : (begun : LiveState) (first : ℕ) (before calls : List Call) (old new : MachineState) → Accounts begun first before old → Run old calls new → Accounts begun first (before ++ calls) new
 all_happened begun first before [] old new a same =
     let P : List Call → Type 0 = λ x. Accounts begun first x new in
-    let Q : Machine → Type 0 = λ m. Accounts begun first before m in
+    let Q : MachineState → Type 0 = λ m. Accounts begun first before m in
     subst P (sym (append-nil before)) (subst Q (sym same) a)
 all_happened begun first before (call ∷ calls) old new a (mid, one, rest) =
     let P : List Call → Type 0 = λ x. Accounts begun first x new in
@@ -228,7 +229,7 @@ said_so name begun lines heard (Some h) now f =
           ∙ ap (λ x. items_to_come begun (said_by name heard ++ x)) (rests_flat f.items f.text));
     }
 
-account_of : (begun : LiveState) (first : ℕ) (calls : List Call) (now : Machine) → Accounts begun first calls now → IsAccount begun first calls now
+account_of : (begun : LiveState) (first : ℕ) (calls : List Call) (now : MachineState) → Accounts begun first calls now → IsAccount begun first calls now
 account_of begun first calls now a =
     let b = a.books in
     let D : List Turn → Type 0 = λ t. IsDay begun first t now.live now.next in
@@ -268,8 +269,8 @@ starts begun first =
       told_taken = refl;
     }
 
-pub account : (begun : LiveState) (first : ℕ) (calls : List Call) (now : Machine) → Run (begins_with begun first) calls now → IsAccount begun first calls now
+pub account : (begun : LiveState) (first : ℕ) (calls : List Call) (now : MachineState) → Run (begins_with begun first) calls now → IsAccount begun first calls now
 account begun first calls now run = account_of begun first calls now (all_happened begun first [] calls (begins_with begun first) now (starts begun first) run)
 
-pub answered : (begun : LiveState) (first : ℕ) (calls : List Call) (now : Machine) (a : IsAccount begun first calls now) → AreAnswered AnswersLine begun first (served_lines (a.taken ++ a.rest)) (replies_of (a.taken ++ a.rest)) now.live
+pub answered : (begun : LiveState) (first : ℕ) (calls : List Call) (now : MachineState) (a : IsAccount begun first calls now) → AreAnswered AnswersLine begun first (served_lines (a.taken ++ a.rest)) (replies_of (a.taken ++ a.rest)) now.live
 answered begun first calls now a = turns_answered (a.taken ++ a.rest) begun now.live first now.next a.served a.day

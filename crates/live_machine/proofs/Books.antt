@@ -14,7 +14,7 @@ use Rattle.live_lines.specs.Live.Asked.{NoForm, Nothing, Operates, Says}
 use Rattle.live_lines.proofs.LawLemmas.{says}
 use Rattle.live_machine.specs.Account.{is_nobodys, nobodys_line, nobodys_lines}
 use Rattle.live_machine.specs.Held.{Held, held_of}
-use Rattle.live_machine.specs.Machine.{IsMade, Machine, Serves, ServesNobodys, Works, is_by_hand}
+use Rattle.live_machine.specs.Machine.{IsMade, MachineState, Serves, ServesNobodys, Works, is_by_hand}
 use Rattle.live_machine.specs.Turn.{IsDay, IsNobodysLine, IsServedAs, IsServedTurn, Turn, heard_lines, log_of, told_of}
 use Rattle.live_machine.specs.Turn.Turn.{Answers, Works as WorksLine}
 use Rattle.live_machine.proofs.FollowLemmas.{AreOf, Follows, follow_other}
@@ -26,11 +26,11 @@ use Rattle.live_machine.proofs.TurnLemmas.{Makes, all_both, day_both, heard_both
 abbrev pub IsNamed : List Held → Type 0
 IsNamed held = (name : List ℕ) (h : Held) → held_of held name ≡ Some h → is_name name ≡ true
 
-abbrev pub Followed : LiveState → List (List ℕ) → List (List ℕ) → Machine → List ℕ → Type 0
+abbrev pub Followed : LiveState → List (List ℕ) → List (List ℕ) → MachineState → List ℕ → Type 0
 Followed begun lines heard now name = Follows name (begun.texts name) (said_by name lines) (said_by name heard) (held_of now.held name) (now.live.texts name)
 
 -- what came, the turns so far, and those of them whose lines and replies are in the machine
-pub record Books (begun : LiveState) (first : ℕ) (lines : List (List ℕ)) (taken : List Turn) (now : Machine) : Type 0 where
+pub record Books (begun : LiveState) (first : ℕ) (lines : List (List ℕ)) (taken : List Turn) (now : MachineState) : Type 0 where
   pub turns : List Turn
   pub rest : List Turn
   pub all : turns ≡ taken ++ rest
@@ -61,7 +61,7 @@ not_nobodys name (line ∷ lines) ok of =
     ap (λ a. cond (is_nobodys a) (line ∷ []) [] ++ nobodys_lines lines) (says name line ok of.0) ∙ not_nobodys name lines ok of.1
 
 -- more turns, and perhaps more lines
-pub books_more : (begun : LiveState) (first : ℕ) (lines more heard : List (List ℕ)) (taken turns : List Turn) (old new : Machine) (b : Books begun first lines taken old) → Makes old turns new → heard_lines turns ≡ heard →
+pub books_more : (begun : LiveState) (first : ℕ) (lines more heard : List (List ℕ)) (taken turns : List Turn) (old new : MachineState) (b : Books begun first lines taken old) → Makes old turns new → heard_lines turns ≡ heard →
     ((name : List ℕ) → is_name name ≡ true → Followed begun more (heard_lines b.turns ++ heard) new name) → nobodys_lines more ≡ nobodys_lines (heard_lines b.turns ++ heard) → IsNamed new.held → Books begun first more taken new
 books_more begun first lines more heard taken turns old new b makes is said nobodys named =
     let heard_is : heard_lines b.turns ++ heard ≡ heard_lines (b.turns ++ turns) = ap (λ x. heard_lines b.turns ++ x) (sym is) ∙ sym (heard_both b.turns turns) in
@@ -93,10 +93,10 @@ so_nobody NoForm heard line is so = so
 so_nobody (Operates asked) heard line is so = so
 so_nobody (Says name said) heard line is so = absurd (cc)
 
-nobody_served : (begun : LiveState) (first : ℕ) (lines : List (List ℕ)) (taken : List Turn) (old new : Machine) (heard line : List ℕ) → Books begun first lines taken old → is_nobodys (asked_of heard) ≡ true → is_nobodys (asked_of line) ≡ true → IsNobodysLine (is_by_hand (asked_of heard)) heard line → Serves old line new →
+nobody_served : (begun : LiveState) (first : ℕ) (lines : List (List ℕ)) (taken : List Turn) (old new : MachineState) (heard line : List ℕ) → Books begun first lines taken old → is_nobodys (asked_of heard) ≡ true → is_nobodys (asked_of line) ≡ true → IsNobodysLine (is_by_hand (asked_of heard)) heard line → Serves old line new →
     Books begun first (lines ++ heard ∷ []) taken new
 nobody_served begun first lines taken old new heard line b nobodys still so s =
-    let held : new.held ≡ old.held = ap (λ (m : Machine). m.held) s.rest in
+    let held : new.held ≡ old.held = ap (λ (m : MachineState). m.held) s.rest in
     let H : List Held → Type 0 = IsNamed in
     books_more begun first lines (lines ++ heard ∷ []) (heard ∷ []) taken (Answers heard line s.reply ∷ []) old new b (serves_makes old new heard line (so_nobody (asked_of heard) heard line nobodys so) s) refl
     (λ name ok.
@@ -110,7 +110,7 @@ nobody_served begun first lines taken old new heard line b nobodys still so s =
     (nobodys_both lines (heard ∷ []) ∙ (ap (λ x. x ++ nobodys_lines (heard ∷ [])) b.nobodys ∙ sym (nobodys_both (heard_lines b.turns) (heard ∷ []))))
     (subst H (sym held) b.named)
 
-pub books_nobody : (begun : LiveState) (first : ℕ) (lines : List (List ℕ)) (taken : List Turn) (old new : Machine) (line : List ℕ) (by_hand : Bool) → Books begun first lines taken old → is_nobodys (asked_of line) ≡ true → is_by_hand (asked_of line) ≡ by_hand → ServesNobodys by_hand line old new →
+pub books_nobody : (begun : LiveState) (first : ℕ) (lines : List (List ℕ)) (taken : List Turn) (old new : MachineState) (line : List ℕ) (by_hand : Bool) → Books begun first lines taken old → is_nobodys (asked_of line) ≡ true → is_by_hand (asked_of line) ≡ by_hand → ServesNobodys by_hand line old new →
     Books begun first (lines ++ line ∷ []) taken new
 books_nobody begun first lines taken old new line false b nobodys is s =
     let P : Bool → Type 0 = λ by. IsNobodysLine by line line in
@@ -120,9 +120,9 @@ books_nobody begun first lines taken old new line true b nobodys is (made, asks,
     nobody_served begun first lines taken old new line made b nobodys (ap is_nobodys asks) (subst P (sym is) asks) s
 
 -- a worker's line
-pub books_worked : (begun : LiveState) (first : ℕ) (lines : List (List ℕ)) (taken : List Turn) (old new : Machine) (line name : List ℕ) → Books begun first lines taken old → IsMade (Operates (Step name 1)) line → Works old line new → Books begun first lines taken new
+pub books_worked : (begun : LiveState) (first : ℕ) (lines : List (List ℕ)) (taken : List Turn) (old new : MachineState) (line name : List ℕ) → Books begun first lines taken old → IsMade (Operates (Step name 1)) line → Works old line new → Books begun first lines taken new
 books_worked begun first lines taken old new line name b so s =
-    let held : new.held ≡ old.held = ap (λ (m : Machine). m.held) s.rest in
+    let held : new.held ≡ old.held = ap (λ (m : MachineState). m.held) s.rest in
     let H : List Held → Type 0 = IsNamed in
     let nothing : (x : List (List ℕ)) → x ++ [] ≡ x = append-nil in
     books_more begun first lines lines [] taken (WorksLine line s.reply ∷ []) old new b (works_makes old new line name so s) refl

@@ -4,7 +4,7 @@ use Rattle.live_lines.specs.Live.{asked_of}
 use Rattle.live_lines.specs.Live.Asked.{NoForm, Says}
 use Rattle.live_machine.specs.Account.{AreWaiting, lines_in, nobodys_lines}
 use Rattle.live_machine.specs.Held.{Held, HearsHeld, calls_off, form_of, held_of, is_wait, with_held, without_name}
-use Rattle.live_machine.specs.Held.OpenText.{NoText, Begun, Lost}
+use Rattle.live_machine.specs.declared.held.OpenText.TheVariants.{NoText, Begun, Lost}
 use Rattle.live_machine.specs.Machine.Call.{Drain, Line, PutStep}
 use Rattle.live_machine.specs.Turn.{heard_lines, log_of, replies_of, told_of}
 use Rattle.live_machine.specs.Turn.Turn.{Answers, Loses, Works}

@@ -10,8 +10,9 @@ use Rattle.sessions.specs.Items.{ends_text, text_item, with_item, without_cr}
 use Rattle.sessions.specs.Reading.{TextSoFar, items_to_come}
 use Rattle.tagged_lines.specs.Tags.{rest_of, tag_of}
 use Rattle.live_machine.specs.Account.{AreItems, IsText}
-use Rattle.live_machine.specs.Held.{Held, HeldItem, HearsForm, HearsHeld, HearsIn, OpenText, PutsItem, form_of, is_wait}
-use Rattle.live_machine.specs.Held.OpenText.{NoText, Begun, Lost}
+use Rattle.live_machine.specs.Held.{Held, HeldItem, HearsForm, HearsHeld, HearsIn, PutsItem, form_of, is_wait}
+use Rattle.live_machine.specs.declared.held.OpenText.{OpenText}
+use Rattle.live_machine.specs.declared.held.OpenText.TheVariants.{NoText, Begun, Lost}
 use Rattle.live_machine.proofs.ReadLemmas.{IsWhole, Reads, outside_still, reads_asked, reads_begun, reads_both, reads_end, reads_on, rests}
 
 -- the line has the name's tag

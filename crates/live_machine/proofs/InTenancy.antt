@@ -18,9 +18,10 @@ use Rattle.live_lines.specs.Live.{Asked, LiveState, asked_of}
 use Rattle.live_lines.specs.Live.Asked.{NoForm, Nothing, Operates, Says}
 use Rattle.live_lines.proofs.LawLemmas.{says}
 use Rattle.live_machine.specs.Account.{is_nobodys, lines_in}
-use Rattle.live_machine.specs.Held.{Held, HeldItem, HearsForm, HearsIn, OpenText, calls_off, form_of, held_of, is_wait, with_held, without_name}
-use Rattle.live_machine.specs.Held.OpenText.{NoText, Begun, Lost}
-use Rattle.live_machine.specs.Machine.{Call, EndsHold, Frees, FreesIf, GivesUp, Happens, HearsAfter, HearsAsked, HearsFree, HearsName, Holds, Machine, Run, Serves, ServesAll, ServesFirst, ServesItem, ServesItems, ServesLines, ServesNobodys, TellsLost, WaitsAfter, begins_with, holds, is_busy, is_by_hand, must_wait}
+use Rattle.live_machine.specs.Held.{Held, HeldItem, HearsForm, HearsIn, calls_off, form_of, held_of, is_wait, with_held, without_name}
+use Rattle.live_machine.specs.declared.held.OpenText.{OpenText}
+use Rattle.live_machine.specs.declared.held.OpenText.TheVariants.{NoText, Begun, Lost}
+use Rattle.live_machine.specs.Machine.{Call, EndsHold, Frees, FreesIf, GivesUp, Happens, HearsAfter, HearsAsked, HearsFree, HearsName, Holds, MachineState, Run, Serves, ServesAll, ServesFirst, ServesItem, ServesItems, ServesLines, ServesNobodys, TellsLost, WaitsAfter, begins_with, holds, is_busy, is_by_hand, must_wait}
 use Rattle.live_machine.specs.Machine.Call.{Drain, GiveUp, Line, PutStep, ServeHeld}
 use Rattle.live_machine.specs.Turn.{Turn, heard_lines}
 use Rattle.live_machine.proofs.AccountLemmas.{Accounts, happened, heard_name, starts, waits_outside}
@@ -35,82 +36,82 @@ use Rattle.live_machine.proofs.NameBooks.{books_heard}
 use Rattle.live_machine.proofs.TenancyLemmas.{IsNoEviction, Keeps, is_live, keeps_same, line_keeps}
 
 -- what is held of the name was said in the tenancy that it has, which is live
-abbrev pub IsIn : Machine → List ℕ → Type 0
+abbrev pub IsIn : MachineState → List ℕ → Type 0
 IsIn now name = (h : Held) → held_of now.held name ≡ Some h → h.items ≢ [] → (h.id ≡ last_id now.live.stage.names name) × (is_live now.live.stage name ≡ true)
 
-in_keeps : (old new : Machine) (name : List ℕ) → IsIn old name → held_of new.held name ≡ held_of old.held name → (is_live old.live.stage name ≡ true → Keeps name old.live.stage new.live.stage) → IsIn new name
+in_keeps : (old new : MachineState) (name : List ℕ) → IsIn old name → held_of new.held name ≡ held_of old.held name → (is_live old.live.stage name ≡ true → Keeps name old.live.stage new.live.stage) → IsIn new name
 in_keeps old new name was held keeps h is some =
     let (id, live) = was h (sym held ∙ is) some in
     let k = keeps live in
     (id ∙ sym k.id, ap (alive new.live.stage.service.histories) k.id ∙ k.live)
 
-keeps_both : (name : List ℕ) (old mid new : Machine) → Keeps name old.live.stage mid.live.stage → (is_live mid.live.stage name ≡ true → Keeps name mid.live.stage new.live.stage) → Keeps name old.live.stage new.live.stage
+keeps_both : (name : List ℕ) (old mid new : MachineState) → Keeps name old.live.stage mid.live.stage → (is_live mid.live.stage name ≡ true → Keeps name mid.live.stage new.live.stage) → Keeps name old.live.stage new.live.stage
 keeps_both name old mid new first more =
     let m = more (ap (alive mid.live.stage.service.histories) first.id ∙ first.live) in
     record { id = m.id ∙ first.id; live = ap (alive new.live.stage.service.histories) (sym first.id) ∙ m.live }
 
 -- lines of one name, that evict nobody: what is held of others stays, and each live name keeps its
 -- tenancy
-pub record Passes (name : List ℕ) (old new : Machine) : Type 0 where
+pub record Passes (name : List ℕ) (old new : MachineState) : Type 0 where
   pub held : (other : List ℕ) → bytes_eq name other ≡ false → held_of new.held other ≡ held_of old.held other
   pub keeps : (other : List ℕ) → is_live old.live.stage other ≡ true → Keeps other old.live.stage new.live.stage
 
-passes_others : (name : List ℕ) (old new : Machine) → Passes name old new → (other : List ℕ) → bytes_eq name other ≡ false → IsIn old other → IsIn new other
+passes_others : (name : List ℕ) (old new : MachineState) → Passes name old new → (other : List ℕ) → bytes_eq name other ≡ false → IsIn old other → IsIn new other
 passes_others name old new p other apart was = in_keeps old new other was (p.held other apart) (p.keeps other)
 
-passes_both : (name : List ℕ) (old mid new : Machine) → Passes name old mid → Passes name mid new → Passes name old new
+passes_both : (name : List ℕ) (old mid new : MachineState) → Passes name old mid → Passes name mid new → Passes name old new
 passes_both name old mid new first more =
     record {
       held = λ other apart. more.held other apart ∙ first.held other apart;
       keeps = λ other live. keeps_both other old mid new (first.keeps other live) (more.keeps other);
     }
 
-passes_same : (name : List ℕ) (old new : Machine) → new ≡ old → Passes name old new
+passes_same : (name : List ℕ) (old new : MachineState) → new ≡ old → Passes name old new
 passes_same name old new same =
     record {
-      held = λ other apart. ap (λ (m : Machine). held_of m.held other) same;
-      keeps = λ other live. keeps_same other old.live.stage new.live.stage live (ap (λ (m : Machine). m.live.stage) same);
+      held = λ other apart. ap (λ (m : MachineState). held_of m.held other) same;
+      keeps = λ other live. keeps_same other old.live.stage new.live.stage live (ap (λ (m : MachineState). m.live.stage) same);
     }
 
 -- one line
-line_passes : (name : List ℕ) (old new : Machine) (line : List ℕ) → ((other : List ℕ) → IsNoEviction other (asked_of line)) → Serves old line new → Passes name old new
+line_passes : (name : List ℕ) (old new : MachineState) (line : List ℕ) → ((other : List ℕ) → IsNoEviction other (asked_of line)) → Serves old line new → Passes name old new
 line_passes name old new line stays s =
     record {
-      held = λ other apart. ap (λ (m : Machine). held_of m.held other) s.rest;
+      held = λ other apart. ap (λ (m : MachineState). held_of m.held other) s.rest;
       keeps = λ other live. line_keeps other old.live old.next line s.reply new.live (stays other) live s.answers;
     }
 
 says_no_eviction : (name said line : List ℕ) → asked_of line ≡ Says name said → (other : List ℕ) → IsNoEviction other (asked_of line)
 says_no_eviction name said line is other = let P : Asked → Type 0 = IsNoEviction other in subst P (sym is) tt
 
-lost_passes : (name : List ℕ) (old new : Machine) → TellsLost old name new → Passes name old new
+lost_passes : (name : List ℕ) (old new : MachineState) → TellsLost old name new → Passes name old new
 lost_passes name old new lost =
     record {
-      held = λ other apart. ap (λ (m : Machine). held_of m.held other) lost;
-      keeps = λ other live. keeps_same other old.live.stage new.live.stage live (ap (λ (m : Machine). m.live.stage) lost);
+      held = λ other apart. ap (λ (m : MachineState). held_of m.held other) lost;
+      keeps = λ other live. keeps_same other old.live.stage new.live.stage live (ap (λ (m : MachineState). m.live.stage) lost);
     }
 
-all_pass : (name : List ℕ) → is_name name ≡ true → (lines : List (List ℕ)) (old new : Machine) → AreOf name lines → ServesAll lines old new → Passes name old new
+all_pass : (name : List ℕ) → is_name name ≡ true → (lines : List (List ℕ)) (old new : MachineState) → AreOf name lines → ServesAll lines old new → Passes name old new
 all_pass name ok [] old new of same = passes_same name old new same
 all_pass name ok (line ∷ lines) old new of (mid, one, rest) =
     passes_both name old mid new (line_passes name old mid line (says_no_eviction name (rest_of line) line (says name line ok of.0)) one) (all_pass name ok lines mid new of.1 rest)
 
 -- what is held of that name changes
-held_passes : (old : Machine) (after : Held) → Passes after.name old (record old { held = with_held old.held after })
+held_passes : (old : MachineState) (after : Held) → Passes after.name old (record old { held = with_held old.held after })
 held_passes old after = record { held = λ other apart. changed_other old.held after other apart; keeps = λ other live. keeps_same other old.live.stage old.live.stage live refl }
 
 -- an item
-lines_pass : (name : List ℕ) → is_name name ≡ true → (item : List (List ℕ)) (as_status : Bool) (old new : Machine) → AreOf name item → ServesLines as_status name item old new → Passes name old new
+lines_pass : (name : List ℕ) → is_name name ≡ true → (item : List (List ℕ)) (as_status : Bool) (old new : MachineState) → AreOf name item → ServesLines as_status name item old new → Passes name old new
 lines_pass name ok item false old new of serves = all_pass name ok item old new of serves
 lines_pass name ok item true old new of (made, asks, serves) = line_passes name old new made (says_no_eviction name (codes "status") made asks) serves
 
-item_passes : (begun : LiveState) (first : ℕ) (lines : List (List ℕ)) (taken : List Turn) (old new : Machine) (h : Held) (item : HeldItem) (items : List HeldItem) → Books begun first lines taken old → held_of old.held h.name ≡ Some h → h.items ≡ item ∷ items → ServesItem item (record h { items = items }) old new → Passes h.name old new
+item_passes : (begun : LiveState) (first : ℕ) (lines : List (List ℕ)) (taken : List Turn) (old new : MachineState) (h : Held) (item : HeldItem) (items : List HeldItem) → Books begun first lines taken old → held_of old.held h.name ≡ Some h → h.items ≡ item ∷ items → ServesItem item (record h { items = items }) old new → Passes h.name old new
 item_passes begun first lines taken old new h None items b is first_is lost =
     passes_both h.name old (record old { held = with_held old.held (record h { items = items }) }) new (held_passes old (record h { items = items })) (lost_passes h.name (record old { held = with_held old.held (record h { items = items }) }) new lost)
 item_passes begun first lines taken old new h (Some item) items b is first_is serves =
     let t = taken_of begun first lines taken old h (Some item) items b is first_is in
     let O : List (List ℕ) → Type 0 = AreOf h.name in
-    let mid : Machine = record old { held = with_held old.held (record h { items = items }) } in
+    let mid : MachineState = record old { held = with_held old.held (record h { items = items }) } in
     passes_both h.name old mid new (held_passes old (record h { items = items })) (lines_pass h.name (b.named h.name h is) item (holds old.live h.name item) mid new (subst O t.is_first t.of) serves)
 
 no_first : (item : HeldItem) (items : List HeldItem) → item ∷ items ≡ [] → ⊥
@@ -120,7 +121,7 @@ some_same : (a b : Held) → Some a ≡ Some b → a ≡ b
 some_same a b e = cc
 
 -- what is left of the name
-left_in : (old new : Machine) (h : Held) (item : HeldItem) (items : List HeldItem) → held_of old.held h.name ≡ Some h → h.items ≡ item ∷ items → held_of new.held h.name ≡ Some (record h { items = items }) → Passes h.name old new → IsIn old h.name → IsIn new h.name
+left_in : (old new : MachineState) (h : Held) (item : HeldItem) (items : List HeldItem) → held_of old.held h.name ≡ Some h → h.items ≡ item ∷ items → held_of new.held h.name ≡ Some (record h { items = items }) → Passes h.name old new → IsIn old h.name → IsIn new h.name
 left_in old new h item items is first_is left p was after after_is some =
     let (id, live) = was h is (λ none. absurd (no_first item items (sym first_is ∙ none))) in
     let k = p.keeps h.name live in
@@ -128,50 +129,50 @@ left_in old new h item items is first_is left p was after after_is some =
     (ap (λ (x : Held). x.id) same ∙ (id ∙ sym k.id), ap (alive new.live.stage.service.histories) k.id ∙ k.live)
 
 -- items, one after another
-items_pass : (begun : LiveState) (first : ℕ) (lines : List (List ℕ)) (taken : List Turn) (old new : Machine) (h : Held) (items : List HeldItem) → Books begun first lines taken old → held_of old.held h.name ≡ Some h → h.items ≡ items → ServesItems items h old new → Passes h.name old new
+items_pass : (begun : LiveState) (first : ℕ) (lines : List (List ℕ)) (taken : List Turn) (old new : MachineState) (h : Held) (items : List HeldItem) → Books begun first lines taken old → held_of old.held h.name ≡ Some h → h.items ≡ items → ServesItems items h old new → Passes h.name old new
 items_pass begun first lines taken old new h [] b is none same = passes_same h.name old new same
 items_pass begun first lines taken old new h (item ∷ items) b is first_is (mid, one, more) =
     let on = books_item begun first lines taken old mid h item items b is first_is one in
     passes_both h.name old mid new (item_passes begun first lines taken old mid h item items b is first_is one) (items_pass begun first lines taken mid new (record h { items = items }) items on.books on.held_is refl more)
 
-frees_pass : (begun : LiveState) (first : ℕ) (lines : List (List ℕ)) (taken : List Turn) (old new : Machine) (h : Held) (text : OpenText) → Books begun first lines taken old → held_of old.held h.name ≡ Some h → h.items ≡ [] → h.text ≡ text → Frees text h.name old new → Passes h.name old new
+frees_pass : (begun : LiveState) (first : ℕ) (lines : List (List ℕ)) (taken : List Turn) (old new : MachineState) (h : Held) (text : OpenText) → Books begun first lines taken old → held_of old.held h.name ≡ Some h → h.items ≡ [] → h.text ≡ text → Frees text h.name old new → Passes h.name old new
 frees_pass begun first lines taken old new h Lost b is none text_is same = passes_same h.name old new same
 frees_pass begun first lines taken old new h NoText b is none text_is freed =
     record {
-      held = λ other apart. ap (λ (m : Machine). held_of m.held other) freed ∙ freed_other old.held h.name other apart;
-      keeps = λ other live. keeps_same other old.live.stage new.live.stage live (ap (λ (m : Machine). m.live.stage) freed);
+      held = λ other apart. ap (λ (m : MachineState). held_of m.held other) freed ∙ freed_other old.held h.name other apart;
+      keeps = λ other live. keeps_same other old.live.stage new.live.stage live (ap (λ (m : MachineState). m.live.stage) freed);
     }
 frees_pass begun first lines taken old new h (Begun text) b is none text_is serves =
     let F : Option Held → Type 0 = λ x. Follows h.name (begun.texts h.name) (said_by h.name lines) (said_by h.name (heard_lines b.turns)) x (old.live.texts h.name) in
     let ok = b.named h.name h is in
     let (of, follows) = follow_text h.name (begun.texts h.name) (said_by h.name lines) (said_by h.name (heard_lines b.turns)) text h (old.live.texts h.name) (subst F is (b.said h.name ok)) none text_is in
-    let mid : Machine = record old { held = without_name old.held h.name } in
+    let mid : MachineState = record old { held = without_name old.held h.name } in
     let removed : Passes h.name old mid = record { held = λ other apart. freed_other old.held h.name other apart; keeps = λ other live. keeps_same other old.live.stage old.live.stage live refl } in
     passes_both h.name old mid new removed (all_pass h.name ok text mid new of serves)
 
 -- afterwards the name has no items
-all_held : (lines : List (List ℕ)) (old new : Machine) → ServesAll lines old new → new.held ≡ old.held
-all_held [] old new same = ap (λ (m : Machine). m.held) same
-all_held (line ∷ lines) old new (mid, one, rest) = all_held lines mid new rest ∙ ap (λ (m : Machine). m.held) one.rest
+all_held : (lines : List (List ℕ)) (old new : MachineState) → ServesAll lines old new → new.held ≡ old.held
+all_held [] old new same = ap (λ (m : MachineState). m.held) same
+all_held (line ∷ lines) old new (mid, one, rest) = all_held lines mid new rest ∙ ap (λ (m : MachineState). m.held) one.rest
 
 none_some : (h : Held) → None ≡ Some h → ⊥
 none_some h e = absurd (cc)
 
-freed_empty : (old new : Machine) (h : Held) (text : OpenText) → held_of old.held h.name ≡ Some h → h.items ≡ [] → Frees text h.name old new → (after : Held) → held_of new.held h.name ≡ Some after → after.items ≡ []
+freed_empty : (old new : MachineState) (h : Held) (text : OpenText) → held_of old.held h.name ≡ Some h → h.items ≡ [] → Frees text h.name old new → (after : Held) → held_of new.held h.name ≡ Some after → after.items ≡ []
 freed_empty old new h Lost is none same after after_is =
-    let kept : Some after ≡ Some h = sym after_is ∙ (ap (λ (m : Machine). held_of m.held h.name) same ∙ is) in
+    let kept : Some after ≡ Some h = sym after_is ∙ (ap (λ (m : MachineState). held_of m.held h.name) same ∙ is) in
     ap (λ (x : Held). x.items) (some_same after h kept) ∙ none
 freed_empty old new h NoText is none freed after after_is =
-    absurd (none_some after (sym (ap (λ (m : Machine). held_of m.held h.name) freed ∙ freed_own old.held h.name) ∙ after_is))
+    absurd (none_some after (sym (ap (λ (m : MachineState). held_of m.held h.name) freed ∙ freed_own old.held h.name) ∙ after_is))
 freed_empty old new h (Begun text) is none serves after after_is =
     absurd (none_some after (sym (ap (λ hs. held_of hs h.name) (all_held text (record old { held = without_name old.held h.name }) new serves) ∙ freed_own old.held h.name) ∙ after_is))
 
 -- a hold ends
-pub record Ended (name : List ℕ) (old new : Machine) : Type 0 where
+pub record Ended (name : List ℕ) (old new : MachineState) : Type 0 where
   pub passes : Passes name old new
   pub empty : (after : Held) → held_of new.held name ≡ Some after → after.items ≡ []
 
-ends_hold : (begun : LiveState) (first : ℕ) (lines : List (List ℕ)) (taken : List Turn) (old new : Machine) (h : Held) → Books begun first lines taken old → held_of old.held h.name ≡ Some h → EndsHold (Some h) old new → Ended h.name old new
+ends_hold : (begun : LiveState) (first : ℕ) (lines : List (List ℕ)) (taken : List Turn) (old new : MachineState) (h : Held) → Books begun first lines taken old → held_of old.held h.name ≡ Some h → EndsHold (Some h) old new → Ended h.name old new
 ends_hold begun first lines taken old new h b is (mid, items, frees) =
     let on = books_items begun first lines taken old mid h h.items b is refl items in
     record {
@@ -180,7 +181,7 @@ ends_hold begun first lines taken old new h b is (mid, items, frees) =
     }
 
 -- an own name without items is in no wrong tenancy
-ended_in : (name : List ℕ) (old new : Machine) → Ended name old new → ((other : List ℕ) → bytes_eq name other ≡ false → IsIn old other) → (other : List ℕ) → IsIn new other
+ended_in : (name : List ℕ) (old new : MachineState) → Ended name old new → ((other : List ℕ) → bytes_eq name other ≡ false → IsIn old other) → (other : List ℕ) → IsIn new other
 ended_in name old new e others other =
     elim (bytes_eq name other) as (λ b. bytes_eq name other ≡ b → IsIn new other) [
       | true ↦ λ same.
@@ -189,7 +190,7 @@ ended_in name old new e others other =
       | false ↦ λ apart. passes_others name old new e.passes other apart (others other apart)
     ] refl
 
-ended_if : (begun : LiveState) (first : ℕ) (lines : List (List ℕ)) (taken : List Turn) (old new : Machine) (name : List ℕ) (held : Option Held) → Books begun first lines taken old → held_of old.held name ≡ held → EndsHold held old new → ((other : List ℕ) → bytes_eq name other ≡ false → IsIn old other) → (other : List ℕ) → IsIn new other
+ended_if : (begun : LiveState) (first : ℕ) (lines : List (List ℕ)) (taken : List Turn) (old new : MachineState) (name : List ℕ) (held : Option Held) → Books begun first lines taken old → held_of old.held name ≡ held → EndsHold held old new → ((other : List ℕ) → bytes_eq name other ≡ false → IsIn old other) → (other : List ℕ) → IsIn new other
 ended_if begun first lines taken old new name (Some h) b is ends others =
     let P : List ℕ → Type 0 = λ n. held_of old.held n ≡ Some h in
     let Q : List ℕ → Type 0 = λ n. Ended n old new in
@@ -199,18 +200,18 @@ ended_if begun first lines taken old new name None b is same others =
     ended_in name old new
     (record {
       passes = passes_same name old new same;
-      empty = λ after after_is. absurd (none_some after (sym (ap (λ (m : Machine). held_of m.held name) same ∙ is) ∙ after_is));
+      empty = λ after after_is. absurd (none_some after (sym (ap (λ (m : MachineState). held_of m.held name) same ∙ is) ∙ after_is));
     }) others
 
 -- a name that has its turn
-frees_in : (begun : LiveState) (first : ℕ) (lines : List (List ℕ)) (taken : List Turn) (old new : Machine) (items : List HeldItem) (h : Held) → IsOn begun first lines taken old h → h.items ≡ items → FreesIf items h old new → ((other : List ℕ) → IsIn old other) → (other : List ℕ) → IsIn new other
+frees_in : (begun : LiveState) (first : ℕ) (lines : List (List ℕ)) (taken : List Turn) (old new : MachineState) (items : List HeldItem) (h : Held) → IsOn begun first lines taken old h → h.items ≡ items → FreesIf items h old new → ((other : List ℕ) → IsIn old other) → (other : List ℕ) → IsIn new other
 frees_in begun first lines taken old new [] h on none frees all =
     ended_in h.name old new
     (record { passes = frees_pass begun first lines taken old new h h.text on.books on.held_is none refl frees; empty = freed_empty old new h h.text on.held_is none frees })
     (λ other apart. all other)
-frees_in begun first lines taken old new (item ∷ items) h on is same all = let P : Machine → Type 0 = λ m. (other : List ℕ) → IsIn m other in subst P (sym same) all
+frees_in begun first lines taken old new (item ∷ items) h on is same all = let P : MachineState → Type 0 = λ m. (other : List ℕ) → IsIn m other in subst P (sym same) all
 
-item_in : (old new : Machine) (h : Held) (item : HeldItem) (items : List HeldItem) → held_of old.held h.name ≡ Some h → h.items ≡ item ∷ items → held_of new.held h.name ≡ Some (record h { items = items }) → Passes h.name old new → ((other : List ℕ) → IsIn old other) → (other : List ℕ) → IsIn new other
+item_in : (old new : MachineState) (h : Held) (item : HeldItem) (items : List HeldItem) → held_of old.held h.name ≡ Some h → h.items ≡ item ∷ items → held_of new.held h.name ≡ Some (record h { items = items }) → Passes h.name old new → ((other : List ℕ) → IsIn old other) → (other : List ℕ) → IsIn new other
 item_in old new h item items is first_is left p all other =
     elim (bytes_eq h.name other) as (λ b. bytes_eq h.name other ≡ b → IsIn new other) [
       | true ↦ λ same.
@@ -219,19 +220,19 @@ item_in old new h item items is first_is left p all other =
       | false ↦ λ apart. passes_others h.name old new p other apart (all other)
     ] refl
 
-first_in : (begun : LiveState) (first : ℕ) (lines : List (List ℕ)) (taken : List Turn) (old new : Machine) (h : Held) (items : List HeldItem) → Books begun first lines taken old → held_of old.held h.name ≡ Some h → h.items ≡ items → ServesFirst items h old new → ((other : List ℕ) → IsIn old other) → (other : List ℕ) → IsIn new other
+first_in : (begun : LiveState) (first : ℕ) (lines : List (List ℕ)) (taken : List Turn) (old new : MachineState) (h : Held) (items : List HeldItem) → Books begun first lines taken old → held_of old.held h.name ≡ Some h → h.items ≡ items → ServesFirst items h old new → ((other : List ℕ) → IsIn old other) → (other : List ℕ) → IsIn new other
 first_in begun first lines taken old new h [] b is none serves all = absurd serves
 first_in begun first lines taken old new h (item ∷ items) b is first_is (mid, free, serves, frees) all =
     let on = books_item begun first lines taken old mid h item items b is first_is serves in
     frees_in begun first lines taken mid new items (record h { items = items }) on refl frees
     (item_in old mid h item items is first_is on.held_is (item_passes begun first lines taken old mid h item items b is first_is serves) all)
 
-given_in : (begun : LiveState) (first : ℕ) (lines : List (List ℕ)) (taken : List Turn) (old new : Machine) (h : Held) (items : List HeldItem) → Books begun first lines taken old → held_of old.held h.name ≡ Some h → h.items ≡ items → GivesUp items h old new → ((other : List ℕ) → IsIn old other) → (other : List ℕ) → IsIn new other
+given_in : (begun : LiveState) (first : ℕ) (lines : List (List ℕ)) (taken : List Turn) (old new : MachineState) (h : Held) (items : List HeldItem) → Books begun first lines taken old → held_of old.held h.name ≡ Some h → h.items ≡ items → GivesUp items h old new → ((other : List ℕ) → IsIn old other) → (other : List ℕ) → IsIn new other
 given_in begun first lines taken old new h [] b is none gives all = absurd gives
 given_in begun first lines taken old new h (None ∷ items) b is first_is gives all = absurd gives
 given_in begun first lines taken old new h (Some item ∷ items) b is first_is (mid, waits, lost, frees) all =
     let after : Held = record h { items = items } in
-    let changed : Machine = record old { held = with_held old.held after } in
+    let changed : MachineState = record old { held = with_held old.held after } in
     let on = item_lost begun first lines taken old mid h (Some item) items b is first_is lost in
     frees_in begun first lines taken mid new items after on refl frees
     (item_in old mid h (Some item) items is first_is on.held_is (passes_both h.name old changed mid (held_passes old after) (lost_passes h.name changed mid lost)) all)
@@ -248,19 +249,19 @@ waits_busy false b is = absurd (cc)
 busy_live : (live : LiveState) (name : List ℕ) → is_busy live name ≡ true → is_live live.stage name ≡ true
 busy_live live name busy = takeable_live (live_of live.stage.service.histories (last_id live.stage.names name)) busy
 
-held_in : (old new : Machine) (name line : List ℕ) → held_of old.held name ≡ None → must_wait old.live name line ≡ true → Holds name line old new → ((other : List ℕ) → IsIn old other) → (other : List ℕ) → IsIn new other
-held_in old new name line free waits (inr lost) all other = in_keeps old new other (all other) (ap (λ (m : Machine). held_of m.held other) lost) (λ live. keeps_same other old.live.stage new.live.stage live (ap (λ (m : Machine). m.live.stage) lost))
+held_in : (old new : MachineState) (name line : List ℕ) → held_of old.held name ≡ None → must_wait old.live name line ≡ true → Holds name line old new → ((other : List ℕ) → IsIn old other) → (other : List ℕ) → IsIn new other
+held_in old new name line free waits (inr lost) all other = in_keeps old new other (all other) (ap (λ (m : MachineState). held_of m.held other) lost) (λ live. keeps_same other old.live.stage new.live.stage live (ap (λ (m : MachineState). m.live.stage) lost))
 held_in old new name line free waits (inl held) all other =
     let h : Held = record { name = name; id = last_id old.live.stage.names name; items = Some (line ∷ []) ∷ []; text = NoText } in
-    let stage : new.live.stage ≡ old.live.stage = ap (λ (m : Machine). m.live.stage) held in
+    let stage : new.live.stage ≡ old.live.stage = ap (λ (m : MachineState). m.live.stage) held in
     elim (bytes_eq name other) as (λ b. bytes_eq name other ≡ b → IsIn new other) [
       | true ↦ λ same.
           let P : List ℕ → Type 0 = IsIn new in
           subst P (one_name name other same) (λ after after_is some.
-          let it : after ≡ h = some_same after h (sym after_is ∙ (ap (λ (m : Machine). held_of m.held name) held ∙ added_own old.held h free)) in
+          let it : after ≡ h = some_same after h (sym after_is ∙ (ap (λ (m : MachineState). held_of m.held name) held ∙ added_own old.held h free)) in
           let busy = waits_busy (is_wait (form_of line)) (is_busy old.live name) (waits_outside (old.live.texts name) (is_wait (form_of line) && is_busy old.live name) waits).1 in
           (ap (λ (x : Held). x.id) it ∙ sym (ap (λ s. last_id s.names name) stage), ap (λ s. is_live s name) stage ∙ busy_live old.live name busy))
-      | false ↦ λ apart. in_keeps old new other (all other) (ap (λ (m : Machine). held_of m.held other) held ∙ added_other old.held h other apart) (λ live. keeps_same other old.live.stage new.live.stage live stage)
+      | false ↦ λ apart. in_keeps old new other (all other) (ap (λ (m : MachineState). held_of m.held other) held ∙ added_other old.held h other apart) (λ live. keeps_same other old.live.stage new.live.stage live stage)
     ] refl
 
 -- a line of a held name
@@ -281,7 +282,7 @@ heard_id Lost false h new line same = ap (λ (x : Held). x.id) same
 heard_id Lost true h new line same = ap (λ (x : Held). x.id) same
 
 -- what was held of the name is held on with a further line
-after_in : (old : Machine) (name : List ℕ) (h after : Held) (item : HeldItem) (items : List HeldItem) → held_of old.held name ≡ Some h → after.name ≡ name → after.id ≡ h.id → h.items ≡ item ∷ items → ((other : List ℕ) → IsIn old other) → (other : List ℕ) → IsIn (record old { held = with_held old.held after }) other
+after_in : (old : MachineState) (name : List ℕ) (h after : Held) (item : HeldItem) (items : List HeldItem) → held_of old.held name ≡ Some h → after.name ≡ name → after.id ≡ h.id → h.items ≡ item ∷ items → ((other : List ℕ) → IsIn old other) → (other : List ℕ) → IsIn (record old { held = with_held old.held after }) other
 after_in old name h after item items is named id first_is all other =
     elim (bytes_eq after.name other) as (λ b. bytes_eq after.name other ≡ b → IsIn (record old { held = with_held old.held after }) other) [
       | true ↦ λ same.
@@ -295,9 +296,9 @@ after_in old name h after item items is named id first_is all other =
       | false ↦ λ apart. in_keeps old (record old { held = with_held old.held after }) other (all other) (changed_other old.held after other apart) (λ live. keeps_same other old.live.stage old.live.stage live refl)
     ] refl
 
-waits_in : (begun : LiveState) (first : ℕ) (lines : List (List ℕ)) (taken : List Turn) (old new : Machine) (name : List ℕ) (h after : Held) (items : List HeldItem) → Books begun first lines taken (record old { held = with_held old.held after }) → held_of old.held name ≡ Some h → after.name ≡ name → after.id ≡ h.id → h.items ≡ items → WaitsAfter items after (record old { held = with_held old.held after }) new → ((other : List ℕ) → IsIn old other) → (other : List ℕ) → IsIn new other
+waits_in : (begun : LiveState) (first : ℕ) (lines : List (List ℕ)) (taken : List Turn) (old new : MachineState) (name : List ℕ) (h after : Held) (items : List HeldItem) → Books begun first lines taken (record old { held = with_held old.held after }) → held_of old.held name ≡ Some h → after.name ≡ name → after.id ≡ h.id → h.items ≡ items → WaitsAfter items after (record old { held = with_held old.held after }) new → ((other : List ℕ) → IsIn old other) → (other : List ℕ) → IsIn new other
 waits_in begun first lines taken old new name h after (item ∷ items) b is named id first_is same all =
-    let P : Machine → Type 0 = λ m. (other : List ℕ) → IsIn m other in
+    let P : MachineState → Type 0 = λ m. (other : List ℕ) → IsIn m other in
     subst P (sym same) (after_in old name h after item items is named id first_is all)
 waits_in begun first lines taken old new name h after [] b is named id none ends all =
     let N : List ℕ → Type 0 = λ n. held_of old.held n ≡ Some h in
@@ -305,39 +306,39 @@ waits_in begun first lines taken old new name h after [] b is named id none ends
     (ends_hold begun first lines taken (record old { held = with_held old.held after }) new after b (changed_own old.held h after (subst N (sym named) is)) ends)
     (λ other apart. in_keeps old (record old { held = with_held old.held after }) other (all other) (changed_other old.held after other apart) (λ live. keeps_same other old.live.stage old.live.stage live refl))
 
-serves_in : (old new : Machine) (line : List ℕ) → ((other : List ℕ) → IsNoEviction other (asked_of line)) → Serves old line new → ((other : List ℕ) → IsIn old other) → (other : List ℕ) → IsIn new other
-serves_in old new line stays s all other = in_keeps old new other (all other) (ap (λ (m : Machine). held_of m.held other) s.rest) (λ live. line_keeps other old.live old.next line s.reply new.live (stays other) live s.answers)
+serves_in : (old new : MachineState) (line : List ℕ) → ((other : List ℕ) → IsNoEviction other (asked_of line)) → Serves old line new → ((other : List ℕ) → IsIn old other) → (other : List ℕ) → IsIn new other
+serves_in old new line stays s all other = in_keeps old new other (all other) (ap (λ (m : MachineState). held_of m.held other) s.rest) (λ live. line_keeps other old.live old.next line s.reply new.live (stays other) live s.answers)
 
-named_in : (begun : LiveState) (first : ℕ) (lines : List (List ℕ)) (taken : List Turn) (old new : Machine) (name line : List ℕ) (h : Held) (off : Bool) → Books begun first lines taken old → is_name name ≡ true → IsOf name line → held_of old.held name ≡ Some h → HearsAfter off h name line old new → ((other : List ℕ) → IsIn old other) → (other : List ℕ) → IsIn new other
+named_in : (begun : LiveState) (first : ℕ) (lines : List (List ℕ)) (taken : List Turn) (old new : MachineState) (name line : List ℕ) (h : Held) (off : Bool) → Books begun first lines taken old → is_name name ≡ true → IsOf name line → held_of old.held name ≡ Some h → HearsAfter off h name line old new → ((other : List ℕ) → IsIn old other) → (other : List ℕ) → IsIn new other
 named_in begun first lines taken old new name line h true b ok of is (mid, ends, serves) all =
     serves_in mid new line (says_no_eviction name (rest_of line) line (says name line ok of)) serves
     (ended_if begun first lines taken old mid name (Some h) b is ends (λ other apart. all other))
 named_in begun first lines taken old new name line h false b ok of is (after, hears, waits) all =
     let named : after.name ≡ name = heard_name h.text (ends_text (rest_of line)) h after line hears ∙ name_of_held old.held name h is in
-    let mid : Machine = record old { held = with_held old.held after } in
+    let mid : MachineState = record old { held = with_held old.held after } in
     waits_in begun first (lines ++ line ∷ []) taken old new name h after h.items (books_heard begun first lines taken old mid line name h after b ok of is named hears refl) is named (heard_id h.text (ends_text (rest_of line)) h after line hears) refl waits all
 
-free_in : (old new : Machine) (name line : List ℕ) (waits : Bool) → is_name name ≡ true → IsOf name line → held_of old.held name ≡ None → must_wait old.live name line ≡ waits → HearsFree waits name line old new → ((other : List ℕ) → IsIn old other) → (other : List ℕ) → IsIn new other
+free_in : (old new : MachineState) (name line : List ℕ) (waits : Bool) → is_name name ≡ true → IsOf name line → held_of old.held name ≡ None → must_wait old.live name line ≡ waits → HearsFree waits name line old new → ((other : List ℕ) → IsIn old other) → (other : List ℕ) → IsIn new other
 free_in old new name line true ok of free waits held all = held_in old new name line free waits held all
 free_in old new name line false ok of free waits serves all = serves_in old new line (says_no_eviction name (rest_of line) line (says name line ok of)) serves all
 
-name_in : (begun : LiveState) (first : ℕ) (lines : List (List ℕ)) (taken : List Turn) (old new : Machine) (name line : List ℕ) (held : Option Held) → Books begun first lines taken old → is_name name ≡ true → IsOf name line → held_of old.held name ≡ held → HearsName held name line old new → ((other : List ℕ) → IsIn old other) → (other : List ℕ) → IsIn new other
+name_in : (begun : LiveState) (first : ℕ) (lines : List (List ℕ)) (taken : List Turn) (old new : MachineState) (name line : List ℕ) (held : Option Held) → Books begun first lines taken old → is_name name ≡ true → IsOf name line → held_of old.held name ≡ held → HearsName held name line old new → ((other : List ℕ) → IsIn old other) → (other : List ℕ) → IsIn new other
 name_in begun first lines taken old new name line (Some h) b ok of is hears all = named_in begun first lines taken old new name line h (calls_off h.text line) b ok of is hears all
 name_in begun first lines taken old new name line None b ok of is hears all = free_in old new name line (must_wait old.live name line) ok of is refl hears all
 
 -- a line that evicts nobody, of no name
-nobody_in : (old new : Machine) (line : List ℕ) (by_hand : Bool) → ((other : List ℕ) → IsNoEviction other (asked_of line)) → ServesNobodys by_hand line old new → ((other : List ℕ) → IsIn old other) → (other : List ℕ) → IsIn new other
+nobody_in : (old new : MachineState) (line : List ℕ) (by_hand : Bool) → ((other : List ℕ) → IsNoEviction other (asked_of line)) → ServesNobodys by_hand line old new → ((other : List ℕ) → IsIn old other) → (other : List ℕ) → IsIn new other
 nobody_in old new line false stays serves all = serves_in old new line stays serves all
 nobody_in old new line true stays (made, asks, serves) all =
     serves_in old new made (λ other. let P : Asked → Type 0 = IsNoEviction other in subst P (sym asks) tt) serves all
 
-operator_in : (begun : LiveState) (first : ℕ) (lines : List (List ℕ)) (taken : List Turn) (old new : Machine) (line : List ℕ) (asked : OperatorLine (List ℕ)) → Books begun first lines taken old → asked_of line ≡ Operates asked → HearsAsked (Operates asked) line old new → ((other : List ℕ) → IsIn old other) → (other : List ℕ) → IsIn new other
+operator_in : (begun : LiveState) (first : ℕ) (lines : List (List ℕ)) (taken : List Turn) (old new : MachineState) (line : List ℕ) (asked : OperatorLine (List ℕ)) → Books begun first lines taken old → asked_of line ≡ Operates asked → HearsAsked (Operates asked) line old new → ((other : List ℕ) → IsIn old other) → (other : List ℕ) → IsIn new other
 operator_in begun first lines taken old new line (Evict name) b is (mid, serves, ends) all =
     let served = books_nobody begun first lines taken old mid line false b (ap is_nobodys is) (ap is_by_hand is) serves in
     ended_if begun first (lines ++ line ∷ []) taken mid new name (held_of mid.held name) served refl ends
     (λ other apart.
     let P : Asked → Type 0 = IsNoEviction other in
-    in_keeps old mid other (all other) (ap (λ (m : Machine). held_of m.held other) serves.rest)
+    in_keeps old mid other (all other) (ap (λ (m : MachineState). held_of m.held other) serves.rest)
     (λ live. line_keeps other old.live old.next line serves.reply mid.live (subst P (sym is) apart) live serves.answers))
 operator_in begun first lines taken old new line (Step name count) b is serves all = nobody_in old new line true (λ other. let P : Asked → Type 0 = IsNoEviction other in subst P (sym is) tt) serves all
 operator_in begun first lines taken old new line (Take name) b is serves all = nobody_in old new line true (λ other. let P : Asked → Type 0 = IsNoEviction other in subst P (sym is) tt) serves all
@@ -347,7 +348,7 @@ operator_in begun first lines taken old new line (Move name offset) b is serves 
 operator_in begun first lines taken old new line ListAll b is serves all = nobody_in old new line false (λ other. let P : Asked → Type 0 = IsNoEviction other in subst P (sym is) tt) serves all
 operator_in begun first lines taken old new line Owners b is serves all = nobody_in old new line false (λ other. let P : Asked → Type 0 = IsNoEviction other in subst P (sym is) tt) serves all
 
-line_in : (begun : LiveState) (first : ℕ) (lines : List (List ℕ)) (taken : List Turn) (old new : Machine) (line : List ℕ) (asked : Asked) → Books begun first lines taken old → asked_of line ≡ asked → HearsAsked asked line old new → ((other : List ℕ) → IsIn old other) → (other : List ℕ) → IsIn new other
+line_in : (begun : LiveState) (first : ℕ) (lines : List (List ℕ)) (taken : List Turn) (old new : MachineState) (line : List ℕ) (asked : Asked) → Books begun first lines taken old → asked_of line ≡ asked → HearsAsked asked line old new → ((other : List ℕ) → IsIn old other) → (other : List ℕ) → IsIn new other
 line_in begun first lines taken old new line Nothing b is serves all = nobody_in old new line false (λ other. let P : Asked → Type 0 = IsNoEviction other in subst P (sym is) tt) serves all
 line_in begun first lines taken old new line NoForm b is serves all = nobody_in old new line false (λ other. let P : Asked → Type 0 = IsNoEviction other in subst P (sym is) tt) serves all
 line_in begun first lines taken old new line (Operates asked) b is hears all = operator_in begun first lines taken old new line asked b is hears all
@@ -356,7 +357,7 @@ line_in begun first lines taken old new line (Says name said) b is hears all =
     name_in begun first lines taken old new name line (held_of old.held name) b ok of refl hears all
 
 -- each call, and all calls
-call_in : (begun : LiveState) (first : ℕ) (lines : List (List ℕ)) (taken : List Turn) (old new : Machine) (call : Call) → Books begun first lines taken old → Happens old call new → ((other : List ℕ) → IsIn old other) → (other : List ℕ) → IsIn new other
+call_in : (begun : LiveState) (first : ℕ) (lines : List (List ℕ)) (taken : List Turn) (old new : MachineState) (call : Call) → Books begun first lines taken old → Happens old call new → ((other : List ℕ) → IsIn old other) → (other : List ℕ) → IsIn new other
 call_in begun first lines taken old new (Line line) b hears all = line_in begun first lines taken old new line (asked_of line) b refl hears all
 call_in begun first lines taken old new (ServeHeld name) b (h, is, serves) all =
     let P : List ℕ → Type 0 = λ n. held_of old.held n ≡ Some h in
@@ -365,16 +366,16 @@ call_in begun first lines taken old new (GiveUp name) b (h, is, gives) all =
     let P : List ℕ → Type 0 = λ n. held_of old.held n ≡ Some h in
     given_in begun first lines taken old new h h.items b (subst P (sym (name_of_held old.held name h is)) is) refl gives all
 call_in begun first lines taken old new (PutStep name) b (made, asks, works) all =
-    λ other. in_keeps old new other (all other) (ap (λ (m : Machine). held_of m.held other) works.rest)
+    λ other. in_keeps old new other (all other) (ap (λ (m : MachineState). held_of m.held other) works.rest)
     (λ live. let P : Asked → Type 0 = IsNoEviction other in line_keeps other old.live old.next made works.reply new.live (subst P (sym asks) tt) live works.answers)
-call_in begun first lines taken old new (Drain log told) b (log_is, told_is, drained) all = let P : Machine → Type 0 = λ m. (other : List ℕ) → IsIn m other in subst P (sym drained) all
+call_in begun first lines taken old new (Drain log told) b (log_is, told_is, drained) all = let P : MachineState → Type 0 = λ m. (other : List ℕ) → IsIn m other in subst P (sym drained) all
 
-calls_in : (begun : LiveState) (first : ℕ) (before calls : List Call) (old new : Machine) → Accounts begun first before old → Run old calls new → ((other : List ℕ) → IsIn old other) → (other : List ℕ) → IsIn new other
-calls_in begun first before [] old new a same all = let P : Machine → Type 0 = λ m. (other : List ℕ) → IsIn m other in subst P (sym same) all
+calls_in : (begun : LiveState) (first : ℕ) (before calls : List Call) (old new : MachineState) → Accounts begun first before old → Run old calls new → ((other : List ℕ) → IsIn old other) → (other : List ℕ) → IsIn new other
+calls_in begun first before [] old new a same all = let P : MachineState → Type 0 = λ m. (other : List ℕ) → IsIn m other in subst P (sym same) all
 calls_in begun first before (call ∷ calls) old new a (mid, one, rest) all =
     calls_in begun first (before ++ call ∷ []) calls mid new (happened begun first before old mid call a one) rest (call_in begun first (lines_in before) a.taken old mid call a.books one all)
 
-pub in_tenancy : (begun : LiveState) (first : ℕ) (calls : List Call) (now : Machine) (name : List ℕ) (h : Held) → Run (begins_with begun first) calls now → held_of now.held name ≡ Some h → h.items ≢ [] →
+pub in_tenancy : (begun : LiveState) (first : ℕ) (calls : List Call) (now : MachineState) (name : List ℕ) (h : Held) → Run (begins_with begun first) calls now → held_of now.held name ≡ Some h → h.items ≢ [] →
     (h.id ≡ last_id now.live.stage.names name) × (is_some (live_of now.live.stage.service.histories h.id) ≡ true)
 in_tenancy begun first calls now name h run is some =
     let (id, live) = calls_in begun first [] calls (begins_with begun first) now (starts begun first) run (λ other x x_is. absurd (none_some x x_is)) name h is some in

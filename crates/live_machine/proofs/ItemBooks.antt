@@ -10,9 +10,10 @@ use Rattle.live_lines.specs.Laws.{said_by}
 use Rattle.live_lines.specs.Live.{Asked, LiveState, asked_of}
 use Rattle.live_lines.specs.Live.Asked.{Says}
 use Rattle.live_lines.proofs.LawLemmas.{says}
-use Rattle.live_machine.specs.Held.{Held, HeldItem, OpenText, form_of, held_of, is_wait, is_wait_item, with_held, without_name}
-use Rattle.live_machine.specs.Held.OpenText.{NoText, Begun, Lost}
-use Rattle.live_machine.specs.Machine.{EndsHold, Frees, IsMade, Machine, Serves, ServesAll, ServesItem, ServesItems, ServesLines, TellsLost, holds, is_busy}
+use Rattle.live_machine.specs.Held.{Held, HeldItem, form_of, held_of, is_wait, is_wait_item, with_held, without_name}
+use Rattle.live_machine.specs.declared.held.OpenText.{OpenText}
+use Rattle.live_machine.specs.declared.held.OpenText.TheVariants.{NoText, Begun, Lost}
+use Rattle.live_machine.specs.Machine.{EndsHold, Frees, IsMade, MachineState, Serves, ServesAll, ServesItem, ServesItems, ServesLines, TellsLost, holds, is_busy}
 use Rattle.live_machine.specs.Turn.{IsServedAs, Turn, heard_lines}
 use Rattle.live_machine.specs.Turn.Turn.{Answers, Loses}
 use Rattle.live_machine.proofs.Books.{Books, follow_as}
@@ -25,12 +26,12 @@ use Rattle.live_machine.proofs.ReadLemmas.{Reads, outside_after, rests}
 use Rattle.live_machine.proofs.TurnLemmas.{Makes, loses_makes, other_lines, own_lines, serves_all, serves_makes, serves_read}
 
 -- a name that is held is on with what it says
-pub record IsOn (begun : LiveState) (first : ℕ) (lines : List (List ℕ)) (taken : List Turn) (now : Machine) (held : Held) : Type 0 where
+pub record IsOn (begun : LiveState) (first : ℕ) (lines : List (List ℕ)) (taken : List Turn) (now : MachineState) (held : Held) : Type 0 where
   pub books : Books begun first lines taken now
   pub held_is : held_of now.held held.name ≡ Some held
 
 -- the item is taken from what is held, and turns about it end in no text of the name
-item_served : (begun : LiveState) (first : ℕ) (lines : List (List ℕ)) (taken turns : List Turn) (old new : Machine) (h : Held) (item : HeldItem) (items : List HeldItem) (b : Books begun first lines taken old) → held_of old.held h.name ≡ Some h →
+item_served : (begun : LiveState) (first : ℕ) (lines : List (List ℕ)) (taken turns : List Turn) (old new : MachineState) (h : Held) (item : HeldItem) (items : List HeldItem) (b : Books begun first lines taken old) → held_of old.held h.name ≡ Some h →
     (t : IsTaken h.name (begun.texts h.name) (said_by h.name lines) (said_by h.name (heard_lines b.turns)) h item items (old.live.texts h.name)) →
     Makes old turns new → heard_lines turns ≡ t.item → new.held ≡ with_held old.held (record h { items = items }) → new.live.texts h.name ≡ None →
     ((other : List ℕ) → bytes_eq h.name other ≡ false → is_name other ≡ true → (all : List SessionLine) × Reads (old.live.texts other) [] all (new.live.texts other)) →
@@ -53,31 +54,31 @@ item_served begun first lines taken turns old new h item items b is t makes hear
       held_is = own;
     }
 
-pub taken_of : (begun : LiveState) (first : ℕ) (lines : List (List ℕ)) (taken : List Turn) (old : Machine) (h : Held) (item : HeldItem) (items : List HeldItem) (b : Books begun first lines taken old) → held_of old.held h.name ≡ Some h → h.items ≡ item ∷ items →
+pub taken_of : (begun : LiveState) (first : ℕ) (lines : List (List ℕ)) (taken : List Turn) (old : MachineState) (h : Held) (item : HeldItem) (items : List HeldItem) (b : Books begun first lines taken old) → held_of old.held h.name ≡ Some h → h.items ≡ item ∷ items →
     IsTaken h.name (begun.texts h.name) (said_by h.name lines) (said_by h.name (heard_lines b.turns)) h item items (old.live.texts h.name)
 taken_of begun first lines taken old h item items b is first_is =
     let P : Option Held → Type 0 = λ x. Follows h.name (begun.texts h.name) (said_by h.name lines) (said_by h.name (heard_lines b.turns)) x (old.live.texts h.name) in
     follow_taken h.name (begun.texts h.name) (said_by h.name lines) (said_by h.name (heard_lines b.turns)) h item items (old.live.texts h.name) (subst P is (b.said h.name (b.named h.name h is))) first_is
 
 -- an item that is lost is told
-pub item_lost : (begun : LiveState) (first : ℕ) (lines : List (List ℕ)) (taken : List Turn) (old new : Machine) (h : Held) (item : HeldItem) (items : List HeldItem) → Books begun first lines taken old → held_of old.held h.name ≡ Some h → h.items ≡ item ∷ items → TellsLost (record old { held = with_held old.held (record h { items = items }) }) h.name new →
+pub item_lost : (begun : LiveState) (first : ℕ) (lines : List (List ℕ)) (taken : List Turn) (old new : MachineState) (h : Held) (item : HeldItem) (items : List HeldItem) → Books begun first lines taken old → held_of old.held h.name ≡ Some h → h.items ≡ item ∷ items → TellsLost (record old { held = with_held old.held (record h { items = items }) }) h.name new →
     IsOn begun first lines taken new (record h { items = items })
 item_lost begun first lines taken old new h item items b is first_is lost =
     let t = taken_of begun first lines taken old h item items b is first_is in
-    let mid : Machine = record old { held = with_held old.held (record h { items = items }) } in
+    let mid : MachineState = record old { held = with_held old.held (record h { items = items }) } in
     let made = loses_makes mid new h.name t.item lost in
     item_served begun first lines taken (Loses h.name t.item ∷ []) old new h item items b is t
     (record { day = made.day; log = made.log; told = made.told; served = made.served })
-    (append-nil t.item) (ap (λ (m : Machine). m.held) lost)
-    (ap (λ (m : Machine). m.live.texts h.name) lost ∙ t.outside)
-    (λ other apart ok. nothing_read (old.live.texts other) (new.live.texts other) (ap (λ (m : Machine). m.live.texts other) lost))
+    (append-nil t.item) (ap (λ (m : MachineState). m.held) lost)
+    (ap (λ (m : MachineState). m.live.texts h.name) lost ∙ t.outside)
+    (λ other apart ok. nothing_read (old.live.texts other) (new.live.texts other) (ap (λ (m : MachineState). m.live.texts other) lost))
 
 -- the item's lines are served
-lines_served : (begun : LiveState) (first : ℕ) (lines : List (List ℕ)) (taken : List Turn) (old new : Machine) (h : Held) (item : List (List ℕ)) (items : List HeldItem) → Books begun first lines taken old → held_of old.held h.name ≡ Some h → h.items ≡ Some item ∷ items → ServesAll item (record old { held = with_held old.held (record h { items = items }) }) new →
+lines_served : (begun : LiveState) (first : ℕ) (lines : List (List ℕ)) (taken : List Turn) (old new : MachineState) (h : Held) (item : List (List ℕ)) (items : List HeldItem) → Books begun first lines taken old → held_of old.held h.name ≡ Some h → h.items ≡ Some item ∷ items → ServesAll item (record old { held = with_held old.held (record h { items = items }) }) new →
     IsOn begun first lines taken new (record h { items = items })
 lines_served begun first lines taken old new h item items b is first_is serves =
     let t = taken_of begun first lines taken old h (Some item) items b is first_is in
-    let mid : Machine = record old { held = with_held old.held (record h { items = items }) } in
+    let mid : MachineState = record old { held = with_held old.held (record h { items = items }) } in
     let O : List (List ℕ) → Type 0 = AreOf h.name in
     let ok = b.named h.name h is in
     let s = serves_all h.name ok item mid new (subst O t.is_first t.of) serves in
@@ -106,11 +107,11 @@ both_hold : (a b : Bool) → a && b ≡ true → a ≡ true
 both_hold true b e = refl
 both_hold false b e = e
 
-status_served : (begun : LiveState) (first : ℕ) (lines : List (List ℕ)) (taken : List Turn) (old new : Machine) (h : Held) (item : List (List ℕ)) (made : List ℕ) (items : List HeldItem) → Books begun first lines taken old → held_of old.held h.name ≡ Some h → h.items ≡ Some item ∷ items → is_wait_item item ≡ true → IsMade (Says h.name (codes "status")) made → Serves (record old { held = with_held old.held (record h { items = items }) }) made new →
+status_served : (begun : LiveState) (first : ℕ) (lines : List (List ℕ)) (taken : List Turn) (old new : MachineState) (h : Held) (item : List (List ℕ)) (made : List ℕ) (items : List HeldItem) → Books begun first lines taken old → held_of old.held h.name ≡ Some h → h.items ≡ Some item ∷ items → is_wait_item item ≡ true → IsMade (Says h.name (codes "status")) made → Serves (record old { held = with_held old.held (record h { items = items }) }) made new →
     IsOn begun first lines taken new (record h { items = items })
 status_served begun first lines taken old new h item made items b is first_is waits asks s =
     let t = taken_of begun first lines taken old h (Some item) items b is first_is in
-    let mid : Machine = record old { held = with_held old.held (record h { items = items }) } in
+    let mid : MachineState = record old { held = with_held old.held (record h { items = items }) } in
     let ok = b.named h.name h is in
     let (line, one, wait) = wait_line item waits in
     let O : List (List ℕ) → Type 0 = AreOf h.name in
@@ -125,11 +126,11 @@ status_served begun first lines taken old new h item made items b is first_is wa
     let reads = subst N t.outside (subst L says_status own.1) in
     item_served begun first lines taken (Answers line made s.reply ∷ []) old new h (Some item) items b is t
     (record { day = m.day; log = m.log; told = m.told; served = m.served })
-    (sym (t.is_first ∙ one)) (ap (λ (x : Machine). x.held) s.rest)
+    (sym (t.is_first ∙ one)) (ap (λ (x : MachineState). x.held) s.rest)
     (outside_after own.0 (Command Status) (new.live.texts h.name) (λ more. sym (reads more)))
     (λ other apart is_one. other_reads h.name other made mid new of_made apart is_one s)
 
-pub books_item : (begun : LiveState) (first : ℕ) (lines : List (List ℕ)) (taken : List Turn) (old new : Machine) (h : Held) (item : HeldItem) (items : List HeldItem) → Books begun first lines taken old → held_of old.held h.name ≡ Some h → h.items ≡ item ∷ items → ServesItem item (record h { items = items }) old new →
+pub books_item : (begun : LiveState) (first : ℕ) (lines : List (List ℕ)) (taken : List Turn) (old new : MachineState) (h : Held) (item : HeldItem) (items : List HeldItem) → Books begun first lines taken old → held_of old.held h.name ≡ Some h → h.items ≡ item ∷ items → ServesItem item (record h { items = items }) old new →
     IsOn begun first lines taken new (record h { items = items })
 books_item begun first lines taken old new h None items b is first_is serves = item_lost begun first lines taken old new h None items b is first_is serves
 books_item begun first lines taken old new h (Some item) items b is first_is serves =
@@ -138,10 +139,10 @@ books_item begun first lines taken old new h (Some item) items b is first_is ser
       | false ↦ λ e s. lines_served begun first lines taken old new h item items b is first_is s
     ] refl serves
 
-pub books_items : (begun : LiveState) (first : ℕ) (lines : List (List ℕ)) (taken : List Turn) (old new : Machine) (h : Held) (items : List HeldItem) → Books begun first lines taken old → held_of old.held h.name ≡ Some h → h.items ≡ items → ServesItems items h old new →
+pub books_items : (begun : LiveState) (first : ℕ) (lines : List (List ℕ)) (taken : List Turn) (old new : MachineState) (h : Held) (items : List HeldItem) → Books begun first lines taken old → held_of old.held h.name ≡ Some h → h.items ≡ items → ServesItems items h old new →
     IsOn begun first lines taken new (record h { items = [] })
 books_items begun first lines taken old new h [] b is none same =
-    let P : Machine → Type 0 = λ m. IsOn begun first lines taken m (record h { items = [] }) in
+    let P : MachineState → Type 0 = λ m. IsOn begun first lines taken m (record h { items = [] }) in
     let empty : record h { items = [] } ≡ h = ap (λ (all : List HeldItem). record h { items = all }) (sym none) in
     let Q : Held → Type 0 = λ x. IsOn begun first lines taken old x in
     subst P (sym same) (subst Q (sym empty) (record { books = b; held_is = is }))
@@ -150,14 +151,14 @@ books_items begun first lines taken old new h (item ∷ items) b is first_is (mi
     books_items begun first lines taken mid new (record h { items = items }) items on.books on.held_is refl more
 
 -- a name whose items are all served is freed
-pub books_freed : (begun : LiveState) (first : ℕ) (lines : List (List ℕ)) (taken : List Turn) (old new : Machine) (h : Held) (text : OpenText) → Books begun first lines taken old → held_of old.held h.name ≡ Some h → h.items ≡ [] → h.text ≡ text → Frees text h.name old new → Books begun first lines taken new
-books_freed begun first lines taken old new h Lost b is none text_is same = let P : Machine → Type 0 = λ m. Books begun first lines taken m in subst P (sym same) b
+pub books_freed : (begun : LiveState) (first : ℕ) (lines : List (List ℕ)) (taken : List Turn) (old new : MachineState) (h : Held) (text : OpenText) → Books begun first lines taken old → held_of old.held h.name ≡ Some h → h.items ≡ [] → h.text ≡ text → Frees text h.name old new → Books begun first lines taken new
+books_freed begun first lines taken old new h Lost b is none text_is same = let P : MachineState → Type 0 = λ m. Books begun first lines taken m in subst P (sym same) b
 books_freed begun first lines taken old new h NoText b is none text_is freed =
-    let P : Machine → Type 0 = λ m. Books begun first lines taken m in
+    let P : MachineState → Type 0 = λ m. Books begun first lines taken m in
     let F : Option Held → Type 0 = λ x. Follows h.name (begun.texts h.name) (said_by h.name lines) (said_by h.name (heard_lines b.turns)) x (old.live.texts h.name) in
     let ok = b.named h.name h is in
     let it = follow_freed h.name (begun.texts h.name) (said_by h.name lines) (said_by h.name (heard_lines b.turns)) h (old.live.texts h.name) (subst F is (b.said h.name ok)) none text_is in
-    let after : Machine = record old { held = without_name old.held h.name } in
+    let after : MachineState = record old { held = without_name old.held h.name } in
     subst P (sym freed) (books_silent begun first lines [] taken [] old after b h.name
     (record {
       named = ok;
@@ -173,7 +174,7 @@ books_freed begun first lines taken old new h (Begun text) b is none text_is ser
     let F : Option Held → Type 0 = λ x. Follows h.name (begun.texts h.name) (said_by h.name lines) (said_by h.name (heard_lines b.turns)) x (old.live.texts h.name) in
     let ok = b.named h.name h is in
     let (of, follows) = follow_text h.name (begun.texts h.name) (said_by h.name lines) (said_by h.name (heard_lines b.turns)) text h (old.live.texts h.name) (subst F is (b.said h.name ok)) none text_is in
-    let mid : Machine = record old { held = without_name old.held h.name } in
+    let mid : MachineState = record old { held = without_name old.held h.name } in
     let s = serves_all h.name ok text mid new of serves in
     let own = s.read h.name ok in
     let L : List (List ℕ) → Type 0 = λ x. Reads (old.live.texts h.name) x own.0 (new.live.texts h.name) in
@@ -194,8 +195,8 @@ books_freed begun first lines taken old new h (Begun text) b is none text_is ser
     (subst G (sym gone) (follows (new.live.texts h.name) own.0 (subst L (own_lines h.name text of) own.1)))
 
 -- all that is held of a name is served
-pub books_ended : (begun : LiveState) (first : ℕ) (lines : List (List ℕ)) (taken : List Turn) (old new : Machine) (name : List ℕ) (held : Option Held) → Books begun first lines taken old → held_of old.held name ≡ held → EndsHold held old new → Books begun first lines taken new
-books_ended begun first lines taken old new name None b is same = let P : Machine → Type 0 = λ m. Books begun first lines taken m in subst P (sym same) b
+pub books_ended : (begun : LiveState) (first : ℕ) (lines : List (List ℕ)) (taken : List Turn) (old new : MachineState) (name : List ℕ) (held : Option Held) → Books begun first lines taken old → held_of old.held name ≡ held → EndsHold held old new → Books begun first lines taken new
+books_ended begun first lines taken old new name None b is same = let P : MachineState → Type 0 = λ m. Books begun first lines taken m in subst P (sym same) b
 books_ended begun first lines taken old new name (Some h) b is (mid, items, frees) =
     let P : List ℕ → Type 0 = λ n. held_of old.held n ≡ Some h in
     let on = books_items begun first lines taken old mid h h.items b (subst P (sym (name_of_held old.held name h is)) is) refl items in

@@ -10,8 +10,8 @@ use Rattle.live_lines.specs.Live.{Asked, LiveState, asked_of}
 use Rattle.live_lines.proofs.LawLemmas.{says}
 use Rattle.live_machine.specs.Account.{nobodys_lines}
 use Rattle.live_machine.specs.Held.{Held, HearsHeld, form_of, held_of, is_wait, with_held}
-use Rattle.live_machine.specs.Held.OpenText.{NoText}
-use Rattle.live_machine.specs.Machine.{Holds, Machine, Serves, holds}
+use Rattle.live_machine.specs.declared.held.OpenText.TheVariants.{NoText}
+use Rattle.live_machine.specs.Machine.{Holds, MachineState, Serves, holds}
 use Rattle.live_machine.specs.Turn.{IsServedAs, Turn, heard_lines}
 use Rattle.live_machine.specs.Turn.Turn.{Answers, Loses}
 use Rattle.live_machine.proofs.Books.{Books, Followed, books_more, each_name, follow_as, nobodys_both, not_nobodys, said_both}
@@ -21,7 +21,7 @@ use Rattle.live_machine.proofs.ReadLemmas.{Reads, rests}
 use Rattle.live_machine.proofs.TurnLemmas.{Makes, loses_makes, other_lines, own_lines, serves_makes, serves_read}
 
 -- these turns are about one name: what is held of others, and what they read, stays
-pub record IsAbout (name : List ℕ) (old : Machine) (turns : List Turn) (heard : List (List ℕ)) (new : Machine) : Type 0 where
+pub record IsAbout (name : List ℕ) (old : MachineState) (turns : List Turn) (heard : List (List ℕ)) (new : MachineState) : Type 0 where
   pub named : is_name name ≡ true
   pub of : AreOf name heard
   pub makes : Makes old turns new
@@ -29,7 +29,7 @@ pub record IsAbout (name : List ℕ) (old : Machine) (turns : List Turn) (heard 
   pub held : (other : List ℕ) → bytes_eq name other ≡ false → held_of new.held other ≡ held_of old.held other
   pub read : (other : List ℕ) → bytes_eq name other ≡ false → is_name other ≡ true → (items : List SessionLine) × Reads (old.live.texts other) [] items (new.live.texts other)
 
-pub books_about : (begun : LiveState) (first : ℕ) (lines more heard : List (List ℕ)) (taken turns : List Turn) (old new : Machine) (b : Books begun first lines taken old) (name : List ℕ) → IsAbout name old turns heard new → AreOf name more →
+pub books_about : (begun : LiveState) (first : ℕ) (lines more heard : List (List ℕ)) (taken turns : List Turn) (old new : MachineState) (b : Books begun first lines taken old) (name : List ℕ) → IsAbout name old turns heard new → AreOf name more →
     Follows name (begun.texts name) (said_by name lines ++ rests more) (said_by name (heard_lines b.turns) ++ rests heard) (held_of new.held name) (new.live.texts name) → Books begun first (lines ++ more) taken new
 books_about begun first lines more heard taken turns old new b name about of own =
     let F : List ℕ → Type 0 = Followed begun (lines ++ more) (heard_lines b.turns ++ heard) new in
@@ -55,7 +55,7 @@ books_about begun first lines more heard taken turns old new b name about of own
     ] refl)
 
 -- nothing more was said
-pub books_silent : (begun : LiveState) (first : ℕ) (lines heard : List (List ℕ)) (taken turns : List Turn) (old new : Machine) (b : Books begun first lines taken old) (name : List ℕ) → IsAbout name old turns heard new →
+pub books_silent : (begun : LiveState) (first : ℕ) (lines heard : List (List ℕ)) (taken turns : List Turn) (old new : MachineState) (b : Books begun first lines taken old) (name : List ℕ) → IsAbout name old turns heard new →
     Follows name (begun.texts name) (said_by name lines) (said_by name (heard_lines b.turns) ++ rests heard) (held_of new.held name) (new.live.texts name) → Books begun first lines taken new
 books_silent begun first lines heard taken turns old new b name about own =
     let P : List (List ℕ) → Type 0 = λ x. Follows name (begun.texts name) x (said_by name (heard_lines b.turns) ++ rests heard) (held_of new.held name) (new.live.texts name) in
@@ -63,7 +63,7 @@ books_silent begun first lines heard taken turns old new b name about own =
     subst Q (append-nil lines) (books_about begun first lines [] heard taken turns old new b name about tt (subst P (sym (append-nil (said_by name lines))) own))
 
 -- a line of another name is of no other
-pub other_reads : (name other : List ℕ) (line : List ℕ) (old new : Machine) → IsOf name line → bytes_eq name other ≡ false → is_name other ≡ true → Serves old line new → (items : List SessionLine) × Reads (old.live.texts other) [] items (new.live.texts other)
+pub other_reads : (name other : List ℕ) (line : List ℕ) (old new : MachineState) → IsOf name line → bytes_eq name other ≡ false → is_name other ≡ true → Serves old line new → (items : List SessionLine) × Reads (old.live.texts other) [] items (new.live.texts other)
 other_reads name other line old new of apart ok s = serves_read other ok old new line [] (other_lines name other (line ∷ []) (of, tt) apart) s
 
 pub nothing_read : (text new : Option TextSoFar) → new ≡ text → (items : List SessionLine) × Reads text [] items new
@@ -73,9 +73,9 @@ served_as_it_is : (name line : List ℕ) → is_name name ≡ true → IsOf name
 served_as_it_is name line ok of = let P : Asked → Type 0 = λ a. IsServedAs a line line in subst P (sym (says name line ok of)) (inl refl)
 
 -- a line of a name that isn't held is served
-pub books_own : (begun : LiveState) (first : ℕ) (lines : List (List ℕ)) (taken : List Turn) (old new : Machine) (line name : List ℕ) → Books begun first lines taken old → is_name name ≡ true → IsOf name line → held_of old.held name ≡ None → Serves old line new → Books begun first (lines ++ line ∷ []) taken new
+pub books_own : (begun : LiveState) (first : ℕ) (lines : List (List ℕ)) (taken : List Turn) (old new : MachineState) (line name : List ℕ) → Books begun first lines taken old → is_name name ≡ true → IsOf name line → held_of old.held name ≡ None → Serves old line new → Books begun first (lines ++ line ∷ []) taken new
 books_own begun first lines taken old new line name b ok of free s =
-    let held : new.held ≡ old.held = ap (λ (m : Machine). m.held) s.rest in
+    let held : new.held ≡ old.held = ap (λ (m : MachineState). m.held) s.rest in
     let (items, reads) = serves_read name ok old new line (rests (line ∷ [])) (own_lines name (line ∷ []) (of, tt)) s in
     let P : Option Held → Type 0 = λ h. Follows name (begun.texts name) (said_by name lines) (said_by name (heard_lines b.turns)) h (old.live.texts name) in
     let Q : Option Held → Type 0 = λ h. Follows name (begun.texts name) (said_by name lines ++ rests (line ∷ [])) (said_by name (heard_lines b.turns) ++ rests (line ∷ [])) h (new.live.texts name) in
@@ -93,16 +93,16 @@ books_own begun first lines taken old new line name b ok of free s =
     (follow_served name (begun.texts name) (said_by name lines) (said_by name (heard_lines b.turns)) (rests (line ∷ [])) (old.live.texts name) (new.live.texts name) items (subst P free (b.said name ok)) reads))
 
 -- a line of a name whose `wait` holds it, or is lost
-pub books_holds : (begun : LiveState) (first : ℕ) (lines : List (List ℕ)) (taken : List Turn) (old new : Machine) (line name : List ℕ) → Books begun first lines taken old → is_name name ≡ true → IsOf name line → held_of old.held name ≡ None → old.live.texts name ≡ None → is_wait (form_of line) ≡ true → Holds name line old new →
+pub books_holds : (begun : LiveState) (first : ℕ) (lines : List (List ℕ)) (taken : List Turn) (old new : MachineState) (line name : List ℕ) → Books begun first lines taken old → is_name name ≡ true → IsOf name line → held_of old.held name ≡ None → old.live.texts name ≡ None → is_wait (form_of line) ≡ true → Holds name line old new →
     Books begun first (lines ++ line ∷ []) taken new
 books_holds begun first lines taken old new line name b ok of free outside is (inl holds) =
     let h : Held = record { name = name; id = last_id old.live.stage.names name; items = Some (line ∷ []) ∷ []; text = NoText } in
-    let held : new.held ≡ old.held ++ h ∷ [] = ap (λ (m : Machine). m.held) holds in
+    let held : new.held ≡ old.held ++ h ∷ [] = ap (λ (m : MachineState). m.held) holds in
     let P : Option Held → Type 0 = λ h. Follows name (begun.texts name) (said_by name lines) (said_by name (heard_lines b.turns)) h (old.live.texts name) in
     let it = follow_held name (begun.texts name) (said_by name lines) (said_by name (heard_lines b.turns)) line (last_id old.live.stage.names name) (old.live.texts name) (subst P free (b.said name ok)) outside is of in
-    let texts : new.live.texts name ≡ old.live.texts name = ap (λ (m : Machine). m.live.texts name) holds in
+    let texts : new.live.texts name ≡ old.live.texts name = ap (λ (m : MachineState). m.live.texts name) holds in
     let T : Option TextSoFar → Type 0 = λ t. Follows name (begun.texts name) (said_by name lines ++ rests (line ∷ [])) (said_by name (heard_lines b.turns)) (Some h) t in
-    let M : Machine → Type 0 = λ m. Makes old [] m in
+    let M : MachineState → Type 0 = λ m. Makes old [] m in
     books_about begun first lines (line ∷ []) [] taken [] old new b name
     (record {
       named = ok;
@@ -110,15 +110,15 @@ books_holds begun first lines taken old new line name b ok of free outside is (i
       makes = subst M (sym holds) (record { day = (refl, refl); log = sym (append-nil old.log); told = sym (append-nil old.told); served = tt });
       heard_is = refl;
       held = λ other apart. ap (λ hs. held_of hs other) held ∙ added_other old.held h other apart;
-      read = λ other apart ok. nothing_read (old.live.texts other) (new.live.texts other) (ap (λ (m : Machine). m.live.texts other) holds);
+      read = λ other apart ok. nothing_read (old.live.texts other) (new.live.texts other) (ap (λ (m : MachineState). m.live.texts other) holds);
     })
     (of, tt)
     (follow_as name (begun.texts name) (said_by name lines ++ rests (line ∷ [])) (said_by name lines ++ rests (line ∷ [])) (said_by name (heard_lines b.turns)) (said_by name (heard_lines b.turns) ++ []) (Some h) (held_of new.held name) (new.live.texts name)
     refl (sym (append-nil (said_by name (heard_lines b.turns)))) (sym (ap (λ hs. held_of hs name) held ∙ added_own old.held h free))
     (subst T (sym texts) it))
 books_holds begun first lines taken old new line name b ok of free outside is (inr lost) =
-    let held : new.held ≡ old.held = ap (λ (m : Machine). m.held) lost in
-    let texts : new.live.texts name ≡ old.live.texts name = ap (λ (m : Machine). m.live.texts name) lost in
+    let held : new.held ≡ old.held = ap (λ (m : MachineState). m.held) lost in
+    let texts : new.live.texts name ≡ old.live.texts name = ap (λ (m : MachineState). m.live.texts name) lost in
     let whole = wait_whole line is in
     let P : Option Held → Type 0 = λ h. Follows name (begun.texts name) (said_by name lines) (said_by name (heard_lines b.turns)) h (old.live.texts name) in
     let R : Option TextSoFar → Type 0 = λ t. Reads t (rests (line ∷ [])) (whole.0 ∷ []) t in
@@ -132,21 +132,21 @@ books_holds begun first lines taken old new line name b ok of free outside is (i
       makes = loses_makes old new name (line ∷ []) lost;
       heard_is = refl;
       held = λ other apart. ap (λ h. held_of h other) held;
-      read = λ other apart ok. nothing_read (old.live.texts other) (new.live.texts other) (ap (λ (m : Machine). m.live.texts other) lost);
+      read = λ other apart ok. nothing_read (old.live.texts other) (new.live.texts other) (ap (λ (m : MachineState). m.live.texts other) lost);
     })
     (of, tt)
     (subst Q (sym (ap (λ h. held_of h name) held ∙ free)) (subst T (sym texts) it))
 
 -- a line of a held name waits too
-pub books_heard : (begun : LiveState) (first : ℕ) (lines : List (List ℕ)) (taken : List Turn) (old new : Machine) (line name : List ℕ) (h after : Held) → Books begun first lines taken old → is_name name ≡ true → IsOf name line → held_of old.held name ≡ Some h → after.name ≡ name → HearsHeld h line after → new ≡ record old { held = with_held old.held after } →
+pub books_heard : (begun : LiveState) (first : ℕ) (lines : List (List ℕ)) (taken : List Turn) (old new : MachineState) (line name : List ℕ) (h after : Held) → Books begun first lines taken old → is_name name ≡ true → IsOf name line → held_of old.held name ≡ Some h → after.name ≡ name → HearsHeld h line after → new ≡ record old { held = with_held old.held after } →
     Books begun first (lines ++ line ∷ []) taken new
 books_heard begun first lines taken old new line name h after b ok of is named hears changed =
-    let held : new.held ≡ with_held old.held after = ap (λ (m : Machine). m.held) changed in
-    let texts : new.live.texts name ≡ old.live.texts name = ap (λ (m : Machine). m.live.texts name) changed in
+    let held : new.held ≡ with_held old.held after = ap (λ (m : MachineState). m.held) changed in
+    let texts : new.live.texts name ≡ old.live.texts name = ap (λ (m : MachineState). m.live.texts name) changed in
     let P : Option Held → Type 0 = λ x. Follows name (begun.texts name) (said_by name lines) (said_by name (heard_lines b.turns)) x (old.live.texts name) in
     let it = follow_heard name (begun.texts name) (said_by name lines) (said_by name (heard_lines b.turns)) h after (old.live.texts name) line (subst P is (b.said name ok)) of hears in
     let T : Option TextSoFar → Type 0 = λ t. Follows name (begun.texts name) (said_by name lines ++ rests (line ∷ [])) (said_by name (heard_lines b.turns)) (Some after) t in
-    let M : Machine → Type 0 = λ m. Makes old [] m in
+    let M : MachineState → Type 0 = λ m. Makes old [] m in
     let N : List ℕ → Type 0 = λ n. held_of old.held n ≡ Some h in
     let O : List ℕ → Type 0 = λ n. held_of (with_held old.held after) n ≡ Some after in
     books_about begun first lines (line ∷ []) [] taken [] old new b name
@@ -156,7 +156,7 @@ books_heard begun first lines taken old new line name h after b ok of is named h
       makes = subst M (sym changed) (record { day = (refl, refl); log = sym (append-nil old.log); told = sym (append-nil old.told); served = tt });
       heard_is = refl;
       held = λ other apart. ap (λ hs. held_of hs other) held ∙ changed_other old.held after other (ap (λ n. bytes_eq n other) named ∙ apart);
-      read = λ other apart ok. nothing_read (old.live.texts other) (new.live.texts other) (ap (λ (m : Machine). m.live.texts other) changed);
+      read = λ other apart ok. nothing_read (old.live.texts other) (new.live.texts other) (ap (λ (m : MachineState). m.live.texts other) changed);
     })
     (of, tt)
     (follow_as name (begun.texts name) (said_by name lines ++ rests (line ∷ [])) (said_by name lines ++ rests (line ∷ [])) (said_by name (heard_lines b.turns)) (said_by name (heard_lines b.turns) ++ []) (Some after) (held_of new.held name) (new.live.texts name)

@@ -6,8 +6,9 @@ use Rattle.sessions.specs.declared.line.SessionLine.{SessionLine}
 use Rattle.sessions.specs.Reading.{TextSoFar, items_to_come}
 use Rattle.tagged_lines.specs.Tags.{rest_of}
 use Rattle.live_machine.specs.Account.{AreItems, IsText}
-use Rattle.live_machine.specs.Held.{Held, HeldItem, OpenText}
-use Rattle.live_machine.specs.Held.OpenText.{NoText, Begun}
+use Rattle.live_machine.specs.Held.{Held, HeldItem}
+use Rattle.live_machine.specs.declared.held.OpenText.{OpenText}
+use Rattle.live_machine.specs.declared.held.OpenText.TheVariants.{NoText, Begun}
 use Rattle.live_machine.proofs.ReadLemmas.{IsWhole, Reads, reads_both, rests}
 use Rattle.live_machine.proofs.FollowLemmas.{AreOf, Follows, said_in}
 

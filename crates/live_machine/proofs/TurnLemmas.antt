@@ -15,7 +15,7 @@ use Rattle.live_lines.specs.Live.Asked.{Operates}
 use Rattle.live_lines.proofs.LawLemmas.{says}
 use Rattle.line_service.specs.Conversation.{AreAnswered}
 use Rattle.live_input.specs.Serving.{AnswersLine}
-use Rattle.live_machine.specs.Machine.{IsMade, Machine, Serves, ServesAll, TellsLost, Works}
+use Rattle.live_machine.specs.Machine.{IsMade, MachineState, Serves, ServesAll, TellsLost, Works}
 use Rattle.live_machine.specs.Turn.{IsDay, IsServedAs, IsServedTurn, Turn, heard_in, heard_lines, log_of, replies_of, served_in, served_lines, told_in, told_of}
 use Rattle.live_machine.specs.Turn.Turn.{Answers, Loses, Works as WorksLine}
 use Rattle.live_machine.proofs.FollowLemmas.{AreOf, IsOf}
@@ -47,16 +47,16 @@ all_both [] more one other = other
 all_both (turn ∷ first) more one other = (one.0, all_both first more one.1 other)
 
 -- these turns lead from one machine to another, whatever is held
-pub record Makes (old : Machine) (turns : List Turn) (new : Machine) : Type 0 where
+pub record Makes (old : MachineState) (turns : List Turn) (new : MachineState) : Type 0 where
   pub day : IsDay old.live old.next turns new.live new.next
   pub log : new.log ≡ old.log ++ log_of turns
   pub told : new.told ≡ old.told ++ told_of turns
   pub served : AllByRecursion IsServedTurn turns
 
-pub makes_none : (machine : Machine) → Makes machine [] machine
+pub makes_none : (machine : MachineState) → Makes machine [] machine
 makes_none machine = record { day = (refl, refl); log = sym (append-nil machine.log); told = sym (append-nil machine.told); served = tt }
 
-pub makes_both : (old mid new : Machine) (first more : List Turn) → Makes old first mid → Makes mid more new → Makes old (first ++ more) new
+pub makes_both : (old mid new : MachineState) (first more : List Turn) → Makes old first mid → Makes mid more new → Makes old (first ++ more) new
 makes_both old mid new first more one other =
     record {
       day = day_both first more old.live mid.live new.live old.next mid.next new.next one.day other.day;
@@ -66,11 +66,11 @@ makes_both old mid new first more one other =
     }
 
 -- one line is served, as itself or for another
-pub serves_makes : (old new : Machine) (heard line : List ℕ) → IsServedAs (asked_of heard) heard line → (s : Serves old line new) → Makes old (Answers heard line s.reply ∷ []) new
+pub serves_makes : (old new : MachineState) (heard line : List ℕ) → IsServedAs (asked_of heard) heard line → (s : Serves old line new) → Makes old (Answers heard line s.reply ∷ []) new
 serves_makes old new heard line so s =
-    let next : new.next ≡ old.next + 1 = ap (λ (m : Machine). m.next) s.rest in
-    let log : new.log ≡ old.log ++ with_feed line = ap (λ (m : Machine). m.log) s.rest in
-    let told : new.told ≡ old.told ++ s.reply = ap (λ (m : Machine). m.told) s.rest in
+    let next : new.next ≡ old.next + 1 = ap (λ (m : MachineState). m.next) s.rest in
+    let log : new.log ≡ old.log ++ with_feed line = ap (λ (m : MachineState). m.log) s.rest in
+    let told : new.told ≡ old.told ++ s.reply = ap (λ (m : MachineState). m.told) s.rest in
     record {
       day = (new.live, s.answers, (refl, next));
       log = log ∙ ap (λ x. old.log ++ x) (sym (append-nil (with_feed line)));
@@ -78,11 +78,11 @@ serves_makes old new heard line so s =
       served = ((s.is_line, so), tt);
     }
 
-pub works_makes : (old new : Machine) (line name : List ℕ) → IsMade (Operates (Step name 1)) line → (s : Works old line new) → Makes old (WorksLine line s.reply ∷ []) new
+pub works_makes : (old new : MachineState) (line name : List ℕ) → IsMade (Operates (Step name 1)) line → (s : Works old line new) → Makes old (WorksLine line s.reply ∷ []) new
 works_makes old new line name so s =
-    let next : new.next ≡ old.next + 1 = ap (λ (m : Machine). m.next) s.rest in
-    let log : new.log ≡ old.log ++ with_feed line = ap (λ (m : Machine). m.log) s.rest in
-    let told : new.told ≡ old.told = ap (λ (m : Machine). m.told) s.rest in
+    let next : new.next ≡ old.next + 1 = ap (λ (m : MachineState). m.next) s.rest in
+    let log : new.log ≡ old.log ++ with_feed line = ap (λ (m : MachineState). m.log) s.rest in
+    let told : new.told ≡ old.told = ap (λ (m : MachineState). m.told) s.rest in
     record {
       day = (new.live, s.answers, (refl, next));
       log = log ∙ ap (λ x. old.log ++ x) (sym (append-nil (with_feed line)));
@@ -90,13 +90,13 @@ works_makes old new line name so s =
       served = ((s.is_line, (name, so)), tt);
     }
 
-pub loses_makes : (old new : Machine) (name : List ℕ) (lines : List (List ℕ)) → TellsLost old name new → Makes old (Loses name lines ∷ []) new
+pub loses_makes : (old new : MachineState) (name : List ℕ) (lines : List (List ℕ)) → TellsLost old name new → Makes old (Loses name lines ∷ []) new
 loses_makes old new name lines tells =
     let text : List ℕ = output_of (for_name name no_memory_text ∷ []) in
     record {
-      day = (ap (λ (m : Machine). m.live) tells, ap (λ (m : Machine). m.next) tells);
-      log = ap (λ (m : Machine). m.log) tells ∙ sym (append-nil old.log);
-      told = ap (λ (m : Machine). m.told) tells ∙ ap (λ x. old.told ++ x) (sym (append-nil text));
+      day = (ap (λ (m : MachineState). m.live) tells, ap (λ (m : MachineState). m.next) tells);
+      log = ap (λ (m : MachineState). m.log) tells ∙ sym (append-nil old.log);
+      told = ap (λ (m : MachineState). m.told) tells ∙ ap (λ x. old.told ++ x) (sym (append-nil text));
       served = (tt, tt);
     }
 
@@ -115,21 +115,21 @@ other_lines name other (line ∷ lines) of apart =
     ap (λ b. cond b (rest_of line ∷ []) [] ++ said_by other lines) (apart_tag name other line of.0 apart) ∙ other_lines name other lines of.1 apart
 
 -- lines that are served are read by each name
-pub serves_read : (name : List ℕ) → is_name name ≡ true → (old new : Machine) (line : List ℕ) (lines : List (List ℕ)) → said_by name (line ∷ []) ≡ lines → Serves old line new → (items : List SessionLine) × Reads (old.live.texts name) lines items (new.live.texts name)
+pub serves_read : (name : List ℕ) → is_name name ≡ true → (old new : MachineState) (line : List ℕ) (lines : List (List ℕ)) → said_by name (line ∷ []) ≡ lines → Serves old line new → (items : List SessionLine) × Reads (old.live.texts name) lines items (new.live.texts name)
 serves_read name ok old new line lines is s =
     let P : List (List ℕ) → Type 0 = λ l. (items : List SessionLine) × Reads (old.live.texts name) l items (new.live.texts name) in
     subst P is (line_read name ok old.live old.next line s.reply new.live s.answers)
 
-pub record ServedAs (name : List ℕ) (lines : List (List ℕ)) (old new : Machine) : Type 0 where
+pub record ServedAs (name : List ℕ) (lines : List (List ℕ)) (old new : MachineState) : Type 0 where
   pub turns : List Turn
   pub makes : Makes old turns new
   pub heard : heard_lines turns ≡ lines
   pub held : new.held ≡ old.held
   pub read : (other : List ℕ) → is_name other ≡ true → (items : List SessionLine) × Reads (old.live.texts other) (said_by other lines) items (new.live.texts other)
 
-pub serves_all : (name : List ℕ) → is_name name ≡ true → (lines : List (List ℕ)) (old new : Machine) → AreOf name lines → ServesAll lines old new → ServedAs name lines old new
+pub serves_all : (name : List ℕ) → is_name name ≡ true → (lines : List (List ℕ)) (old new : MachineState) → AreOf name lines → ServesAll lines old new → ServedAs name lines old new
 serves_all name ok [] old new of same =
-    let P : Machine → Type 0 = λ m. ServedAs name [] old m in
+    let P : MachineState → Type 0 = λ m. ServedAs name [] old m in
     subst P (sym same) (record { turns = []; makes = makes_none old; heard = refl; held = refl; read = λ other is. ([], λ more. refl) })
 serves_all name ok (line ∷ lines) old new of (mid, one, rest) =
     let r = serves_all name ok lines mid new of.1 rest in
@@ -139,7 +139,7 @@ serves_all name ok (line ∷ lines) old new of (mid, one, rest) =
       turns = Answers line line one.reply ∷ r.turns;
       makes = makes_both old mid new (Answers line line one.reply ∷ []) r.turns (serves_makes old mid line line so one) r.makes;
       heard = ap (λ x. line ∷ x) r.heard;
-      held = r.held ∙ ap (λ (m : Machine). m.held) one.rest;
+      held = r.held ∙ ap (λ (m : MachineState). m.held) one.rest;
       read = λ other is.
           let f = line_read other is old.live old.next line one.reply mid.live one.answers in
           let g = r.read other is in (

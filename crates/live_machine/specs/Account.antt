@@ -7,9 +7,10 @@ use Rattle.tagged_lines.specs.Tags.{rest_of}
 use Rattle.live_lines.specs.Laws.{said_by}
 use Rattle.live_lines.specs.Live.{Asked, LiveState, asked_of}
 use Rattle.live_lines.specs.Live.Asked.{Says}
-use Rattle.live_machine.specs.Held.{Held, HeldItem, OpenText, held_of}
-use Rattle.live_machine.specs.Held.OpenText.{NoText, Begun, Lost}
-use Rattle.live_machine.specs.Machine.{Call, Machine}
+use Rattle.live_machine.specs.Held.{Held, HeldItem, held_of}
+use Rattle.live_machine.specs.declared.held.OpenText.{OpenText}
+use Rattle.live_machine.specs.declared.held.OpenText.TheVariants.{NoText, Begun, Lost}
+use Rattle.live_machine.specs.Machine.{Call, MachineState}
 use Rattle.live_machine.specs.Machine.Call.{Line, Drain}
 use Rattle.live_machine.specs.Turn.{IsDay, IsServedTurn, Turn, heard_lines, log_of, told_of}
 
@@ -69,7 +70,7 @@ nobodys_lines lines = flat_map nobodys_line lines
 -- taken next is that of the turns after them. So nothing is told whose line is not kept. All turns
 -- are a day of the live service. Each line came once, and is served in its order: those of the
 -- operator at once, those of a name in their order.
-pub record IsAccount (begun : LiveState) (first : ℕ) (calls : List Call) (now : Machine) : Type 0 where
+pub record IsAccount (begun : LiveState) (first : ℕ) (calls : List Call) (now : MachineState) : Type 0 where
   pub taken : List Turn
   pub rest : List Turn
   pub day : IsDay begun first (taken ++ rest) now.live now.next

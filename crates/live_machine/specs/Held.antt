@@ -10,17 +10,12 @@ use Rattle.sessions.specs.declared.line.TextKind.TheVariants.{Change}
 use Rattle.sessions.specs.Items.{ends_text, without_cr}
 use Rattle.sessions.specs.SessionLines.{line_form}
 use Rattle.tagged_lines.specs.Tags.{rest_of}
+use Rattle.live_machine.specs.declared.held.OpenText.{OpenText}
+use Rattle.live_machine.specs.declared.held.OpenText.TheVariants.{NoText, Begun, Lost}
 
 -- an item by its lines, or one that was lost
 abbrev pub HeldItem : Type 0
 HeldItem = Option (List (List ℕ))
-
--- the text that a name is in after its last item: none, one with these lines so far, or one that
--- was lost and whose end hasn't come
-pub data OpenText : Type 0 where
-  NoText : OpenText
-  Begun : List (List ℕ) → OpenText
-  Lost : OpenText
 
 -- a name that is held, the id of the tenancy in which it said these items, the items, and the text
 -- after them. Without items it is held for the end of a text that was lost
@@ -90,4 +85,4 @@ without_name (h ∷ held) name = if bytes_eq h.name name then without_name held 
 -- with this in the place of what was held of its name
 abbrev pub with_held : List Held → Held → List Held
 with_held [] new = []
-with_held (h ∷ held) new = (if bytes_eq h.name new.name then new else h) ∷ with_held held new
+with_held (h ∷ held) new = if bytes_eq h.name new.name then new ∷ held else h ∷ with_held held new

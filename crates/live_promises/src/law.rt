@@ -4,7 +4,7 @@ ghost use Rattle.line_service.specs.Conversation.{AreAnswered};
 ghost use Rattle.live_input.specs.Serving.{AnswersLine, begins};
 ghost use Rattle.live_lines.specs.Live.{LiveState};
 ghost use Rattle.live_machine.specs.Account.{IsAccount};
-ghost use Rattle.live_machine.specs.Machine.{Call, Machine, Run, begins_with};
+ghost use Rattle.live_machine.specs.Machine.{Call, MachineState, Run, begins_with};
 ghost use Rattle.live_machine.specs.Turn.{replies_of, served_lines};
 ghost use Rattle.live_promises.specs.Told.{IsToldLive};
 ghost use Rattle.service_core.specs.declared.device.Device.{Device};
@@ -32,7 +32,7 @@ pub fn live_promises()
 /// an account of them, and the lines that were served, those of workers among them, are answered as
 /// those of a script are.
 pub fn machine_promises()
-    ensures { (device : Device) (calls : List Call) (now : Machine) →
+    ensures { (device : Device) (calls : List Call) (now : MachineState) →
         Run (begins_with (begins device) 1) calls now →
         (a : IsAccount (begins device) 1 calls now) × IsToldLive device
         (served_lines (a.taken ++ a.rest)) (replies_of (a.taken ++ a.rest)) now.live }
