@@ -1,10 +1,10 @@
 -- What waits in a backlog.
-use Rattle.std.proofs.Common.{◌≡◌, ℕ, zero, suc, ◌+◌, ◌≤◌, List, [], ◌∷◌, ◌++◌, length, map, Option, Some, None, ◌<◌, refl, sym, ap, subst, ◌∙◌, arith, append-nil, append_assoc, length-append}
+use Rattle.std.proofs.Common.{◌≡◌, ℕ, zero, suc, ◌+◌, ◌≤◌, List, [], ◌∷◌, ◌++◌, length, map, Option, Some, None, ◌<◌, false, refl, sym, ap, subst, ◌∙◌, arith, append-nil, append_assoc, length-append}
 use Rattle.std.specs.Prelude.{replicate}
 use Rattle.std.specs.List.{sum_by}
 use Rattle.std.proofs.lemmas.List.Sums.{sum_by-cons, sum_by_push}
 use Rattle.std.proofs.lemmas.List.{replicate-append-replicate}
-use Rattle.backlog.specs.Waiting.{IsBounded, IsWithin, items_not_lost, turns_of}
+use Rattle.backlog.specs.Waiting.{IsBounded, IsWithin, is_none_left, items_not_lost, turns_of}
 
 -- one more that is lost
 pub one_lost : {T : Type 0} (items : List T) (lost : ℕ) → turns_of items (lost + 1) ≡ turns_of items lost ++ None ∷ []
@@ -33,6 +33,11 @@ pub length-turns : {T : Type 0} (items : List T) (lost : ℕ) → length (turns_
 length-turns {T = T} [] zero = refl
 length-turns {T = T} [] (suc lost) = let e = length-turns {T = T} [] lost in omega (arith, e)
 length-turns {T = T} (x ∷ items) lost = let e = length-turns {T = T} items lost in omega (arith, e)
+
+-- an item waits
+pub some_left : {T : Type 0} (items : List T) (lost : ℕ) → 0 < length items → is_none_left (turns_of items lost) ≡ false
+some_left [] lost some = absurd (omega arith)
+some_left (x ∷ items) lost some = refl
 
 -- an item that is put
 pub one_within : {T : Type 0} (weight : T → ℕ) (items new : List T) (item : T) (w total : ℕ) → IsWithin weight items total → new ≡ items ++ item ∷ [] → w ≡ weight item

@@ -1,5 +1,5 @@
 -- Items that wait for their turn.
-use Rattle.std.specs.Prelude.{ℕ, ◌≡◌, ◌≤◌, ◌⊎◌, List, [], ◌∷◌, ◌++◌, map, replicate, length, Option, Some, None}
+use Rattle.std.specs.Prelude.{ℕ, ◌≡◌, ◌≤◌, ◌⊎◌, List, [], ◌∷◌, ◌++◌, map, replicate, length, Option, Some, None, Bool, true, false}
 use Rattle.std.specs.List.{filter_map, sum_by}
 use Rattle.backlog.specs.declared.backlog.Turn.{Turn}
 use Rattle.backlog.specs.declared.backlog.Turn.TheVariants.{Item, Lost, Nothing}
@@ -27,6 +27,20 @@ pub record IsWithin {T : Type 0} (weight : T → ℕ) (items : List T) (total : 
 -- may one be lost that doesn't wait
 abbrev pub Puts : {T : Type 0} → List (Option T) → T → List (Option T) → Type 0
 Puts old item new = (new ≡ old ++ Some item ∷ []) ⊎ ((new ≡ old ++ None ∷ []) ⊎ ((18446744073709551615 ≤ length old) × (new ≡ old)))
+
+-- an item that was lost waits after all others; only if 2^64 - 1 wait already may it not wait
+abbrev pub PutsLost : {T : Type 0} → List (Option T) → List (Option T) → Type 0
+PutsLost old new = (new ≡ old ++ None ∷ []) ⊎ ((18446744073709551615 ≤ length old) × (new ≡ old))
+
+-- whether nothing waits
+abbrev pub is_none_left : {T : Type 0} → List (Option T) → Bool
+is_none_left [] = true
+is_none_left (item ∷ rest) = false
+
+-- the first one that waits, if it wasn't lost
+abbrev pub first_of : {T : Type 0} → List (Option T) → Option T
+first_of [] = None
+first_of (item ∷ rest) = item
 
 -- the first one that waits has its turn
 abbrev pub Takes : {T : Type 0} → List (Option T) → Turn T → List (Option T) → Type 0

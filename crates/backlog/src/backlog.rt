@@ -1,6 +1,6 @@
 //! Items that wait for their turn.
-ghost use Rattle.std.specs.Prelude.{◌≡◌, []};
-ghost use Rattle.backlog.specs.Waiting.{IsBounded, Puts, Takes};
+ghost use Rattle.std.specs.Prelude.{◌≡◌, ◌<◌, ◌≤◌, [], length, option_copied, false, true};
+ghost use Rattle.backlog.specs.Waiting.{IsBounded, Puts, PutsLost, Takes, first_of, is_none_left};
 
 use std::alloc::Global;
 use std::collections::VecDeque;
@@ -67,6 +67,28 @@ impl<T: Weighs + Drop> Backlog<T> {
         }
     }
 
+    /// Whether nothing waits.
+    pub fn is_empty(&self) -> bool
+        ensures { result ≡ is_none_left self.now }
+    {
+        self.items.is_empty() && self.lost == 0
+    }
+
+    /// Whether one more can wait, be it one that is lost.
+    pub fn has_room(&self) -> bool
+        ensures room { result ≡ true → length self.now < 18446744073709551615 }
+        ensures full { result ≡ false → 18446744073709547519 ≤ length self.now }
+    {
+        self.lost < u64::MAX - MAX_ITEMS as u64
+    }
+
+    /// The first one that waits, if it wasn't lost.
+    pub fn first(&self) -> Option<&T>
+        ensures { option_copied result ≡ first_of self.now }
+    {
+        self.items.front()
+    }
+
     /// Puts an item after all others. It is lost if there is no room or no memory for it, or if the
     /// last one that waits was lost.
     pub fn put(&mut self, item: T)
@@ -86,6 +108,14 @@ impl<T: Weighs + Drop> Backlog<T> {
                 self.lost = self.lost.saturating_add(1);
             }
         }
+    }
+
+    /// One more item, after all others, was lost.
+    pub fn put_lost(&mut self)
+        ensures puts { PutsLost self.old self.new }
+        ensures bounded { IsBounded T.weight self.new }
+    {
+        self.lost = self.lost.saturating_add(1);
     }
 
     /// Takes the first one that waits.
