@@ -2,5 +2,5 @@ pub mod AlongLemmas
 mod EndLemmas
 mod EventLemmas
 mod Examples
-mod LineLemmas
+pub mod LineLemmas
 pub mod TalkLemmas

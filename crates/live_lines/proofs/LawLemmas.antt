@@ -227,7 +227,7 @@ not_32 b ok =
       | false ↦ λ e. refl
     ] refl
 
-not_10 : (b : ℕ) → is_name_byte b ≡ true → eqb b 10 ≡ false
+pub not_10 : (b : ℕ) → is_name_byte b ≡ true → eqb b 10 ≡ false
 not_10 b ok =
     elim (eqb b 10) as (λ v. eqb b 10 ≡ v → v ≡ false) [
       | true ↦ λ e. absurd (false≢true (sym (ap is_name_byte (eqb-true b 10 e)) ∙ ok))

@@ -18,8 +18,13 @@ mod HereWaits
 mod InTenancy
 mod ItemBooks
 mod LineLemmas
+mod MachineLemmas
+mod MadeLemmas
 mod NameBooks
 mod ReadLemmas
+mod RunningLemmas
+mod ServerLemmas
 mod TakeLemmas
 mod TenancyLemmas
 mod TurnLemmas
+mod WorkLemmas

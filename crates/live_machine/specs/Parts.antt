@@ -1,12 +1,12 @@
 -- private: the parts of the machine's code, and what they do.
 use Rattle.std.specs.Prelude.{ℕ, ◌≡◌, ◌⊎◌, List, [], ◌∷◌, Bool, true, false, Option, Some, None, ⊤}
-use Rattle.std.specs.List.{AllByRecursion}
+use Rattle.std.specs.List.{AllByRecursion, list_all}
 use Rattle.script_text.specs.declared.operator_line.OperatorLine.TheVariants.{Step}
 use Rattle.live_lines.specs.Live.Asked.{Operates}
 use Rattle.live_input.specs.Serving.{is_ready, state_in}
-use Rattle.live_machine.specs.declared.held.OpenText.{OpenText}
-use Rattle.live_machine.specs.declared.held.OpenText.TheVariants.{NoText, Begun, Lost}
 use Rattle.live_machine.specs.declared.machine.Machine.{Machine}
+use Rattle.live_machine.specs.declared.machine.steps.StepEnd.{StepEnd}
+use Rattle.live_machine.specs.declared.machine.steps.StepEnd.TheVariants.{Made, Dropped, NoMemory}
 use Rattle.live_machine.specs.declared.server.LineServer.{LineServer}
 use Rattle.live_machine.specs.Held.{Held, HeldItem, begins_with_wait, held_of}
 use Rattle.live_machine.specs.Machine.{Call, Frees, FreesIf, GivesUp, Happens, HearsAfter, IsMade, MachineState, Run, ServesItem, ServesItems, Works}
@@ -30,15 +30,7 @@ abbrev pub PutsIf : Bool → List ℕ → MachineState → MachineState → Type
 PutsIf true name old new = (made : List ℕ) × IsMade (Operates (Step name 1)) made × Works old made new
 PutsIf false name old new = new ≡ old
 
--- private: whether there are items, and whether a name is held for a `wait`
-abbrev pub has_items : List HeldItem → Bool
-has_items [] = false
-has_items (item ∷ items) = true
-
-abbrev pub is_lost_text : OpenText → Bool
-is_lost_text Lost = true
-is_lost_text text = false
-
+-- private: whether a name is held for a `wait`
 abbrev pub has_wait : Option Held → Bool
 has_wait None = false
 has_wait (Some h) = begins_with_wait h.items
@@ -84,12 +76,29 @@ abbrev pub IsGivenUp : Bool → List ℕ → MachineState → MachineState → T
 IsGivenUp true name old new = Happens old (GiveUp name) new
 IsGivenUp false name old new = new ≡ old
 
--- each of some calls is a turn of that name
+-- private: a step is put so
+abbrev pub EndsStep : StepEnd → List ℕ → MachineState → MachineState → Type 0
+EndsStep Made name old new = Happens old (PutStep name) new
+EndsStep end name old new = new ≡ old
+
+-- private: each of some calls is a turn of that name
 abbrev pub IsTurnOf : List ℕ → Call → Type 0
 IsTurnOf name call = call ≡ ServeHeld name
 
--- turns of names that are held, one after another
+-- private: turns of a name that is held, one after another
 pub record HasTurns (name : List ℕ) (old new : MachineState) : Type 0 where
   pub calls : List Call
   pub turns : AllByRecursion (IsTurnOf name) calls
+  pub run : Run old calls new
+
+-- what workers do: they put steps, and after that names have their turns, or a `wait` is given up
+abbrev pub is_workers : Call → Bool
+is_workers (PutStep name) = true
+is_workers (GiveUp name) = true
+is_workers (ServeHeld name) = true
+is_workers call = false
+
+pub record IsWorked (old new : MachineState) : Type 0 where
+  pub calls : List Call
+  pub works : list_all is_workers calls ≡ true
   pub run : Run old calls new

@@ -9,14 +9,27 @@
 //! its turn, and nobody else waits. `cancel`, `withdraw` and `change` end its `wait`, which is then
 //! served as `status`; an eviction ends it too.
 //!
+//! [`Machine`] is the machine. Each of its calls is one event, or turns of names that are held.
+//!
 //! In `specs/`, `Held` says what is held of a name, `Machine` what each call does, `Turn` what is
 //! served, kept and told, and `Account` what all calls amount to. [`machine_law`] is the law.
 //! `Workers` says what the service is without its workers, and [`workers_law`] that others see no
 //! more of it.
 #![tactic(auto)]
 
+mod agenda;
+mod held;
+mod held_names;
+mod item_lines;
 mod law;
+mod machine;
+mod made_lines;
+mod running;
+mod server;
+mod stop;
 mod workers;
 
 pub use law::machine_law;
+pub use machine::{MOST_TOLD, Machine};
+pub use stop::Stop;
 pub use workers::workers_law;

@@ -4,16 +4,19 @@ ghost use Rattle.script_text.specs.declared.operator_line.OperatorLine.TheVarian
 ghost use Rattle.script_text.specs.Script.{named_operator};
 ghost use Rattle.live_lines.specs.Live.{asked_of as what_asks};
 ghost use Rattle.live_lines.specs.Live.Asked.{Operates};
-ghost use Rattle.live_machine.specs.Held.{IsSaidBy, held_of};
+ghost use Rattle.live_input.specs.Serving.{is_ready, state_in};
+ghost use Rattle.live_machine.specs.Workers.{without_workers};
+ghost use Rattle.live_machine.specs.Held.{IsSaidBy, has_items, held_of};
 ghost use Rattle.live_machine.specs.Machine.{Happens, HearsAsked, HearsFree, HearsName, Holds, IsLine, begins_with, must_wait};
 ghost use Rattle.live_machine.specs.Machine.Call.{Line};
-ghost use Rattle.live_machine.specs.Parts.{HearsHolding, IsReady, has_items, machine_of};
+ghost use Rattle.live_machine.specs.Parts.{HearsHolding, IsReady, machine_of};
 
 mod holding;
 mod steps;
 
+pub use steps::MOST_TOLD;
+
 use crate::agenda::Agenda;
-use crate::held::Hold;
 use crate::held_names::HeldNames;
 use crate::server::LineServer;
 use crate::stop::Stop;
@@ -95,9 +98,10 @@ impl<'g> Machine<'g> {
         ensures holds { OnOk result (Holds name.now line.now (machine_of self.old)
             (machine_of self.new)) }
     {
-        let id = self.server.lines().live().names().last_id(name);
-        match Hold::new(self.alloc, name, id, line) {
-            Ok(hold) => self.add(name, hold),
+        let id = self.server.last_id(name);
+        self.agenda.forget(id);
+        match self.held.add(self.alloc, name, id, line) {
+            Ok(()) => Ok(()),
             Err(_) => self.server.tell_lost(name),
         }
     }
@@ -140,6 +144,7 @@ impl<'g> Machine<'g> {
         ensures hears { OnOk result (HearsAsked (what_asks line.now) line.now
             (machine_of self.old) (machine_of self.new)) }
     {
+        self.agenda.forget(self.server.last_id(name));
         self.server.serve(line)?;
         self.end_hold(name)
     }
@@ -171,7 +176,10 @@ impl<'g> Machine<'g> {
             (machine_of self.new)) }
     {
         match asked_of(self.alloc, line)? {
-            LineRequest::Says(_, name, _) => self.hear(name, line),
+            LineRequest::Says(_, name, _) => {
+                self.hear(name, line)?;
+                self.mark(name)
+            }
             LineRequest::Operates(asked) => self.operate(asked, line),
             LineRequest::Nothing | LineRequest::NoForm => self.server.serve(line),
         }

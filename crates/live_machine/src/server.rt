@@ -4,6 +4,7 @@ ghost use Rattle.std.specs.List.{AllByRecursion};
 ghost use Rattle.line_text.specs.Lines.{physical_lines};
 ghost use Rattle.script_text.specs.declared.operator_line.OperatorLine.TheVariants.{Step};
 ghost use Rattle.script_text.specs.Script.{is_name};
+ghost use Rattle.operator.specs.OperatorText.{last_id};
 ghost use Rattle.tagged_lines.specs.Tags.{with_feed};
 ghost use Rattle.live_lines.specs.Live.{asked_of};
 ghost use Rattle.live_lines.specs.Live.Asked.{Operates};
@@ -106,6 +107,21 @@ impl<'g> LineServer<'g> {
     {
         let live = self.lines.live();
         has_job(live.service(), live.names().last_id(name))
+    }
+
+    /// Whether the next step of that name's job can be taken now.
+    pub(crate) fn has_step(&self, name: &[u8]) -> bool
+        ensures { result ≡ is_busy (state_in self.now.lines) name.now }
+    {
+        let live = self.lines.live();
+        live.service().has_step(live.names().last_id(name))
+    }
+
+    /// The last id that the name was given, or 0.
+    pub(crate) fn last_id(&self, name: &[u8]) -> u32
+        ensures { result ≡ last_id (state_in self.now.lines).stage.names name.now }
+    {
+        self.lines.live().names().last_id(name)
     }
 
     /// Whether that line of a name is a `wait` that can't be answered yet.

@@ -1,4 +1,5 @@
 //! Why a machine takes no more calls.
+use crate::held::TooManyItems;
 use std::alloc::AllocError;
 
 /// Why a machine takes no more calls. What it had not drained by then is neither kept nor told.
@@ -16,5 +17,11 @@ pub enum Stop {
 impl From<AllocError> for Stop {
     fn from(_error: AllocError) -> Self {
         Stop::NoMemory
+    }
+}
+
+impl From<TooManyItems> for Stop {
+    fn from(_error: TooManyItems) -> Self {
+        Stop::TooManyLines
     }
 }

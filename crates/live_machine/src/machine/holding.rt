@@ -1,8 +1,8 @@
 //! What a machine does with what a held name has said.
 ghost use Rattle.std.specs.Prelude.{◌≡◌, ◌&&◌, IfOk, IfSome, OnOk};
-ghost use Rattle.live_machine.specs.Held.{begins_with_wait, held_of};
+ghost use Rattle.live_machine.specs.Held.{begins_with_wait, has_items, held_of, is_lost_text};
 ghost use Rattle.live_machine.specs.Machine.{EndsHold, is_busy};
-ghost use Rattle.live_machine.specs.Parts.{AreServed, FreesDone, FreesHeld, HasTurn, IsGivenUp, IsReady, ServesOne, has_items, has_wait, is_lost_text, machine_of};
+ghost use Rattle.live_machine.specs.Parts.{AreServed, FreesDone, FreesHeld, HasTurn, IsGivenUp, IsReady, ServesOne, has_wait, machine_of};
 
 use crate::held::OpenText;
 use crate::machine::Machine;
