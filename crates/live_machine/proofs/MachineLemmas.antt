@@ -71,18 +71,26 @@ one_item None old new name lines held is taken serves = absurd (cc)
 one_item (Some h) old new name lines held is (items, first, said, changed) serves =
     let after : Held = record h { items = items } in
     let P : List Held → Type 0 = λ hs. ServesAll name lines (record old { held = hs }) new in
-    let Q : List ℕ → Type 0 = λ n. ServesAll n lines (record old { held = with_held old.held after }) new in
-    (Some lines, items, first, subst Q (sym (name_of_held old.held name h is)) (subst P changed serves),
-    ap (λ hs. held_of hs name) (all_held name lines (record old { held = held }) new serves ∙ changed) ∙ own_after old.held name h items is)
+    let Q : List ℕ → Type 0 = λ n. ServesAll n lines (record old { held = with_held old.held after }) new in (
+      Some lines,
+      items,
+      first,
+      subst Q (sym (name_of_held old.held name h is)) (subst P changed serves),
+      ap (λ hs. held_of hs name) (all_held name lines (record old { held = held }) new serves ∙ changed) ∙ own_after old.held name h items is,
+    )
 
 pub one_lost : (o : Option Held) (old new : MachineState) (name : List ℕ) (held : List Held) → held_of old.held name ≡ o → IsTakenOf o old.held name LostItem held → TellsLost (record old { held = held }) name new → ServesOne true o name old new
 one_lost None old new name held is taken tells = absurd (cc)
 one_lost (Some h) old new name held is (items, first, changed) tells =
     let after : Held = record h { items = items } in
     let P : List Held → Type 0 = λ hs. TellsLost (record old { held = hs }) name new in
-    let Q : List ℕ → Type 0 = λ n. TellsLost (record old { held = with_held old.held after }) n new in
-    (None, items, first, subst Q (sym (name_of_held old.held name h is)) (subst P changed tells),
-    ap (λ hs. held_of hs name) (ap (λ (m : MachineState). m.held) tells ∙ changed) ∙ own_after old.held name h items is)
+    let Q : List ℕ → Type 0 = λ n. TellsLost (record old { held = with_held old.held after }) n new in (
+      None,
+      items,
+      first,
+      subst Q (sym (name_of_held old.held name h is)) (subst P changed tells),
+      ap (λ hs. held_of hs name) (ap (λ (m : MachineState). m.held) tells ∙ changed) ∙ own_after old.held name h items is,
+    )
 
 -- all items, one after another
 pub item_before : (o : Option Held) (old mid new : MachineState) (name : List ℕ) → held_of old.held name ≡ o → ServesOne true o name old mid → AreServed (held_of mid.held name) name mid new → AreServed o name old new
@@ -226,7 +234,6 @@ heard_last (Some h) old new name line held had is items none (after, heard, chan
     let Q : Option Held → Type 0 = λ o. EndsHold o (record old { held = with_held old.held after }) new in
     let W : List HeldItem → Type 0 = λ its. WaitsAfter its after (record old { held = with_held old.held after }) new in
     (after, heard, subst W (sym (no_items h.items (sym items ∙ none))) (subst Q (after_own old.held name h after is same) (subst P changed ends)))
-
 
 pub is_said : (name said line : List ℕ) → IsLine line → asked_of line ≡ Says name said → IsSaidBy name line
 is_said name said line is asks = record { kept = is.kept; one = is.one; says = asks ∙ ap (λ r. Says name r) (sym (said_of name said line asks).2) }

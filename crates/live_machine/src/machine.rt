@@ -14,8 +14,6 @@ ghost use Rattle.live_machine.specs.Parts.{HearsHolding, IsReady, machine_of};
 mod holding;
 mod steps;
 
-pub use steps::MOST_TOLD;
-
 use crate::agenda::Agenda;
 use crate::held_names::HeldNames;
 use crate::server::LineServer;
@@ -24,6 +22,7 @@ use live_input::LiveLines;
 use live_lines::{LineRequest, asked_of};
 use script_text::OperatorLine;
 use std::alloc::Global;
+pub use steps::MOST_TOLD;
 
 /// A live service whose jobs are stepped by workers.
 pub struct Machine<'g> {
@@ -149,7 +148,7 @@ impl<'g> Machine<'g> {
         self.end_hold(name)
     }
 
-    /// Serves a line of the operator. One that makes steps by hand has no form, as workers make them.
+    /// Serves a line of the operator. One that makes steps by hand has no form: workers make them.
     fn operate(&mut self, asked: OperatorLine<&[u8]>, line: &[u8]) -> Result<(), Stop>
         requires is_line { IsLine line.now }
         requires asks { what_asks line.now ≡ Operates (named_operator asked.entry) }

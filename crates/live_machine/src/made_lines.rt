@@ -49,8 +49,8 @@ fn joined(alloc: Global, first: &[u8], second: &[u8], third: &[u8]) -> Result<Ve
     Ok(text)
 }
 
-/// A line without a form, in the place of that one: the line after `? `, or `?` alone if it would be
-/// too long.
+/// A line without a form, in the place of that one: the line after `? `, or `?` alone if that is too
+/// long.
 pub(crate) fn formless_line(alloc: Global, line: &[u8]) -> Result<Vec<u8>, AllocError>
     requires { IsLine line.now }
     ensures { IfOk result (λ made. IsLine made.items × (what_asks made.items ≡ NoForm)) }

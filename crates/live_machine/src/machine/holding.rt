@@ -42,8 +42,8 @@ impl Machine<'_> {
         Ok(())
     }
 
-    /// Frees a held name without items, and serves the lines of its text. If that text was lost, the
-    /// name is held up to its end.
+    /// Frees a held name without items, and serves the lines of its text. If that text was lost,
+    /// the name is held up to its end.
     fn free(&mut self, name: &[u8]) -> Result<(), Stop>
         requires ready { IsReady self.old }
         ensures ready { OnOk result (IsReady self.new) }

@@ -19,8 +19,11 @@ pub returns-clause-puts : goal.returns-clause-puts
 returns-clause-puts c =
     let old = c.args.self.now in
     let log : c.push_line.new.text.items ≡ old.log.items ++ with_feed c.args.line.now = search rules in
-    λ held. (c.args.line.now, c.requires.asks,
-    works_by old
-    (record { alloc = old.alloc; lines = c.answer.new.self; next = _; log = c.push_line.new.text; told = old.told })
-    c.args.line.now c.in_ok-reply.reply.items c.requires.is_line
-    (step_here _ _ _ _ _ _ c.requires.asks c.requires.busy c.in_ok-reply.ensures.answers) refl log refl held)
+    λ held. (
+      c.args.line.now,
+      c.requires.asks,
+      works_by old
+          (record { alloc = old.alloc; lines = c.answer.new.self; next = _; log = c.push_line.new.text; told = old.told })
+          c.args.line.now c.in_ok-reply.reply.items c.requires.is_line
+          (step_here _ _ _ _ _ _ c.requires.asks c.requires.busy c.in_ok-reply.ensures.answers) refl log refl held,
+    )
