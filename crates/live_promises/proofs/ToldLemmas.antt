@@ -1,5 +1,5 @@
 -- The answers of a live service are those of a script.
-use Rattle.std.proofs.Common.{◌≡◌, ℕ, List, [], ◌∷◌, ◌++◌, map, None, true, refl, sym, ap, subst, ◌∙◌}
+use Rattle.std.proofs.Common.{◌≡◌, ℕ, List, [], ◌∷◌, ◌++◌, map, true, refl, ap, ◌∙◌}
 use Rattle.line_feed.specs.Pieces.{kept_of}
 use Rattle.service_core.specs.declared.device.Device.{Device}
 use Rattle.service_core.specs.Run.{Call, Run}
