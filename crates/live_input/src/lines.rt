@@ -1,6 +1,7 @@
 //! A live service that answers lines.
 ghost use Rattle.std.specs.Prelude.{◌≡◌, [], IfOk, OnOk};
 
+use job_state::{AnyJob, Back};
 use line_service::Answers;
 use line_text::MemorySink;
 use live_lines::{Live, Said};
@@ -16,8 +17,10 @@ pub struct LiveLines<'g> {
 }
 
 impl<'g> LiveLines<'g> {
+    ghost use Rattle.service_core.specs.Calls.{IsGivenBack, IsTaken};
     ghost use Rattle.service_core.specs.Run.{Run};
     ghost use Rattle.operator.specs.HeldJobs.{give_backs};
+    ghost use Rattle.live_lines.specs.Live.{with_service};
     ghost use Rattle.live_lines.specs.Said.{IsEven, texts_of};
     ghost use Rattle.live_input.specs.Serving.{ClosesTexts, begins_on, is_ready, state_in};
 
@@ -31,6 +34,38 @@ impl<'g> LiveLines<'g> {
             alloc,
             live: Live::new(alloc, graph, core),
         }
+    }
+
+    /// What it is, for what can be asked of it between lines.
+    pub fn live(&self) -> &Live<'g>
+        ensures { result.now ≡ self.now.live }
+    {
+        &self.live
+    }
+
+    /// Takes the next step of that tenancy's job, if there is one to take.
+    pub fn take_job(&mut self, id: u32) -> Option<AnyJob>
+        requires ready { is_ready self.old }
+        ensures ready { is_ready self.new }
+        ensures taken { IsTaken (state_in self.old).stage.service id result
+            (state_in self.new).stage.service }
+        ensures rest { state_in self.new
+            ≡ with_service (state_in self.old) (state_in self.new).stage.service }
+    {
+        self.live.take_job(id)
+    }
+
+    /// Gives a job back that was taken. It can be taken again if it is the next step of its
+    /// tenancy's running job, and is dropped if not.
+    pub fn give_back(&mut self, back: Back)
+        requires ready { is_ready self.old }
+        ensures ready { is_ready self.new }
+        ensures given { IsGivenBack (state_in self.old).stage.service back
+            (state_in self.new).stage.service }
+        ensures rest { state_in self.new
+            ≡ with_service (state_in self.old) (state_in self.new).stage.service }
+    {
+        self.live.give_back(back);
     }
 
     /// Ends the input: returns the replies to the names whose text has no end.

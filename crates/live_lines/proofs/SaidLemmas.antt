@@ -67,6 +67,17 @@ text_at (n ∷ names) (t ∷ texts) name d even within =
           ap (λ k. get_or (t ∷ texts) k d) next ∙ (text_at names texts name d (omega arith) (omega (arith, within, later)) ∙ sym (text_later n names t texts name e))
     ] refl
 
+-- a name without a number is in none
+pub text_past : (names : List (List ℕ)) (texts : List Text) (name : List ℕ) → length texts ≡ length names → length texts ≤ number_of names name → text_in names texts name ≡ None
+text_past [] texts name even past = refl
+text_past (n ∷ names) [] name even past = refl
+text_past (n ∷ names) (t ∷ texts) name even past =
+    elim (bytes_eq name n) as (λ b. bytes_eq name n ≡ b → text_in (n ∷ names) (t ∷ texts) name ≡ None) [
+      | true ↦ λ e. let first = number_of-first n names name e in absurd (omega (arith, past, first))
+      | false ↦ λ e. let later = number_of-later n names name e in
+          text_later n names t texts name e ∙ text_past names texts name (omega arith) (omega (arith, past, later))
+    ] refl
+
 -- and once it was changed
 pub text_set : (names : List (List ℕ)) (texts : List Text) (name : List ℕ) (v : Text) → length texts ≡ length names → number_of names name < length texts → text_in names (set texts (number_of names name) v) name ≡ v
 text_set [] [] name v even within = absurd (omega arith)

@@ -8,6 +8,7 @@ use Rattle.script_text.specs.declared.act.Act.TheVariants.{Operator, Session}
 use Rattle.script_text.specs.declared.operator_line.OperatorLine.{OperatorLine}
 use Rattle.script_text.specs.declared.operator_line.OperatorLine.TheVariants.{Step, List as ListAll}
 use Rattle.script_text.specs.Script.{Acts, is_name, named_operator, script_of}
+use Rattle.service_core.specs.Service.{ServiceState}
 use Rattle.sessions.specs.declared.line.SessionLine.{SessionLine}
 use Rattle.operator.specs.Serving.{Stage}
 use Rattle.live_lines.specs.Acts.{IsAnswered, Telling}
@@ -65,6 +66,10 @@ HasTag asked = ⊤
 pub record LiveState : Type 0 where
   pub stage : Stage
   pub texts : Texts
+
+-- with another state of the core
+abbrev pub with_service : LiveState → ServiceState → LiveState
+with_service live service = record live { stage = record live.stage { service = service } }
 
 abbrev pub for_operator : List ℕ → Tagged
 for_operator text = record { tag = codes "op"; text = text }

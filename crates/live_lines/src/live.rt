@@ -9,6 +9,8 @@ ghost use Rattle.service_core.specs.Run.{Run};
 ghost use Rattle.operator.specs.HeldJobs.{give_backs};
 ghost use Rattle.live_lines.specs.Live.{asked_of as what_asks, count_text, for_name, is_open as is_open_line, told_by};
 
+mod lending;
+
 use crate::asked::{LineRequest, asked_of};
 use crate::counted::count_lines;
 use crate::lasting::Lasting;

@@ -73,6 +73,15 @@ impl Said {
         self.readers[number].take_line(line)
     }
 
+    /// Whether that name is in a text.
+    pub(crate) fn is_in_text(&self, name: &[u8]) -> bool
+        requires { IsEven self.now }
+        ensures { result ≡ is_some (texts_of self.now name.now) }
+    {
+        let number = self.names.number(name);
+        number < self.readers.len() && self.readers[number].is_in_text()
+    }
+
     /// The number of the name, which has a reader from now on.
     fn number_for(&mut self, name: &[u8]) -> Result<usize, AllocError>
         requires { IsEven self.old }

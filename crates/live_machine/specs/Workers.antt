@@ -1,9 +1,11 @@
 -- Steps that are out with workers.
-use Rattle.std.specs.Prelude.{ℕ, ◌≡◌, List, length, map, false, Some, is_some, ⊤}
+use Rattle.std.specs.Prelude.{ℕ, ◌≡◌, List, length, map, Bool, false, ◌&&◌, nat_lt, Option, Some, None, is_some, ⊤}
+use Rattle.tenant_slot.specs.declared.slot.TheConstants.{MAX_ENTRIES}
+use Rattle.tenant_slot.specs.SingleUser.{kind_that_runs}
 use Rattle.script_text.specs.declared.operator_line.OperatorLine.TheVariants.{Step}
 use Rattle.sessions.specs.declared.steps.StepOutcome.TheVariants.{NoMemory}
 use Rattle.operator.specs.OperatorText.{outcome_text}
-use Rattle.service_core.specs.History.{with_here}
+use Rattle.service_core.specs.History.{History, state_of, with_here}
 use Rattle.service_core.specs.Service.{ServiceState, journal_of, live_of}
 use Rattle.tagged_lines.specs.Tags.{output_of}
 use Rattle.live_lines.specs.Live.{Asked, LiveState, operator_told}
@@ -16,6 +18,11 @@ all_here service = record service { histories = map (with_here (Some false)) ser
 
 abbrev pub without_workers : LiveState → LiveState
 without_workers live = record live { stage = record live.stage { service = all_here live.stage.service } }
+
+-- private: a job of that tenancy runs, wherever its next step is, and its journal has room
+abbrev pub runs_in : Option History → Bool
+runs_in None = false
+runs_in (Some h) = is_some (kind_that_runs (state_of h).name) && nat_lt (length h.entries) MAX_ENTRIES
 
 -- both services have the same device, the same plan and the same journals, and the same tenancies
 -- are live

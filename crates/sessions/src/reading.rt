@@ -1,5 +1,5 @@
 //! A session's input, line by line.
-ghost use Rattle.std.specs.Prelude.{◌≡◌, [], None, List, IfOk, IsSome, OnErr};
+ghost use Rattle.std.specs.Prelude.{◌≡◌, [], None, List, IfOk, IsSome, OnErr, is_some};
 ghost use Rattle.sessions.specs.declared.line.SessionLine.{SessionLine};
 ghost use Rattle.sessions.specs.Items.{items_of, with_item};
 ghost use Rattle.sessions.specs.Reading.{FormGives, GivesItem, item_and, items_to_come};
@@ -35,6 +35,13 @@ impl SessionReader {
         ensures { result ≡ None }
     {
         SessionReader { alloc, text: None }
+    }
+
+    /// Whether it is in a text.
+    pub fn is_in_text(&self) -> bool
+        ensures { result ≡ is_some self.now }
+    {
+        self.text.is_some()
     }
 
     /// Takes the next line, without its LF. Memory can run out within a text only: the text is lost

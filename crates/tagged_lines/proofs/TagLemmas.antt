@@ -44,10 +44,10 @@ past_seam (x ∷ tag) line =
     let next : suc (length tag) + 1 ≡ suc (length tag + 1) = omega arith in
     ap (λ n. drop n (x ∷ (tag ++ 32 ∷ line))) next ∙ past_seam tag line
 
-tag_is : (tag line : List ℕ) → is_tag tag ≡ true → tag_of (tag ++ 32 ∷ line) ≡ tag
+pub tag_is : (tag line : List ℕ) → is_tag tag ≡ true → tag_of (tag ++ 32 ∷ line) ≡ tag
 tag_is tag line ok = ap (λ n. take n (tag ++ 32 ∷ line)) (first_blank tag line ok) ∙ take-append_seam tag (32 ∷ line)
 
-rest_is : (tag line : List ℕ) → is_tag tag ≡ true → rest_of (tag ++ 32 ∷ line) ≡ line
+pub rest_is : (tag line : List ℕ) → is_tag tag ≡ true → rest_of (tag ++ 32 ∷ line) ≡ line
 rest_is tag line ok = ap (λ n. drop (n + 1) (tag ++ 32 ∷ line)) (first_blank tag line ok) ∙ past_seam tag line
 
 -- a line, and the lines after its end

@@ -1,0 +1,95 @@
+-- private: the parts of the machine's code, and what they do.
+use Rattle.std.specs.Prelude.{ℕ, ◌≡◌, ◌⊎◌, List, [], ◌∷◌, Bool, true, false, Option, Some, None, ⊤}
+use Rattle.std.specs.List.{AllByRecursion}
+use Rattle.script_text.specs.declared.operator_line.OperatorLine.TheVariants.{Step}
+use Rattle.live_lines.specs.Live.Asked.{Operates}
+use Rattle.live_input.specs.Serving.{is_ready, state_in}
+use Rattle.live_machine.specs.declared.held.OpenText.{OpenText}
+use Rattle.live_machine.specs.declared.held.OpenText.TheVariants.{NoText, Begun, Lost}
+use Rattle.live_machine.specs.declared.machine.Machine.{Machine}
+use Rattle.live_machine.specs.declared.server.LineServer.{LineServer}
+use Rattle.live_machine.specs.Held.{Held, HeldItem, begins_with_wait, held_of}
+use Rattle.live_machine.specs.Machine.{Call, Frees, FreesIf, GivesUp, Happens, HearsAfter, IsMade, MachineState, Run, ServesItem, ServesItems, Works}
+use Rattle.live_machine.specs.Machine.Call.{GiveUp, PutStep, ServeHeld}
+use Rattle.live_machine.specs.Workers.{without_workers}
+
+-- private: a machine's value, from what serves its lines and the names that are held
+abbrev pub state_with : LineServer → List Held → MachineState
+state_with server held = record { live = without_workers (state_in server.lines); next = server.next; held = held; log = server.log.items; told = server.told.items }
+
+-- a machine's value
+abbrev pub machine_of : Machine → MachineState
+machine_of machine = state_with machine.server machine.held
+
+-- it can take a call
+abbrev pub IsReady : Machine → Type 0
+IsReady machine = is_ready machine.server.lines
+
+-- private: a step was made, or memory ran out for it
+abbrev pub PutsIf : Bool → List ℕ → MachineState → MachineState → Type 0
+PutsIf true name old new = (made : List ℕ) × IsMade (Operates (Step name 1)) made × Works old made new
+PutsIf false name old new = new ≡ old
+
+-- private: whether there are items, and whether a name is held for a `wait`
+abbrev pub has_items : List HeldItem → Bool
+has_items [] = false
+has_items (item ∷ items) = true
+
+abbrev pub is_lost_text : OpenText → Bool
+is_lost_text Lost = true
+is_lost_text text = false
+
+abbrev pub has_wait : Option Held → Bool
+has_wait None = false
+has_wait (Some h) = begins_with_wait h.items
+
+-- private: the items that are held of a name
+abbrev pub items_in : Option Held → List HeldItem
+items_in None = []
+items_in (Some h) = h.items
+
+-- private: the first item of a held name is served, if it has one
+abbrev pub ServesOne : Bool → Option Held → List ℕ → MachineState → MachineState → Type 0
+ServesOne went None name old new = (went ≡ false) × (new ≡ old)
+ServesOne true (Some h) name old new = (item : HeldItem) × (items : List HeldItem) × (h.items ≡ item ∷ items) × ServesItem item (record h { items = items }) old new × (held_of new.held name ≡ Some (record h { items = items }))
+ServesOne false (Some h) name old new = (h.items ≡ []) × (new ≡ old)
+
+-- private: all items of a name are served, if it is held
+abbrev pub AreServed : Option Held → List ℕ → MachineState → MachineState → Type 0
+AreServed None name old new = ⊤
+AreServed (Some h) name old new = ServesItems h.items h old new × (held_of new.held name ≡ Some (record h { items = [] }))
+
+-- private: a name without items is freed, if it is held
+abbrev pub FreesHeld : Option Held → MachineState → MachineState → Type 0
+FreesHeld None old new = ⊤
+FreesHeld (Some h) old new = Frees h.text h.name old new
+
+-- private: a name is freed, if it is held and has no items
+abbrev pub FreesDone : Option Held → MachineState → MachineState → Type 0
+FreesDone None old new = ⊤
+FreesDone (Some h) old new = FreesIf h.items h old new
+
+-- private: a line that calls off what a name waits for, or one that waits, if the name is held
+abbrev pub HearsHolding : Bool → Option Held → List ℕ → List ℕ → MachineState → MachineState → Type 0
+HearsHolding off None name line old new = ⊤
+HearsHolding off (Some h) name line old new = HearsAfter off h name line old new
+
+-- private: a name that is held has its turn, or nothing changes
+abbrev pub HasTurn : Bool → List ℕ → MachineState → MachineState → Type 0
+HasTurn true name old new = Happens old (ServeHeld name) new
+HasTurn false name old new = new ≡ old
+
+-- private: a `wait` of a name is given up, or nothing changes
+abbrev pub IsGivenUp : Bool → List ℕ → MachineState → MachineState → Type 0
+IsGivenUp true name old new = Happens old (GiveUp name) new
+IsGivenUp false name old new = new ≡ old
+
+-- each of some calls is a turn of that name
+abbrev pub IsTurnOf : List ℕ → Call → Type 0
+IsTurnOf name call = call ≡ ServeHeld name
+
+-- turns of names that are held, one after another
+pub record HasTurns (name : List ℕ) (old new : MachineState) : Type 0 where
+  pub calls : List Call
+  pub turns : AllByRecursion (IsTurnOf name) calls
+  pub run : Run old calls new

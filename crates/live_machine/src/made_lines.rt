@@ -1,0 +1,121 @@
+//! Lines that the machine makes itself, and what it tells without one.
+ghost use Rattle.std.specs.Prelude.{◌≡◌, ◌≢◌, ◌∷◌, ◌++◌, codes, true, [], IfOk, IfSome, OnOk};
+ghost use Rattle.std.specs.Io.KnownBytes.{Appends};
+ghost use Rattle.script_text.specs.declared.operator_line.OperatorLine.TheVariants.{Step};
+ghost use Rattle.script_text.specs.Script.{is_name};
+ghost use Rattle.sessions.specs.SessionText.{no_memory_text};
+ghost use Rattle.tagged_lines.specs.Tags.{output_of};
+ghost use Rattle.live_lines.specs.Live.{asked_of as what_asks, for_name};
+ghost use Rattle.live_lines.specs.Live.Asked.{NoForm, Operates};
+ghost use Rattle.live_machine.specs.Held.{form_of, is_wait};
+ghost use Rattle.live_machine.specs.Machine.{IsLine};
+ghost use Rattle.live_machine.specs.Workers.{nomemory_reply};
+
+use line_feed::MAX_FED_LINE;
+use line_text::{MemorySink, Sink, write_slices};
+use live_lines::{LineRequest, asked_of};
+use script_text::{OperatorLine, is_name};
+use sessions::{LineForm, SessionLine, line_form, without_cr, write_no_memory};
+use std::alloc::{AllocError, Global};
+use tagged_lines::{split_tag, write_at_once};
+
+/// Whether a line of a name says `wait`, outside of texts.
+pub(crate) fn says_wait(line: &[u8]) -> bool
+    ensures { result ≡ is_wait (form_of line.now) }
+{
+    let (_, said) = split_tag(line);
+    matches!(
+        line_form(without_cr(said)),
+        LineForm::Asks(SessionLine::Wait)
+    )
+}
+
+/// The line with which a name says `status`.
+pub(crate) fn status_line(alloc: Global, name: &[u8]) -> Result<Vec<u8>, AllocError>
+    ensures { IfOk result (λ line. line.items ≡ 64 ∷ (name.now ++ codes " status")) }
+{
+    joined(alloc, b"@", name, b" status")
+}
+
+/// These three texts, one after another.
+fn joined(alloc: Global, first: &[u8], second: &[u8], third: &[u8]) -> Result<Vec<u8>, AllocError>
+    ensures { IfOk result (λ text. text.items ≡ first.now ++ (second.now ++ third.now)) }
+{
+    let mut text = Vec::new(alloc);
+    text.reserve(first.len() + second.len() + third.len())?;
+    text.extend_from_slice(first)?;
+    text.extend_from_slice(second)?;
+    text.extend_from_slice(third)?;
+    Ok(text)
+}
+
+/// A line without a form, in the place of that one: the line after `? `, or `?` alone if it would be
+/// too long.
+pub(crate) fn formless_line(alloc: Global, line: &[u8]) -> Result<Vec<u8>, AllocError>
+    requires { IsLine line.now }
+    ensures { IfOk result (λ made. IsLine made.items × (what_asks made.items ≡ NoForm)) }
+{
+    if line.len() > MAX_FED_LINE - 2 {
+        return Vec::from_slice(alloc, b"?");
+    }
+    joined(alloc, b"? ", line, b"")
+}
+
+/// The line that makes one step of that name's job. None if it isn't a name.
+pub(crate) fn step_line(alloc: Global, name: &[u8]) -> Result<Option<Vec<u8>>, AllocError>
+    ensures { IfOk result (λ line. IfSome line (λ text. IsLine text.items
+        × (what_asks text.items ≡ Operates (Step name.now 1)))) }
+{
+    if !is_name(name) {
+        return Ok(None);
+    }
+    let line = joined(alloc, b"op step ", name, b" 1")?;
+    if asks_step(alloc, line.as_slice(), name)? {
+        return Ok(Some(line));
+    }
+    Ok(None)
+}
+
+/// Whether a line asks for one step of that name's job.
+fn asks_step(alloc: Global, line: &[u8], name: &[u8]) -> Result<bool, AllocError>
+    requires { length line.now < 2 ^ 63 }
+    ensures { IfOk result (λ asks. asks ≡ true → what_asks line.now ≡ Operates (Step name.now 1)) }
+{
+    match asked_of(alloc, line)? {
+        LineRequest::Operates(OperatorLine::Step(other, 1)) => Ok(other == name),
+        LineRequest::Operates(_) | LineRequest::Nothing | LineRequest::NoForm => Ok(false),
+        LineRequest::Says(_, _, _) => Ok(false),
+    }
+}
+
+/// Whether a reply says that memory ran out for a step.
+pub(crate) fn is_nomemory(reply: &[u8]) -> bool
+    ensures { (name : List ℕ) → result ≡ true → reply.now ≡ nomemory_reply name }
+{
+    reply == b"op lines 1\nop nomemory\n".as_slice()
+}
+
+/// What a name is told for an item that was lost.
+pub(crate) fn lost_text(alloc: Global, name: &[u8]) -> Result<Vec<u8>, AllocError>
+    ensures { IfOk result (λ text. text.items ≡ output_of (for_name name.now no_memory_text ∷ [])) }
+{
+    let mut reply = MemorySink::new(alloc);
+    write_lost(alloc, &mut reply, name)?;
+    Ok(reply.into_bytes())
+}
+
+/// Writes to a name that memory ran out.
+fn write_lost<W: Sink>(alloc: Global, writer: &mut W, name: &[u8]) -> Result<(), AllocError>
+    ensures { OnOk result (Appends (W.contents writer.old) (W.contents writer.new)
+        (output_of (for_name name.now no_memory_text ∷ []))) }
+{
+    let mut tag = MemorySink::new(alloc);
+    let mut text = MemorySink::new(alloc);
+    if write_slices(&mut tag, &[b"@", name]).is_err() || write_no_memory(&mut text).is_err() {
+        return Err(AllocError);
+    }
+    match write_at_once(alloc, writer, tag.as_bytes(), text.as_bytes()) {
+        Ok(()) => Ok(()),
+        Err(_) => Err(AllocError),
+    }
+}
