@@ -1,5 +1,5 @@
 -- The account of all calls.
-use Rattle.std.proofs.Common.{◌≡◌, inl, inr, ℕ, List, [], ◌∷◌, ◌++◌, Bool, true, false, ◌&&◌, Option, Some, None, refl, sym, ap, subst, ◌∙◌, append_assoc, append-nil}
+use Rattle.std.proofs.Common.{◌≡◌, inl, inr, ℕ, List, [], ◌∷◌, ◌++◌, Bool, true, false, Option, Some, None, refl, sym, ap, subst, ◌∙◌, append_assoc, append-nil}
 use Rattle.std.specs.List.{AllByRecursion, flat_map}
 use Rattle.std.proofs.lemmas.Grind.{flat_map-append}
 use Rattle.script_text.specs.Script.{is_name}
@@ -17,10 +17,10 @@ use Rattle.live_lines.specs.Live.Asked.{NoForm, Nothing, Operates, Says}
 use Rattle.line_service.specs.Conversation.{AreAnswered}
 use Rattle.live_input.specs.Serving.{AnswersLine}
 use Rattle.live_machine.specs.Account.{IsAccount, IsSaid, is_nobodys, line_in, lines_in, log_drained, nobodys_lines, told_drained}
-use Rattle.live_machine.specs.Held.{Held, HeldItem, HearsForm, HearsIn, calls_off, form_of, held_of, is_wait, with_held, without_name}
+use Rattle.live_machine.specs.Held.{Held, HeldItem, HearsForm, HearsIn, calls_off, form_of, held_of, with_held, without_name}
 use Rattle.live_machine.specs.declared.held.OpenText.{OpenText}
 use Rattle.live_machine.specs.declared.held.OpenText.TheVariants.{NoText, Begun, Lost}
-use Rattle.live_machine.specs.Machine.{Call, EndsHold, Frees, FreesIf, GivesUp, Happens, HearsAfter, HearsAsked, HearsFree, HearsName, MachineState, Run, ServesFirst, WaitsAfter, begins_with, is_busy, is_by_hand, is_outside, must_wait}
+use Rattle.live_machine.specs.Machine.{Call, EndsHold, Frees, FreesIf, GivesUp, Happens, HearsAfter, HearsAsked, HearsFree, HearsName, MachineState, Run, ServesFirst, WaitsAfter, begins_with, is_by_hand, must_wait}
 use Rattle.live_machine.specs.Machine.Call.{Drain, GiveUp, Line, PutStep, ServeHeld}
 use Rattle.live_machine.specs.Turn.{IsDay, IsServedTurn, Turn, heard_lines, log_of, replies_of, served_lines, told_of}
 use Rattle.live_machine.proofs.Books.{Books, books_nobody, books_worked}
@@ -29,7 +29,7 @@ use Rattle.live_machine.proofs.TakeLemmas.{rests_flat}
 use Rattle.live_machine.proofs.ReadLemmas.{rests}
 use Rattle.live_machine.proofs.HeldLemmas.{changed_own, freed_own, name_of_held}
 use Rattle.live_machine.proofs.ItemBooks.{IsOn, books_ended, books_freed, books_item, item_lost}
-use Rattle.live_machine.proofs.LineLemmas.{said_of}
+use Rattle.live_machine.proofs.LineLemmas.{must_wait_so, said_of}
 use Rattle.live_machine.proofs.NameBooks.{books_heard, books_holds, books_own}
 use Rattle.live_machine.proofs.TurnLemmas.{log_both, told_both, turns_answered}
 
@@ -61,14 +61,6 @@ ended_none h old new text is none (mid, items, frees) =
     let P : OpenText → Type 0 = λ t. Frees t h.name mid new in
     let freed : new ≡ record mid { held = without_name mid.held h.name } = subst P (is ∙ none) frees in
     ap (λ (m : MachineState). held_of m.held h.name) freed ∙ freed_own mid.held h.name
-
-pub waits_outside : (text : Option TextSoFar) (rest : Bool) → is_outside text && rest ≡ true → (text ≡ None) × (rest ≡ true)
-waits_outside None rest is = (refl, is)
-waits_outside (Some text) rest is = absurd (cc)
-
-pub waits_form : (a b : Bool) → a && b ≡ true → a ≡ true
-waits_form true b is = refl
-waits_form false b is = is
 
 -- the calls so far
 pub record Accounts (begun : LiveState) (first : ℕ) (calls : List Call) (now : MachineState) : Type 0 where
@@ -108,7 +100,7 @@ after_name begun first lines taken old new name line h true b ok of is off (mid,
     let ended = books_ended begun first lines taken old mid name (Some h) b is ends in
     let P : List ℕ → Type 0 = λ n. held_of mid.held n ≡ None in
     let gone = subst P (name_of_held old.held name h is) (ended_none h old mid h.text refl (called_off h.text line off) ends) in
-    books_own begun first lines taken mid new line name ended ok of gone serves
+    books_own begun first lines taken mid new line name (must_wait mid.live name line) ended ok of gone refl serves
 after_name begun first lines taken old new name line h false b ok of is off (after, hears, waits) =
     let named : after.name ≡ name = heard_name h.text (ends_text (rest_of line)) h after line hears ∙ name_of_held old.held name h is in
     let mid : MachineState = record old { held = with_held old.held after } in
@@ -119,9 +111,9 @@ after_name begun first lines taken old new name line h false b ok of is off (aft
 free_name : (begun : LiveState) (first : ℕ) (lines : List (List ℕ)) (taken : List Turn) (old new : MachineState) (name line : List ℕ) (waits : Bool) → Books begun first lines taken old → is_name name ≡ true → IsOf name line → held_of old.held name ≡ None → must_wait old.live name line ≡ waits → HearsFree waits name line old new →
     Books begun first (lines ++ line ∷ []) taken new
 free_name begun first lines taken old new name line true b ok of free waits holds =
-    let (outside, rest) = waits_outside (old.live.texts name) (is_wait (form_of line) && is_busy old.live name) waits in
-    books_holds begun first lines taken old new line name b ok of free outside (waits_form (is_wait (form_of line)) (is_busy old.live name) rest) holds
-free_name begun first lines taken old new name line false b ok of free waits serves = books_own begun first lines taken old new line name b ok of free serves
+    let (outside, wait, busy) = must_wait_so old.live name line waits in
+    books_holds begun first lines taken old new line name b ok of free outside wait holds
+free_name begun first lines taken old new name line false b ok of free waits serves = books_own begun first lines taken old new line name false b ok of free waits serves
 
 heard : (begun : LiveState) (first : ℕ) (lines : List (List ℕ)) (taken : List Turn) (old new : MachineState) (name line : List ℕ) (held : Option Held) → Books begun first lines taken old → is_name name ≡ true → IsOf name line → held_of old.held name ≡ held → HearsName held name line old new →
     Books begun first (lines ++ line ∷ []) taken new

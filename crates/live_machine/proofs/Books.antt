@@ -1,13 +1,11 @@
 -- All that was said and served so far.
 use Rattle.std.proofs.Common.{◌≡◌, ℕ, List, [], ◌∷◌, ◌++◌, Bool, true, false, cond, Option, Some, refl, sym, ap, subst, ◌∙◌, append_assoc, append-nil}
 use Rattle.std.specs.List.{AllByRecursion}
-use Rattle.std.specs.Str.{bytes_eq}
 use Rattle.std.proofs.lemmas.Grind.{flat_map-append}
 use Rattle.script_text.specs.declared.operator_line.OperatorLine.TheVariants.{Step}
 use Rattle.script_text.specs.Script.{is_name}
 use Rattle.sessions.specs.declared.line.SessionLine.{SessionLine}
 use Rattle.sessions.specs.Reading.{TextSoFar}
-use Rattle.tagged_lines.specs.Tags.{rest_of, tag_of}
 use Rattle.live_lines.specs.Laws.{said_by}
 use Rattle.live_lines.specs.Live.{Asked, LiveState, asked_of}
 use Rattle.live_lines.specs.Live.Asked.{NoForm, Nothing, Operates, Says}
@@ -18,10 +16,9 @@ use Rattle.live_machine.specs.Machine.{IsMade, MachineState, Serves, ServesNobod
 use Rattle.live_machine.specs.Turn.{IsDay, IsNobodysLine, IsServedAs, IsServedTurn, Turn, heard_lines, log_of, told_of}
 use Rattle.live_machine.specs.Turn.Turn.{Answers, Works as WorksLine}
 use Rattle.live_machine.proofs.FollowLemmas.{AreOf, Follows, follow_other}
-use Rattle.live_machine.proofs.HeldLemmas.{one_name}
 use Rattle.live_machine.proofs.LineLemmas.{line_read, said_nobody}
 use Rattle.live_machine.proofs.ReadLemmas.{Reads}
-use Rattle.live_machine.proofs.TurnLemmas.{Makes, all_both, day_both, heard_both, log_both, serves_makes, serves_read, told_both, works_makes}
+use Rattle.live_machine.proofs.TurnLemmas.{Makes, all_both, day_both, heard_both, log_both, said_both, serves_makes, serves_read, told_both, works_makes}
 
 abbrev pub IsNamed : List Held → Type 0
 IsNamed held = (name : List ℕ) (h : Held) → held_of held name ≡ Some h → is_name name ≡ true
@@ -41,16 +38,6 @@ pub record Books (begun : LiveState) (first : ℕ) (lines : List (List ℕ)) (ta
   pub said : (name : List ℕ) → is_name name ≡ true → Followed begun lines (heard_lines turns) now name
   pub nobodys : nobodys_lines lines ≡ nobodys_lines (heard_lines turns)
   pub named : IsNamed now.held
-
-pub each_name : (F : List ℕ → Type 0) (name : List ℕ) → F name → ((other : List ℕ) → bytes_eq name other ≡ false → is_name other ≡ true → F other) → (other : List ℕ) → is_name other ≡ true → F other
-each_name F name own others other ok =
-    elim (bytes_eq name other) as (λ b. bytes_eq name other ≡ b → F other) [
-      | true ↦ λ e. subst F (one_name name other e) own
-      | false ↦ λ e. others other e ok
-    ] refl
-
-pub said_both : (name : List ℕ) (first more : List (List ℕ)) → said_by name (first ++ more) ≡ said_by name first ++ said_by name more
-said_both name first more = flat_map-append (λ l. cond (bytes_eq (tag_of l) (64 ∷ name)) (rest_of l ∷ []) []) first more
 
 pub nobodys_both : (first more : List (List ℕ)) → nobodys_lines (first ++ more) ≡ nobodys_lines first ++ nobodys_lines more
 nobodys_both first more = flat_map-append nobodys_line first more

@@ -17,19 +17,16 @@ not_first first name other apart is = ap (λ n. bytes_eq n other) (one_name firs
 pub changed_own : (held : List Held) (old new : Held) → held_of held new.name ≡ Some old → held_of (with_held held new) new.name ≡ Some new
 changed_own [] old new is = absurd (cc)
 changed_own (h ∷ held) old new is =
-    elim (bytes_eq h.name new.name) as (λ b. bytes_eq h.name new.name ≡ b → cond b (Some h) (held_of held new.name) ≡ Some old → held_of (cond b new h ∷ with_held held new) new.name ≡ Some new) [
-      | true ↦ λ e s. ap (λ b. cond b (Some new) (held_of (with_held held new) new.name)) (same_name new.name)
+    elim (bytes_eq h.name new.name) as (λ b. bytes_eq h.name new.name ≡ b → cond b (Some h) (held_of held new.name) ≡ Some old → held_of (cond b (new ∷ held) (h ∷ with_held held new)) new.name ≡ Some new) [
+      | true ↦ λ e s. ap (λ b. cond b (Some new) (held_of held new.name)) (same_name new.name)
       | false ↦ λ e s. ap (λ b. cond b (Some h) (held_of (with_held held new) new.name)) e ∙ changed_own held old new s
     ] refl is
 
 pub changed_other : (held : List Held) (new : Held) (other : List ℕ) → bytes_eq new.name other ≡ false → held_of (with_held held new) other ≡ held_of held other
 changed_other [] new other apart = refl
 changed_other (h ∷ held) new other apart =
-    elim (bytes_eq h.name new.name) as (λ b. bytes_eq h.name new.name ≡ b → held_of (cond b new h ∷ with_held held new) other ≡ held_of (h ∷ held) other) [
-      | true ↦ λ e.
-          ap (λ b. cond b (Some new) (held_of (with_held held new) other)) apart
-          ∙ (changed_other held new other apart
-          ∙ sym (ap (λ b. cond b (Some h) (held_of held other)) (not_first h.name new.name other apart e)))
+    elim (bytes_eq h.name new.name) as (λ b. bytes_eq h.name new.name ≡ b → held_of (cond b (new ∷ held) (h ∷ with_held held new)) other ≡ held_of (h ∷ held) other) [
+      | true ↦ λ e. ap (λ b. cond b (Some new) (held_of held other)) apart ∙ sym (ap (λ b. cond b (Some h) (held_of held other)) (not_first h.name new.name other apart e))
       | false ↦ λ e. ap (cond (bytes_eq h.name other) (Some h)) (changed_other held new other apart)
     ] refl
 

@@ -1,5 +1,5 @@
 -- What a held name said is served in the tenancy in which it was said.
-use Rattle.std.proofs.Common.{◌≡◌, ◌≢◌, inl, inr, ℕ, List, [], ◌∷◌, ◌++◌, codes, Bool, true, false, ◌&&◌, Option, Some, None, is_some, refl, sym, ap, subst, ◌∙◌}
+use Rattle.std.proofs.Common.{◌≡◌, ◌≢◌, inl, inr, ℕ, List, [], ◌∷◌, ◌++◌, codes, Bool, true, false, Option, Some, None, is_some, refl, sym, ap, subst, ◌∙◌}
 use Rattle.std.specs.Str.{bytes_eq}
 use Rattle.script_text.specs.Script.{is_name}
 use Rattle.script_text.specs.declared.operator_line.OperatorLine.{OperatorLine}
@@ -18,20 +18,20 @@ use Rattle.live_lines.specs.Live.{Asked, LiveState, asked_of}
 use Rattle.live_lines.specs.Live.Asked.{NoForm, Nothing, Operates, Says}
 use Rattle.live_lines.proofs.LawLemmas.{says}
 use Rattle.live_machine.specs.Account.{is_nobodys, lines_in}
-use Rattle.live_machine.specs.Held.{Held, HeldItem, HearsForm, HearsIn, calls_off, form_of, held_of, is_wait, with_held, without_name}
+use Rattle.live_machine.specs.Held.{Held, HeldItem, HearsForm, HearsIn, calls_off, form_of, held_of, with_held, without_name}
 use Rattle.live_machine.specs.declared.held.OpenText.{OpenText}
 use Rattle.live_machine.specs.declared.held.OpenText.TheVariants.{NoText, Begun, Lost}
-use Rattle.live_machine.specs.Machine.{Call, EndsHold, Frees, FreesIf, GivesUp, Happens, HearsAfter, HearsAsked, HearsFree, HearsName, Holds, MachineState, Run, Serves, ServesAll, ServesFirst, ServesItem, ServesItems, ServesLines, ServesNobodys, TellsLost, WaitsAfter, begins_with, holds, is_busy, is_by_hand, must_wait}
+use Rattle.live_machine.specs.Machine.{Call, EndsHold, Frees, FreesIf, GivesUp, Happens, HearsAfter, HearsAsked, HearsFree, HearsName, Holds, MachineState, Run, Serves, ServesAll, ServesFirst, ServesItem, ServesItems, ServesNobodys, ServesSaid, TellsLost, WaitsAfter, begins_with, is_busy, is_by_hand, must_wait}
 use Rattle.live_machine.specs.Machine.Call.{Drain, GiveUp, Line, PutStep, ServeHeld}
 use Rattle.live_machine.specs.Turn.{Turn, heard_lines}
-use Rattle.live_machine.proofs.AccountLemmas.{Accounts, happened, heard_name, starts, waits_outside}
+use Rattle.live_machine.proofs.AccountLemmas.{Accounts, happened, heard_name, starts}
 use Rattle.live_machine.proofs.AliveLemmas.{alive}
 use Rattle.live_machine.proofs.Books.{Books, books_nobody}
 use Rattle.live_machine.proofs.FollowLemmas.{AreOf, Follows, IsOf}
 use Rattle.live_machine.proofs.TakeLemmas.{follow_text}
 use Rattle.live_machine.proofs.HeldLemmas.{added_other, added_own, changed_other, changed_own, freed_other, freed_own, name_of_held, one_name}
 use Rattle.live_machine.proofs.ItemBooks.{IsOn, books_item, books_items, item_lost, taken_of}
-use Rattle.live_machine.proofs.LineLemmas.{said_of}
+use Rattle.live_machine.proofs.LineLemmas.{must_wait_so, said_of}
 use Rattle.live_machine.proofs.NameBooks.{books_heard}
 use Rattle.live_machine.proofs.TenancyLemmas.{IsNoEviction, Keeps, is_live, keeps_same, line_keeps}
 
@@ -66,53 +66,64 @@ passes_both name old mid new first more =
       keeps = λ other live. keeps_both other old mid new (first.keeps other live) (more.keeps other);
     }
 
-passes_same : (name : List ℕ) (old new : MachineState) → new ≡ old → Passes name old new
-passes_same name old new same =
-    record {
-      held = λ other apart. ap (λ (m : MachineState). held_of m.held other) same;
-      keeps = λ other live. keeps_same other old.live.stage new.live.stage live (ap (λ (m : MachineState). m.live.stage) same);
-    }
+-- what is held stays, and each live name keeps its tenancy
+pub record Stays (old new : MachineState) : Type 0 where
+  pub held : new.held ≡ old.held
+  pub keeps : (other : List ℕ) → is_live old.live.stage other ≡ true → Keeps other old.live.stage new.live.stage
 
--- one line
-line_passes : (name : List ℕ) (old new : MachineState) (line : List ℕ) → ((other : List ℕ) → IsNoEviction other (asked_of line)) → Serves old line new → Passes name old new
-line_passes name old new line stays s =
+stays_as : (old new : MachineState) → new.held ≡ old.held → new.live.stage ≡ old.live.stage → Stays old new
+stays_as old new held stage = record { held = held; keeps = λ other live. keeps_same other old.live.stage new.live.stage live stage }
+
+stays_same : (old new : MachineState) → new ≡ old → Stays old new
+stays_same old new same = stays_as old new (ap (λ (m : MachineState). m.held) same) (ap (λ (m : MachineState). m.live.stage) same)
+
+lost_stays : (name : List ℕ) (old new : MachineState) → TellsLost old name new → Stays old new
+lost_stays name old new lost = stays_as old new (ap (λ (m : MachineState). m.held) lost) (ap (λ (m : MachineState). m.live.stage) lost)
+
+stays_both : (old mid new : MachineState) → Stays old mid → Stays mid new → Stays old new
+stays_both old mid new first more = record { held = more.held ∙ first.held; keeps = λ other live. keeps_both other old mid new (first.keeps other live) (more.keeps other) }
+
+stays_in : (old new : MachineState) → Stays old new → ((other : List ℕ) → IsIn old other) → (other : List ℕ) → IsIn new other
+stays_in old new s all other = in_keeps old new other (all other) (ap (λ hs. held_of hs other) s.held) (s.keeps other)
+
+stays_passes : (name : List ℕ) (old new : MachineState) → Stays old new → Passes name old new
+stays_passes name old new s = record { held = λ other apart. ap (λ hs. held_of hs other) s.held; keeps = s.keeps }
+
+-- lines that evict nobody
+line_stays : (old new : MachineState) (line : List ℕ) → ((other : List ℕ) → IsNoEviction other (asked_of line)) → Serves old line new → Stays old new
+line_stays old new line stays s =
     record {
-      held = λ other apart. ap (λ (m : MachineState). held_of m.held other) s.rest;
+      held = ap (λ (m : MachineState). m.held) s.rest;
       keeps = λ other live. line_keeps other old.live old.next line s.reply new.live (stays other) live s.answers;
     }
 
 says_no_eviction : (name said line : List ℕ) → asked_of line ≡ Says name said → (other : List ℕ) → IsNoEviction other (asked_of line)
 says_no_eviction name said line is other = let P : Asked → Type 0 = IsNoEviction other in subst P (sym is) tt
 
-lost_passes : (name : List ℕ) (old new : MachineState) → TellsLost old name new → Passes name old new
-lost_passes name old new lost =
-    record {
-      held = λ other apart. ap (λ (m : MachineState). held_of m.held other) lost;
-      keeps = λ other live. keeps_same other old.live.stage new.live.stage live (ap (λ (m : MachineState). m.live.stage) lost);
-    }
+said_stays : (name : List ℕ) → is_name name ≡ true → (line : List ℕ) (waits : Bool) (old new : MachineState) → IsOf name line → ServesSaid waits name line old new → Stays old new
+said_stays name ok line false old new of serves = line_stays old new line (says_no_eviction name (rest_of line) line (says name line ok of)) serves
+said_stays name ok line true old new of (made, asks, serves) = line_stays old new made (says_no_eviction name (codes "status") made asks) serves
 
-all_pass : (name : List ℕ) → is_name name ≡ true → (lines : List (List ℕ)) (old new : MachineState) → AreOf name lines → ServesAll lines old new → Passes name old new
-all_pass name ok [] old new of same = passes_same name old new same
-all_pass name ok (line ∷ lines) old new of (mid, one, rest) =
-    passes_both name old mid new (line_passes name old mid line (says_no_eviction name (rest_of line) line (says name line ok of.0)) one) (all_pass name ok lines mid new of.1 rest)
+all_stay : (name : List ℕ) → is_name name ≡ true → (lines : List (List ℕ)) (old new : MachineState) → AreOf name lines → ServesAll name lines old new → Stays old new
+all_stay name ok [] old new of same = stays_same old new same
+all_stay name ok (line ∷ lines) old new of (mid, one, rest) =
+    stays_both old mid new (said_stays name ok line (must_wait old.live name line) old mid of.0 one) (all_stay name ok lines mid new of.1 rest)
 
--- what is held of that name changes
-held_passes : (old : MachineState) (after : Held) → Passes after.name old (record old { held = with_held old.held after })
-held_passes old after = record { held = λ other apart. changed_other old.held after other apart; keeps = λ other live. keeps_same other old.live.stage old.live.stage live refl }
+-- what is held of that name changes, and then nothing more
+changed_passes : (old new : MachineState) (after : Held) → Stays (record old { held = with_held old.held after }) new → Passes after.name old new
+changed_passes old new after s =
+    let mid : MachineState = record old { held = with_held old.held after } in
+    let changed : Passes after.name old mid = record { held = λ other apart. changed_other old.held after other apart; keeps = λ other live. keeps_same other old.live.stage old.live.stage live refl } in
+    passes_both after.name old mid new changed (stays_passes after.name mid new s)
 
 -- an item
-lines_pass : (name : List ℕ) → is_name name ≡ true → (item : List (List ℕ)) (as_status : Bool) (old new : MachineState) → AreOf name item → ServesLines as_status name item old new → Passes name old new
-lines_pass name ok item false old new of serves = all_pass name ok item old new of serves
-lines_pass name ok item true old new of (made, asks, serves) = line_passes name old new made (says_no_eviction name (codes "status") made asks) serves
-
 item_passes : (begun : LiveState) (first : ℕ) (lines : List (List ℕ)) (taken : List Turn) (old new : MachineState) (h : Held) (item : HeldItem) (items : List HeldItem) → Books begun first lines taken old → held_of old.held h.name ≡ Some h → h.items ≡ item ∷ items → ServesItem item (record h { items = items }) old new → Passes h.name old new
 item_passes begun first lines taken old new h None items b is first_is lost =
-    passes_both h.name old (record old { held = with_held old.held (record h { items = items }) }) new (held_passes old (record h { items = items })) (lost_passes h.name (record old { held = with_held old.held (record h { items = items }) }) new lost)
+    changed_passes old new (record h { items = items }) (lost_stays h.name (record old { held = with_held old.held (record h { items = items }) }) new lost)
 item_passes begun first lines taken old new h (Some item) items b is first_is serves =
     let t = taken_of begun first lines taken old h (Some item) items b is first_is in
     let O : List (List ℕ) → Type 0 = AreOf h.name in
-    let mid : MachineState = record old { held = with_held old.held (record h { items = items }) } in
-    passes_both h.name old mid new (held_passes old (record h { items = items })) (lines_pass h.name (b.named h.name h is) item (holds old.live h.name item) mid new (subst O t.is_first t.of) serves)
+    changed_passes old new (record h { items = items }) (all_stay h.name (b.named h.name h is) item (record old { held = with_held old.held (record h { items = items }) }) new (subst O t.is_first t.of) serves)
 
 no_first : (item : HeldItem) (items : List HeldItem) → item ∷ items ≡ [] → ⊥
 no_first item items e = absurd (cc)
@@ -130,55 +141,48 @@ left_in old new h item items is first_is left p was after after_is some =
 
 -- items, one after another
 items_pass : (begun : LiveState) (first : ℕ) (lines : List (List ℕ)) (taken : List Turn) (old new : MachineState) (h : Held) (items : List HeldItem) → Books begun first lines taken old → held_of old.held h.name ≡ Some h → h.items ≡ items → ServesItems items h old new → Passes h.name old new
-items_pass begun first lines taken old new h [] b is none same = passes_same h.name old new same
+items_pass begun first lines taken old new h [] b is none same = stays_passes h.name old new (stays_same old new same)
 items_pass begun first lines taken old new h (item ∷ items) b is first_is (mid, one, more) =
     let on = books_item begun first lines taken old mid h item items b is first_is one in
     passes_both h.name old mid new (item_passes begun first lines taken old mid h item items b is first_is one) (items_pass begun first lines taken mid new (record h { items = items }) items on.books on.held_is refl more)
 
-frees_pass : (begun : LiveState) (first : ℕ) (lines : List (List ℕ)) (taken : List Turn) (old new : MachineState) (h : Held) (text : OpenText) → Books begun first lines taken old → held_of old.held h.name ≡ Some h → h.items ≡ [] → h.text ≡ text → Frees text h.name old new → Passes h.name old new
-frees_pass begun first lines taken old new h Lost b is none text_is same = passes_same h.name old new same
-frees_pass begun first lines taken old new h NoText b is none text_is freed =
-    record {
-      held = λ other apart. ap (λ (m : MachineState). held_of m.held other) freed ∙ freed_other old.held h.name other apart;
-      keeps = λ other live. keeps_same other old.live.stage new.live.stage live (ap (λ (m : MachineState). m.live.stage) freed);
-    }
-frees_pass begun first lines taken old new h (Begun text) b is none text_is serves =
-    let F : Option Held → Type 0 = λ x. Follows h.name (begun.texts h.name) (said_by h.name lines) (said_by h.name (heard_lines b.turns)) x (old.live.texts h.name) in
-    let ok = b.named h.name h is in
-    let (of, follows) = follow_text h.name (begun.texts h.name) (said_by h.name lines) (said_by h.name (heard_lines b.turns)) text h (old.live.texts h.name) (subst F is (b.said h.name ok)) none text_is in
-    let mid : MachineState = record old { held = without_name old.held h.name } in
-    let removed : Passes h.name old mid = record { held = λ other apart. freed_other old.held h.name other apart; keeps = λ other live. keeps_same other old.live.stage old.live.stage live refl } in
-    passes_both h.name old mid new removed (all_pass h.name ok text mid new of serves)
-
--- afterwards the name has no items
-all_held : (lines : List (List ℕ)) (old new : MachineState) → ServesAll lines old new → new.held ≡ old.held
-all_held [] old new same = ap (λ (m : MachineState). m.held) same
-all_held (line ∷ lines) old new (mid, one, rest) = all_held lines mid new rest ∙ ap (λ (m : MachineState). m.held) one.rest
-
 none_some : (h : Held) → None ≡ Some h → ⊥
 none_some h e = absurd (cc)
 
-freed_empty : (old new : MachineState) (h : Held) (text : OpenText) → held_of old.held h.name ≡ Some h → h.items ≡ [] → Frees text h.name old new → (after : Held) → held_of new.held h.name ≡ Some after → after.items ≡ []
-freed_empty old new h Lost is none same after after_is =
-    let kept : Some after ≡ Some h = sym after_is ∙ (ap (λ (m : MachineState). held_of m.held h.name) same ∙ is) in
-    ap (λ (x : Held). x.items) (some_same after h kept) ∙ none
-freed_empty old new h NoText is none freed after after_is =
-    absurd (none_some after (sym (ap (λ (m : MachineState). held_of m.held h.name) freed ∙ freed_own old.held h.name) ∙ after_is))
-freed_empty old new h (Begun text) is none serves after after_is =
-    absurd (none_some after (sym (ap (λ hs. held_of hs h.name) (all_held text (record old { held = without_name old.held h.name }) new serves) ∙ freed_own old.held h.name) ∙ after_is))
-
--- a hold ends
+-- a hold ends: afterwards the name has no items
 pub record Ended (name : List ℕ) (old new : MachineState) : Type 0 where
   pub passes : Passes name old new
   pub empty : (after : Held) → held_of new.held name ≡ Some after → after.items ≡ []
 
+gone_ended : (name : List ℕ) (old new : MachineState) → Stays (record old { held = without_name old.held name }) new → Ended name old new
+gone_ended name old new s =
+    let mid : MachineState = record old { held = without_name old.held name } in
+    let removed : Passes name old mid = record { held = λ other apart. freed_other old.held name other apart; keeps = λ other live. keeps_same other old.live.stage old.live.stage live refl } in
+    record {
+      passes = passes_both name old mid new removed (stays_passes name mid new s);
+      empty = λ after after_is. absurd (none_some after (sym (ap (λ hs. held_of hs name) s.held ∙ freed_own old.held name) ∙ after_is));
+    }
+
+frees_ended : (begun : LiveState) (first : ℕ) (lines : List (List ℕ)) (taken : List Turn) (old new : MachineState) (h : Held) (text : OpenText) → Books begun first lines taken old → held_of old.held h.name ≡ Some h → h.items ≡ [] → h.text ≡ text → Frees text h.name old new → Ended h.name old new
+frees_ended begun first lines taken old new h Lost b is none text_is same =
+    record {
+      passes = stays_passes h.name old new (stays_same old new same);
+      empty = λ after after_is.
+          let kept : Some after ≡ Some h = sym after_is ∙ (ap (λ (m : MachineState). held_of m.held h.name) same ∙ is) in
+          ap (λ (x : Held). x.items) (some_same after h kept) ∙ none;
+    }
+frees_ended begun first lines taken old new h NoText b is none text_is freed = gone_ended h.name old new (stays_same (record old { held = without_name old.held h.name }) new freed)
+frees_ended begun first lines taken old new h (Begun text) b is none text_is serves =
+    let F : Option Held → Type 0 = λ x. Follows h.name (begun.texts h.name) (said_by h.name lines) (said_by h.name (heard_lines b.turns)) x (old.live.texts h.name) in
+    let ok = b.named h.name h is in
+    let (of, follows) = follow_text h.name (begun.texts h.name) (said_by h.name lines) (said_by h.name (heard_lines b.turns)) text h (old.live.texts h.name) (subst F is (b.said h.name ok)) none text_is in
+    gone_ended h.name old new (all_stay h.name ok text (record old { held = without_name old.held h.name }) new of serves)
+
 ends_hold : (begun : LiveState) (first : ℕ) (lines : List (List ℕ)) (taken : List Turn) (old new : MachineState) (h : Held) → Books begun first lines taken old → held_of old.held h.name ≡ Some h → EndsHold (Some h) old new → Ended h.name old new
 ends_hold begun first lines taken old new h b is (mid, items, frees) =
     let on = books_items begun first lines taken old mid h h.items b is refl items in
-    record {
-      passes = passes_both h.name old mid new (items_pass begun first lines taken old mid h h.items b is refl items) (frees_pass begun first lines taken mid new (record h { items = [] }) h.text on.books on.held_is refl refl frees);
-      empty = freed_empty mid new (record h { items = [] }) h.text on.held_is refl frees;
-    }
+    let ended = frees_ended begun first lines taken mid new (record h { items = [] }) h.text on.books on.held_is refl refl frees in
+    record { passes = passes_both h.name old mid new (items_pass begun first lines taken old mid h h.items b is refl items) ended.passes; empty = ended.empty }
 
 -- an own name without items is in no wrong tenancy
 ended_in : (name : List ℕ) (old new : MachineState) → Ended name old new → ((other : List ℕ) → bytes_eq name other ≡ false → IsIn old other) → (other : List ℕ) → IsIn new other
@@ -199,16 +203,14 @@ ended_if begun first lines taken old new name (Some h) b is ends others =
 ended_if begun first lines taken old new name None b is same others =
     ended_in name old new
     (record {
-      passes = passes_same name old new same;
+      passes = stays_passes name old new (stays_same old new same);
       empty = λ after after_is. absurd (none_some after (sym (ap (λ (m : MachineState). held_of m.held name) same ∙ is) ∙ after_is));
     }) others
 
 -- a name that has its turn
 frees_in : (begun : LiveState) (first : ℕ) (lines : List (List ℕ)) (taken : List Turn) (old new : MachineState) (items : List HeldItem) (h : Held) → IsOn begun first lines taken old h → h.items ≡ items → FreesIf items h old new → ((other : List ℕ) → IsIn old other) → (other : List ℕ) → IsIn new other
 frees_in begun first lines taken old new [] h on none frees all =
-    ended_in h.name old new
-    (record { passes = frees_pass begun first lines taken old new h h.text on.books on.held_is none refl frees; empty = freed_empty old new h h.text on.held_is none frees })
-    (λ other apart. all other)
+    ended_in h.name old new (frees_ended begun first lines taken old new h h.text on.books on.held_is none refl frees) (λ other apart. all other)
 frees_in begun first lines taken old new (item ∷ items) h on is same all = let P : MachineState → Type 0 = λ m. (other : List ℕ) → IsIn m other in subst P (sym same) all
 
 item_in : (old new : MachineState) (h : Held) (item : HeldItem) (items : List HeldItem) → held_of old.held h.name ≡ Some h → h.items ≡ item ∷ items → held_of new.held h.name ≡ Some (record h { items = items }) → Passes h.name old new → ((other : List ℕ) → IsIn old other) → (other : List ℕ) → IsIn new other
@@ -232,25 +234,20 @@ given_in begun first lines taken old new h [] b is none gives all = absurd gives
 given_in begun first lines taken old new h (None ∷ items) b is first_is gives all = absurd gives
 given_in begun first lines taken old new h (Some item ∷ items) b is first_is (mid, waits, lost, frees) all =
     let after : Held = record h { items = items } in
-    let changed : MachineState = record old { held = with_held old.held after } in
     let on = item_lost begun first lines taken old mid h (Some item) items b is first_is lost in
-    frees_in begun first lines taken mid new items after on refl frees
-    (item_in old mid h (Some item) items is first_is on.held_is (passes_both h.name old changed mid (held_passes old after) (lost_passes h.name changed mid lost)) all)
+    let passes = changed_passes old mid after (lost_stays h.name (record old { held = with_held old.held after }) mid lost) in
+    frees_in begun first lines taken mid new items after on refl frees (item_in old mid h (Some item) items is first_is on.held_is passes all)
 
 -- a `wait` holds its name
 takeable_live : (h : Option History) → takeable_in h ≡ true → is_some h ≡ true
 takeable_live (Some h) takeable = refl
 takeable_live None takeable = takeable
 
-waits_busy : (a b : Bool) → a && b ≡ true → b ≡ true
-waits_busy true b is = is
-waits_busy false b is = absurd (cc)
-
 busy_live : (live : LiveState) (name : List ℕ) → is_busy live name ≡ true → is_live live.stage name ≡ true
 busy_live live name busy = takeable_live (live_of live.stage.service.histories (last_id live.stage.names name)) busy
 
 held_in : (old new : MachineState) (name line : List ℕ) → held_of old.held name ≡ None → must_wait old.live name line ≡ true → Holds name line old new → ((other : List ℕ) → IsIn old other) → (other : List ℕ) → IsIn new other
-held_in old new name line free waits (inr lost) all other = in_keeps old new other (all other) (ap (λ (m : MachineState). held_of m.held other) lost) (λ live. keeps_same other old.live.stage new.live.stage live (ap (λ (m : MachineState). m.live.stage) lost))
+held_in old new name line free waits (inr lost) all other = stays_in old new (lost_stays name old new lost) all other
 held_in old new name line free waits (inl held) all other =
     let h : Held = record { name = name; id = last_id old.live.stage.names name; items = Some (line ∷ []) ∷ []; text = NoText } in
     let stage : new.live.stage ≡ old.live.stage = ap (λ (m : MachineState). m.live.stage) held in
@@ -259,7 +256,7 @@ held_in old new name line free waits (inl held) all other =
           let P : List ℕ → Type 0 = IsIn new in
           subst P (one_name name other same) (λ after after_is some.
           let it : after ≡ h = some_same after h (sym after_is ∙ (ap (λ (m : MachineState). held_of m.held name) held ∙ added_own old.held h free)) in
-          let busy = waits_busy (is_wait (form_of line)) (is_busy old.live name) (waits_outside (old.live.texts name) (is_wait (form_of line) && is_busy old.live name) waits).1 in
+          let (outside, wait, busy) = must_wait_so old.live name line waits in
           (ap (λ (x : Held). x.id) it ∙ sym (ap (λ s. last_id s.names name) stage), ap (λ s. is_live s name) stage ∙ busy_live old.live name busy))
       | false ↦ λ apart. in_keeps old new other (all other) (ap (λ (m : MachineState). held_of m.held other) held ∙ added_other old.held h other apart) (λ live. keeps_same other old.live.stage new.live.stage live stage)
     ] refl
@@ -306,13 +303,9 @@ waits_in begun first lines taken old new name h after [] b is named id none ends
     (ends_hold begun first lines taken (record old { held = with_held old.held after }) new after b (changed_own old.held h after (subst N (sym named) is)) ends)
     (λ other apart. in_keeps old (record old { held = with_held old.held after }) other (all other) (changed_other old.held after other apart) (λ live. keeps_same other old.live.stage old.live.stage live refl))
 
-serves_in : (old new : MachineState) (line : List ℕ) → ((other : List ℕ) → IsNoEviction other (asked_of line)) → Serves old line new → ((other : List ℕ) → IsIn old other) → (other : List ℕ) → IsIn new other
-serves_in old new line stays s all other = in_keeps old new other (all other) (ap (λ (m : MachineState). held_of m.held other) s.rest) (λ live. line_keeps other old.live old.next line s.reply new.live (stays other) live s.answers)
-
 named_in : (begun : LiveState) (first : ℕ) (lines : List (List ℕ)) (taken : List Turn) (old new : MachineState) (name line : List ℕ) (h : Held) (off : Bool) → Books begun first lines taken old → is_name name ≡ true → IsOf name line → held_of old.held name ≡ Some h → HearsAfter off h name line old new → ((other : List ℕ) → IsIn old other) → (other : List ℕ) → IsIn new other
 named_in begun first lines taken old new name line h true b ok of is (mid, ends, serves) all =
-    serves_in mid new line (says_no_eviction name (rest_of line) line (says name line ok of)) serves
-    (ended_if begun first lines taken old mid name (Some h) b is ends (λ other apart. all other))
+    stays_in mid new (said_stays name ok line (must_wait mid.live name line) mid new of serves) (ended_if begun first lines taken old mid name (Some h) b is ends (λ other apart. all other))
 named_in begun first lines taken old new name line h false b ok of is (after, hears, waits) all =
     let named : after.name ≡ name = heard_name h.text (ends_text (rest_of line)) h after line hears ∙ name_of_held old.held name h is in
     let mid : MachineState = record old { held = with_held old.held after } in
@@ -320,7 +313,7 @@ named_in begun first lines taken old new name line h false b ok of is (after, he
 
 free_in : (old new : MachineState) (name line : List ℕ) (waits : Bool) → is_name name ≡ true → IsOf name line → held_of old.held name ≡ None → must_wait old.live name line ≡ waits → HearsFree waits name line old new → ((other : List ℕ) → IsIn old other) → (other : List ℕ) → IsIn new other
 free_in old new name line true ok of free waits held all = held_in old new name line free waits held all
-free_in old new name line false ok of free waits serves all = serves_in old new line (says_no_eviction name (rest_of line) line (says name line ok of)) serves all
+free_in old new name line false ok of free waits serves all = stays_in old new (said_stays name ok line false old new of serves) all
 
 name_in : (begun : LiveState) (first : ℕ) (lines : List (List ℕ)) (taken : List Turn) (old new : MachineState) (name line : List ℕ) (held : Option Held) → Books begun first lines taken old → is_name name ≡ true → IsOf name line → held_of old.held name ≡ held → HearsName held name line old new → ((other : List ℕ) → IsIn old other) → (other : List ℕ) → IsIn new other
 name_in begun first lines taken old new name line (Some h) b ok of is hears all = named_in begun first lines taken old new name line h (calls_off h.text line) b ok of is hears all
@@ -328,9 +321,9 @@ name_in begun first lines taken old new name line None b ok of is hears all = fr
 
 -- a line that evicts nobody, of no name
 nobody_in : (old new : MachineState) (line : List ℕ) (by_hand : Bool) → ((other : List ℕ) → IsNoEviction other (asked_of line)) → ServesNobodys by_hand line old new → ((other : List ℕ) → IsIn old other) → (other : List ℕ) → IsIn new other
-nobody_in old new line false stays serves all = serves_in old new line stays serves all
+nobody_in old new line false stays serves all = stays_in old new (line_stays old new line stays serves) all
 nobody_in old new line true stays (made, asks, serves) all =
-    serves_in old new made (λ other. let P : Asked → Type 0 = IsNoEviction other in subst P (sym asks) tt) serves all
+    stays_in old new (line_stays old new made (λ other. let P : Asked → Type 0 = IsNoEviction other in subst P (sym asks) tt) serves) all
 
 operator_in : (begun : LiveState) (first : ℕ) (lines : List (List ℕ)) (taken : List Turn) (old new : MachineState) (line : List ℕ) (asked : OperatorLine (List ℕ)) → Books begun first lines taken old → asked_of line ≡ Operates asked → HearsAsked (Operates asked) line old new → ((other : List ℕ) → IsIn old other) → (other : List ℕ) → IsIn new other
 operator_in begun first lines taken old new line (Evict name) b is (mid, serves, ends) all =

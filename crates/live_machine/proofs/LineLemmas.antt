@@ -1,10 +1,10 @@
 -- Whose a line is, and what each name hears of it.
-use Rattle.std.proofs.Common.{◌≡◌, ℕ, List, [], ◌∷◌, ◌++◌, Bool, true, false, cond, refl, sym, ap, subst, ◌∙◌, append-nil}
+use Rattle.std.proofs.Common.{◌≡◌, ℕ, List, [], ◌∷◌, ◌++◌, Bool, true, false, ◌&&◌, cond, Option, Some, None, refl, sym, ap, subst, ◌∙◌, append-nil}
 use Rattle.std.specs.Str.{bytes_eq}
 use Rattle.std.proofs.lemmas.Bool.{false≢true}
 use Rattle.script_text.specs.Script.{is_name}
 use Rattle.sessions.specs.declared.line.SessionLine.{SessionLine}
-use Rattle.sessions.specs.Reading.{items_to_come}
+use Rattle.sessions.specs.Reading.{TextSoFar, items_to_come}
 use Rattle.tagged_lines.specs.Tags.{rest_of, tag_of}
 use Rattle.live_lines.specs.Laws.{items_for, said_by}
 use Rattle.live_lines.specs.Live.{Asked, LiveState, asked_of}
@@ -13,7 +13,26 @@ use Rattle.live_lines.proofs.LawLemmas.{IsNamed, IsNotOf, items_with, named, not
 use Rattle.live_input.specs.Serving.{AnswersLine}
 use Rattle.live_machine.specs.Account.{is_nobodys}
 use Rattle.live_machine.proofs.FollowLemmas.{IsOf}
-use Rattle.live_machine.proofs.HeldLemmas.{same_name}
+use Rattle.live_machine.specs.Held.{form_of, is_wait}
+use Rattle.live_machine.specs.Machine.{is_busy, is_outside, must_wait}
+use Rattle.live_machine.proofs.HeldLemmas.{one_name, same_name}
+
+-- what holds of a name and of each other one holds of each
+pub each_name : (F : List ℕ → Type 0) (name : List ℕ) → F name → ((other : List ℕ) → bytes_eq name other ≡ false → is_name other ≡ true → F other) → (other : List ℕ) → is_name other ≡ true → F other
+each_name F name own others other ok =
+    elim (bytes_eq name other) as (λ b. bytes_eq name other ≡ b → F other) [
+      | true ↦ λ e. subst F (one_name name other e) own
+      | false ↦ λ e. others other e ok
+    ] refl
+
+-- a `wait` that can't be answered yet
+waits_as : (text : Option TextSoFar) (wait busy : Bool) → is_outside text && (wait && busy) ≡ true → (text ≡ None) × (wait ≡ true) × (busy ≡ true)
+waits_as None true busy is = (refl, refl, is)
+waits_as None false busy is = absurd (cc)
+waits_as (Some text) wait busy is = absurd (cc)
+
+pub must_wait_so : (live : LiveState) (name line : List ℕ) → must_wait live name line ≡ true → (live.texts name ≡ None) × (is_wait (form_of line) ≡ true) × (is_busy live name ≡ true)
+must_wait_so live name line waits = waits_as (live.texts name) (is_wait (form_of line)) (is_busy live name) waits
 
 -- a line that a name says has its tag
 has_tag : (name said line : List ℕ) → asked_of line ≡ Says name said → IsOf name line

@@ -1,24 +1,24 @@
 -- What a name's lines do to what was said and served.
-use Rattle.std.proofs.Common.{◌≡◌, inl, inr, ℕ, List, [], ◌∷◌, ◌++◌, true, false, Option, Some, None, refl, sym, ap, subst, ◌∙◌, append-nil}
+use Rattle.std.proofs.Common.{◌≡◌, inl, inr, ℕ, List, [], ◌∷◌, ◌++◌, Bool, true, false, Option, Some, None, refl, sym, ap, subst, ◌∙◌, append-nil}
 use Rattle.std.specs.Str.{bytes_eq}
 use Rattle.script_text.specs.Script.{is_name}
 use Rattle.sessions.specs.declared.line.SessionLine.{SessionLine}
 use Rattle.sessions.specs.Reading.{TextSoFar}
 use Rattle.operator.specs.OperatorText.{last_id}
 use Rattle.live_lines.specs.Laws.{said_by}
-use Rattle.live_lines.specs.Live.{Asked, LiveState, asked_of}
-use Rattle.live_lines.proofs.LawLemmas.{says}
+use Rattle.live_lines.specs.Live.{LiveState}
 use Rattle.live_machine.specs.Account.{nobodys_lines}
 use Rattle.live_machine.specs.Held.{Held, HearsHeld, form_of, held_of, is_wait, with_held}
 use Rattle.live_machine.specs.declared.held.OpenText.TheVariants.{NoText}
-use Rattle.live_machine.specs.Machine.{Holds, MachineState, Serves, holds}
-use Rattle.live_machine.specs.Turn.{IsServedAs, Turn, heard_lines}
-use Rattle.live_machine.specs.Turn.Turn.{Answers, Loses}
-use Rattle.live_machine.proofs.Books.{Books, Followed, books_more, each_name, follow_as, nobodys_both, not_nobodys, said_both}
+use Rattle.live_machine.specs.Machine.{Holds, MachineState, ServesSaid, must_wait}
+use Rattle.live_machine.specs.Turn.{Turn, heard_lines}
+use Rattle.live_machine.specs.Turn.Turn.{Loses}
+use Rattle.live_machine.proofs.Books.{Books, Followed, books_more, follow_as, nobodys_both, not_nobodys}
 use Rattle.live_machine.proofs.FollowLemmas.{AreOf, Follows, IsOf, follow_heard, follow_held, follow_other, follow_served, wait_whole}
 use Rattle.live_machine.proofs.HeldLemmas.{added_other, added_own, changed_other, changed_own, one_name}
+use Rattle.live_machine.proofs.LineLemmas.{each_name}
 use Rattle.live_machine.proofs.ReadLemmas.{Reads, rests}
-use Rattle.live_machine.proofs.TurnLemmas.{Makes, loses_makes, other_lines, own_lines, serves_makes, serves_read}
+use Rattle.live_machine.proofs.TurnLemmas.{Makes, ServedAs, loses_makes, other_lines, own_lines, said_both, serves_said}
 
 -- these turns are about one name: what is held of others, and what they read, stays
 pub record IsAbout (name : List ℕ) (old : MachineState) (turns : List Turn) (heard : List (List ℕ)) (new : MachineState) : Type 0 where
@@ -62,34 +62,39 @@ books_silent begun first lines heard taken turns old new b name about own =
     let Q : List (List ℕ) → Type 0 = λ x. Books begun first x taken new in
     subst Q (append-nil lines) (books_about begun first lines [] heard taken turns old new b name about tt (subst P (sym (append-nil (said_by name lines))) own))
 
--- a line of another name is of no other
-pub other_reads : (name other : List ℕ) (line : List ℕ) (old new : MachineState) → IsOf name line → bytes_eq name other ≡ false → is_name other ≡ true → Serves old line new → (items : List SessionLine) × Reads (old.live.texts other) [] items (new.live.texts other)
-other_reads name other line old new of apart ok s = serves_read other ok old new line [] (other_lines name other (line ∷ []) (of, tt) apart) s
+-- lines of one name are served, after what is held of it changed
+pub about_served : (name : List ℕ) → is_name name ≡ true → (lines : List (List ℕ)) (old : MachineState) (held : List Held) (new : MachineState) → AreOf name lines → (s : ServedAs name lines (record old { held = held }) new) → ((other : List ℕ) → bytes_eq name other ≡ false → held_of held other ≡ held_of old.held other) →
+    IsAbout name old s.turns lines new
+about_served name ok lines old held new of s same =
+    record {
+      named = ok;
+      of = of;
+      makes = record { day = s.makes.day; log = s.makes.log; told = s.makes.told; served = s.makes.served };
+      heard_is = s.heard;
+      held = λ other apart. ap (λ hs. held_of hs other) s.held ∙ same other apart;
+      read = λ other apart is.
+          let P : List (List ℕ) → Type 0 = λ l. (items : List SessionLine) × Reads (old.live.texts other) l items (new.live.texts other) in
+          subst P (other_lines name other lines of apart) (s.read other is);
+    }
+
+pub own_read : (name : List ℕ) → is_name name ≡ true → (lines : List (List ℕ)) (old new : MachineState) → AreOf name lines → ServedAs name lines old new → (items : List SessionLine) × Reads (old.live.texts name) (rests lines) items (new.live.texts name)
+own_read name ok lines old new of s =
+    let P : List (List ℕ) → Type 0 = λ l. (items : List SessionLine) × Reads (old.live.texts name) l items (new.live.texts name) in
+    subst P (own_lines name lines of) (s.read name ok)
 
 pub nothing_read : (text new : Option TextSoFar) → new ≡ text → (items : List SessionLine) × Reads text [] items new
 nothing_read text new is = let P : Option TextSoFar → Type 0 = λ t. (items : List SessionLine) × Reads text [] items t in subst P (sym is) ([], λ more. refl)
 
-served_as_it_is : (name line : List ℕ) → is_name name ≡ true → IsOf name line → IsServedAs (asked_of line) line line
-served_as_it_is name line ok of = let P : Asked → Type 0 = λ a. IsServedAs a line line in subst P (sym (says name line ok of)) (inl refl)
-
 -- a line of a name that isn't held is served
-pub books_own : (begun : LiveState) (first : ℕ) (lines : List (List ℕ)) (taken : List Turn) (old new : MachineState) (line name : List ℕ) → Books begun first lines taken old → is_name name ≡ true → IsOf name line → held_of old.held name ≡ None → Serves old line new → Books begun first (lines ++ line ∷ []) taken new
-books_own begun first lines taken old new line name b ok of free s =
-    let held : new.held ≡ old.held = ap (λ (m : MachineState). m.held) s.rest in
-    let (items, reads) = serves_read name ok old new line (rests (line ∷ [])) (own_lines name (line ∷ []) (of, tt)) s in
+pub books_own : (begun : LiveState) (first : ℕ) (lines : List (List ℕ)) (taken : List Turn) (old new : MachineState) (line name : List ℕ) (waits : Bool) → Books begun first lines taken old → is_name name ≡ true → IsOf name line → held_of old.held name ≡ None → must_wait old.live name line ≡ waits → ServesSaid waits name line old new →
+    Books begun first (lines ++ line ∷ []) taken new
+books_own begun first lines taken old new line name waits b ok of free must serves =
+    let s = serves_said name ok line waits old new of must serves in
+    let (items, reads) = own_read name ok (line ∷ []) old new (of, tt) s in
     let P : Option Held → Type 0 = λ h. Follows name (begun.texts name) (said_by name lines) (said_by name (heard_lines b.turns)) h (old.live.texts name) in
     let Q : Option Held → Type 0 = λ h. Follows name (begun.texts name) (said_by name lines ++ rests (line ∷ [])) (said_by name (heard_lines b.turns) ++ rests (line ∷ [])) h (new.live.texts name) in
-    books_about begun first lines (line ∷ []) (line ∷ []) taken (Answers line line s.reply ∷ []) old new b name
-    (record {
-      named = ok;
-      of = (of, tt);
-      makes = serves_makes old new line line (served_as_it_is name line ok of) s;
-      heard_is = refl;
-      held = λ other apart. ap (λ h. held_of h other) held;
-      read = λ other apart is. other_reads name other line old new of apart is s;
-    })
-    (of, tt)
-    (subst Q (sym (ap (λ h. held_of h name) held ∙ free))
+    books_about begun first lines (line ∷ []) (line ∷ []) taken s.turns old new b name (about_served name ok (line ∷ []) old old.held new (of, tt) s (λ other apart. refl)) (of, tt)
+    (subst Q (sym (ap (λ h. held_of h name) s.held ∙ free))
     (follow_served name (begun.texts name) (said_by name lines) (said_by name (heard_lines b.turns)) (rests (line ∷ [])) (old.live.texts name) (new.live.texts name) items (subst P free (b.said name ok)) reads))
 
 -- a line of a name whose `wait` holds it, or is lost

@@ -98,18 +98,6 @@ follow_text name begun said served lines h now f none is =
           },
     )
 
-pub follow_lost : (name : List ℕ) (begun : Option TextSoFar) (said served : List (List ℕ)) (h : Held) (now : Option TextSoFar) → Follows name begun said served (Some h) now → h.items ≡ [] → Follows name begun said served (Some (record h { items = [] })) now
-follow_lost name begun said served h now f none =
-    let P : List HeldItem → Type 0 = λ all. AreItems all f.items in
-    record {
-      items = f.items;
-      text = f.text;
-      are = record { items_are = subst P none f.are.items_are; text_is = f.are.text_is; outside = f.are.outside; whole = f.are.whole; begun = f.are.begun; items_of = f.are.items_of; text_of = f.are.text_of };
-      same = f.same;
-      done = f.done;
-      read = f.read;
-    }
-
 rests-append : (first more : List (List ℕ)) → rests (first ++ more) ≡ rests first ++ rests more
 rests-append [] more = refl
 rests-append (line ∷ first) more = ap (λ x. rest_of line ∷ x) (rests-append first more)

@@ -1,27 +1,30 @@
 -- The turns that calls make.
-use Rattle.std.proofs.Common.{◌≡◌, inl, ℕ, ◌+◌, List, [], ◌∷◌, ◌++◌, true, false, cond, refl, sym, ap, subst, ◌∙◌, append_assoc, append-nil}
+use Rattle.std.proofs.Common.{◌≡◌, inl, inr, ℕ, ◌+◌, List, [], ◌∷◌, ◌++◌, codes, Bool, true, false, cond, Option, None, refl, sym, ap, subst, ◌∙◌, append_assoc, append-nil}
 use Rattle.std.specs.List.{AllByRecursion, flat_map}
 use Rattle.std.specs.Str.{bytes_eq}
 use Rattle.std.proofs.lemmas.Grind.{flat_map-append}
 use Rattle.script_text.specs.declared.operator_line.OperatorLine.TheVariants.{Step}
 use Rattle.script_text.specs.Script.{is_name}
 use Rattle.sessions.specs.declared.line.SessionLine.{SessionLine}
-use Rattle.sessions.specs.Reading.{items_to_come}
+use Rattle.sessions.specs.declared.line.SessionLine.TheVariants.{Command}
+use Rattle.sessions.specs.Reading.{TextSoFar}
 use Rattle.sessions.specs.SessionText.{no_memory_text}
+use Rattle.tenant_slot.specs.declared.command.Command.TheVariants.{Status}
 use Rattle.tagged_lines.specs.Tags.{output_of, rest_of, tag_of, with_feed}
 use Rattle.live_lines.specs.Laws.{said_by}
 use Rattle.live_lines.specs.Live.{Asked, LiveState, asked_of, for_name}
-use Rattle.live_lines.specs.Live.Asked.{Operates}
+use Rattle.live_lines.specs.Live.Asked.{Operates, Says}
 use Rattle.live_lines.proofs.LawLemmas.{says}
 use Rattle.line_service.specs.Conversation.{AreAnswered}
 use Rattle.live_input.specs.Serving.{AnswersLine}
-use Rattle.live_machine.specs.Machine.{IsMade, MachineState, Serves, ServesAll, TellsLost, Works}
+use Rattle.live_machine.specs.Held.{form_of, is_wait}
+use Rattle.live_machine.specs.Machine.{IsMade, MachineState, Serves, ServesAll, ServesSaid, TellsLost, Works, must_wait}
 use Rattle.live_machine.specs.Turn.{IsDay, IsServedAs, IsServedTurn, Turn, heard_in, heard_lines, log_of, replies_of, served_in, served_lines, told_in, told_of}
 use Rattle.live_machine.specs.Turn.Turn.{Answers, Loses, Works as WorksLine}
-use Rattle.live_machine.proofs.FollowLemmas.{AreOf, IsOf}
+use Rattle.live_machine.proofs.FollowLemmas.{AreOf, IsOf, wait_whole}
 use Rattle.live_machine.proofs.HeldLemmas.{one_name}
-use Rattle.live_machine.proofs.LineLemmas.{line_read}
-use Rattle.live_machine.proofs.ReadLemmas.{Reads, rests}
+use Rattle.live_machine.proofs.LineLemmas.{each_name, line_read, must_wait_so, said_of}
+use Rattle.live_machine.proofs.ReadLemmas.{Reads, outside_after, reads_both, rests}
 
 -- lists of turns, one after another
 pub heard_both : (first more : List Turn) → heard_lines (first ++ more) ≡ heard_lines first ++ heard_lines more
@@ -32,6 +35,9 @@ told_both first more = flat_map-append told_in first more
 
 pub log_both : (first more : List Turn) → log_of (first ++ more) ≡ log_of first ++ log_of more
 log_both first more = ap (flat_map with_feed) (flat_map-append served_in first more) ∙ flat_map-append with_feed (served_lines first) (served_lines more)
+
+pub said_both : (name : List ℕ) (first more : List (List ℕ)) → said_by name (first ++ more) ≡ said_by name first ++ said_by name more
+said_both name first more = flat_map-append (λ l. cond (bytes_eq (tag_of l) (64 ∷ name)) (rest_of l ∷ []) []) first more
 
 pub day_both : (first more : List Turn) (old mid new : LiveState) (number middle next : ℕ) → IsDay old number first mid middle → IsDay mid middle more new next → IsDay old number (first ++ more) new next
 day_both [] more old mid new number middle next (same, counted) day =
@@ -114,12 +120,34 @@ other_lines name other [] of apart = refl
 other_lines name other (line ∷ lines) of apart =
     ap (λ b. cond b (rest_of line ∷ []) [] ++ said_by other lines) (apart_tag name other line of.0 apart) ∙ other_lines name other lines of.1 apart
 
--- lines that are served are read by each name
+-- a line that is served is read by each name
 pub serves_read : (name : List ℕ) → is_name name ≡ true → (old new : MachineState) (line : List ℕ) (lines : List (List ℕ)) → said_by name (line ∷ []) ≡ lines → Serves old line new → (items : List SessionLine) × Reads (old.live.texts name) lines items (new.live.texts name)
 serves_read name ok old new line lines is s =
     let P : List (List ℕ) → Type 0 = λ l. (items : List SessionLine) × Reads (old.live.texts name) l items (new.live.texts name) in
     subst P is (line_read name ok old.live old.next line s.reply new.live s.answers)
 
+-- `status` is read as the `wait` in whose place it is served: the name is in no text after both
+status_read : (name : List ℕ) → is_name name ≡ true → (old new : MachineState) (line made : List ℕ) → IsOf name line → old.live.texts name ≡ None → is_wait (form_of line) ≡ true → IsMade (Says name (codes "status")) made → Serves old made new →
+    (other : List ℕ) → is_name other ≡ true → (items : List SessionLine) × Reads (old.live.texts other) (said_by other (line ∷ [])) items (new.live.texts other)
+status_read name ok old new line made of outside waits asks s other other_ok =
+    let F : List ℕ → Type 0 = λ n. (items : List SessionLine) × Reads (old.live.texts n) (said_by n (line ∷ [])) items (new.live.texts n) in
+    let (of_made, named, status) = said_of name (codes "status") made asks in
+    let made_says : said_by name (made ∷ []) ≡ codes "status" ∷ [] = own_lines name (made ∷ []) (of_made, tt) ∙ ap (λ said. said ∷ []) status in
+    let (items, reads) = serves_read name ok old new made (codes "status" ∷ []) made_says s in
+    let N : Option TextSoFar → Type 0 = λ t. Reads t (codes "status" ∷ []) items (new.live.texts name) in
+    let before = subst N outside reads in
+    let after : new.live.texts name ≡ None = outside_after items (Command Status) (new.live.texts name) (λ more. sym (before more)) in
+    let (wait, whole) = wait_whole line waits in
+    let A : Option TextSoFar → Type 0 = λ t. Reads t (rests (line ∷ [])) (wait ∷ []) None in
+    let B : Option TextSoFar → Type 0 = λ t. Reads (old.live.texts name) (rests (line ∷ [])) (wait ∷ []) t in
+    let C : List (List ℕ) → Type 0 = λ l. Reads (old.live.texts name) l (wait ∷ []) (new.live.texts name) in
+    each_name F name (wait ∷ [], subst C (sym (own_lines name (line ∷ []) (of, tt))) (subst B (sym after) (subst A (sym outside) whole)))
+    (λ n apart is.
+    let P : List (List ℕ) → Type 0 = λ l. (all : List SessionLine) × Reads (old.live.texts n) l all (new.live.texts n) in
+    subst P (sym (other_lines name n (line ∷ []) (of, tt) apart)) (serves_read n is old new made [] (other_lines name n (made ∷ []) (of_made, tt) apart) s))
+    other other_ok
+
+-- turns in which lines of a name are served, and what each name reads of them
 pub record ServedAs (name : List ℕ) (lines : List (List ℕ)) (old new : MachineState) : Type 0 where
   pub turns : List Turn
   pub makes : Makes old turns new
@@ -127,30 +155,44 @@ pub record ServedAs (name : List ℕ) (lines : List (List ℕ)) (old new : Machi
   pub held : new.held ≡ old.held
   pub read : (other : List ℕ) → is_name other ≡ true → (items : List SessionLine) × Reads (old.live.texts other) (said_by other lines) items (new.live.texts other)
 
-pub serves_all : (name : List ℕ) → is_name name ≡ true → (lines : List (List ℕ)) (old new : MachineState) → AreOf name lines → ServesAll lines old new → ServedAs name lines old new
+pub serves_said : (name : List ℕ) → is_name name ≡ true → (line : List ℕ) (waits : Bool) (old new : MachineState) → IsOf name line → must_wait old.live name line ≡ waits → ServesSaid waits name line old new → ServedAs name (line ∷ []) old new
+serves_said name ok line false old new of waits s =
+    let Q : Asked → Type 0 = λ a. IsServedAs a line line in
+    record {
+      turns = Answers line line s.reply ∷ [];
+      makes = serves_makes old new line line (subst Q (sym (says name line ok of)) (inl refl)) s;
+      heard = refl;
+      held = ap (λ (m : MachineState). m.held) s.rest;
+      read = λ other is. line_read other is old.live old.next line s.reply new.live s.answers;
+    }
+serves_said name ok line true old new of waits (made, asks, s) =
+    let (outside, wait, busy) = must_wait_so old.live name line waits in
+    let Q : Asked → Type 0 = λ a. IsServedAs a line made in
+    record {
+      turns = Answers line made s.reply ∷ [];
+      makes = serves_makes old new line made (subst Q (sym (says name line ok of)) (inr (wait, asks))) s;
+      heard = refl;
+      held = ap (λ (m : MachineState). m.held) s.rest;
+      read = status_read name ok old new line made of outside wait asks s;
+    }
+
+pub serves_all : (name : List ℕ) → is_name name ≡ true → (lines : List (List ℕ)) (old new : MachineState) → AreOf name lines → ServesAll name lines old new → ServedAs name lines old new
 serves_all name ok [] old new of same =
     let P : MachineState → Type 0 = λ m. ServedAs name [] old m in
     subst P (sym same) (record { turns = []; makes = makes_none old; heard = refl; held = refl; read = λ other is. ([], λ more. refl) })
 serves_all name ok (line ∷ lines) old new of (mid, one, rest) =
+    let f = serves_said name ok line (must_wait old.live name line) old mid of.0 refl one in
     let r = serves_all name ok lines mid new of.1 rest in
-    let Q : Asked → Type 0 = λ a. IsServedAs a line line in
-    let so : IsServedAs (asked_of line) line line = subst Q (sym (says name line ok of.0)) (inl refl) in
     record {
-      turns = Answers line line one.reply ∷ r.turns;
-      makes = makes_both old mid new (Answers line line one.reply ∷ []) r.turns (serves_makes old mid line line so one) r.makes;
-      heard = ap (λ x. line ∷ x) r.heard;
-      held = r.held ∙ ap (λ (m : MachineState). m.held) one.rest;
+      turns = f.turns ++ r.turns;
+      makes = makes_both old mid new f.turns r.turns f.makes r.makes;
+      heard = heard_both f.turns r.turns ∙ (ap (λ x. x ++ heard_lines r.turns) f.heard ∙ ap (λ x. line ∷ x) r.heard);
+      held = r.held ∙ f.held;
       read = λ other is.
-          let f = line_read other is old.live old.next line one.reply mid.live one.answers in
-          let g = r.read other is in (
-            f.0 ++ g.0,
-            λ more.
-                ap (λ x. items_to_come (old.live.texts other) (x ++ more)) (flat_map-append (λ l. cond (bytes_eq (tag_of l) (64 ∷ other)) (rest_of l ∷ []) []) (line ∷ []) lines)
-                ∙ (ap (items_to_come (old.live.texts other)) (append_assoc (said_by other (line ∷ [])) (said_by other lines) more)
-                ∙ (f.1 (said_by other lines ++ more)
-                ∙ (ap (λ x. f.0 ++ x) (g.1 more)
-                ∙ sym (append_assoc f.0 g.0 (items_to_come (new.live.texts other) more))))),
-          );
+          let a = f.read other is in
+          let b = r.read other is in
+          let P : List (List ℕ) → Type 0 = λ x. Reads (old.live.texts other) x (a.0 ++ b.0) (new.live.texts other) in
+          (a.0 ++ b.0, subst P (sym (said_both other (line ∷ []) lines)) (reads_both (old.live.texts other) (mid.live.texts other) (new.live.texts other) (said_by other (line ∷ [])) (said_by other lines) a.0 b.0 a.1 b.1));
     }
 
 -- all lines that were served are those of a live service without workers

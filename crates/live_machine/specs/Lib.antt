@@ -1,4 +1,5 @@
 pub mod Account
+pub mod Fed
 pub mod Held
 pub mod Machine
 pub mod Turn

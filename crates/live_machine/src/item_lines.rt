@@ -22,7 +22,7 @@ pub(crate) struct ItemLines {
 impl Model for ItemLines {
     ghost use Rattle.std.specs.Prelude.{ℕ, List};
     ghost use Rattle.line_text.specs.Lines.{physical_lines};
-    ghost use Rattle.live_machine.specs.Held.{IsFed};
+    ghost use Rattle.live_machine.specs.Fed.{IsFed};
 
     ghost Value = { List (List ℕ) };
 

@@ -15,6 +15,8 @@
 //! more of it.
 #![tactic(auto)]
 
+mod held;
+mod item_lines;
 mod law;
 mod workers;
 
