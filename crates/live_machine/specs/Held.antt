@@ -1,7 +1,14 @@
 -- A name that is held: its job runs, and it has said `wait`. What it says until it is answered
 -- waits too.
-use Rattle.std.specs.Prelude.{ℕ, ◌≡◌, ◌⊎◌, List, [], ◌∷◌, ◌++◌, Bool, true, false, Option, Some, None, if◌then◌else◌}
+use Rattle.std.specs.Prelude.{ℕ, ◌≡◌, ◌⊎◌, List, [], ◌∷◌, ◌++◌, Bool, true, false, Option, Some, None, ⊤, if◌then◌else◌}
 use Rattle.std.specs.Str.{bytes_eq}
+use Rattle.std.specs.List.{AllByRecursion, flat_map}
+use Rattle.backlog.specs.declared.backlog.Turn.{Turn}
+use Rattle.backlog.specs.declared.backlog.Turn.TheVariants.{Item, Nothing as NothingWaits, Lost as ItemIsLost}
+use Rattle.line_feed.specs.Pieces.{is_one_line, kept_of}
+use Rattle.line_text.specs.Lines.{physical_lines}
+use Rattle.live_lines.specs.Live.{asked_of}
+use Rattle.live_lines.specs.Live.Asked.{Says}
 use Rattle.tenant_slot.specs.declared.command.Command.TheVariants.{Cancel, Withdraw}
 use Rattle.sessions.specs.declared.line.LineForm.{LineForm}
 use Rattle.sessions.specs.declared.line.LineForm.TheVariants.{Asks, Begins}
@@ -9,7 +16,7 @@ use Rattle.sessions.specs.declared.line.SessionLine.TheVariants.{Blank, Command,
 use Rattle.sessions.specs.declared.line.TextKind.TheVariants.{Change}
 use Rattle.sessions.specs.Items.{ends_text, without_cr}
 use Rattle.sessions.specs.SessionLines.{line_form}
-use Rattle.tagged_lines.specs.Tags.{rest_of}
+use Rattle.tagged_lines.specs.Tags.{rest_of, with_feed}
 use Rattle.live_machine.specs.declared.held.OpenText.{OpenText}
 use Rattle.live_machine.specs.declared.held.OpenText.TheVariants.{NoText, Begun, Lost}
 
@@ -86,3 +93,57 @@ without_name (h ∷ held) name = if bytes_eq h.name name then without_name held 
 abbrev pub with_held : List Held → Held → List Held
 with_held [] new = []
 with_held (h ∷ held) new = if bytes_eq h.name new.name then new ∷ held else h ∷ with_held held new
+
+-- the bytes are lines, each ended by LF
+abbrev pub IsFed : List ℕ → Type 0
+IsFed bytes = bytes ≡ flat_map with_feed (physical_lines bytes)
+
+-- a line as it is read, that this name says
+pub record IsSaidBy (name line : List ℕ) : Type 0 where
+  pub kept : kept_of line ≡ line
+  pub one : is_one_line line ≡ true
+  pub says : asked_of line ≡ Says name (rest_of line)
+
+-- the name said the lines of the item, or of the text
+abbrev pub IsSaidItem : List ℕ → HeldItem → Type 0
+IsSaidItem name None = ⊤
+IsSaidItem name (Some lines) = AllByRecursion (IsSaidBy name) lines
+
+abbrev pub IsSaidText : List ℕ → OpenText → Type 0
+IsSaidText name NoText = ⊤
+IsSaidText name (Begun lines) = AllByRecursion (IsSaidBy name) lines
+IsSaidText name Lost = ⊤
+
+-- a held name said all that is held of it
+pub record AreSaid (h : Held) : Type 0 where
+  pub items : AllByRecursion (IsSaidItem h.name) h.items
+  pub text : IsSaidText h.name h.text
+
+abbrev pub begins_with_wait : List HeldItem → Bool
+begins_with_wait (Some lines ∷ items) = is_wait_item lines
+begins_with_wait items = false
+
+abbrev pub has_items : List HeldItem → Bool
+has_items [] = false
+has_items (item ∷ items) = true
+
+-- the first item is taken
+abbrev pub TakesFirst : Held → Turn (List (List ℕ)) → Held → Type 0
+TakesFirst old (Item lines) new = (old.items ≡ Some lines ∷ new.items) × (new ≡ record old { items = new.items }) × AllByRecursion (IsSaidBy old.name) lines
+TakesFirst old ItemIsLost new = (old.items ≡ None ∷ new.items) × (new ≡ record old { items = new.items })
+TakesFirst old NothingWaits new = (old.items ≡ []) × (new ≡ old)
+
+-- a line of a name comes, of which that is held; without it nothing changes
+abbrev pub HearsOf : Option Held → List Held → List ℕ → List Held → Type 0
+HearsOf None old line new = new ≡ old
+HearsOf (Some h) old line new = (after : Held) × HearsHeld h line after × (new ≡ with_held old after)
+
+-- the first item of a name is taken, of which that is held
+abbrev pub TakesOf : Option Held → List Held → Turn (List (List ℕ)) → List Held → Type 0
+TakesOf None old turn new = (turn ≡ NothingWaits) × (new ≡ old)
+TakesOf (Some h) old turn new = (after : Held) × TakesFirst h turn after × (new ≡ with_held old after)
+
+-- the text in which a name is, if it is held
+abbrev pub text_of : Option Held → OpenText
+text_of None = NoText
+text_of (Some h) = h.text
