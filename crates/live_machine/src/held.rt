@@ -3,7 +3,7 @@ ghost use Rattle.std.specs.Prelude.{◌≡◌, ◌<◌, ◌∷◌, [], ℕ, List
 ghost use Rattle.line_feed.specs.Pieces.{is_one_line};
 ghost use Rattle.sessions.specs.Items.{ends_text};
 ghost use Rattle.tagged_lines.specs.Tags.{rest_of};
-ghost use Rattle.live_machine.specs.Held.{HearsForm, HearsHeld, IsSaidBy, IsSaidText, PutsItem, TakesFirst, begins_with_wait, calls_off, gives_up, has_items};
+ghost use Rattle.live_machine.specs.Held.{HearsForm, HearsHeld, IsSaidBy, IsSaidText, PutsItem, TakesFirst, begins_with_wait, calls_off, gives_up, has_items, is_lost_text};
 ghost use Rattle.live_machine.specs.declared.held.OpenText.TheVariants.{NoText};
 
 use crate::item_lines::{ItemLines, form_of};
@@ -132,6 +132,13 @@ impl Hold {
         ensures { result ≡ has_items self.now.items }
     {
         !self.items.is_empty()
+    }
+
+    /// Whether it is in a text that was lost.
+    pub(crate) fn has_lost_text(&self) -> bool
+        ensures { result ≡ is_lost_text self.now.text }
+    {
+        matches!(self.text, OpenText::Lost)
     }
 
     /// Takes its first item.
