@@ -4,6 +4,6 @@ mod EndSteps
 mod Examples
 mod ItemLemmas
 mod KeptNames
-mod LawLemmas
+pub mod LawLemmas
 mod LineLemmas
 mod SaidLemmas

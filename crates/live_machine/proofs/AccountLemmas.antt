@@ -16,7 +16,7 @@ use Rattle.live_lines.specs.Live.{Asked, LiveState, asked_of}
 use Rattle.live_lines.specs.Live.Asked.{NoForm, Nothing, Operates, Says}
 use Rattle.line_service.specs.Conversation.{AreAnswered}
 use Rattle.live_input.specs.Serving.{AnswersLine}
-use Rattle.live_machine.specs.Account.{IsAccount, IsSaid, is_nobodys, line_in, lines_in, log_in, nobodys_lines, told_in}
+use Rattle.live_machine.specs.Account.{IsAccount, IsSaid, is_nobodys, line_in, lines_in, log_drained, nobodys_lines, told_drained}
 use Rattle.live_machine.specs.Held.{Held, HeldItem, HearsForm, HearsIn, OpenText, calls_off, form_of, held_of, is_wait, with_held, without_name}
 use Rattle.live_machine.specs.Held.OpenText.{NoText, Begun, Lost}
 use Rattle.live_machine.specs.Machine.{Call, EndsHold, Frees, FreesIf, GivesUp, Happens, HearsAfter, HearsAsked, HearsFree, HearsName, Machine, Run, ServesFirst, WaitsAfter, begins_with, is_busy, is_by_hand, is_outside, must_wait}
@@ -73,19 +73,19 @@ waits_form false b is = is
 pub record Accounts (begun : LiveState) (first : ℕ) (calls : List Call) (now : Machine) : Type 0 where
   pub taken : List Turn
   pub books : Books begun first (lines_in calls) taken now
-  pub log_taken : flat_map log_in calls ≡ log_of taken
-  pub told_taken : flat_map told_in calls ≡ told_of taken
+  pub log_taken : flat_map log_drained calls ≡ log_of taken
+  pub told_taken : flat_map told_drained calls ≡ told_of taken
 
 -- one more call, which takes nothing
-accounts_more : (begun : LiveState) (first : ℕ) (calls : List Call) (old new : Machine) (call : Call) (a : Accounts begun first calls old) → log_in call ≡ [] → told_in call ≡ [] → Books begun first (lines_in calls ++ line_in call) a.taken new → Accounts begun first (calls ++ call ∷ []) new
+accounts_more : (begun : LiveState) (first : ℕ) (calls : List Call) (old new : Machine) (call : Call) (a : Accounts begun first calls old) → log_drained call ≡ [] → told_drained call ≡ [] → Books begun first (lines_in calls ++ line_in call) a.taken new → Accounts begun first (calls ++ call ∷ []) new
 accounts_more begun first calls old new call a no_log nothing_told books =
     let P : List (List ℕ) → Type 0 = λ x. Books begun first x a.taken new in
     let lines : lines_in calls ++ line_in call ≡ lines_in (calls ++ call ∷ []) = ap (λ x. lines_in calls ++ x) (sym (append-nil (line_in call))) ∙ sym (flat_map-append line_in calls (call ∷ [])) in
     record {
       taken = a.taken;
       books = subst P lines books;
-      log_taken = flat_map-append log_in calls (call ∷ []) ∙ (ap (λ x. flat_map log_in calls ++ (x ++ [])) no_log ∙ (append-nil (flat_map log_in calls) ∙ a.log_taken));
-      told_taken = flat_map-append told_in calls (call ∷ []) ∙ (ap (λ x. flat_map told_in calls ++ (x ++ [])) nothing_told ∙ (append-nil (flat_map told_in calls) ∙ a.told_taken));
+      log_taken = flat_map-append log_drained calls (call ∷ []) ∙ (ap (λ x. flat_map log_drained calls ++ (x ++ [])) no_log ∙ (append-nil (flat_map log_drained calls) ∙ a.log_taken));
+      told_taken = flat_map-append told_drained calls (call ∷ []) ∙ (ap (λ x. flat_map told_drained calls ++ (x ++ [])) nothing_told ∙ (append-nil (flat_map told_drained calls) ∙ a.told_taken));
     }
 
 silent : (begun : LiveState) (first : ℕ) (lines : List (List ℕ)) (taken : List Turn) (now : Machine) → Books begun first lines taken now → Books begun first (lines ++ []) taken now
@@ -184,15 +184,15 @@ happened begun first calls old new (Drain log told) a (log_is, told_is, drained)
       taken = b.turns;
       books = subst P (sym drained) (subst Q lines (record { turns = b.turns; rest = []; all = sym (append-nil b.turns); day = b.day; log = refl; told = refl; served = b.served; said = b.said; nobodys = b.nobodys; named = b.named }));
       log_taken =
-          flat_map-append log_in calls (Drain log told ∷ [])
-          ∙ (ap (λ x. flat_map log_in calls ++ x) (append-nil log)
-          ∙ (ap (λ x. flat_map log_in calls ++ x) (log_is ∙ b.log)
+          flat_map-append log_drained calls (Drain log told ∷ [])
+          ∙ (ap (λ x. flat_map log_drained calls ++ x) (append-nil log)
+          ∙ (ap (λ x. flat_map log_drained calls ++ x) (log_is ∙ b.log)
           ∙ (ap (λ x. x ++ log_of b.rest) a.log_taken
           ∙ (sym (log_both a.taken b.rest) ∙ ap log_of (sym b.all)))));
       told_taken =
-          flat_map-append told_in calls (Drain log told ∷ [])
-          ∙ (ap (λ x. flat_map told_in calls ++ x) (append-nil told)
-          ∙ (ap (λ x. flat_map told_in calls ++ x) (told_is ∙ b.told)
+          flat_map-append told_drained calls (Drain log told ∷ [])
+          ∙ (ap (λ x. flat_map told_drained calls ++ x) (append-nil told)
+          ∙ (ap (λ x. flat_map told_drained calls ++ x) (told_is ∙ b.told)
           ∙ (ap (λ x. x ++ told_of b.rest) a.told_taken
           ∙ (sym (told_both a.taken b.rest) ∙ ap told_of (sym b.all)))));
     }

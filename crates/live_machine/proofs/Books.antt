@@ -11,6 +11,7 @@ use Rattle.tagged_lines.specs.Tags.{rest_of, tag_of}
 use Rattle.live_lines.specs.Laws.{said_by}
 use Rattle.live_lines.specs.Live.{Asked, LiveState, asked_of}
 use Rattle.live_lines.specs.Live.Asked.{NoForm, Nothing, Operates, Says}
+use Rattle.live_lines.proofs.LawLemmas.{says}
 use Rattle.live_machine.specs.Account.{is_nobodys, nobodys_line, nobodys_lines}
 use Rattle.live_machine.specs.Held.{Held, held_of}
 use Rattle.live_machine.specs.Machine.{IsMade, Machine, Serves, ServesNobodys, Works, is_by_hand}
@@ -18,7 +19,7 @@ use Rattle.live_machine.specs.Turn.{IsDay, IsNobodysLine, IsServedAs, IsServedTu
 use Rattle.live_machine.specs.Turn.Turn.{Answers, Works as WorksLine}
 use Rattle.live_machine.proofs.FollowLemmas.{AreOf, Follows, follow_other}
 use Rattle.live_machine.proofs.HeldLemmas.{one_name}
-use Rattle.live_machine.proofs.LineLemmas.{line_read, said_nobody, says}
+use Rattle.live_machine.proofs.LineLemmas.{line_read, said_nobody}
 use Rattle.live_machine.proofs.ReadLemmas.{Reads}
 use Rattle.live_machine.proofs.TurnLemmas.{Makes, all_both, day_both, heard_both, log_both, serves_makes, serves_read, told_both, works_makes}
 

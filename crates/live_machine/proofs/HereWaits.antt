@@ -21,27 +21,28 @@ use Rattle.sessions.specs.declared.told.Answer.{Answer}
 use Rattle.sessions.specs.declared.told.Answer.TheVariants.{Served}
 use Rattle.sessions.specs.SessionAnswer.{EndsWait, LeavesNone}
 use Rattle.sessions.specs.Steps.{MadeStep, MakesStep, Waits}
+use Rattle.sessions.proofs.WaitLemmas.{NothingLeft}
 use Rattle.operator.specs.OperatorText.{last_id}
 use Rattle.operator.specs.Serving.{Stage}
 use Rattle.live_lines.specs.Acts.{IsAnswered}
 use Rattle.live_machine.specs.Workers.{all_here}
 use Rattle.live_machine.proofs.Here.{live_rested, none_before, none_taken}
 use Rattle.live_machine.proofs.HereCalls.{IsStill, happens_here, runs_here}
-use Rattle.live_machine.proofs.HereIdle.{IsIdle, status_calls, status_leaves}
+use Rattle.live_machine.proofs.HereIdle.{status_calls, status_leaves}
 use Rattle.live_machine.proofs.HereServed.{stage_here}
 
 never_taken : (o : Option History) (id : ℕ) (job : JobState) → takeable_in o ≡ false → IsSomeAnd o (λ h. (h.id ≡ id) × (is_takeable (slot_of h) ≡ true) × (next_job (slot_of h) ≡ Some job.step) × (h.here ≡ Some job.made)) → ⊥
 never_taken None id job idle is = is
 never_taken (Some h) id job idle is = false≢true (sym idle ∙ is.1)
 
-pub never_runs : (old : ServiceState) (id : ℕ) (job : JobState) (calls more : List Call) (new : ServiceState) → IsIdle old id → calls ≡ Take id (Some job) ∷ more → Run old calls new → ⊥
+pub never_runs : (old : ServiceState) (id : ℕ) (job : JobState) (calls more : List Call) (new : ServiceState) → NothingLeft old id → calls ≡ Take id (Some job) ∷ more → Run old calls new → ⊥
 never_runs old id job calls more new idle is runs =
     let P : List Call → Type 0 = λ cs. Run old cs new in
     let run = subst P is runs in
     never_taken (live_of old.histories id) id job idle run.1.0
 
 -- the calls of a step are those of a take that finds nothing
-steps_none : (old : ServiceState) (id : ℕ) (calls more : List Call) (outcome : StepOutcome) (new : ServiceState) → IsIdle old id → MakesStep id calls outcome → Run old (calls ++ more) new → (outcome ≡ Nothing) × (calls ≡ Take id None ∷ [])
+steps_none : (old : ServiceState) (id : ℕ) (calls more : List Call) (outcome : StepOutcome) (new : ServiceState) → NothingLeft old id → MakesStep id calls outcome → Run old (calls ++ more) new → (outcome ≡ Nothing) × (calls ≡ Take id None ∷ [])
 steps_none old id calls more Nothing new idle makes runs = (refl, makes)
 steps_none old id calls more (Recorded reply) new idle (job, rest, puts, is) runs = absurd (never_runs old id job (calls ++ more) (rest ++ more) new idle (ap (λ cs. cs ++ more) is) runs)
 steps_none old id calls more Full new idle (job, rest, puts, is) runs = absurd (never_runs old id job (calls ++ more) (rest ++ more) new idle (ap (λ cs. cs ++ more) is) runs)
@@ -49,7 +50,7 @@ steps_none old id calls more Gone new idle (job, rest, puts, is) runs = absurd (
 steps_none old id calls more NoMemory new idle (job, rest, puts, is) runs = absurd (never_runs old id job (calls ++ more) (rest ++ more) new idle (ap (λ cs. cs ++ more) is) runs)
 steps_none old id calls more Unfit new idle (job, rest, puts, is) runs = absurd (never_runs old id job (calls ++ more) (rest ++ more) new idle (ap (λ cs. cs ++ more) is) runs)
 
-waits_none : (old : ServiceState) (id : ℕ) (steps more : List Call) (last : StepOutcome) (new : ServiceState) → IsIdle old id → Waits id steps last → Run old (steps ++ more) new → (last ≡ Nothing) × (steps ≡ Take id None ∷ [])
+waits_none : (old : ServiceState) (id : ℕ) (steps more : List Call) (last : StepOutcome) (new : ServiceState) → NothingLeft old id → Waits id steps last → Run old (steps ++ more) new → (last ≡ Nothing) × (steps ≡ Take id None ∷ [])
 waits_none old id steps more last new idle ([], end, all, makes, ends, is) runs =
     let P : List Call → Type 0 = λ cs. Run old (cs ++ more) new in
     let (nothing, none) = steps_none old id end more last new idle makes (subst P is runs) in
@@ -70,13 +71,13 @@ status_serves old id status new still (mid, takes, (last, serves, same)) =
     let Q : ServiceState → Type 0 = λ s. Happens (all_here old) status (all_here s) in
     subst Q (sym same) (happens_here old status last still (subst P takes.1 serves))
 
-idle_before : (old : ServiceState) (id : ℕ) → IsIdle (all_here old) id → IsIdle old id
+idle_before : (old : ServiceState) (id : ℕ) → NothingLeft (all_here old) id → NothingLeft old id
 idle_before old id idle =
     let P : Option History → Type 0 = λ o. takeable_in o ≡ false in
     none_before (live_of old.histories id) (subst P (live_rested old.histories id) idle)
 
 -- so it is answered as `status` is
-wait_is : (old : ServiceState) (id : ℕ) (steps more calls : List Call) (last : StepOutcome) (answer : Answer) (new : ServiceState) → IsIdle (all_here old) id → Waits id steps last → EndsWait id last more answer → calls ≡ steps ++ more → Run old calls new →
+wait_is : (old : ServiceState) (id : ℕ) (steps more calls : List Call) (last : StepOutcome) (answer : Answer) (new : ServiceState) → NothingLeft (all_here old) id → Waits id steps last → EndsWait id last more answer → calls ≡ steps ++ more → Run old calls new →
     Run (all_here old) calls (all_here new) × LeavesNone id Wait calls answer (all_here new)
 wait_is old id steps more calls last answer new idle waits ends is runs =
     let P : List Call → Type 0 = λ cs. Run old cs new in
@@ -93,12 +94,12 @@ wait_is old id steps more calls last answer new idle waits ends is runs =
     let M : Answer → Type 0 = λ a. LeavesNone id Wait (status_calls id status) a (all_here new) in
     (subst R (sym all) (all_here old, take, (all_here new, serves, refl)), subst L (sym all) (subst M (sym answers) left))
 
-wait_here : (old : Stage) (name : List ℕ) (calls : List Call) (text : List ℕ) (new : Stage) → IsIdle (all_here old.service) (last_id old.names name) → IsAnswered old (Session name Wait) calls text new → IsAnswered (stage_here old) (Session name Wait) calls text (stage_here new)
+wait_here : (old : Stage) (name : List ℕ) (calls : List Call) (text : List ℕ) (new : Stage) → NothingLeft (all_here old.service) (last_id old.names name) → IsAnswered old (Session name Wait) calls text new → IsAnswered (stage_here old) (Session name Wait) calls text (stage_here new)
 wait_here old name calls text new idle (answer, asks, runs, names, jobs, told, graph, leaves) =
     let (run, left) = wait_is old.service (last_id old.names name) asks.1 asks.2 calls asks.0 answer new.service idle asks.3 asks.4 asks.5 runs in
     (answer, asks, run, names, jobs, told, graph, λ own. left)
 
-pub session_here : (old : Stage) (name : List ℕ) (line : SessionLine) (calls : List Call) (text : List ℕ) (new : Stage) → (line ≡ Wait → IsIdle (all_here old.service) (last_id old.names name)) → IsAnswered old (Session name line) calls text new → IsAnswered (stage_here old) (Session name line) calls text (stage_here new)
+pub session_here : (old : Stage) (name : List ℕ) (line : SessionLine) (calls : List Call) (text : List ℕ) (new : Stage) → (line ≡ Wait → NothingLeft (all_here old.service) (last_id old.names name)) → IsAnswered old (Session name line) calls text new → IsAnswered (stage_here old) (Session name line) calls text (stage_here new)
 session_here old name Blank calls text new idle (answer, asks, runs, names, jobs, told, graph, leaves) = (answer, asks, runs_here old.service calls [] new.service asks.0 tt runs, names, jobs, told, graph, λ own. tt)
 session_here old name (Refused refusal) calls text new idle (answer, asks, runs, names, jobs, told, graph, leaves) = (answer, asks, runs_here old.service calls [] new.service asks.0 tt runs, names, jobs, told, graph, λ own. tt)
 session_here old name (Command command) calls text new idle (answer, asks, runs, names, jobs, told, graph, leaves) = (answer, asks, runs_here old.service calls (Tenant (last_id old.names name) command asks.0 ∷ []) new.service asks.1 (tt, tt) runs, names, jobs, told, graph, λ own. tt)

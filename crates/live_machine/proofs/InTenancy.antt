@@ -16,6 +16,7 @@ use Rattle.tagged_lines.specs.Tags.{rest_of}
 use Rattle.live_lines.specs.Laws.{said_by}
 use Rattle.live_lines.specs.Live.{Asked, LiveState, asked_of}
 use Rattle.live_lines.specs.Live.Asked.{NoForm, Nothing, Operates, Says}
+use Rattle.live_lines.proofs.LawLemmas.{says}
 use Rattle.live_machine.specs.Account.{is_nobodys, lines_in}
 use Rattle.live_machine.specs.Held.{Held, HeldItem, HearsForm, HearsIn, OpenText, calls_off, form_of, held_of, is_wait, with_held, without_name}
 use Rattle.live_machine.specs.Held.OpenText.{NoText, Begun, Lost}
@@ -29,7 +30,7 @@ use Rattle.live_machine.proofs.FollowLemmas.{AreOf, Follows, IsOf}
 use Rattle.live_machine.proofs.TakeLemmas.{follow_text}
 use Rattle.live_machine.proofs.HeldLemmas.{added_other, added_own, changed_other, changed_own, freed_other, freed_own, name_of_held, one_name}
 use Rattle.live_machine.proofs.ItemBooks.{IsOn, books_item, books_items, item_lost, taken_of}
-use Rattle.live_machine.proofs.LineLemmas.{said_of, says}
+use Rattle.live_machine.proofs.LineLemmas.{said_of}
 use Rattle.live_machine.proofs.NameBooks.{books_heard}
 use Rattle.live_machine.proofs.TenancyLemmas.{IsNoEviction, Keeps, is_live, keeps_same, line_keeps}
 

@@ -9,6 +9,7 @@ use Rattle.sessions.specs.Reading.{TextSoFar}
 use Rattle.live_lines.specs.Laws.{said_by}
 use Rattle.live_lines.specs.Live.{Asked, LiveState, asked_of}
 use Rattle.live_lines.specs.Live.Asked.{Says}
+use Rattle.live_lines.proofs.LawLemmas.{says}
 use Rattle.live_machine.specs.Held.{Held, HeldItem, OpenText, form_of, held_of, is_wait, is_wait_item, with_held, without_name}
 use Rattle.live_machine.specs.Held.OpenText.{NoText, Begun, Lost}
 use Rattle.live_machine.specs.Machine.{EndsHold, Frees, IsMade, Machine, Serves, ServesAll, ServesItem, ServesItems, ServesLines, TellsLost, holds, is_busy}
@@ -18,7 +19,7 @@ use Rattle.live_machine.proofs.Books.{Books, follow_as}
 use Rattle.live_machine.proofs.FollowLemmas.{AreOf, Follows}
 use Rattle.live_machine.proofs.TakeLemmas.{IsTaken, follow_freed, follow_taken, follow_text}
 use Rattle.live_machine.proofs.HeldLemmas.{changed_other, changed_own, freed_other, freed_own, name_of_held}
-use Rattle.live_machine.proofs.LineLemmas.{says, said_of}
+use Rattle.live_machine.proofs.LineLemmas.{said_of}
 use Rattle.live_machine.proofs.NameBooks.{books_silent, nothing_read, other_reads}
 use Rattle.live_machine.proofs.ReadLemmas.{Reads, outside_after, rests}
 use Rattle.live_machine.proofs.TurnLemmas.{Makes, loses_makes, other_lines, own_lines, serves_all, serves_makes, serves_read}

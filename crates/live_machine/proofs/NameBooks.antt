@@ -7,6 +7,7 @@ use Rattle.sessions.specs.Reading.{TextSoFar}
 use Rattle.operator.specs.OperatorText.{last_id}
 use Rattle.live_lines.specs.Laws.{said_by}
 use Rattle.live_lines.specs.Live.{Asked, LiveState, asked_of}
+use Rattle.live_lines.proofs.LawLemmas.{says}
 use Rattle.live_machine.specs.Account.{nobodys_lines}
 use Rattle.live_machine.specs.Held.{Held, HearsHeld, form_of, held_of, is_wait, with_held}
 use Rattle.live_machine.specs.Held.OpenText.{NoText}
@@ -16,7 +17,6 @@ use Rattle.live_machine.specs.Turn.Turn.{Answers, Loses}
 use Rattle.live_machine.proofs.Books.{Books, Followed, books_more, each_name, follow_as, nobodys_both, not_nobodys, said_both}
 use Rattle.live_machine.proofs.FollowLemmas.{AreOf, Follows, IsOf, follow_heard, follow_held, follow_other, follow_served, wait_whole}
 use Rattle.live_machine.proofs.HeldLemmas.{added_other, added_own, changed_other, changed_own, one_name}
-use Rattle.live_machine.proofs.LineLemmas.{says}
 use Rattle.live_machine.proofs.ReadLemmas.{Reads, rests}
 use Rattle.live_machine.proofs.TurnLemmas.{Makes, loses_makes, other_lines, own_lines, serves_makes, serves_read}
 

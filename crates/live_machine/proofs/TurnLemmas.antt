@@ -12,6 +12,7 @@ use Rattle.tagged_lines.specs.Tags.{output_of, rest_of, tag_of, with_feed}
 use Rattle.live_lines.specs.Laws.{said_by}
 use Rattle.live_lines.specs.Live.{Asked, LiveState, asked_of, for_name}
 use Rattle.live_lines.specs.Live.Asked.{Operates}
+use Rattle.live_lines.proofs.LawLemmas.{says}
 use Rattle.line_service.specs.Conversation.{AreAnswered}
 use Rattle.live_input.specs.Serving.{AnswersLine}
 use Rattle.live_machine.specs.Machine.{IsMade, Machine, Serves, ServesAll, TellsLost, Works}
@@ -19,7 +20,7 @@ use Rattle.live_machine.specs.Turn.{IsDay, IsServedAs, IsServedTurn, Turn, heard
 use Rattle.live_machine.specs.Turn.Turn.{Answers, Loses, Works as WorksLine}
 use Rattle.live_machine.proofs.FollowLemmas.{AreOf, IsOf}
 use Rattle.live_machine.proofs.HeldLemmas.{one_name}
-use Rattle.live_machine.proofs.LineLemmas.{line_read, says}
+use Rattle.live_machine.proofs.LineLemmas.{line_read}
 use Rattle.live_machine.proofs.ReadLemmas.{Reads, rests}
 
 -- lists of turns, one after another

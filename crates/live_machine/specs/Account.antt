@@ -21,13 +21,13 @@ line_in call = []
 abbrev pub lines_in : List Call → List (List ℕ)
 lines_in calls = flat_map line_in calls
 
-abbrev pub log_in : Call → List ℕ
-log_in (Drain log told) = log
-log_in call = []
+abbrev pub log_drained : Call → List ℕ
+log_drained (Drain log told) = log
+log_drained call = []
 
-abbrev pub told_in : Call → List ℕ
-told_in (Drain log told) = told
-told_in call = []
+abbrev pub told_drained : Call → List ℕ
+told_drained (Drain log told) = told
+told_drained call = []
 
 -- these are the items, each by its lines; of one that was lost nothing is known
 abbrev pub AreItems : List HeldItem → List (List (List ℕ)) → Type 0
@@ -73,8 +73,8 @@ pub record IsAccount (begun : LiveState) (first : ℕ) (calls : List Call) (now 
   pub taken : List Turn
   pub rest : List Turn
   pub day : IsDay begun first (taken ++ rest) now.live now.next
-  pub log_taken : flat_map log_in calls ≡ log_of taken
-  pub told_taken : flat_map told_in calls ≡ told_of taken
+  pub log_taken : flat_map log_drained calls ≡ log_of taken
+  pub told_taken : flat_map told_drained calls ≡ told_of taken
   pub log : now.log ≡ log_of rest
   pub told : now.told ≡ told_of rest
   pub served : AllByRecursion IsServedTurn (taken ++ rest)

@@ -17,7 +17,7 @@ use job_queue::{Pass, Ready, Seat};
 use operator::Operator;
 use script_text::{SessionInput, SessionReplies};
 use service_core::Service;
-use shared_core::{Begun, Core, Share, Shared, end_service};
+use shared_core::{Begun, Core, Share, Shared};
 use std::alloc::{AllocError, AllocGlobal, Global};
 use std::sync::Wait;
 use std::sync::ledger::{Blank, Ledger};
@@ -52,7 +52,7 @@ pub(crate) fn run_sessions<
     match Core::<C, P>::over(setup.rt.alloc(), service, commands, puts) {
         Ok(core) => run_over(setup, core, operator, sessions),
         Err((service, error)) => {
-            end_service(service);
+            drop(service);
             drop(sessions);
             Err(Unserved::from(error))
         }

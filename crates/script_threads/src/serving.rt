@@ -19,7 +19,6 @@ use operator::Operator;
 use script_text::{OperatorLine, RunReplies, SessionInput, SessionReplies, ThreadedScript};
 use service_core::{Device, Service};
 use sessions::device_graph;
-use shared_core::end_service;
 use std::alloc::AllocGlobal;
 use std::marker::Brand;
 use std::sync::Wait;
@@ -143,7 +142,7 @@ fn serve_parts<'t, R: Threads + Wait + Clock + AllocGlobal + Sync>(
     ) {
         Ok(()) => serve_sessions(setup, operator, service, sessions, rest, reply),
         Err(error) => {
-            end_service(service);
+            drop(service);
             drop(sessions);
             drop(rest);
             Err(Unserved::from(error))
@@ -198,7 +197,7 @@ fn serve_rest<'t, R: AllocGlobal>(
     let mut service = service;
     end_jobs(graph, &mut service);
     let served = serve_lines(setup.rt.alloc(), graph, operator, &mut service, rest, reply);
-    end_service(service);
+    drop(service);
     match served {
         Ok(()) => Ok(sections),
         Err(error) => {

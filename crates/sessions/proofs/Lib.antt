@@ -8,7 +8,7 @@ pub mod KeptLemmas
 pub mod ReadingLemmas
 pub mod StepLemmas
 mod Stepping
-mod WaitLemmas
+pub mod WaitLemmas
 mod WholeSessionLemmas
 mod WordLemmas
 pub mod RefusalTexts

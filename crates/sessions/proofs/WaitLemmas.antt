@@ -37,7 +37,7 @@ use Rattle.sessions.proofs.Counted.{live_of-changed, some_and}
 use Rattle.sessions.proofs.EndToEndLemmas.{split}
 use Rattle.sessions.proofs.GivenBack.{none_back-append, wait_none_back}
 
-abbrev NothingLeft : ServiceState → ℕ → Type 0
+abbrev pub NothingLeft : ServiceState → ℕ → Type 0
 NothingLeft state id = takeable_in (live_of state.histories id) ≡ false
 
 and_false : (b : Bool) → (b && false) ≡ false
@@ -111,7 +111,7 @@ status_left_of h reply told left =
     ∙ (ap (λ here. is_some (kind_that_runs (state_of h).name) && (is_some here && nat_lt ((state_of h).entries + 1) 65536)) here
     ∙ fewer (is_some (kind_that_runs (state_of h).name)) (is_some h.here) (state_of h).entries left)
 
-status_left : (old new : ServiceState) (id : ℕ) (served : Result Receipted NotServed) → IsServed old id Status served new → NothingLeft old id → (Served served ≡ Served (Err NotServedNoMemory)) ⊎ NothingLeft new id
+pub status_left : (old new : ServiceState) (id : ℕ) (served : Result Receipted NotServed) → IsServed old id Status served new → NothingLeft old id → (Served served ≡ Served (Err NotServedNoMemory)) ⊎ NothingLeft new id
 status_left old new id (Err NotServedNoMemory) is left = inl refl
 status_left old new id (Err (JournalFull note)) is left = inr (same_left old new id is.2 left)
 status_left old new id (Err (NoSuchTenancy note)) is left = inr (same_left old new id is.2 left)

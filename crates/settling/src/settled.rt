@@ -8,7 +8,7 @@ use crate::counting::{merge_leases, merge_shares};
 use crate::filling::first_not_full;
 use crate::not_settled::{Cause, NotSettled};
 use service_core::Service;
-use shared_core::{Begun, Core, LeaseMarks, Share, end_service};
+use shared_core::{Begun, Core, LeaseMarks, Share};
 use std::marker::Model;
 use std::sync::ledger::Ledger;
 use transcripts::Transcript;
@@ -30,8 +30,10 @@ impl Model for Settled {
 
 impl Drop for Settled {
     fn drop(self) {
-        let Settled { service, marks: _ } = self;
-        end_service(service);
+        let Settled {
+            service: _,
+            marks: _,
+        } = self;
     }
 }
 

@@ -19,7 +19,6 @@
 #![tactic(auto)]
 
 mod begun;
-mod ending;
 mod lease_marks;
 mod locked;
 mod shared;
@@ -28,7 +27,6 @@ mod tokens;
 mod wrapping;
 
 pub use begun::Begun;
-pub use ending::end_service;
 pub use lease_marks::LeaseMarks;
 pub use locked::Shared;
 pub use shared::{Core, MAX_WORKERS};
