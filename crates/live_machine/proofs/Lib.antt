@@ -15,12 +15,15 @@ mod HereServed
 mod HereStepLines
 mod HereSteps
 mod HereWaits
+mod HoldLemmas
 mod InTenancy
 mod ItemBooks
+mod ItemLemmas
 mod LineLemmas
 mod MachineLemmas
 mod MadeLemmas
 mod NameBooks
+mod NameLemmas
 mod ReadLemmas
 mod RunningLemmas
 mod ServerLemmas

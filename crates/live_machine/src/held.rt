@@ -1,10 +1,11 @@
 //! A name that is held.
-ghost use Rattle.std.specs.Prelude.{◌≡◌, ◌<◌, ◌∷◌, [], ℕ, List, Some, length, true, IfOk, OnErr, OnOk};
+ghost use Rattle.std.specs.Prelude.{◌≡◌, ◌≢◌, ◌<◌, ◌++◌, ◌∷◌, [], ℕ, List, None, Some, length, true, IfOk, MatchBool, MatchResult, OnErr, OnOk};
 ghost use Rattle.line_feed.specs.Pieces.{is_one_line};
+ghost use Rattle.sessions.specs.declared.line.SessionLine.TheVariants.{Blank};
 ghost use Rattle.sessions.specs.Items.{ends_text};
 ghost use Rattle.tagged_lines.specs.Tags.{rest_of};
-ghost use Rattle.live_machine.specs.Held.{HearsForm, HearsHeld, IsSaidBy, IsSaidText, PutsItem, TakesFirst, begins_with_wait, calls_off, gives_up, has_items, is_lost_text};
-ghost use Rattle.live_machine.specs.declared.held.OpenText.TheVariants.{NoText};
+ghost use Rattle.live_machine.specs.Held.{HearsForm, HearsHeld, HearsIn, IsSaidBy, IsSaidText, PutsItem, TakesFirst, begins_with_wait, calls_off, gives_up, has_items, is_lost_text};
+ghost use Rattle.live_machine.specs.declared.held.OpenText.TheVariants.{Begun, Lost, NoText};
 
 use crate::item_lines::{ItemLines, form_of};
 use backlog::{Backlog, Turn};
@@ -138,7 +139,7 @@ impl Hold {
     pub(crate) fn has_lost_text(&self) -> bool
         ensures { result ≡ is_lost_text self.now.text }
     {
-        matches!(self.text, OpenText::Lost)
+        matches!(&self.text, OpenText::Lost)
     }
 
     /// Takes its first item.
