@@ -65,6 +65,14 @@ taken_as (Some h) old name (Item lines) new is (after, (first, rest, said), chan
 taken_as (Some h) old name LostItem new is (after, (first, rest), changed) = (after.items, first, changed ∙ ap (with_held old) rest)
 taken_as (Some h) old name NothingTaken new is (after, (none, same), changed) = (none, changed ∙ (ap (with_held old) same ∙ same_held old name h is))
 
+pub taken_said : (o : Option Held) (old : List Held) (name : List ℕ) (lines : List (List ℕ)) (new : List Held) → held_of old name ≡ o → TakesOf o old (Item lines) new → AllByRecursion (IsSaidBy name) lines
+taken_said None old name lines new is taken = absurd (cc)
+taken_said (Some h) old name lines new is (after, (first, rest, said), changed) = let P : List ℕ → Type 0 = λ n. AllByRecursion (IsSaidBy n) lines in subst P (name_of_held old name h is) said
+
+pub none_taken : (o : Option Held) (old : MachineState) (name : List ℕ) (held : List Held) → held_of old.held name ≡ o → IsTakenOf o old.held name NothingTaken held → ServesOne false o name old (record old { held = held })
+none_taken None old name held is (none, same) = (refl, ap (λ (hs : List Held). record old { held = hs }) same)
+none_taken (Some h) old name held is (none, same) = (none, ap (λ (hs : List Held). record old { held = hs }) same)
+
 -- the first item is served
 pub one_item : (o : Option Held) (old new : MachineState) (name : List ℕ) (lines : List (List ℕ)) (held : List Held) → held_of old.held name ≡ o → IsTakenOf o old.held name (Item lines) held → ServesAll name lines (record old { held = held }) new → ServesOne true o name old new
 one_item None old new name lines held is taken serves = absurd (cc)
@@ -237,3 +245,8 @@ heard_last (Some h) old new name line held had is items none (after, heard, chan
 
 pub is_said : (name said line : List ℕ) → IsLine line → asked_of line ≡ Says name said → IsSaidBy name line
 is_said name said line is asks = record { kept = is.kept; one = is.one; says = asks ∙ ap (λ r. Says name r) (sym (said_of name said line asks).2) }
+
+-- a line that ends what its name waits for
+pub called_off : (o : Option Held) (old mid new : MachineState) (name line : List ℕ) → EndsHold o old mid → ServesSaid (must_wait mid.live name line) name line mid new → HearsHolding true o name line old new
+called_off None old mid new name line ends serves = tt
+called_off (Some h) old mid new name line ends serves = (mid, ends, serves)

@@ -126,10 +126,6 @@ abbrev pub has_items : List HeldItem → Bool
 has_items [] = false
 has_items (item ∷ items) = true
 
-abbrev pub is_lost_text : OpenText → Bool
-is_lost_text Lost = true
-is_lost_text text = false
-
 -- the first item is taken
 abbrev pub TakesFirst : Held → Turn (List (List ℕ)) → Held → Type 0
 TakesFirst old (Item lines) new = (old.items ≡ Some lines ∷ new.items) × (new ≡ record old { items = new.items }) × AllByRecursion (IsSaidBy old.name) lines

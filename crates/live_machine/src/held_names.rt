@@ -109,36 +109,6 @@ impl HeldNames {
         self.holds.push(hold)
     }
 
-    /// One more name is held, by that `wait`.
-    ///
-    /// # Errors
-    /// `AllocError` if memory runs out. Nothing changes then.
-    pub(crate) fn add(
-        &mut self,
-        alloc: Global,
-        name: &[u8],
-        id: u32,
-        wait: &[u8],
-    ) -> Result<(), AllocError>
-        requires { IsSaidBy name.now wait.now }
-        ensures ok { OnOk result (self.new ≡ self.old ++ record {
-          name = name.now;
-          id = id;
-          items = Some (wait.now ∷ []) ∷ [];
-          text = NoText;
-        } ∷ []) }
-        ensures err { OnErr result (self.new ≡ self.old) }
-    {
-        let hold = Hold::new(alloc, name, id, wait)?;
-        match self.push(hold) {
-            Ok(()) => Ok(()),
-            Err(refused) => {
-                drop(refused);
-                Err(AllocError)
-            }
-        }
-    }
-
     /// A line of the name comes, and waits if the name is held.
     ///
     /// # Errors

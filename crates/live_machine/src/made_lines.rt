@@ -1,5 +1,5 @@
 //! Lines that the machine makes itself, and what it tells without one.
-ghost use Rattle.std.specs.Prelude.{◌≡◌, ◌≢◌, ◌∷◌, ◌++◌, codes, true, [], IfOk, IfSome, OnOk};
+ghost use Rattle.std.specs.Prelude.{◌≡◌, ◌≢◌, ◌∷◌, ◌++◌, codes, true, [], List, ℕ, ◌<◌, ◌^◌, length, IfOk, IfSome, OnOk};
 ghost use Rattle.std.specs.Io.KnownBytes.{Appends};
 ghost use Rattle.script_text.specs.declared.operator_line.OperatorLine.TheVariants.{Step};
 ghost use Rattle.script_text.specs.Script.{is_name};
@@ -42,7 +42,7 @@ fn joined(alloc: Global, first: &[u8], second: &[u8], third: &[u8]) -> Result<Ve
     ensures { IfOk result (λ text. text.items ≡ first.now ++ (second.now ++ third.now)) }
 {
     let mut text = Vec::new(alloc);
-    text.reserve(first.len() + second.len() + third.len())?;
+    text.reserve(second.len() + 16)?;
     text.extend_from_slice(first)?;
     text.extend_from_slice(second)?;
     text.extend_from_slice(third)?;

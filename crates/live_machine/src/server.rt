@@ -36,7 +36,7 @@ pub(crate) struct LineServer<'g> {
 impl<'g> LineServer<'g> {
     /// Serves the lines of that live service, the next one of which has that number.
     pub(crate) fn new(alloc: Global, lines: LiveLines<'g>, next: u64) -> Self
-        ensures lines { result.lines ≡ lines }
+        ensures lines { result.lines ≡ lines.entry }
         ensures next { result.next ≡ next }
         ensures log { result.log.items ≡ [] }
         ensures told { result.told.items ≡ [] }

@@ -4,7 +4,7 @@ use Rattle.live_machine.specs.Held.{Held, held_of}
 use Rattle.live_machine.specs.declared.held.OpenText.{OpenText}
 use Rattle.live_machine.specs.declared.held.OpenText.TheVariants.{Begun}
 use Rattle.live_machine.specs.Machine.{ServesAll}
-use Rattle.live_machine.specs.Parts.{is_lost_text, machine_of, state_with}
+use Rattle.live_machine.specs.Parts.{machine_of, state_with}
 use Rattle.live_machine.proofs.MachineLemmas.{freed_as, frees_by, if_some, on_ok, text_if}
 use Rattle.live_machine.proofs.machine.Machine.free.Goals as goal
 
@@ -17,7 +17,7 @@ returns-in-Begun-clause-frees c =
     let P : List (List ℕ) → Type 0 = λ lines. ServesAll name lines (state_with c.args.self.now.server held) (state_with c.serve_lines.new.self held) in
     on_ok c.serve_lines.result
     (λ serves. frees_by (held_of names name) _ _ name (Begun c.in-Begun.lines) held refl (subst T c.in-Begun.is (text_if (held_of names name) c.remove.result c.remove.ensures.text))
-    (if_some (held_of names name) (λ h is. sym is ∙ c.if-has_lost_text.false) c.has_lost_text.ensures) c.remove.ensures.names (subst P c.as_bytes.ensures (serves held)))
+    (if_some (held_of names name) (λ h is. sym is ∙ c.if-has_lost_text.false) c.has_lost_text.ensures) c.remove.ensures.names (subst P c.as_bytes.ensures.lines (serves held)))
     c.serve_lines.ensures.serves
 
 pub returns-in-NoText : goal.returns-in-NoText
