@@ -1,8 +1,8 @@
 -- What a machine does with the names that are held.
-use Rattle.std.specs.Prelude.{◌⊎◌, IfSome, OnOk, Result, Ok, Err, ⊤}
+use Rattle.std.specs.Prelude.{◌⊎◌, IfSome, OnOk, Result, Ok, Err}
 use Rattle.std.specs.List.{AllByRecursion}
 use Rattle.std.specs.Str.{bytes_eq}
-use Rattle.std.proofs.Common.{◌≡◌, ℕ, List, [], ◌∷◌, ◌++◌, ◌&&◌, inl, inr, codes, Bool, true, false, cond, Option, Some, None, refl, sym, ap, subst, ◌∙◌}
+use Rattle.std.proofs.Common.{◌≡◌, ℕ, List, [], ◌∷◌, ◌&&◌, inl, inr, Bool, true, false, cond, Option, Some, None, refl, sym, ap, subst, ◌∙◌}
 use Rattle.std.proofs.lemmas.Bool.{false≢true}
 use Rattle.sessions.specs.declared.line.LineForm.{LineForm}
 use Rattle.sessions.specs.declared.line.LineForm.TheVariants.{Asks, Begins}
@@ -11,12 +11,12 @@ use Rattle.sessions.specs.Items.{ends_text}
 use Rattle.backlog.specs.declared.backlog.Turn.{Turn}
 use Rattle.backlog.specs.declared.backlog.Turn.TheVariants.{Item, Lost as LostItem, Nothing as NothingTaken}
 use Rattle.tagged_lines.specs.Tags.{rest_of}
-use Rattle.live_lines.specs.Live.{Asked, LiveState, asked_of}
+use Rattle.live_lines.specs.Live.{LiveState, asked_of}
 use Rattle.live_lines.specs.Live.Asked.{Says}
-use Rattle.live_machine.specs.Held.{HearsHeld, HearsIn, HearsForm, Held, HeldItem, HearsOf, IsSaidBy, TakesFirst, TakesOf, begins_with_wait, form_of, has_items, held_of, is_lost_text, is_wait_item, text_of, with_held, without_name}
+use Rattle.live_machine.specs.Held.{HearsHeld, HearsIn, HearsForm, Held, HeldItem, HearsOf, IsSaidBy, TakesOf, begins_with_wait, form_of, has_items, held_of, is_lost_text, is_wait_item, text_of, with_held, without_name}
 use Rattle.live_machine.specs.declared.held.OpenText.{OpenText}
 use Rattle.live_machine.specs.declared.held.OpenText.TheVariants.{NoText, Begun, Lost}
-use Rattle.live_machine.specs.Machine.{is_busy, EndsHold, FreesIf, GivesUp, IsFree, ServesFirst, holds, WaitsAfter, IsLine, Frees, MachineState, Serves, ServesAll, ServesItem, ServesItems, ServesSaid, TellsLost, must_wait}
+use Rattle.live_machine.specs.Machine.{is_busy, EndsHold, GivesUp, IsFree, ServesFirst, WaitsAfter, IsLine, Frees, MachineState, ServesAll, ServesItems, ServesSaid, TellsLost, must_wait}
 use Rattle.live_machine.specs.Parts.{AreServed, FreesDone, FreesHeld, HearsHolding, ServesOne, has_wait}
 use Rattle.live_machine.proofs.HeldLemmas.{changed_own, name_of_held, same_name}
 use Rattle.live_machine.proofs.LineLemmas.{said_of}

@@ -1,24 +1,24 @@
 -- The lines that the machine makes itself.
-use Rattle.std.proofs.Common.{◌≡◌, ℕ, ◌+◌, ◌<◌, ◌≤◌, List, [], ◌∷◌, ◌++◌, codes, length, Bool, true, false, not, ◌&&◌, eqb, refl, sym, ap, subst, ◌∙◌, arith, append-nil, length-append}
+use Rattle.std.proofs.Common.{◌≡◌, ℕ, ◌+◌, ◌≤◌, List, [], ◌∷◌, ◌++◌, codes, length, Bool, true, false, not, ◌&&◌, refl, sym, ap, subst, ◌∙◌, lit<, arith, append-nil, length-append}
 use Rattle.std.specs.Prelude.{IfOk, Result, Ok, Err, nat_lt, nat_le}
 use Rattle.std.specs.List.{list_all}
+use Rattle.std.proofs.lemmas.Fmt.{decimal_digit}
 use Rattle.std.specs.Str.{bytes_eq}
 use Rattle.std.proofs.lemmas.Bool.Decides.{nat_tests}
 use Rattle.std.proofs.lemmas.List.{take_all}
 use Rattle.std.proofs.lemmas.Slice.Eq.{bytes_eq-Decides}
 use Rattle.script_text.specs.Script.{is_name, is_name_byte}
-use Rattle.sessions.specs.declared.line.LineForm.{LineForm}
 use Rattle.sessions.specs.Items.{without_cr}
 use Rattle.sessions.specs.SessionLines.{line_form}
 use Rattle.line_feed.specs.Pieces.{is_one_line, kept_of}
-use Rattle.tagged_lines.specs.Tags.{rest_of, tag_of}
+use Rattle.tagged_lines.specs.Tags.{rest_of, tag_of, tagged_text}
 use Rattle.tagged_lines.proofs.TagLemmas.{both, rest_is, tag_is}
 use Rattle.line_service.proofs.LineLemmas.{both_lines}
 use Rattle.live_lines.specs.Live.{Asked, LiveState, asked_of}
 use Rattle.live_lines.specs.Live.Asked.{NoForm, Says}
 use Rattle.live_lines.proofs.LawLemmas.{name_tag, not_10, says}
 use Rattle.live_machine.specs.Held.{form_of, is_wait}
-use Rattle.live_machine.specs.Machine.{IsLine, is_busy, is_outside, must_wait}
+use Rattle.live_machine.specs.Machine.{IsLine, is_busy, is_outside}
 use Rattle.live_machine.specs.Workers.{NeedNotWait, nomemory_reply}
 
 -- a name is short, and no byte of it ends a line
@@ -100,7 +100,7 @@ status_need_not live name ok =
 
 -- the reply that memory ran out
 pub nomemory_is : (name : List ℕ) → nomemory_reply name ≡ codes "op lines 1" ++ 10 ∷ (codes "op nomemory" ++ 10 ∷ [])
-nomemory_is name = refl
+nomemory_is name = ap (λ d. tagged_text (codes "op") (codes "lines " ++ d) ++ (codes "op nomemory" ++ 10 ∷ [])) (decimal_digit 1 (lit< tt))
 
 pub if_ok : {A E : Type 0} {P Q : A → Type 0} → (r : Result A E) → ((x : A) → P x → Q x) → IfOk r P → IfOk r Q
 if_ok (Ok x) f p = f x p

@@ -1,5 +1,5 @@
 -- The place of a name among those that are held.
-use Rattle.std.proofs.Common.{◌≡◌, ℕ, suc, ◌+◌, ◌<◌, length, get_or, arith, List, [], ◌∷◌, Bool, true, false, not, nat_lt, cond, Option, Some, None, refl, sym, ap, subst, ◌∙◌}
+use Rattle.std.proofs.Common.{◌≡◌, ℕ, suc, ◌+◌, ◌<◌, length, get_or, arith, List, [], ◌∷◌, Bool, true, false, not, nat_lt, cond, Some, None, refl, sym, ap, subst, ◌∙◌}
 use Rattle.std.specs.List.{filter, items_where_true, position, position_or_len, slice_get}
 use Rattle.std.specs.List.Retain.{IsFiltered, ReturnsInTurn}
 use Rattle.std.specs.Str.{bytes_eq}

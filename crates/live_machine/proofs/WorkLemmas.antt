@@ -2,14 +2,12 @@
 use Rattle.std.specs.List.{AllByRecursion, list_all}
 use Rattle.std.proofs.Common.{◌≡◌, ℕ, List, [], ◌∷◌, ◌++◌, Bool, true, false, ◌&&◌, refl, sym, ap, subst, ◌∙◌}
 use Rattle.std.proofs.lemmas.List.Folds.{list_all-append}
-use Rattle.live_lines.specs.Live.{LiveState}
 use Rattle.live_machine.specs.declared.machine.steps.StepEnd.{StepEnd}
 use Rattle.live_machine.specs.declared.machine.steps.StepEnd.TheVariants.{Made, Dropped, NoMemory}
-use Rattle.live_machine.specs.Held.{Held}
 use Rattle.live_machine.specs.declared.machine.Machine.{Machine}
 use Rattle.live_machine.specs.declared.server.LineServer.{LineServer}
 use Rattle.live_machine.specs.Parts.{machine_of, state_with, EndsStep, HasTurn, HasTurns, IsGivenUp, IsTurnOf, IsWorked, is_workers}
-use Rattle.live_machine.specs.Machine.{Call, Happens, MachineState, Run}
+use Rattle.live_machine.specs.Machine.{Call, MachineState, Run}
 use Rattle.live_machine.specs.Machine.Call.{GiveUp, PutStep, ServeHeld}
 
 run_both : (a b c : MachineState) (first more : List Call) → Run a first b → Run b more c → Run a (first ++ more) c

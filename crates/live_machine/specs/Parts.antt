@@ -1,15 +1,15 @@
 -- private: the parts of the machine's code, and what they do.
-use Rattle.std.specs.Prelude.{ℕ, ◌≡◌, ◌⊎◌, List, [], ◌∷◌, Bool, true, false, Option, Some, None, ⊤}
+use Rattle.std.specs.Prelude.{ℕ, ◌≡◌, List, [], ◌∷◌, Bool, true, false, Option, Some, None, ⊤}
 use Rattle.std.specs.List.{AllByRecursion, list_all}
 use Rattle.script_text.specs.declared.operator_line.OperatorLine.TheVariants.{Step}
 use Rattle.live_lines.specs.Live.Asked.{Operates}
 use Rattle.live_input.specs.Serving.{is_ready, state_in}
 use Rattle.live_machine.specs.declared.machine.Machine.{Machine}
 use Rattle.live_machine.specs.declared.machine.steps.StepEnd.{StepEnd}
-use Rattle.live_machine.specs.declared.machine.steps.StepEnd.TheVariants.{Made, Dropped, NoMemory}
+use Rattle.live_machine.specs.declared.machine.steps.StepEnd.TheVariants.{Made}
 use Rattle.live_machine.specs.declared.server.LineServer.{LineServer}
 use Rattle.live_machine.specs.Held.{Held, HeldItem, begins_with_wait, held_of}
-use Rattle.live_machine.specs.Machine.{Call, Frees, FreesIf, GivesUp, Happens, HearsAfter, IsMade, MachineState, Run, ServesItem, ServesItems, Works}
+use Rattle.live_machine.specs.Machine.{Call, Frees, FreesIf, Happens, HearsAfter, IsMade, MachineState, Run, ServesItem, ServesItems, Works}
 use Rattle.live_machine.specs.Machine.Call.{GiveUp, PutStep, ServeHeld}
 use Rattle.live_machine.specs.Workers.{without_workers}
 

@@ -1,4 +1,4 @@
-use Rattle.std.proofs.Common.{◌≡◌, ◌≤◌, ℕ, List, [], ◌∷◌, ◌++◌, length, refl, sym, subst, rules}
+use Rattle.std.proofs.Common.{◌≡◌, ◌≤◌, ℕ, List, [], ◌++◌, length, refl, sym, subst, rules}
 use Rattle.live_lines.specs.Live.{asked_of}
 use Rattle.live_lines.specs.Live.Asked.{NoForm}
 use Rattle.live_machine.specs.Machine.{IsLine}

@@ -1,4 +1,4 @@
-use Rattle.std.proofs.Common.{◌≡◌, ◌∙◌, ◌++◌, ◌∷◌, [], sym, ap, subst}
+use Rattle.std.proofs.Common.{◌∙◌, ◌++◌, ◌∷◌, [], sym, ap, subst}
 use Rattle.line_text.specs.Lines.{physical_lines}
 use Rattle.live_machine.specs.Fed.{IsFed}
 use Rattle.live_machine.proofs.ItemLemmas.{fed_more, lines_more}

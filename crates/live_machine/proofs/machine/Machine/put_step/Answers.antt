@@ -1,6 +1,6 @@
-use Rattle.std.proofs.Common.{◌≡◌, Bool, false, true, refl, sym, subst, ◌∙◌, rules}
+use Rattle.std.proofs.Common.{Bool, subst}
 use Rattle.live_machine.specs.declared.machine.steps.StepEnd.TheVariants.{Made, NoMemory}
-use Rattle.live_machine.specs.Parts.{PutsIf, machine_of, state_with}
+use Rattle.live_machine.specs.Parts.{PutsIf, state_with}
 use Rattle.live_machine.proofs.WorkLemmas.{ends_after}
 use Rattle.live_machine.proofs.machine.Machine.put_step.Goals as goal
 

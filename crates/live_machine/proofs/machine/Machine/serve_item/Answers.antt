@@ -1,4 +1,4 @@
-use Rattle.std.proofs.Common.{◌≡◌, ℕ, List, refl, sym, subst}
+use Rattle.std.proofs.Common.{ℕ, List, refl, sym, subst}
 use Rattle.std.specs.List.{AllByRecursion}
 use Rattle.backlog.specs.declared.backlog.Turn.{Turn}
 use Rattle.backlog.specs.declared.backlog.Turn.TheVariants.{Item, Lost, Nothing}
