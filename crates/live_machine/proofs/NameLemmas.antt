@@ -27,7 +27,7 @@ changed_at : (held : List Held) (new : Held) → position_or_len (is_of new.name
 changed_at [] new within = absurd (omega arith)
 changed_at (h ∷ held) new within =
     elim (bytes_eq h.name new.name) as (λ b. cond (not b) (1 + position_or_len (is_of new.name) held) 0 < length (h ∷ held) →
-        set (h ∷ held) (cond (not b) (1 + position_or_len (is_of new.name) held) 0) new ≡ cond b (new ∷ held) (h ∷ with_held held new)) [
+    set (h ∷ held) (cond (not b) (1 + position_or_len (is_of new.name) held) 0) new ≡ cond b (new ∷ held) (h ∷ with_held held new)) [
       | true ↦ λ w. refl
       | false ↦ λ w. (let n : 1 + position_or_len (is_of new.name) held ≡ suc (position_or_len (is_of new.name) held) = omega arith in
           ap (λ k. set (h ∷ held) k new) n ∙ ap (λ hs. h ∷ hs) (changed_at held new (omega arith)))

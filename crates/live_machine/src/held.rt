@@ -183,12 +183,7 @@ fn begins_with_wait(items: &Backlog<ItemLines>) -> bool
 }
 
 /// A line comes while its name is in that text. Returns the text after it.
-fn hear_in(
-    alloc: Global,
-    items: &mut Backlog<ItemLines>,
-    text: OpenText,
-    line: &[u8],
-) -> OpenText
+fn hear_in(alloc: Global, items: &mut Backlog<ItemLines>, text: OpenText, line: &[u8]) -> OpenText
     requires room { length items.old < 18446744073709551615 }
     requires one { is_one_line line.now ≡ true }
     ensures { (name : List ℕ) (id : ℕ) →
@@ -203,12 +198,7 @@ fn hear_in(
 }
 
 /// A line of that form comes, outside of texts. Returns the text after it.
-fn hear_form(
-    alloc: Global,
-    items: &mut Backlog<ItemLines>,
-    form: LineForm,
-    line: &[u8],
-) -> OpenText
+fn hear_form(alloc: Global, items: &mut Backlog<ItemLines>, form: LineForm, line: &[u8]) -> OpenText
     requires room { length items.old < 18446744073709551615 }
     requires one { is_one_line line.now ≡ true }
     ensures { (name : List ℕ) (id : ℕ) →
