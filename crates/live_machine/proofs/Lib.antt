@@ -15,10 +15,13 @@ mod HereServed
 mod HereStepLines
 mod HereSteps
 mod HereWaits
+mod HoldLemmas
 mod InTenancy
 mod ItemBooks
+mod ItemLemmas
 mod LineLemmas
 mod NameBooks
+mod NameLemmas
 mod ReadLemmas
 mod TakeLemmas
 mod TenancyLemmas

@@ -1,12 +1,13 @@
 //! The names that are held.
-ghost use Rattle.std.specs.Prelude.{◌≡◌, ◌==◌, ◌++◌, ◌∷◌, [], length, position, slice_get, IfErr, OnErr, OnOk, is_ok, option_copied, option_map, if◌then◌else◌};
+ghost use Rattle.std.specs.Prelude.{◌≡◌, ◌==◌, ◌++◌, ◌∷◌, [], Some, length, position, slice_get, IfErr, OnErr, OnOk, is_ok, option_copied, option_map, if◌then◌else◌};
 ghost use Rattle.std.specs.Str.{bytes_eq};
 ghost use Rattle.live_machine.specs.Held.{HearsOf, IsSaidBy, IsSaidText, TakesOf, held_of, text_of, without_name};
+ghost use Rattle.live_machine.specs.declared.held.OpenText.TheVariants.{NoText};
 
 use crate::held::{Hold, OpenText, TooManyItems};
 use crate::item_lines::ItemLines;
 use backlog::Turn;
-use std::alloc::{AllocFailed, Global};
+use std::alloc::{AllocError, AllocFailed, Global};
 use std::marker::Model;
 
 /// The names that are held, in the order in which they were held first.
@@ -66,6 +67,34 @@ impl HeldNames {
             Some(self.holds[place].name())
         } else {
             None
+        }
+    }
+
+    /// One more name is held, by that `wait`.
+    ///
+    /// # Errors
+    /// `AllocError` if memory runs out. Nothing changes then.
+    pub(crate) fn add(
+        &mut self,
+        alloc: Global,
+        name: &[u8],
+        id: u32,
+        wait: &[u8],
+    ) -> Result<(), AllocError>
+        requires { IsSaidBy name.now wait.now }
+        ensures ok { OnOk result
+            (self.new ≡ self.old ++ record {
+              name = name.now;
+              id = id;
+              items = Some (wait.now ∷ []) ∷ [];
+              text = NoText;
+            } ∷ []) }
+        ensures err { OnErr result (self.new ≡ self.old) }
+    {
+        let hold = Hold::new(alloc, name, id, wait)?;
+        match self.push(hold) {
+            Ok(()) => Ok(()),
+            Err(_) => Err(AllocError),
         }
     }
 

@@ -16,6 +16,7 @@
 #![tactic(auto)]
 
 mod held;
+mod held_names;
 mod item_lines;
 mod law;
 mod workers;

@@ -13,9 +13,7 @@ ghost use Rattle.live_machine.specs.Machine.{IsLine, Serves, ServesAll, ServesNo
 ghost use Rattle.live_machine.specs.Parts.{PutsIf, state_with};
 ghost use Rattle.live_machine.specs.Workers.{NeedNotWait, without_workers};
 
-use crate::made_lines::{
-    formless_line, is_nomemory, lost_text, says_wait, status_line, step_line,
-};
+use crate::made_lines::{formless_line, is_nomemory, lost_text, says_wait, status_line, step_line};
 use crate::running::has_job;
 use crate::stop::Stop;
 use job_state::{AnyJob, Back};
