@@ -2,6 +2,7 @@ mod AccountLemmas
 mod AliveLemmas
 mod AtOnce
 mod Books
+mod CountLemmas
 mod Examples
 mod FollowLemmas
 mod HeldLemmas

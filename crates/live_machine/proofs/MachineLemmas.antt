@@ -250,3 +250,7 @@ is_said name said line is asks = record { kept = is.kept; one = is.one; says = a
 pub called_off : (o : Option Held) (old mid new : MachineState) (name line : List ℕ) → EndsHold o old mid → ServesSaid (must_wait mid.live name line) name line mid new → HearsHolding true o name line old new
 called_off None old mid new name line ends serves = tt
 called_off (Some h) old mid new name line ends serves = (mid, ends, serves)
+
+pub ok_so : {A E : Type 0} {Q : Type 0} → (r : Result A E) → Q → OnOk r Q
+ok_so (Ok a) q = q
+ok_so (Err e) q = tt

@@ -22,7 +22,7 @@ use live_input::LiveLines;
 use live_lines::{LineRequest, asked_of};
 use script_text::OperatorLine;
 use std::alloc::Global;
-pub use steps::MOST_TOLD;
+pub use steps::{MOST_TOLD, StepEnd};
 
 /// A live service whose jobs are stepped by workers.
 pub struct Machine<'g> {

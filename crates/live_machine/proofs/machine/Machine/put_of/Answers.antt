@@ -1,9 +1,10 @@
-use Rattle.live_machine.proofs.WorkLemmas.{same_state, step_works, turns_work, work_both, works_to}
+use Rattle.std.proofs.Common.{◌≡◌, Bool, Option, Some, true, subst, rules}
+use Rattle.live_machine.specs.Parts.{EndsStep, machine_of}
+use Rattle.live_machine.proofs.WorkLemmas.{made_puts}
 use Rattle.live_machine.proofs.machine.Machine.put_of.Goals as goal
 
-pub returns-clause-works : goal.returns-clause-works
-returns-clause-works c =
-    let name = c.args.name.now in
-    works_to _ _ _ (same_state c.mark.new.self c.serve_turns.new.self c.mark.ensures.server c.mark.ensures.held)
-    (work_both _ _ _ (step_works c.in_ok-put_step.field-0 name _ _ c.in_ok-put_step.ensures.ends)
-    (turns_work name _ _ c.in_ok-_is_behind.ensures.turns))
+pub returns-in_ok-go_on-in-Some-true-clause-puts : goal.returns-in_ok-go_on-in-Some-true-clause-puts
+returns-in_ok-go_on-in-Some-true-clause-puts c =
+    let P : Option Bool → Type 0 = λ e. EndsStep e c.args.name.now (machine_of c.args.self.now) (machine_of c.put_step.new.self) in
+    let is : c.in_ok-put_step.field-0 ≡ Some true = search rules in
+    made_puts c.args.name.now _ _ _ (subst P is c.in_ok-put_step.ensures.ends) c.in_ok-go_on-in-Some-true.ensures.works
