@@ -15,4 +15,4 @@ returns c =
     let line = c.args.line.now in
     let P : List ℕ → Type 0 = λ t. IsLine t × (asked_of t ≡ NoForm) in
     let short : length line ≤ 1048638 = search rules in
-    if_ok c.joined.result (λ made is. subst P (sym is) (after_mark line c.requires short, no_form (line ++ []))) c.joined.ensures
+    if_ok c.join.result (λ made is. subst P (sym is) (after_mark line c.requires short, no_form (line ++ []))) c.join.ensures
