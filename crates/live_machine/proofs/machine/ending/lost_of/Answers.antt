@@ -1,5 +1,5 @@
 use Rattle.std.specs.Prelude.{option_copied, option_map, slice_get}
-use Rattle.std.proofs.Common.{◌≡◌, ◌<◌, ℕ, List, [], ◌∷◌, ◌++◌, Some, None, length, take, sym, ap, ◌∙◌, arith, rules}
+use Rattle.std.proofs.Common.{◌≡◌, ◌<◌, [], ◌∷◌, ◌++◌, Some, None, length, take, sym, ap, ◌∙◌, arith, rules}
 use Rattle.sessions.specs.SessionText.{no_memory_text}
 use Rattle.tagged_lines.specs.Tags.{output_of}
 use Rattle.live_lines.specs.Live.{for_name}
