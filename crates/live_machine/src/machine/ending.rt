@@ -44,16 +44,16 @@ impl Machine<'_> {
         self.agenda.len()
     }
 
-    /// Whether nothing that a name said waits for its turn, but for the beginning of a text that was
-    /// lost.
+    /// Whether nothing that a name said waits for its turn, but for the beginning of a text that
+    /// was lost.
     pub fn is_at_rest(&self) -> bool
         ensures { result ≡ are_at_rest (machine_of self.now).held }
     {
         self.held.are_at_rest()
     }
 
-    /// Ends the machine at the input's end, and returns what is to be told last: a name that is held
-    /// still is told that memory ran out, and a text that has no end is refused.
+    /// Ends the machine at the input's end, and returns what is to be told last: a name that is
+    /// held still is told that memory ran out, and a text that has no end is refused.
     pub fn end(self) -> Result<Vec<u8>, Stop>
         requires { IsReady self }
         ensures { IfOk result (λ reply. EndsMachine (state_in self.entry.server.lines)
