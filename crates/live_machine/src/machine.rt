@@ -25,7 +25,9 @@ use script_text::OperatorLine;
 use std::alloc::Global;
 pub use steps::{MOST_TOLD, StepEnd};
 
-/// A live service whose jobs are stepped by workers.
+/// A live service whose jobs are stepped by workers. Lines of its input come by [`Machine::line`],
+/// and steps that workers made by [`Machine::put`]. What is to be kept and what is to be told is
+/// taken by [`Machine::drain`].
 pub struct Machine<'g> {
     alloc: Global,
     server: LineServer<'g>,
@@ -167,7 +169,10 @@ impl<'g> Machine<'g> {
         }
     }
 
-    /// Takes a line of the input.
+    /// Takes a line of the input, as it is read: without LF, and cut to the bytes that are kept of it.
+    ///
+    /// # Errors
+    /// Why the machine stops. It takes no call after that but `close`.
     pub fn line(&mut self, line: &[u8]) -> Result<(), Stop>
         requires is_line { IsLine line.now }
         requires ready { IsReady self.old }

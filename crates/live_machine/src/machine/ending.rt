@@ -13,6 +13,9 @@ use std::alloc::{AllocError, Global};
 
 impl Machine<'_> {
     /// Notes all tenancies that have a step to take, as after a log was served again.
+    ///
+    /// # Errors
+    /// Why the machine stops. It takes no call after that but `close`.
     pub fn find_steps(&mut self) -> Result<(), Stop>
         ensures server { self.new.server ≡ self.old.server }
         ensures held { self.new.held ≡ self.old.held }
@@ -53,7 +56,11 @@ impl Machine<'_> {
     }
 
     /// Ends the machine at the input's end, and returns what is to be told last: a name that is
-    /// held still is told that memory ran out, and a text that has no end is refused.
+    /// held still is told that memory ran out, and a text that has no end is refused. What was not
+    /// drained is lost.
+    ///
+    /// # Errors
+    /// `NoMemory` if it runs out of memory.
     pub fn end(self) -> Result<Vec<u8>, Stop>
         requires { IsReady self }
         ensures { IfOk result (λ reply. EndsMachine (state_in self.entry.server.lines)

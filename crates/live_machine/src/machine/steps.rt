@@ -54,6 +54,9 @@ impl Machine<'_> {
     /// Puts a step that a worker made. If it is still the next one of its tenancy's running job,
     /// that is a line `op step NAME 1`; if not, it is dropped. Then the name has its turn, if it is
     /// held.
+    ///
+    /// # Errors
+    /// Why the machine stops. It takes no call after that but `close`.
     pub fn put(&mut self, done: Done) -> Result<StepEnd, Stop>
         requires ready { IsReady self.old }
         ensures ready { OnOk result (IsReady self.new) }
@@ -124,6 +127,9 @@ impl Machine<'_> {
     }
 
     /// Takes a job back for whose step memory ran out.
+    ///
+    /// # Errors
+    /// Why the machine stops. It takes no call after that but `close`.
     pub fn give_back(&mut self, back: Back) -> Result<StepEnd, Stop>
         requires ready { IsReady self.old }
         ensures ready { OnOk result (IsReady self.new) }
@@ -157,6 +163,9 @@ impl Machine<'_> {
     }
 
     /// Has the step of that tenancy's job made again, for which memory ran out.
+    ///
+    /// # Errors
+    /// Why the machine stops. It takes no call after that but `close`.
     pub fn retry(&mut self, id: u32) -> Result<(), Stop>
         ensures server { self.new.server ≡ self.old.server }
         ensures held { self.new.held ≡ self.old.held }
@@ -207,6 +216,9 @@ impl Machine<'_> {
     }
 
     /// Serves the first held name that can be served on. Returns whether there was one.
+    ///
+    /// # Errors
+    /// Why the machine stops. It takes no call after that but `close`.
     pub fn turn(&mut self) -> Result<bool, Stop>
         requires ready { IsReady self.old }
         ensures ready { OnOk result (IsReady self.new) }
