@@ -169,7 +169,8 @@ impl<'g> Machine<'g> {
         }
     }
 
-    /// Takes a line of the input, as it is read: without LF, and cut to the bytes that are kept of it.
+    /// Takes a line of the input as it is read: without LF, and cut to the bytes that are kept of
+    /// it.
     ///
     /// # Errors
     /// Why the machine stops. It takes no call after that but `close`.
