@@ -1,11 +1,8 @@
 //! Reads the program's words to an errand.
-use crate::layout_input::{LayoutPaths, paths_of};
-use crate::size::size_of;
-use crate::{
-    check, configure, files, log_tool, page_tool, picture, random, report, route_wishes, script,
-    strip,
-};
 use clap::Error;
+use desk_layouts::{LayoutPaths, check, configure, paths_of, strip};
+use desk_netlists::{random, route_wishes, script};
+use desk_replies::{files, page_tool, picture, report, size_of};
 use device_lines::DeviceSize;
 use option_words::{Call, Toolbox, call_refusal, read_call};
 use std::alloc::Global;
@@ -39,7 +36,7 @@ const TOOLBOX: Toolbox = Toolbox {
         report::NAMED,
         page_tool::NAMED,
         random::TOOL,
-        log_tool::TOOL,
+        desk_log::TOOL,
     ],
 };
 
@@ -68,25 +65,25 @@ pub(crate) enum Errand<'a> {
     /// The script of a tenancy.
     Script(ScriptParameters<'a>),
     /// The files of a script.
-    Files(files::Wishes<'a>),
+    Files(files::FilesWishes<'a>),
     /// A netlist on a device of its own.
-    Route(route_wishes::Wishes<'a>),
+    Route(route_wishes::RouteWishes<'a>),
     /// A layout against its netlist.
     Check(LayoutPaths<'a>),
     /// The configuration of a layout.
     Configure(LayoutPaths<'a>),
     /// A picture of a tenancy.
-    Strip(strip::Wishes<'a>),
+    Strip(strip::StripWishes<'a>),
     /// A picture of a device of that size.
     Picture(DeviceSize),
     /// How full a device is.
-    Report(report::Wishes<'a>),
+    Report(report::ReportWishes<'a>),
     /// A page of a script and what was printed for it.
-    Page(page_tool::Wishes<'a>),
+    Page(page_tool::PageWishes<'a>),
     /// A script with random circuits.
-    Random(random::Wanted),
+    Random(random::RandomWishes),
     /// A shorter log of a live service.
-    Log(log_tool::Wishes<'a>),
+    Log(desk_log::LogWishes<'a>),
 }
 
 /// What these words ask, the first being the program's name. An error is clap's; a request for help
@@ -145,8 +142,8 @@ fn errand_of<'a>(call: &Call<'a>) -> Result<Errand<'a>, &'static str> {
         "picture" => Ok(Errand::Picture(size_of(&call.given)?)),
         "report" => Ok(Errand::Report(report::wishes_of(&call.given)?)),
         "page" => Ok(Errand::Page(page_tool::wishes_of(&call.given)?)),
-        "random" => Ok(Errand::Random(random::wanted_of(&call.given)?)),
-        "log" => Ok(Errand::Log(log_tool::wishes_of(&call.given)?)),
+        "random" => Ok(Errand::Random(random::wishes_of(&call.given)?)),
+        "log" => Ok(Errand::Log(desk_log::wishes_of(&call.given)?)),
         _ => Err(NO_TOOL),
     }
 }

@@ -19,44 +19,8 @@
 //! [`Outcome`] says how it ended, by a status and a message.
 #![tactic(auto)]
 
-mod arch_words;
-mod check;
-mod configure;
-mod csv;
-mod device_file;
-mod device_input;
 mod errand;
-mod files;
-mod last_files;
-mod latches;
-mod layout_input;
-mod log_tool;
-mod longest;
-mod outcome;
-mod overuse;
-mod page_tool;
-mod path_hops;
-mod paths;
-mod picture;
-mod random;
-mod report;
-mod report_paths;
-mod route;
-mod route_size;
-mod route_wishes;
-mod routed_table;
 mod run;
-mod script;
-mod script_input;
-mod silence;
-mod size;
-mod strip;
-mod strip_check;
-mod tenancy_table;
-mod tenants;
-mod usages;
-mod words;
 
-pub use outcome::Outcome;
-pub use paths::FileRole;
+pub use desk_common::{FileRole, Outcome};
 pub use run::{Streams, run_words};

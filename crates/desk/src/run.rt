@@ -1,16 +1,12 @@
 //! Runs errands.
-use crate::device_file::{device_path, with_device};
-use crate::device_input::device_in;
 use crate::errand::{Errand, read_errand};
-use crate::latches::warn_of_latches;
-use crate::outcome::Outcome;
-use crate::paths::{FileRole, read_file};
-use crate::{
-    check, configure, files, log_tool, page_tool, picture, random, report, route, script, strip,
-};
 use clap::Error;
 use clap::error::ErrorKind;
-use device_lines::DeviceSize;
+use desk_circuits::warn_of_latches;
+use desk_common::{FileRole, Outcome, device_path, read_file, with_device};
+use desk_layouts::{check, configure, strip};
+use desk_netlists::{random, route, script};
+use desk_replies::{files, page_tool, picture, report};
 use line_text::{Sink, Source, read_all, write_all, write_slices};
 use std::alloc::Global;
 use std::convert::AsStr;
@@ -153,11 +149,11 @@ fn run<H: Files + AllocGlobal, R: Source, W: Sink, E: Sink>(
         Errand::Check(paths) => Outcome::of(check::run(rt, paths, writer, teller)),
         Errand::Configure(paths) => Outcome::of(configure::run(rt, paths, writer, teller)),
         Errand::Strip(wishes) => Outcome::of(strip::print(rt, wishes, writer, teller)),
-        Errand::Picture(size) => draw(rt.alloc(), size, reader, writer),
+        Errand::Picture(size) => picture::run(rt.alloc(), size, reader, writer),
         Errand::Report(wishes) => Outcome::of(report::run(rt, wishes, reader, writer, teller)),
         Errand::Page(wishes) => Outcome::of(page_tool::run(rt, wishes, reader, writer, teller)),
-        Errand::Random(wanted) => random::print(wanted, writer),
-        Errand::Log(wishes) => Outcome::of(log_tool::run(rt, wishes, writer, teller)),
+        Errand::Random(wishes) => random::print(wishes, writer),
+        Errand::Log(wishes) => Outcome::of(desk_log::run(rt, wishes, writer, teller)),
     }
 }
 
@@ -179,34 +175,5 @@ fn print_script<R: Source, W: Sink, E: Sink>(
             outcome
         }
         Err(error) => Outcome::of_reading(error),
-    }
-}
-
-/// Reads the device of that size from what the service printed, and draws it.
-fn draw<R: Source, W: Sink>(
-    alloc: Global,
-    size: DeviceSize,
-    reader: &mut R,
-    writer: &mut W,
-) -> Outcome {
-    match read_all(alloc, reader) {
-        Ok(text) => {
-            let outcome = draw_text(alloc, size, text.as_slice(), writer);
-            drop(text);
-            outcome
-        }
-        Err(error) => Outcome::of_reading(error),
-    }
-}
-
-/// Draws the device of that size which the text prints.
-fn draw_text<W: Sink>(alloc: Global, size: DeviceSize, text: &[u8], writer: &mut W) -> Outcome {
-    match device_in(alloc, size, text) {
-        Ok(device) => {
-            let outcome = picture::print(alloc, &device, writer);
-            drop(device);
-            outcome
-        }
-        Err(outcome) => outcome,
     }
 }

@@ -1,15 +1,12 @@
 -- What a held name has said, after each call.
-use Rattle.std.proofs.Common.{◌≡◌, ℕ, ◌<◌, ◌⊎◌, inl, inr, length, arith, List, [], ◌∷◌, ◌++◌, Bool, true, false, not, Option, Some, None, refl, sym, ap, subst, ◌∙◌}
+use Rattle.std.proofs.Common.{◌≡◌, ℕ, inl, inr, List, [], ◌∷◌, ◌++◌, Bool, true, false, Some, None, sym, subst}
 use Rattle.std.specs.List.{AllByRecursion}
-use Rattle.backlog.specs.Waiting.{Puts, PutsLost, Takes, first_of, is_none_left}
-use Rattle.backlog.specs.declared.backlog.Turn.{Turn}
-use Rattle.backlog.specs.declared.backlog.Turn.TheVariants.{Item, Nothing, Lost as ItemIsLost}
 use Rattle.sessions.specs.declared.line.LineForm.{LineForm}
 use Rattle.sessions.specs.declared.line.LineForm.TheVariants.{Asks, Begins}
 use Rattle.sessions.specs.declared.line.SessionLine.TheVariants.{Blank, Command, Refused, Wait}
 use Rattle.sessions.specs.Items.{ends_text}
 use Rattle.tagged_lines.specs.Tags.{rest_of}
-use Rattle.live_machine.specs.Held.{AreSaid, Held, HeldItem, HearsForm, HearsHeld, HearsIn, IsSaidBy, IsSaidItem, IsSaidText, PutsItem, TakesFirst, begins_with_wait, form_of, has_items, is_wait_item}
+use Rattle.live_machine.specs.Held.{AreSaid, Held, HeldItem, HearsForm, HearsHeld, HearsIn, IsSaidBy, IsSaidItem, IsSaidText, PutsItem, form_of}
 use Rattle.live_machine.specs.declared.held.OpenText.{OpenText}
 use Rattle.live_machine.specs.declared.held.OpenText.TheVariants.{NoText, Begun, Lost}
 
@@ -52,49 +49,3 @@ said_in Lost true old line new said t is e = subst AreSaid (sym e) (record { ite
 -- a line of the name comes
 pub said_after : (old : Held) (line : List ℕ) (new : Held) → AreSaid old → IsSaidBy old.name line → HearsHeld old line new → AreSaid new
 said_after old line new said is h = said_in old.text (ends_text (rest_of line)) old line new said said.text is h
-
--- the first item is taken
-pub takes_first : (old : Held) (turn : Turn (List (List ℕ))) (items : List HeldItem) → AreSaid old → Takes old.items turn items → TakesFirst old turn (record old { items = items })
-takes_first old (Item lines) items said e = (e, refl, (subst (AllByRecursion (IsSaidItem old.name)) e said.items).0)
-takes_first old ItemIsLost items said e = (e, refl)
-takes_first old Nothing items said e = (e.0, ap (λ (is : List HeldItem). record old { items = is }) (e.1 ∙ sym e.0))
-
-pub said_taken : (old : Held) (turn : Turn (List (List ℕ))) (items : List HeldItem) → AreSaid old → Takes old.items turn items → AreSaid (record old { items = items })
-said_taken old (Item lines) items said e = record { items = (subst (AllByRecursion (IsSaidItem old.name)) e said.items).1; text = said.text }
-said_taken old ItemIsLost items said e = record { items = (subst (AllByRecursion (IsSaidItem old.name)) e said.items).1; text = said.text }
-said_taken old Nothing items said e = record { items = subst (AllByRecursion (IsSaidItem old.name)) (sym e.1) tt; text = said.text }
-
--- a name that is held by that line
-pub said_first : (name line : List ℕ) (id : ℕ) → IsSaidBy name line → AreSaid (record { name = name; id = id; items = Some (line ∷ []) ∷ []; text = NoText })
-said_first name line id is = record { items = ((is, tt), tt); text = tt }
-
--- the first of the items
-pub first_waits : (items : List HeldItem) (lines : List (List ℕ)) → first_of items ≡ Some lines → begins_with_wait items ≡ is_wait_item lines
-first_waits [] lines is = absurd (cc)
-first_waits (None ∷ items) lines is = absurd (cc)
-first_waits (Some own ∷ items) lines is = let same : own ≡ lines = cc in ap is_wait_item same
-
-pub first_lost : (items : List HeldItem) → first_of items ≡ None → begins_with_wait items ≡ false
-first_lost [] is = refl
-first_lost (None ∷ items) is = refl
-first_lost (Some own ∷ items) is = absurd (cc)
-
-pub some_item : (items : List HeldItem) → not (is_none_left items) ≡ has_items items
-some_item [] = refl
-some_item (item ∷ items) = refl
-
--- one item that wasn't lost
-pub one_kept : (lines first : List (List ℕ)) (new : List HeldItem) → Puts [] lines new → first_of new ≡ Some first → new ≡ Some lines ∷ []
-one_kept lines first new (inl e) is = e
-one_kept lines first new (inr (inl e)) is = absurd (let none : first_of new ≡ None = ap first_of e in cc)
-one_kept lines first new (inr (inr (full, e))) is = absurd (omega arith)
-
--- there is room for one more
-pub puts_item : (old : List HeldItem) (lines : List (List ℕ)) (new : List HeldItem) → length old < 18446744073709551615 → Puts old lines new → PutsItem old lines new
-puts_item old lines new room (inl e) = inl e
-puts_item old lines new room (inr (inl e)) = inr e
-puts_item old lines new room (inr (inr (full, e))) = absurd (omega arith)
-
-pub puts_lost : (old new : List HeldItem) → length old < 18446744073709551615 → PutsLost old new → new ≡ old ++ None ∷ []
-puts_lost old new room (inl e) = e
-puts_lost old new room (inr (full, e)) = absurd (omega arith)

@@ -6,7 +6,8 @@ use Rattle.line_feed.specs.Pieces.{is_one_line}
 use Rattle.line_text.specs.Lines.{physical_lines}
 use Rattle.tagged_lines.specs.Tags.{with_feed}
 use Rattle.tagged_lines.proofs.TagLemmas.{are_lines, both, is_line, line_then}
-use Rattle.live_machine.specs.Held.{IsFed, is_wait_item}
+use Rattle.live_machine.specs.Fed.{IsFed}
+use Rattle.live_machine.specs.Held.{is_wait_item}
 
 to_line : (line : List ℕ) → is_one_line line ≡ true → is_line line ≡ true
 to_line [] one = refl

@@ -2,6 +2,7 @@ mod AccountLemmas
 mod AliveLemmas
 mod AtOnce
 mod Books
+mod CountLemmas
 mod Examples
 mod FollowLemmas
 mod HeldLemmas
@@ -15,12 +16,15 @@ mod HereServed
 mod HereStepLines
 mod HereSteps
 mod HereWaits
+mod HoldLemmas
 mod InTenancy
 mod ItemBooks
+mod ItemLemmas
 mod LineLemmas
 mod MachineLemmas
 mod MadeLemmas
 mod NameBooks
+mod NameLemmas
 mod ReadLemmas
 mod RunningLemmas
 mod ServerLemmas

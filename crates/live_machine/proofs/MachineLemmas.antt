@@ -1,8 +1,8 @@
 -- What a machine does with the names that are held.
-use Rattle.std.specs.Prelude.{◌⊎◌, IfSome, OnOk, Result, Ok, Err, ⊤}
+use Rattle.std.specs.Prelude.{◌⊎◌, IfSome, OnOk, Result, Ok, Err}
 use Rattle.std.specs.List.{AllByRecursion}
 use Rattle.std.specs.Str.{bytes_eq}
-use Rattle.std.proofs.Common.{◌≡◌, ℕ, List, [], ◌∷◌, ◌++◌, ◌&&◌, inl, inr, codes, Bool, true, false, cond, Option, Some, None, refl, sym, ap, subst, ◌∙◌}
+use Rattle.std.proofs.Common.{◌≡◌, ℕ, List, [], ◌∷◌, ◌&&◌, inl, inr, Bool, true, false, cond, Option, Some, None, refl, sym, ap, subst, ◌∙◌}
 use Rattle.std.proofs.lemmas.Bool.{false≢true}
 use Rattle.sessions.specs.declared.line.LineForm.{LineForm}
 use Rattle.sessions.specs.declared.line.LineForm.TheVariants.{Asks, Begins}
@@ -11,12 +11,12 @@ use Rattle.sessions.specs.Items.{ends_text}
 use Rattle.backlog.specs.declared.backlog.Turn.{Turn}
 use Rattle.backlog.specs.declared.backlog.Turn.TheVariants.{Item, Lost as LostItem, Nothing as NothingTaken}
 use Rattle.tagged_lines.specs.Tags.{rest_of}
-use Rattle.live_lines.specs.Live.{Asked, LiveState, asked_of}
+use Rattle.live_lines.specs.Live.{LiveState, asked_of}
 use Rattle.live_lines.specs.Live.Asked.{Says}
-use Rattle.live_machine.specs.Held.{HearsHeld, HearsIn, HearsForm, Held, HeldItem, HearsOf, IsSaidBy, TakesFirst, TakesOf, begins_with_wait, form_of, has_items, held_of, is_lost_text, is_wait_item, text_of, with_held, without_name}
+use Rattle.live_machine.specs.Held.{HearsHeld, HearsIn, HearsForm, Held, HeldItem, HearsOf, IsSaidBy, TakesOf, begins_with_wait, form_of, has_items, held_of, is_lost_text, is_wait_item, text_of, with_held, without_name}
 use Rattle.live_machine.specs.declared.held.OpenText.{OpenText}
 use Rattle.live_machine.specs.declared.held.OpenText.TheVariants.{NoText, Begun, Lost}
-use Rattle.live_machine.specs.Machine.{is_busy, EndsHold, FreesIf, GivesUp, IsFree, ServesFirst, holds, WaitsAfter, IsLine, Frees, MachineState, Serves, ServesAll, ServesItem, ServesItems, ServesSaid, TellsLost, must_wait}
+use Rattle.live_machine.specs.Machine.{is_busy, EndsHold, GivesUp, IsFree, ServesFirst, WaitsAfter, IsLine, Frees, MachineState, ServesAll, ServesItems, ServesSaid, TellsLost, must_wait}
 use Rattle.live_machine.specs.Parts.{AreServed, FreesDone, FreesHeld, HearsHolding, ServesOne, has_wait}
 use Rattle.live_machine.proofs.HeldLemmas.{changed_own, name_of_held, same_name}
 use Rattle.live_machine.proofs.LineLemmas.{said_of}
@@ -64,6 +64,14 @@ taken_as (Some h) old name (Item lines) new is (after, (first, rest, said), chan
     (after.items, first, subst P (name_of_held old name h is) said, changed ∙ ap (with_held old) rest)
 taken_as (Some h) old name LostItem new is (after, (first, rest), changed) = (after.items, first, changed ∙ ap (with_held old) rest)
 taken_as (Some h) old name NothingTaken new is (after, (none, same), changed) = (none, changed ∙ (ap (with_held old) same ∙ same_held old name h is))
+
+pub taken_said : (o : Option Held) (old : List Held) (name : List ℕ) (lines : List (List ℕ)) (new : List Held) → held_of old name ≡ o → TakesOf o old (Item lines) new → AllByRecursion (IsSaidBy name) lines
+taken_said None old name lines new is taken = absurd (cc)
+taken_said (Some h) old name lines new is (after, (first, rest, said), changed) = let P : List ℕ → Type 0 = λ n. AllByRecursion (IsSaidBy n) lines in subst P (name_of_held old name h is) said
+
+pub none_taken : (o : Option Held) (old : MachineState) (name : List ℕ) (held : List Held) → held_of old.held name ≡ o → IsTakenOf o old.held name NothingTaken held → ServesOne false o name old (record old { held = held })
+none_taken None old name held is (none, same) = (refl, ap (λ (hs : List Held). record old { held = hs }) same)
+none_taken (Some h) old name held is (none, same) = (none, ap (λ (hs : List Held). record old { held = hs }) same)
 
 -- the first item is served
 pub one_item : (o : Option Held) (old new : MachineState) (name : List ℕ) (lines : List (List ℕ)) (held : List Held) → held_of old.held name ≡ o → IsTakenOf o old.held name (Item lines) held → ServesAll name lines (record old { held = held }) new → ServesOne true o name old new
@@ -237,3 +245,12 @@ heard_last (Some h) old new name line held had is items none (after, heard, chan
 
 pub is_said : (name said line : List ℕ) → IsLine line → asked_of line ≡ Says name said → IsSaidBy name line
 is_said name said line is asks = record { kept = is.kept; one = is.one; says = asks ∙ ap (λ r. Says name r) (sym (said_of name said line asks).2) }
+
+-- a line that ends what its name waits for
+pub called_off : (o : Option Held) (old mid new : MachineState) (name line : List ℕ) → EndsHold o old mid → ServesSaid (must_wait mid.live name line) name line mid new → HearsHolding true o name line old new
+called_off None old mid new name line ends serves = tt
+called_off (Some h) old mid new name line ends serves = (mid, ends, serves)
+
+pub ok_so : {A E : Type 0} {Q : Type 0} → (r : Result A E) → Q → OnOk r Q
+ok_so (Ok a) q = q
+ok_so (Err e) q = tt

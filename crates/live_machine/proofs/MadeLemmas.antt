@@ -1,24 +1,25 @@
 -- The lines that the machine makes itself.
-use Rattle.std.proofs.Common.{◌≡◌, ℕ, ◌+◌, ◌<◌, ◌≤◌, List, [], ◌∷◌, ◌++◌, codes, length, Bool, true, false, not, ◌&&◌, eqb, refl, sym, ap, subst, ◌∙◌, arith, append-nil, length-append}
-use Rattle.std.specs.Prelude.{nat_lt, nat_le}
+use Rattle.std.proofs.Common.{◌≡◌, ℕ, ◌+◌, ◌≤◌, List, [], ◌∷◌, ◌++◌, codes, length, Bool, true, false, not, ◌&&◌, refl, sym, ap, subst, ◌∙◌, lit<, arith, append-nil, length-append}
+use Rattle.std.specs.Prelude.{IfOk, Result, Ok, Err, nat_lt, nat_le}
 use Rattle.std.specs.List.{list_all}
+use Rattle.std.proofs.lemmas.Fmt.{decimal_digit}
 use Rattle.std.specs.Str.{bytes_eq}
 use Rattle.std.proofs.lemmas.Bool.Decides.{nat_tests}
 use Rattle.std.proofs.lemmas.List.{take_all}
 use Rattle.std.proofs.lemmas.Slice.Eq.{bytes_eq-Decides}
 use Rattle.script_text.specs.Script.{is_name, is_name_byte}
-use Rattle.sessions.specs.declared.line.LineForm.{LineForm}
 use Rattle.sessions.specs.Items.{without_cr}
 use Rattle.sessions.specs.SessionLines.{line_form}
 use Rattle.line_feed.specs.Pieces.{is_one_line, kept_of}
-use Rattle.tagged_lines.specs.Tags.{rest_of, tag_of}
+use Rattle.tagged_lines.specs.Tags.{rest_of, tag_of, tagged_text}
 use Rattle.tagged_lines.proofs.TagLemmas.{both, rest_is, tag_is}
 use Rattle.line_service.proofs.LineLemmas.{both_lines}
-use Rattle.live_lines.specs.Live.{asked_of}
+use Rattle.live_lines.specs.Live.{Asked, LiveState, asked_of}
 use Rattle.live_lines.specs.Live.Asked.{NoForm, Says}
 use Rattle.live_lines.proofs.LawLemmas.{name_tag, not_10, says}
-use Rattle.live_machine.specs.Held.{IsSaidBy, form_of, is_wait}
-use Rattle.live_machine.specs.Machine.{IsLine, IsMade}
+use Rattle.live_machine.specs.Held.{form_of, is_wait}
+use Rattle.live_machine.specs.Machine.{IsLine, is_busy, is_outside}
+use Rattle.live_machine.specs.Workers.{NeedNotWait, nomemory_reply}
 
 -- a name is short, and no byte of it ends a line
 bytes_line : (name : List ℕ) → list_all is_name_byte name ≡ true → is_one_line name ≡ true
@@ -36,9 +37,13 @@ name_short name ok =
     let short : nat_le (length name) 32 ≡ true = parts.1 in
     grind (arith, nat_tests, short)
 
+kept_whole : (text : List ℕ) → length text ≤ 1048640 → kept_of text ≡ text
+unfolding kept_of
+kept_whole text short = take_all 1048640 text short
+
 -- a short text without LF is a line
 line_of : (text : List ℕ) → is_one_line text ≡ true → length text ≤ 1048640 → IsLine text
-line_of text one short = record { kept = take_all 1048640 text short; one = one }
+line_of text one short = record { kept = kept_whole text short; one = one }
 
 pub name_in_line : (before name after : List ℕ) → is_name name ≡ true → is_one_line before ≡ true → is_one_line after ≡ true → length before + length after ≤ 1000 → IsLine (before ++ (name ++ after))
 name_in_line before name after ok first last few =
@@ -55,7 +60,7 @@ after_mark line is short =
     line_of (63 ∷ 32 ∷ (line ++ [])) one (omega (arith, short, count))
 
 pub mark_alone : IsLine (63 ∷ [])
-mark_alone = record { kept = refl; one = refl }
+mark_alone = line_of (63 ∷ []) refl (omega arith)
 
 pub no_form : (line : List ℕ) → asked_of (63 ∷ 32 ∷ line) ≡ NoForm
 no_form line = refl
@@ -80,3 +85,23 @@ status_line name ok = name_in_line (64 ∷ []) name (codes " status") ok refl re
 
 pub status_is_no_wait : (name : List ℕ) → is_name name ≡ true → is_wait (form_of (status_text name)) ≡ false
 status_is_no_wait name ok = ap (λ r. is_wait (line_form (without_cr r))) (status_rest name ok)
+
+and_none : (a b c : Bool) → b ≡ false → a && (b && c) ≡ false
+and_none a b c none = ap (λ x. a && (x && c)) none ∙ and_false a
+  where
+    and_false : (x : Bool) → x && false ≡ false
+    and_false true = refl
+    and_false false = refl
+
+pub status_need_not : (live : LiveState) (name : List ℕ) → is_name name ≡ true → NeedNotWait live (asked_of (status_text name)) (status_text name)
+status_need_not live name ok =
+    let P : Asked → Type 0 = λ a. NeedNotWait live a (status_text name) in
+    subst P (sym (status_asks name ok)) (and_none (is_outside (live.texts name)) (is_wait (form_of (status_text name))) (is_busy live name) (status_is_no_wait name ok))
+
+-- the reply that memory ran out
+pub nomemory_is : (name : List ℕ) → nomemory_reply name ≡ codes "op lines 1" ++ 10 ∷ (codes "op nomemory" ++ 10 ∷ [])
+nomemory_is name = ap (λ d. tagged_text (codes "op") (codes "lines " ++ d) ++ (codes "op nomemory" ++ 10 ∷ [])) (decimal_digit 1 (lit< tt))
+
+pub if_ok : {A E : Type 0} {P Q : A → Type 0} → (r : Result A E) → ((x : A) → P x → Q x) → IfOk r P → IfOk r Q
+if_ok (Ok x) f p = f x p
+if_ok (Err e) f p = tt

@@ -1,11 +1,13 @@
 -- The place of a name among those that are held.
-use Rattle.std.proofs.Common.{◌≡◌, ℕ, suc, ◌+◌, ◌<◌, length, get_or, arith, List, [], ◌∷◌, Bool, true, false, not, nat_lt, cond, Option, Some, None, refl, sym, ap, subst, ◌∙◌}
-use Rattle.std.specs.List.{filter, position, position_or_len, slice_get}
+use Rattle.std.proofs.Common.{◌≡◌, ℕ, suc, ◌+◌, ◌<◌, length, get_or, arith, List, [], ◌∷◌, Bool, true, false, not, nat_lt, cond, Some, None, refl, sym, ap, subst, ◌∙◌}
+use Rattle.std.specs.List.{filter, items_where_true, position, position_or_len, slice_get}
+use Rattle.std.specs.List.Retain.{IsFiltered, ReturnsInTurn}
 use Rattle.std.specs.Str.{bytes_eq}
 use Rattle.std.proofs.Math.ListN.{set}
 use Rattle.std.proofs.lemmas.Bool.Decides.{nat_tests}
 use Rattle.std.proofs.lemmas.Option.{slice_get-get_or, slice_get_past}
 use Rattle.backlog.specs.declared.backlog.Turn.{Turn}
+use Rattle.backlog.specs.declared.backlog.Turn.TheVariants.{Item, Nothing, Lost as ItemIsLost}
 use Rattle.live_machine.specs.Held.{Held, HearsHeld, HearsOf, TakesFirst, TakesOf, held_of, with_held, without_name}
 use Rattle.live_machine.proofs.HeldLemmas.{name_of_held, same_name}
 
@@ -25,7 +27,7 @@ changed_at : (held : List Held) (new : Held) → position_or_len (is_of new.name
 changed_at [] new within = absurd (omega arith)
 changed_at (h ∷ held) new within =
     elim (bytes_eq h.name new.name) as (λ b. cond (not b) (1 + position_or_len (is_of new.name) held) 0 < length (h ∷ held) →
-        set (h ∷ held) (cond (not b) (1 + position_or_len (is_of new.name) held) 0) new ≡ cond b (new ∷ held) (h ∷ with_held held new)) [
+    set (h ∷ held) (cond (not b) (1 + position_or_len (is_of new.name) held) 0) new ≡ cond b (new ∷ held) (h ∷ with_held held new)) [
       | true ↦ λ w. refl
       | false ↦ λ w. (let n : 1 + position_or_len (is_of new.name) held ≡ suc (position_or_len (is_of new.name) held) = omega arith in
           ap (λ k. set (h ∷ held) k new) n ∙ ap (λ hs. h ∷ hs) (changed_at held new (omega arith)))
@@ -34,7 +36,7 @@ changed_at (h ∷ held) new within =
 -- what is held at a place
 pub record IsPlace (held : List Held) (name : List ℕ) (place : ℕ) : Type 0 where
   pub within : place < length held
-  pub held : (h : Held) → h ≡ get_or held place h → held_of held name ≡ Some h
+  pub found : (h : Held) → h ≡ get_or held place h → held_of held name ≡ Some h
   pub changed : (new : Held) → new.name ≡ name → set held place new ≡ with_held held new
 
 pub at_place : (held : List Held) (name : List ℕ) (place : ℕ) → position (is_of name) held ≡ Some place → IsPlace held name place
@@ -46,7 +48,7 @@ at_place held name place is =
           let less : first < length held = grind (arith, nat_tests, e) in
           subst (IsPlace held name) same (record {
             within = less;
-            held = λ h is. held_at held name ∙ (slice_get-get_or held first h less ∙ ap Some (sym is));
+            found = λ h is. held_at held name ∙ (slice_get-get_or held first h less ∙ ap Some (sym is));
             changed = λ new own. subst (λ n. position_or_len (is_of n) held < length held → set held (position_or_len (is_of n) held) new ≡ with_held held new) own (changed_at held new) less;
           })
       | false ↦ λ e s. absurd (cc)
@@ -62,17 +64,22 @@ at_none held name is =
 
 -- what is held at a place has that name
 pub named_at : (held : List Held) (name : List ℕ) (place : ℕ) (h : Held) → IsPlace held name place → h ≡ get_or held place h → h.name ≡ name
-named_at held name place h at is = name_of_held held name h (at.held h is)
+named_at held name place h at is = name_of_held held name h (at.found h is)
 
 pub hears_at : (held : List Held) (name : List ℕ) (place : ℕ) (old : Held) (line : List ℕ) (new : Held) → IsPlace held name place → old ≡ get_or held place old → new.name ≡ old.name → HearsHeld old line new →
     HearsOf (held_of held name) held line (set held place new)
 hears_at held name place old line new at is own hears =
-    subst (λ o. HearsOf o held line (set held place new)) (sym (at.held old is)) (new, hears, at.changed new (own ∙ named_at held name place old at is))
+    subst (λ o. HearsOf o held line (set held place new)) (sym (at.found old is)) (new, hears, at.changed new (own ∙ named_at held name place old at is))
 
-pub takes_at : (held : List Held) (name : List ℕ) (place : ℕ) (old : Held) (turn : Turn (List (List ℕ))) (new : Held) → IsPlace held name place → old ≡ get_or held place old → new.name ≡ old.name → TakesFirst old turn new →
+keeps_name : (old : Held) (turn : Turn (List (List ℕ))) (new : Held) → TakesFirst old turn new → new.name ≡ old.name
+keeps_name old (Item lines) new takes = ap (λ (h : Held). h.name) takes.1
+keeps_name old ItemIsLost new takes = ap (λ (h : Held). h.name) takes.1
+keeps_name old Nothing new takes = ap (λ (h : Held). h.name) takes.1
+
+pub takes_at : (held : List Held) (name : List ℕ) (place : ℕ) (old : Held) (turn : Turn (List (List ℕ))) (new : Held) → IsPlace held name place → old ≡ get_or held place old → TakesFirst old turn new →
     TakesOf (held_of held name) held turn (set held place new)
-takes_at held name place old turn new at is own takes =
-    subst (λ o. TakesOf o held turn (set held place new)) (sym (at.held old is)) (new, takes, at.changed new (own ∙ named_at held name place old at is))
+takes_at held name place old turn new at is takes =
+    subst (λ o. TakesOf o held turn (set held place new)) (sym (at.found old is)) (new, takes, at.changed new (keeps_name old turn new takes ∙ named_at held name place old at is))
 
 -- a name is held no longer, whatever was held of it
 pub freed_changed : (held : List Held) (new : Held) → without_name (with_held held new) new.name ≡ without_name held new.name
@@ -82,6 +89,23 @@ freed_changed (h ∷ held) new =
       | true ↦ λ e. ap (λ b. cond b (without_name held new.name) (new ∷ without_name held new.name)) (same_name new.name)
       | false ↦ λ e. ap (λ b. cond b (without_name (with_held held new) new.name) (h ∷ without_name (with_held held new) new.name)) e ∙ ap (λ hs. h ∷ hs) (freed_changed held new)
     ] refl
+
+first_left : {X : Type 0} (x : X) (xs ys : List X) (bs : List Bool) (b t : Bool) → b ≡ t → items_where_true bs xs ≡ ys → items_where_true (b ∷ bs) (x ∷ xs) ≡ cond t (x ∷ ys) ys
+first_left x xs ys bs true t e rest = ap (λ l. x ∷ l) rest ∙ ap (λ a. cond a (x ∷ ys) ys) e
+first_left x xs ys bs false t e rest = rest ∙ ap (λ a. cond a (x ∷ ys) ys) e
+
+left_in_turn : {X F : Type 0} (R : F → X → Bool → F → Type 0) (test : X → Bool) (f : F) → ((x : X) (b : Bool) (g : F) → R f x b g → (b ≡ test x) × (g ≡ f)) →
+    (bs : List Bool) (xs : List X) (q : F) → length bs ≡ length xs → ReturnsInTurn R f bs xs q → items_where_true bs xs ≡ filter test xs
+left_in_turn R test f says [] [] q e h = refl
+left_in_turn R test f says [] (x ∷ xs) q e h = absurd (omega arith)
+left_in_turn R test f says (b ∷ bs) [] q e h = absurd h
+left_in_turn R test f says (b ∷ bs) (x ∷ xs) q e h =
+    let said = says x b h.0 h.1 in
+    first_left x xs (filter test xs) bs b (test x) said.0 (left_in_turn R test f says bs xs q (omega arith) (subst (λ g. ReturnsInTurn R g bs xs q) said.1 h.2))
+
+-- what `retain` leaves if no call changes the closure
+pub left_by : {X F : Type 0} (R : F → X → Bool → F → Type 0) (test : X → Bool) (f : F) → ((x : X) (b : Bool) (g : F) → R f x b g → (b ≡ test x) × (g ≡ f)) → (xs ys : List X) → IsFiltered R f xs ys → ys ≡ filter test xs
+left_by R test f says xs ys h = h.4 ∙ left_in_turn R test f says h.0 xs h.1 h.2 h.3
 
 pub those_left : (held : List Held) (name : List ℕ) → filter (λ h. not (bytes_eq h.name name)) held ≡ without_name held name
 those_left [] name = refl

@@ -1,13 +1,12 @@
 -- What a server of lines does.
-use Rattle.std.proofs.Common.{◌≡◌, ℕ, ◌+◌, List, [], ◌∷◌, ◌++◌, codes, Bool, true, false, ◌&&◌, Option, Some, None, refl, sym, ap, subst, ◌∙◌}
-use Rattle.script_text.specs.declared.operator_line.OperatorLine.TheVariants.{Step}
+use Rattle.std.proofs.Common.{◌≡◌, ℕ, ◌+◌, List, ◌++◌, Bool, false, sym, ap, subst, ◌∙◌}
 use Rattle.tagged_lines.specs.Tags.{rest_of, with_feed}
 use Rattle.live_lines.specs.Live.{Asked, LiveState, asked_of, with_service}
-use Rattle.live_lines.specs.Live.Asked.{Operates, Says}
+use Rattle.live_lines.specs.Live.Asked.{Says}
 use Rattle.live_input.specs.Serving.{AnswersLine, state_in}
 use Rattle.live_machine.specs.Workers.{NeedNotWait, all_here, without_workers}
-use Rattle.live_machine.specs.Machine.{is_busy, IsLine, IsMade, MachineState, Serves, ServesSaid, TellsLost, Works, must_wait, is_by_hand}
-use Rattle.live_machine.specs.Held.{form_of, Held, IsSaidBy, is_wait}
+use Rattle.live_machine.specs.Machine.{IsLine, MachineState, Serves, ServesSaid, Works, must_wait, is_by_hand}
+use Rattle.live_machine.specs.Held.{Held}
 use Rattle.live_machine.specs.Parts.{state_with}
 use Rattle.live_machine.specs.declared.server.LineServer.{LineServer}
 

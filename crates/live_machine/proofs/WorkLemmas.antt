@@ -1,16 +1,14 @@
 -- What workers do, call by call.
 use Rattle.std.specs.List.{AllByRecursion, list_all}
-use Rattle.std.proofs.Common.{◌≡◌, ℕ, List, [], ◌∷◌, ◌++◌, Bool, true, false, ◌&&◌, refl, sym, ap, subst, ◌∙◌}
+use Rattle.std.proofs.Common.{◌≡◌, ℕ, List, [], ◌∷◌, ◌++◌, Bool, true, false, ◌&&◌, Some, None, refl, sym, ap, subst, ◌∙◌}
 use Rattle.std.proofs.lemmas.List.Folds.{list_all-append}
-use Rattle.live_lines.specs.Live.{LiveState}
 use Rattle.live_machine.specs.declared.machine.steps.StepEnd.{StepEnd}
-use Rattle.live_machine.specs.declared.machine.steps.StepEnd.TheVariants.{Made, Dropped, NoMemory}
-use Rattle.live_machine.specs.Held.{Held}
+use Rattle.live_machine.specs.declared.machine.steps.StepEnd.TheVariants.{Again, Dropped, GivenUp, Made}
 use Rattle.live_machine.specs.declared.machine.Machine.{Machine}
 use Rattle.live_machine.specs.declared.server.LineServer.{LineServer}
-use Rattle.live_machine.specs.Parts.{machine_of, state_with, EndsStep, HasTurn, HasTurns, IsGivenUp, IsTurnOf, IsWorked, is_workers}
-use Rattle.live_machine.specs.Machine.{Call, Happens, MachineState, Run}
-use Rattle.live_machine.specs.Machine.Call.{GiveUp, PutStep, ServeHeld}
+use Rattle.live_machine.specs.Parts.{PutsIf, PutsStep, machine_of, state_with, EndsStep, HasTurn, HasTurns, IsGivenUp, IsTurnOf, IsWorked, is_workers}
+use Rattle.live_machine.specs.Machine.{Call, MachineState, Run}
+use Rattle.live_machine.specs.Machine.Call.{GiveUp, ServeHeld}
 
 run_both : (a b c : MachineState) (first more : List Call) → Run a first b → Run b more c → Run a (first ++ more) c
 run_both a b c [] more same run = let P : MachineState → Type 0 = λ m. Run m more c in subst P same run
@@ -58,19 +56,6 @@ work_both a b c one other =
       run = run_both a b c one.calls other.calls one.run other.run;
     }
 
-pub step_works : (end : StepEnd) (name : List ℕ) (old new : MachineState) → EndsStep end name old new → IsWorked old new
-step_works Made name old new put = record { calls = PutStep name ∷ []; works = refl; run = (new, put, refl) }
-step_works Dropped name old new same = no_work old new same
-step_works NoMemory name old new same = no_work old new same
-
-pub give_up_works : (went : Bool) (name : List ℕ) (old new : MachineState) → IsGivenUp went name old new → IsWorked old new
-give_up_works true name old new given = record { calls = GiveUp name ∷ []; works = refl; run = (new, given, refl) }
-give_up_works false name old new same = no_work old new same
-
--- with the same state before
-pub ends_after : (end : StepEnd) (name : List ℕ) (old mid new : MachineState) → mid ≡ old → EndsStep end name mid new → EndsStep end name old new
-ends_after end name old mid new same ends = let P : MachineState → Type 0 = λ m. EndsStep end name m new in subst P same ends
-
 pub works_after : (old mid new : MachineState) → mid ≡ old → IsWorked mid new → IsWorked old new
 works_after old mid new same works = let P : MachineState → Type 0 = λ m. IsWorked m new in subst P same works
 
@@ -79,3 +64,28 @@ works_to a b c same works = let P : MachineState → Type 0 = λ m. IsWorked a m
 
 pub same_state : (a b : Machine) → a.server ≡ b.server → a.held ≡ b.held → machine_of a ≡ machine_of b
 same_state a b server held = ap (λ (s : LineServer). state_with s a.held) server ∙ ap (λ h. state_with b.server h) held
+
+-- a step is put
+pub made_puts : (name : List ℕ) (old mid new : MachineState) → EndsStep (Some true) name old mid → IsWorked mid new → PutsStep Made old new
+made_puts name old mid new put works = (name, mid, put, works)
+
+pub dropped_puts : (name : List ℕ) (old mid new : MachineState) → EndsStep None name old mid → IsWorked mid new → PutsStep Dropped old new
+dropped_puts name old mid new same works = works_after old mid new same works
+
+pub lacking_puts : (end : StepEnd) (name : List ℕ) (old mid new : MachineState) → (end ≡ Made → ⊥) → EndsStep (Some false) name old mid → IsWorked mid new → PutsStep end old new
+lacking_puts Made name old mid new apart same works = absurd (apart refl)
+lacking_puts Dropped name old mid new apart same works = works_after old mid new same works
+lacking_puts (Again tries) name old mid new apart same works = works_after old mid new same works
+lacking_puts GivenUp name old mid new apart same works = works_after old mid new same works
+
+pub puts_after : (end : StepEnd) (old mid new : MachineState) → mid ≡ old → PutsStep end mid new → PutsStep end old new
+puts_after end old mid new same puts = let P : MachineState → Type 0 = λ m. PutsStep end m new in subst P same puts
+
+pub give_up_works : (went : Bool) (name : List ℕ) (old new : MachineState) → IsGivenUp went name old new → IsWorked old new
+give_up_works true name old new given = record { calls = GiveUp name ∷ []; works = refl; run = (new, given, refl) }
+give_up_works false name old new same = no_work old new same
+
+-- with the same state before
+pub ends_by : (made : Bool) (name : List ℕ) (old mid new : MachineState) → mid ≡ old → PutsIf made name mid new → EndsStep (Some made) name old new
+ends_by true name old mid new same puts = let P : MachineState → Type 0 = λ m. PutsIf true name m new in subst P same puts
+ends_by false name old mid new same puts = puts ∙ same

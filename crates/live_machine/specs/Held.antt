@@ -2,11 +2,10 @@
 -- waits too.
 use Rattle.std.specs.Prelude.{ℕ, ◌≡◌, ◌⊎◌, List, [], ◌∷◌, ◌++◌, Bool, true, false, Option, Some, None, ⊤, if◌then◌else◌}
 use Rattle.std.specs.Str.{bytes_eq}
-use Rattle.std.specs.List.{AllByRecursion, flat_map}
+use Rattle.std.specs.List.{AllByRecursion}
 use Rattle.backlog.specs.declared.backlog.Turn.{Turn}
 use Rattle.backlog.specs.declared.backlog.Turn.TheVariants.{Item, Nothing as NothingWaits, Lost as ItemIsLost}
 use Rattle.line_feed.specs.Pieces.{is_one_line, kept_of}
-use Rattle.line_text.specs.Lines.{physical_lines}
 use Rattle.live_lines.specs.Live.{asked_of}
 use Rattle.live_lines.specs.Live.Asked.{Says}
 use Rattle.tenant_slot.specs.declared.command.Command.TheVariants.{Cancel, Withdraw}
@@ -16,7 +15,7 @@ use Rattle.sessions.specs.declared.line.SessionLine.TheVariants.{Blank, Command,
 use Rattle.sessions.specs.declared.line.TextKind.TheVariants.{Change}
 use Rattle.sessions.specs.Items.{ends_text, without_cr}
 use Rattle.sessions.specs.SessionLines.{line_form}
-use Rattle.tagged_lines.specs.Tags.{rest_of, with_feed}
+use Rattle.tagged_lines.specs.Tags.{rest_of}
 use Rattle.live_machine.specs.declared.held.OpenText.{OpenText}
 use Rattle.live_machine.specs.declared.held.OpenText.TheVariants.{NoText, Begun, Lost}
 
@@ -94,10 +93,6 @@ abbrev pub with_held : List Held → Held → List Held
 with_held [] new = []
 with_held (h ∷ held) new = if bytes_eq h.name new.name then new ∷ held else h ∷ with_held held new
 
--- the bytes are lines, each ended by LF
-abbrev pub IsFed : List ℕ → Type 0
-IsFed bytes = bytes ≡ flat_map with_feed (physical_lines bytes)
-
 -- a line as it is read, that this name says
 pub record IsSaidBy (name line : List ℕ) : Type 0 where
   pub kept : kept_of line ≡ line
@@ -123,13 +118,13 @@ abbrev pub begins_with_wait : List HeldItem → Bool
 begins_with_wait (Some lines ∷ items) = is_wait_item lines
 begins_with_wait items = false
 
-abbrev pub has_items : List HeldItem → Bool
-has_items [] = false
-has_items (item ∷ items) = true
-
 abbrev pub is_lost_text : OpenText → Bool
 is_lost_text Lost = true
 is_lost_text text = false
+
+abbrev pub has_items : List HeldItem → Bool
+has_items [] = false
+has_items (item ∷ items) = true
 
 -- the first item is taken
 abbrev pub TakesFirst : Held → Turn (List (List ℕ)) → Held → Type 0

@@ -1,15 +1,22 @@
 -- private: the parts of the machine's code, and what they do.
-use Rattle.std.specs.Prelude.{ℕ, ◌≡◌, ◌⊎◌, List, [], ◌∷◌, Bool, true, false, Option, Some, None, ⊤}
+use Rattle.std.specs.Prelude.{ℕ, ◌≡◌, List, [], ◌∷◌, Bool, true, false, nat_lt, Option, Some, None, IsSomeAnd, ⊤}
 use Rattle.std.specs.List.{AllByRecursion, list_all}
 use Rattle.script_text.specs.declared.operator_line.OperatorLine.TheVariants.{Step}
+use Rattle.job_state.specs.declared.step.JobStep.{JobStep}
+use Rattle.tenant_slot.specs.declared.slot.TheConstants.{MAX_ENTRIES}
+use Rattle.tenant_slot.specs.Slot.{next_job}
+use Rattle.service_core.specs.History.{slot_of, state_of}
+use Rattle.service_core.specs.Service.{live_of}
+use Rattle.operator.specs.OperatorText.{last_id, name_of}
+use Rattle.live_lines.specs.Live.{LiveState}
 use Rattle.live_lines.specs.Live.Asked.{Operates}
 use Rattle.live_input.specs.Serving.{is_ready, state_in}
 use Rattle.live_machine.specs.declared.machine.Machine.{Machine}
 use Rattle.live_machine.specs.declared.machine.steps.StepEnd.{StepEnd}
-use Rattle.live_machine.specs.declared.machine.steps.StepEnd.TheVariants.{Made, Dropped, NoMemory}
+use Rattle.live_machine.specs.declared.machine.steps.StepEnd.TheVariants.{Made}
 use Rattle.live_machine.specs.declared.server.LineServer.{LineServer}
 use Rattle.live_machine.specs.Held.{Held, HeldItem, begins_with_wait, held_of}
-use Rattle.live_machine.specs.Machine.{Call, Frees, FreesIf, GivesUp, Happens, HearsAfter, IsMade, MachineState, Run, ServesItem, ServesItems, Works}
+use Rattle.live_machine.specs.Machine.{Call, Frees, FreesIf, Happens, HearsAfter, IsMade, MachineState, Run, ServesItem, ServesItems, Works, is_busy}
 use Rattle.live_machine.specs.Machine.Call.{GiveUp, PutStep, ServeHeld}
 use Rattle.live_machine.specs.Workers.{without_workers}
 
@@ -76,10 +83,11 @@ abbrev pub IsGivenUp : Bool → List ℕ → MachineState → MachineState → T
 IsGivenUp true name old new = Happens old (GiveUp name) new
 IsGivenUp false name old new = new ≡ old
 
--- private: a step is put so
-abbrev pub EndsStep : StepEnd → List ℕ → MachineState → MachineState → Type 0
-EndsStep Made name old new = Happens old (PutStep name) new
-EndsStep end name old new = new ≡ old
+-- private: a step is put so: with memory or without it, or it isn't the next one
+abbrev pub EndsStep : Option Bool → List ℕ → MachineState → MachineState → Type 0
+EndsStep (Some true) name old new = Happens old (PutStep name) new
+EndsStep (Some false) name old new = new ≡ old
+EndsStep None name old new = new ≡ old
 
 -- private: each of some calls is a turn of that name
 abbrev pub IsTurnOf : List ℕ → Call → Type 0
@@ -102,3 +110,16 @@ pub record IsWorked (old new : MachineState) : Type 0 where
   pub calls : List Call
   pub works : list_all is_workers calls ≡ true
   pub run : Run old calls new
+
+-- a step that is made is put, and then workers go on
+abbrev pub PutsStep : StepEnd → MachineState → MachineState → Type 0
+PutsStep Made old new = (name : List ℕ) × (mid : MachineState) × Happens old (PutStep name) mid × IsWorked mid new
+PutsStep end old new = IsWorked old new
+
+-- the step counts: it is the next one of the running job of the name's tenancy, it was out, and the
+-- tenancy's journal has room
+pub record Counts (live : LiveState) (done : JobStep) (name : List ℕ) : Type 0 where
+  pub named : name_of live.stage.names done.id ≡ Some name
+  pub last : last_id live.stage.names name ≡ done.id
+  pub next : IsSomeAnd (live_of live.stage.service.histories done.id) (λ h. (next_job (slot_of h) ≡ Some done) × (nat_lt (state_of h).entries MAX_ENTRIES ≡ true))
+  pub out : is_busy live name ≡ false

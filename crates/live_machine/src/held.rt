@@ -1,10 +1,11 @@
 //! A name that is held.
-ghost use Rattle.std.specs.Prelude.{◌≡◌, ◌<◌, ◌∷◌, [], ℕ, List, Some, length, true, IfOk, OnErr, OnOk};
+ghost use Rattle.std.specs.Prelude.{◌≡◌, ◌≢◌, ◌<◌, ◌++◌, ◌∷◌, [], ℕ, List, None, Some, length, true, IfOk, MatchBool, MatchResult, OnErr, OnOk};
 ghost use Rattle.line_feed.specs.Pieces.{is_one_line};
+ghost use Rattle.sessions.specs.declared.line.SessionLine.TheVariants.{Blank};
 ghost use Rattle.sessions.specs.Items.{ends_text};
 ghost use Rattle.tagged_lines.specs.Tags.{rest_of};
-ghost use Rattle.live_machine.specs.Held.{HearsForm, HearsHeld, IsSaidBy, IsSaidText, PutsItem, TakesFirst, begins_with_wait, calls_off, gives_up, has_items, is_lost_text};
-ghost use Rattle.live_machine.specs.declared.held.OpenText.TheVariants.{NoText};
+ghost use Rattle.live_machine.specs.Held.{HearsForm, HearsHeld, HearsIn, IsSaidBy, IsSaidText, PutsItem, TakesFirst, begins_with_wait, calls_off, gives_up, has_items, is_lost_text};
+ghost use Rattle.live_machine.specs.declared.held.OpenText.TheVariants.{Begun, Lost, NoText};
 
 use crate::item_lines::{ItemLines, form_of};
 use backlog::{Backlog, Turn};
@@ -138,7 +139,7 @@ impl Hold {
     pub(crate) fn has_lost_text(&self) -> bool
         ensures { result ≡ is_lost_text self.now.text }
     {
-        matches!(self.text, OpenText::Lost)
+        matches!(&self.text, OpenText::Lost)
     }
 
     /// Takes its first item.
@@ -182,12 +183,7 @@ fn begins_with_wait(items: &Backlog<ItemLines>) -> bool
 }
 
 /// A line comes while its name is in that text. Returns the text after it.
-fn hear_in(
-    alloc: Global,
-    items: &mut Backlog<ItemLines>,
-    text: OpenText,
-    line: &[u8],
-) -> OpenText
+fn hear_in(alloc: Global, items: &mut Backlog<ItemLines>, text: OpenText, line: &[u8]) -> OpenText
     requires room { length items.old < 18446744073709551615 }
     requires one { is_one_line line.now ≡ true }
     ensures { (name : List ℕ) (id : ℕ) →
@@ -202,12 +198,7 @@ fn hear_in(
 }
 
 /// A line of that form comes, outside of texts. Returns the text after it.
-fn hear_form(
-    alloc: Global,
-    items: &mut Backlog<ItemLines>,
-    form: LineForm,
-    line: &[u8],
-) -> OpenText
+fn hear_form(alloc: Global, items: &mut Backlog<ItemLines>, form: LineForm, line: &[u8]) -> OpenText
     requires room { length items.old < 18446744073709551615 }
     requires one { is_one_line line.now ≡ true }
     ensures { (name : List ℕ) (id : ℕ) →

@@ -70,17 +70,6 @@ impl HeldNames {
         }
     }
 
-    /// One more name is held.
-    ///
-    /// # Errors
-    /// What was to be held, if memory runs out. Nothing changes then.
-    pub(crate) fn push(&mut self, hold: Hold) -> Result<(), AllocFailed<Hold>>
-        ensures names { self.new ≡ (if is_ok result then self.old ++ hold ∷ [] else self.old) }
-        ensures refused { IfErr result (λ refused. refused.value ≡ hold) }
-    {
-        self.holds.push(hold)
-    }
-
     /// One more name is held, by that `wait`.
     ///
     /// # Errors
@@ -93,22 +82,31 @@ impl HeldNames {
         wait: &[u8],
     ) -> Result<(), AllocError>
         requires { IsSaidBy name.now wait.now }
-        ensures ok { OnOk result (self.new ≡ self.old ++ record {
-          name = name.now;
-          id = id;
-          items = Some (wait.now ∷ []) ∷ [];
-          text = NoText;
-        } ∷ []) }
+        ensures ok { OnOk result
+            (self.new ≡ self.old ++ record {
+              name = name.now;
+              id = id;
+              items = Some (wait.now ∷ []) ∷ [];
+              text = NoText;
+            } ∷ []) }
         ensures err { OnErr result (self.new ≡ self.old) }
     {
         let hold = Hold::new(alloc, name, id, wait)?;
         match self.push(hold) {
             Ok(()) => Ok(()),
-            Err(refused) => {
-                drop(refused);
-                Err(AllocError)
-            }
+            Err(_) => Err(AllocError),
         }
+    }
+
+    /// One more name is held.
+    ///
+    /// # Errors
+    /// What was to be held, if memory runs out. Nothing changes then.
+    pub(crate) fn push(&mut self, hold: Hold) -> Result<(), AllocFailed<Hold>>
+        ensures names { self.new ≡ (if is_ok result then self.old ++ hold ∷ [] else self.old) }
+        ensures refused { IfErr result (λ refused. refused.value ≡ hold) }
+    {
+        self.holds.push(hold)
     }
 
     /// A line of the name comes, and waits if the name is held.

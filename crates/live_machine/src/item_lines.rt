@@ -3,7 +3,8 @@ ghost use Rattle.std.specs.Prelude.{◌≡◌, ◌+◌, ◌<◌, ◌++◌, ◌�
 ghost use Rattle.line_feed.specs.Pieces.{is_one_line};
 ghost use Rattle.line_text.specs.Lines.{physical_lines};
 ghost use Rattle.tagged_lines.specs.Tags.{with_feed};
-ghost use Rattle.live_machine.specs.Held.{IsFed, form_of, is_wait, is_wait_item};
+ghost use Rattle.live_machine.specs.Fed.{IsFed};
+ghost use Rattle.live_machine.specs.Held.{form_of, is_wait, is_wait_item};
 
 use backlog::{MAX_WEIGHT, Weighs};
 use line_text::split_line;

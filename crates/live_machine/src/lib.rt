@@ -30,6 +30,6 @@ mod stop;
 mod workers;
 
 pub use law::machine_law;
-pub use machine::{MOST_TOLD, Machine};
+pub use machine::{MOST_TOLD, Machine, StepEnd};
 pub use stop::Stop;
 pub use workers::workers_law;

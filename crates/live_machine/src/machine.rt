@@ -22,7 +22,7 @@ use live_input::LiveLines;
 use live_lines::{LineRequest, asked_of};
 use script_text::OperatorLine;
 use std::alloc::Global;
-pub use steps::MOST_TOLD;
+pub use steps::{MOST_TOLD, StepEnd};
 
 /// A live service whose jobs are stepped by workers.
 pub struct Machine<'g> {
@@ -37,7 +37,7 @@ impl<'g> Machine<'g> {
     pub fn new(alloc: Global, lines: LiveLines<'g>, next: u64) -> Self
         requires { is_ready lines }
         ensures ready { IsReady result }
-        ensures begins { machine_of result ≡ begins_with (without_workers (state_in lines)) next }
+        ensures begins { machine_of result ≡ begins_with (without_workers (state_in lines.entry)) next }
     {
         Machine {
             alloc,
@@ -151,7 +151,7 @@ impl<'g> Machine<'g> {
     /// Serves a line of the operator. One that makes steps by hand has no form: workers make them.
     fn operate(&mut self, asked: OperatorLine<&[u8]>, line: &[u8]) -> Result<(), Stop>
         requires is_line { IsLine line.now }
-        requires asks { what_asks line.now ≡ Operates (named_operator asked.entry) }
+        requires asks { what_asks line.now ≡ Operates (named_operator asked) }
         requires ready { IsReady self.old }
         ensures ready { OnOk result (IsReady self.new) }
         ensures hears { OnOk result (HearsAsked (what_asks line.now) line.now

@@ -1,5 +1,5 @@
 //! Lines that the machine makes itself, and what it tells without one.
-ghost use Rattle.std.specs.Prelude.{◌≡◌, ◌≢◌, ◌∷◌, ◌++◌, codes, true, [], IfOk, IfSome, OnOk};
+ghost use Rattle.std.specs.Prelude.{◌≡◌, ◌≢◌, ◌∷◌, ◌++◌, codes, true, [], List, ℕ, ◌<◌, ◌^◌, length, IfOk, IfSome, OnOk};
 ghost use Rattle.std.specs.Io.KnownBytes.{Appends};
 ghost use Rattle.script_text.specs.declared.operator_line.OperatorLine.TheVariants.{Step};
 ghost use Rattle.script_text.specs.Script.{is_name};
@@ -34,23 +34,23 @@ pub(crate) fn says_wait(line: &[u8]) -> bool
 pub(crate) fn status_line(alloc: Global, name: &[u8]) -> Result<Vec<u8>, AllocError>
     ensures { IfOk result (λ line. line.items ≡ 64 ∷ (name.now ++ codes " status")) }
 {
-    joined(alloc, b"@", name, b" status")
+    join(alloc, b"@", name, b" status")
 }
 
 /// These three texts, one after another.
-fn joined(alloc: Global, first: &[u8], second: &[u8], third: &[u8]) -> Result<Vec<u8>, AllocError>
+fn join(alloc: Global, first: &[u8], second: &[u8], third: &[u8]) -> Result<Vec<u8>, AllocError>
     ensures { IfOk result (λ text. text.items ≡ first.now ++ (second.now ++ third.now)) }
 {
     let mut text = Vec::new(alloc);
-    text.reserve(first.len() + second.len() + third.len())?;
+    text.reserve(second.len() + 16)?;
     text.extend_from_slice(first)?;
     text.extend_from_slice(second)?;
     text.extend_from_slice(third)?;
     Ok(text)
 }
 
-/// A line without a form, in the place of that one: the line after `? `, or `?` alone if that is too
-/// long.
+/// A line without a form, in the place of that one: the line after `? `, or `?` alone if that is
+/// too long.
 pub(crate) fn formless_line(alloc: Global, line: &[u8]) -> Result<Vec<u8>, AllocError>
     requires { IsLine line.now }
     ensures { IfOk result (λ made. IsLine made.items × (what_asks made.items ≡ NoForm)) }
@@ -58,7 +58,7 @@ pub(crate) fn formless_line(alloc: Global, line: &[u8]) -> Result<Vec<u8>, Alloc
     if line.len() > MAX_FED_LINE - 2 {
         return Vec::from_slice(alloc, b"?");
     }
-    joined(alloc, b"? ", line, b"")
+    join(alloc, b"? ", line, b"")
 }
 
 /// The line that makes one step of that name's job. None if it isn't a name.
@@ -69,7 +69,7 @@ pub(crate) fn step_line(alloc: Global, name: &[u8]) -> Result<Option<Vec<u8>>, A
     if !is_name(name) {
         return Ok(None);
     }
-    let line = joined(alloc, b"op step ", name, b" 1")?;
+    let line = join(alloc, b"op step ", name, b" 1")?;
     if asks_step(alloc, line.as_slice(), name)? {
         return Ok(Some(line));
     }

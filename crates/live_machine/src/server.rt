@@ -4,6 +4,7 @@ ghost use Rattle.std.specs.List.{AllByRecursion};
 ghost use Rattle.line_text.specs.Lines.{physical_lines};
 ghost use Rattle.script_text.specs.declared.operator_line.OperatorLine.TheVariants.{Step};
 ghost use Rattle.script_text.specs.Script.{is_name};
+ghost use Rattle.service_core.specs.Calls.{IsGivenBack};
 ghost use Rattle.operator.specs.OperatorText.{last_id};
 ghost use Rattle.tagged_lines.specs.Tags.{with_feed};
 ghost use Rattle.live_lines.specs.Live.{asked_of};
@@ -36,7 +37,7 @@ pub(crate) struct LineServer<'g> {
 impl<'g> LineServer<'g> {
     /// Serves the lines of that live service, the next one of which has that number.
     pub(crate) fn new(alloc: Global, lines: LiveLines<'g>, next: u64) -> Self
-        ensures lines { result.lines ≡ lines }
+        ensures lines { result.lines ≡ lines.entry }
         ensures next { result.next ≡ next }
         ensures log { result.log.items ≡ [] }
         ensures told { result.told.items ≡ [] }
@@ -254,6 +255,10 @@ impl<'g> LineServer<'g> {
         requires ready { is_ready self.old.lines }
         ensures ready { is_ready self.new.lines }
         ensures same { (held : List Held) → state_with self.new held ≡ state_with self.old held }
+        ensures given { IsGivenBack (state_in self.old.lines).stage.service back
+            (state_in self.new.lines).stage.service }
+        ensures names { (state_in self.new.lines).stage.names
+            ≡ (state_in self.old.lines).stage.names }
     {
         self.lines.give_back(back);
     }

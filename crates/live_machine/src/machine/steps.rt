@@ -1,8 +1,10 @@
 //! The steps that workers make, and the turns of names that are held.
-ghost use Rattle.std.specs.Prelude.{◌≡◌, IfOk, OnOk};
+ghost use Rattle.std.specs.Prelude.{◌≡◌, ◌≢◌, List, ℕ, None, IfOk, OnOk};
+ghost use Rattle.live_input.specs.Serving.{state_in};
+ghost use Rattle.live_machine.specs.declared.machine.steps.StepEnd.TheVariants.{Dropped, Made};
 ghost use Rattle.live_machine.specs.Machine.{Happens};
 ghost use Rattle.live_machine.specs.Machine.Call.{Drain};
-ghost use Rattle.live_machine.specs.Parts.{EndsStep, HasTurns, IsReady, IsWorked, machine_of};
+ghost use Rattle.live_machine.specs.Parts.{Counts, EndsStep, HasTurns, IsReady, IsWorked, PutsStep, machine_of};
 
 use crate::machine::Machine;
 use crate::stop::Stop;
@@ -19,15 +21,18 @@ pub const MOST_TOLD: usize = 16_777_216;
 /// up.
 const TRIES: u32 = 16;
 
-/// How the put of a step ended.
+/// How the put of a step ended, or how a job was taken back.
 #[derive(Clone, Copy, PartialEq, Eq)]
-pub(crate) enum StepEnd {
+pub enum StepEnd {
     /// It was the next step of its tenancy's running job, and is made.
     Made,
-    /// It was not.
+    /// It was not, or nobody has the job any more.
     Dropped,
-    /// It ran out of memory. It can be taken again.
-    NoMemory,
+    /// Memory ran out, that many times in a row. After a pause the worker calls
+    /// [`Machine::retry`].
+    Again(u32),
+    /// Memory ran out too often. A `wait` for the job is answered so.
+    GivenUp,
 }
 
 impl Machine<'_> {
@@ -48,59 +53,78 @@ impl Machine<'_> {
 
     /// Puts a step that a worker made. If it is still the next one of its tenancy's running job,
     /// that is a line `op step NAME 1`; if not, it is dropped. Then the name has its turn, if it is
-    /// held. If memory runs out, returns how often it did in a row: the worker calls
-    /// [`Machine::retry`] after a pause.
-    pub fn put(&mut self, done: Done) -> Result<Option<u32>, Stop>
+    /// held.
+    pub fn put(&mut self, done: Done) -> Result<StepEnd, Stop>
         requires ready { IsReady self.old }
         ensures ready { OnOk result (IsReady self.new) }
-        ensures works { OnOk result (IsWorked (machine_of self.old) (machine_of self.new)) }
+        ensures puts { IfOk result (λ end. PutsStep end (machine_of self.old)
+            (machine_of self.new)) }
+        ensures counts { (name : List ℕ) → Counts (state_in self.old.server.lines) done name →
+            IfOk result (λ end. end ≢ Dropped) }
     {
         let id = done.id();
         match self.server.lines().live().names().name_of(id) {
             Some(name) => self.put_of(id, name, done),
             None => {
                 self.server.give_back(done.into_back());
-                Ok(None)
+                Ok(StepEnd::Dropped)
             }
         }
     }
 
     /// Puts a step of a job of the tenancy with that id and name.
-    fn put_of(&mut self, id: u32, name: &[u8], done: Done) -> Result<Option<u32>, Stop>
+    fn put_of(&mut self, id: u32, name: &[u8], done: Done) -> Result<StepEnd, Stop>
         requires ready { IsReady self.old }
         ensures ready { OnOk result (IsReady self.new) }
-        ensures works { OnOk result (IsWorked (machine_of self.old) (machine_of self.new)) }
+        ensures puts { IfOk result (λ end. PutsStep end (machine_of self.old)
+            (machine_of self.new)) }
+        ensures counts { Counts (state_in self.old.server.lines) done name.now →
+            IfOk result (λ end. end ≢ Dropped) }
     {
-        if self.put_step(name, done)? == StepEnd::NoMemory {
-            return self.count_lack(id, name);
+        match self.put_step(name, done)? {
+            Some(true) => {
+                self.go_on(id, name)?;
+                Ok(StepEnd::Made)
+            }
+            Some(false) => self.count_lack(id, name),
+            None => {
+                self.go_on(id, name)?;
+                Ok(StepEnd::Dropped)
+            }
         }
-        self.agenda.forget(id);
-        let _is_behind = self.serve_turns(name)?;
-        self.mark(name)?;
-        Ok(None)
     }
 
-    /// Puts a step of that name's tenancy.
-    fn put_step(&mut self, name: &[u8], done: Done) -> Result<StepEnd, Stop>
+    /// Puts a step of that name's tenancy. Returns whether memory sufficed for it; `None` if it
+    /// isn't the next step.
+    fn put_step(&mut self, name: &[u8], done: Done) -> Result<Option<bool>, Stop>
         requires ready { IsReady self.old }
         ensures ready { OnOk result (IsReady self.new) }
         ensures ends { IfOk result (λ end. EndsStep end name.now (machine_of self.old)
             (machine_of self.new)) }
+        ensures counts { Counts (state_in self.old.server.lines) done name.now →
+            IfOk result (λ end. end ≢ None) }
     {
         let had_step = self.server.has_step(name);
         self.server.give_back(done.into_back());
         if had_step || !self.server.has_step(name) {
-            return Ok(StepEnd::Dropped);
+            return Ok(None);
         }
-        if self.server.serve_step(name)? {
-            return Ok(StepEnd::Made);
-        }
-        Ok(StepEnd::NoMemory)
+        Ok(Some(self.server.serve_step(name)?))
     }
 
-    /// Takes a job back for whose step memory ran out. Returns how often it did in a row, if the
-    /// worker is to call [`Machine::retry`] after a pause.
-    pub fn give_back(&mut self, back: Back) -> Result<Option<u32>, Stop>
+    /// Gives a name its turn after a step of its job was put.
+    fn go_on(&mut self, id: u32, name: &[u8]) -> Result<(), Stop>
+        requires ready { IsReady self.old }
+        ensures ready { OnOk result (IsReady self.new) }
+        ensures works { OnOk result (IsWorked (machine_of self.old) (machine_of self.new)) }
+    {
+        self.agenda.forget(id);
+        let _is_behind = self.serve_turns(name)?;
+        self.mark(name)
+    }
+
+    /// Takes a job back for whose step memory ran out.
+    pub fn give_back(&mut self, back: Back) -> Result<StepEnd, Stop>
         requires ready { IsReady self.old }
         ensures ready { OnOk result (IsReady self.new) }
         ensures works { OnOk result (IsWorked (machine_of self.old) (machine_of self.new)) }
@@ -109,25 +133,26 @@ impl Machine<'_> {
         self.server.give_back(back);
         match self.server.lines().live().names().name_of(id) {
             Some(name) => self.count_lack(id, name),
-            None => Ok(None),
+            None => Ok(StepEnd::Dropped),
         }
     }
 
     /// Counts one more time that memory ran out for a step of that tenancy. After the last one a
     /// `wait` of the name is given up.
-    fn count_lack(&mut self, id: u32, name: &[u8]) -> Result<Option<u32>, Stop>
+    fn count_lack(&mut self, id: u32, name: &[u8]) -> Result<StepEnd, Stop>
         requires ready { IsReady self.old }
         ensures ready { OnOk result (IsReady self.new) }
         ensures works { OnOk result (IsWorked (machine_of self.old) (machine_of self.new)) }
+        ensures lacks { IfOk result (λ end. (end ≢ Made) × (end ≢ Dropped)) }
     {
         let tries = self.agenda.count(id)?;
         if tries < TRIES {
-            return Ok(Some(tries));
+            return Ok(StepEnd::Again(tries));
         }
         self.agenda.forget(id);
         let _had_wait = self.give_up(name)?;
         let _is_behind = self.serve_turns(name)?;
-        Ok(None)
+        Ok(StepEnd::GivenUp)
     }
 
     /// Has the step of that tenancy's job made again, for which memory ran out.

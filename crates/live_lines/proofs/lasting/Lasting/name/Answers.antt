@@ -1,4 +1,4 @@
-use Rattle.std.proofs.Common.{◌≡◌, ◌<◌, ◌∙◌, sym, ap, arith, length, slice_get}
+use Rattle.std.proofs.Common.{◌<◌, ◌∙◌, sym, ap, arith, length, slice_get}
 use Rattle.line_text.specs.Names.{number_of}
 use Rattle.live_lines.proofs.KeptNames.{kept_at}
 use Rattle.live_lines.proofs.lasting.Lasting.name.Goals as goal

@@ -1,4 +1,4 @@
-use Rattle.std.proofs.Common.{◌≡◌, List, subst, inr}
+use Rattle.std.proofs.Common.{List, subst, inr}
 use Rattle.live_machine.specs.Held.{Held}
 use Rattle.live_machine.specs.Machine.{TellsLost}
 use Rattle.live_machine.specs.Parts.{state_with}

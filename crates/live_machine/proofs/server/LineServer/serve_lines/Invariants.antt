@@ -1,5 +1,5 @@
 use Rattle.std.specs.List.{AllByRecursion}
-use Rattle.std.proofs.Common.{◌≡◌, List, length, ℕ}
+use Rattle.std.proofs.Common.{List, length}
 use Rattle.line_text.specs.Lines.{physical_lines}
 use Rattle.live_machine.specs.Held.{Held, IsSaidBy}
 use Rattle.live_machine.specs.Machine.{MachineState, ServesAll}

@@ -9,7 +9,7 @@ pub returns-then-is_nomemory-clause-puts : goal.returns-then-is_nomemory-clause-
 returns-then-is_nomemory-clause-puts c =
     let old = c.args.self.now in
     let log : c.reserve.new.self.items ≡ old.log.items = search rules in
-    let text : c.as_slice.result.now ≡ nomemory_reply c.args.name.now = c.is_nomemory.ensures c.if-is_nomemory.true in
+    let text : c.as_slice.result.now ≡ nomemory_reply c.args.name.now = c.is_nomemory.ensures c.args.name.now c.if-is_nomemory.true in
     let reply : c.in_ok-reply.reply.items ≡ nomemory_reply c.args.name.now = sym c.as_slice.ensures.value ∙ text in
     same_by old
     (record { alloc = old.alloc; lines = c.answer.new.self; next = old.next; log = c.reserve.new.self; told = old.told })

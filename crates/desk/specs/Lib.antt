@@ -1,4 +1,0 @@
-pub mod Outcomes
-pub mod Scripts
-pub mod Fields
-pub mod Tables

@@ -1,0 +1,9 @@
+use Rattle.std.proofs.Common.{take}
+use Rattle.std.specs.List.{flat_map}
+use Rattle.line_text.specs.Writing.{TakesAll}
+use Rattle.desk_circuits.specs.Fields.{doubled_quote}
+use Rattle.desk_circuits.proofs.csv.write_doubled.Given as goal
+
+-- the bytes before this one are written
+abbrev pub invariant-loop-byte : goal.invariant-loop-byte
+invariant-loop-byte g l = TakesAll g.K.Sink.contents g.K.Sink.has_failed l.initial.sink l.sink (flat_map doubled_quote (take l.byte-index l.bytes))

@@ -1,0 +1,22 @@
+-- How an errand ends.
+use Rattle.std.specs.Prelude.{ℕ, Result, Ok, Err}
+use Rattle.line_text.specs.declared.source.Failed.{Failed}
+use Rattle.desk_common.specs.declared.outcome.Outcome.{Outcome}
+use Rattle.desk_common.specs.declared.outcome.Outcome.TheVariants.{Done, InputFailed, OutputFailed, FileFailed, LayoutRefused, LinesRefused, NoMemory, OtherCircuit}
+
+-- the status that the program ends with
+abbrev pub status_of : Outcome → ℕ
+status_of Done = 0
+status_of InputFailed = 1
+status_of OutputFailed = 1
+status_of (FileFailed role) = 1
+status_of (LinesRefused lines) = 1
+status_of (LayoutRefused fault) = 1
+status_of OtherCircuit = 1
+status_of NoMemory = 4
+status_of refused = 3
+
+-- how an errand ends whose writing ended so
+abbrev pub written_so : Result (Unit {0}) Failed → Outcome
+written_so (Ok u) = Done
+written_so (Err failed) = OutputFailed

@@ -1,0 +1,19 @@
+//! What the tools of the desk share: how an errand ends, the files that they read and write, the
+//! options that several of them take, and words for standard error.
+//!
+//! [`Outcome`] says how an errand ended, by a status and a message.
+#![tactic(auto)]
+
+mod arch_words;
+mod device_file;
+mod outcome;
+mod paths;
+mod reply_words;
+mod words;
+
+pub use arch_words::write_arch_fault;
+pub use device_file::{DEVICE, device_path, with_device};
+pub use outcome::Outcome;
+pub use paths::{FileRole, ResultFile, make_folder, read_file, tell_stale, write_file};
+pub use reply_words::{tell_reply, told_refused};
+pub use words::{COLUMNS, EFFORT, FOLDER, NO_DEVICE, ROWS, SEED};

@@ -1,0 +1,142 @@
+//! Files that tools read and write.
+use crate::outcome::Outcome;
+use line_text::{ReadError, Sink, StdSource, read_all, write_all, write_slices};
+use std::alloc::Global;
+use std::fmt;
+use std::fs::{self, File};
+use std::io::{Error, ErrorKind, Read};
+use std::rt::Files;
+
+/// A file that a tool reads or writes, or the folder in which it writes.
+#[derive(Clone, Copy)]
+pub enum FileRole {
+    Architecture,
+    Netlist,
+    Script,
+    Net,
+    Places,
+    Routes,
+    Device,
+    Log,
+    Folder,
+}
+
+impl fmt::Display for FileRole {
+    fn fmt<W: fmt::Write>(&self, f: &mut fmt::Formatter<W>) -> fmt::Result {
+        match self {
+            FileRole::Architecture => write!(f, "architecture"),
+            FileRole::Netlist => write!(f, "netlist"),
+            FileRole::Script => write!(f, "script"),
+            FileRole::Net => write!(f, ".net file"),
+            FileRole::Places => write!(f, ".place file"),
+            FileRole::Routes => write!(f, ".route file"),
+            FileRole::Device => write!(f, "device file"),
+            FileRole::Log => write!(f, "log"),
+            FileRole::Folder => write!(f, "folder"),
+        }
+    }
+}
+
+/// The contents of a file, up to `most` bytes. If it can't be read, the path and the reason are
+/// written to the teller.
+pub fn read_file<H: Files + AllocGlobal, E: Sink>(
+    rt: &H,
+    role: FileRole,
+    path: &str,
+    most: u64,
+    teller: &mut E,
+) -> Result<Vec<u8>, Outcome> {
+    match File::open(rt, path) {
+        Ok(file) => read_open(rt, role, path, file.take(most), teller),
+        Err(error) => Err(told_failed(rt.alloc(), role, path, error, teller)),
+    }
+}
+
+/// The contents of an open file.
+fn read_open<H: Files + AllocGlobal, F: Read + Drop, E: Sink>(
+    rt: &H,
+    role: FileRole,
+    path: &str,
+    file: F,
+    teller: &mut E,
+) -> Result<Vec<u8>, Outcome> {
+    match read_all(rt.alloc(), &mut StdSource::new(file)) {
+        Ok(bytes) => Ok(bytes),
+        Err(ReadError::NoMemory) => Err(Outcome::NoMemory),
+        Err(ReadError::Failed) => {
+            let _ = write_slices(teller, &[path.as_bytes(), b": cannot be read\n"]);
+            Err(Outcome::FileFailed(role))
+        }
+    }
+}
+
+/// Writes the path that failed and the system's reason, and returns how the errand ends.
+fn told_failed<E: Sink>(
+    alloc: Global,
+    role: FileRole,
+    path: &str,
+    error: Error,
+    teller: &mut E,
+) -> Outcome {
+    if let Ok(line) = format!(in alloc; "{path}: {error}\n") {
+        let _ = write_all(teller, line.as_bytes());
+        drop(line);
+    }
+    Outcome::FileFailed(role)
+}
+
+/// Makes a folder, if it isn't there. If it can't be made, the path and the reason are written to
+/// the teller.
+pub fn make_folder<H: Files + AllocGlobal, E: Sink>(
+    rt: &H,
+    path: &str,
+    teller: &mut E,
+) -> Result<(), Outcome> {
+    match fs::create_dir(rt, path) {
+        Ok(()) => Ok(()),
+        Err(error) if error.kind() == ErrorKind::AlreadyExists => Ok(()),
+        Err(error) => Err(told_failed(rt.alloc(), FileRole::Folder, path, error, teller)),
+    }
+}
+
+/// A file in a folder, by the name of a tenancy or of a netlist and the kind of file.
+#[derive(Clone, Copy)]
+pub struct ResultFile<'a> {
+    pub folder: &'a str,
+    pub name: &'a str,
+    pub kind: &'static str,
+}
+
+/// Writes a file, in place of one that is there. If it can't be written, the path and the reason
+/// are written to the teller.
+pub fn write_file<H: Files + AllocGlobal, E: Sink>(
+    rt: &H,
+    file: ResultFile<'_>,
+    bytes: &[u8],
+    teller: &mut E,
+) -> Result<(), Outcome> {
+    let path = path_of(rt.alloc(), file)?;
+    let written = match fs::write(rt, path.as_str(), bytes) {
+        Ok(()) => Ok(()),
+        Err(error) => Err(told_failed(rt.alloc(), FileRole::Folder, path.as_str(), error, teller)),
+    };
+    drop(path);
+    written
+}
+
+/// Writes to the teller that a file is left from an earlier run, if it is there.
+pub fn tell_stale<H: Files + AllocGlobal, E: Sink>(rt: &H, file: ResultFile<'_>, teller: &mut E) {
+    if let Ok(path) = path_of(rt.alloc(), file) {
+        if let Ok(old) = File::open(rt, path.as_str()) {
+            drop(old);
+            let _ = write_slices(teller, &[path.as_bytes(), b": left from an earlier run\n"]);
+        }
+        drop(path);
+    }
+}
+
+/// The path of a file. An error if memory runs out.
+fn path_of(alloc: Global, file: ResultFile<'_>) -> Result<String, Outcome> {
+    let ResultFile { folder, name, kind } = file;
+    format!(in alloc; "{folder}/{name}.{kind}").or(Err(Outcome::NoMemory))
+}

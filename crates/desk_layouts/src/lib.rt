@@ -1,0 +1,14 @@
+//! The tools of the desk that read the three files of a layout.
+//!
+//! - [`check`] says whether the files, whoever wrote them, implement a netlist.
+//! - [`configure`] prints what a device is loaded with so that it runs the netlist.
+//! - [`strip`] draws one tenancy.
+#![tactic(auto)]
+
+pub mod check;
+pub mod configure;
+mod layout_input;
+pub mod strip;
+mod strip_check;
+
+pub use layout_input::{LayoutPaths, paths_of};

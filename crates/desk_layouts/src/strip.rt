@@ -1,0 +1,394 @@
+//! The tool that draws one tenancy.
+use crate::strip_check::{Against, against_of, check_against};
+use arch_file::MAX_TRACKS;
+use desk_common::{DEVICE, FileRole, NO_DEVICE, Outcome, read_file};
+use line_text::{MemorySink, Sink, TextError, split_line, write_slices};
+use option_words::{Given, OptionWord, Program, Takes};
+use page::{PageItem, viewer, write_page};
+use std::alloc::{AllocError, Global};
+use std::rt::Files;
+use strip_files::{RoutedStrip, StripTexts, block_in, net_in, read_strip};
+use strip_picture::{DrawError, Full, View, draw, draw_with_ends};
+
+/// The word for a file that is not there.
+const NONE: &str = "-";
+
+const NO_FILE: &str = "give a .net, a .place and a .route file";
+
+const NO_ROUTES: &str = "--netlist needs a .route file";
+
+/// The beginning of its help.
+const ABOUT: &str = "Draws one tenancy as an SVG, from its three result files";
+
+/// The tool without its options, for the program's help.
+pub const NAMED: Program = Program {
+    name: "strip",
+    about: ABOUT,
+    after_help: "",
+    options: &[],
+};
+
+/// The tool and its options.
+pub const TOOL: Program = Program {
+    name: "strip",
+    about: ABOUT,
+    after_help: "\
+Shows the blocks with their names, and each net in a colour; with --net one net in front of the others, with its driver and its
+readers, with --heat how many tracks of each channel are used, in colours up to that of the fullest channel, or, with --tracks W,
+up to that of W used tracks. A malformed line is refused with its number and status 3, and so is a route that no device of
+this size has: each node follows the node before it by an edge, a pin being joined with the wires beside its block, whatever its
+sides and tracks; the first path of a net begins at a source, a later one at a node of an earlier one, and each ends at a sink;
+a route joins just the blocks that have its net on a pin. It is a tree over one output pin, a SOURCE has class 1 and a SINK class 0,
+and no two nets share a wire or a pin. Not checked are the sides, tracks and classes of pins, global nets and BLEs, which the three
+files do not tell. With --netlist, --arch and --tracks all of it is checked first, as `fpgad_desk check` does, with its messages and
+its status 1.
+
+Example: fpgad_desk strip T.net T.place T.route --heat > t.svg",
+    options: &[
+        OptionWord {
+            name: "packing",
+            value_name: "NET_FILE",
+            help: "The .net file",
+            takes: Takes::Alone,
+            default: None,
+        },
+        OptionWord {
+            name: "places",
+            value_name: "PLACE_FILE",
+            help: "The .place file",
+            takes: Takes::Alone,
+            default: None,
+        },
+        OptionWord {
+            name: "routes",
+            value_name: "ROUTE_FILE",
+            help: "The .route file, or - if there is none: then the blocks are drawn without routes",
+            takes: Takes::Alone,
+            default: None,
+        },
+        OptionWord {
+            name: "net",
+            value_name: "NAME",
+            help: "Draws the net with this name in front of the others",
+            takes: Takes::Text,
+            default: None,
+        },
+        OptionWord {
+            name: "heat",
+            value_name: "",
+            help: "Draws how many tracks of each channel are used",
+            takes: Takes::Nothing,
+            default: None,
+        },
+        OptionWord {
+            name: "tracks",
+            value_name: "W",
+            help: "For --heat and --netlist: the tracks of each channel, 1 to 64",
+            takes: Takes::Number(1, 64),
+            default: None,
+        },
+        OptionWord {
+            name: "netlist",
+            value_name: "FILE",
+            help: "Checks the layout first against this netlist, as `fpgad_desk check` does",
+            takes: Takes::Text,
+            default: None,
+        },
+        OptionWord {
+            name: "arch",
+            value_name: "FILE",
+            help: "For --netlist: the architecture",
+            takes: Takes::Text,
+            default: None,
+        },
+        DEVICE,
+        OptionWord {
+            name: "page",
+            value_name: "",
+            help: "Prints one HTML file for a browser, with search, zoom and clicks, in place of the SVG",
+            takes: Takes::Nothing,
+            default: None,
+        },
+    ],
+};
+
+/// The three files of a tenancy, and what is drawn of it.
+#[derive(Clone, Copy)]
+pub struct StripWishes<'a> {
+    net_file: &'a str,
+    place_file: &'a str,
+    route_file: &'a str,
+    against: Option<Against<'a>>,
+    shown: Shown<'a>,
+}
+
+/// What is drawn of the routes.
+#[derive(Clone, Copy)]
+enum Shown<'a> {
+    Nets,
+    Net(&'a str),
+    Channels(Full),
+    /// All of them, on a page for a browser.
+    Page,
+}
+
+/// What the options ask for, or why they are refused.
+pub fn wishes_of<'a>(given: &Given<'a>) -> Result<StripWishes<'a>, &'static str> {
+    let against = against_of(given)?;
+    let route_file = given.text("routes").ok_or(NO_FILE)?;
+    if against.is_some() && route_file == NONE {
+        return Err(NO_ROUTES);
+    }
+    Ok(StripWishes {
+        net_file: given.text("packing").ok_or(NO_FILE)?,
+        place_file: given.text("places").ok_or(NO_FILE)?,
+        route_file,
+        against,
+        shown: shown_of(given)?,
+    })
+}
+
+/// What is to be drawn of the routes: one net, or the channels, or all nets.
+fn shown_of<'a>(given: &Given<'a>) -> Result<Shown<'a>, &'static str> {
+    if given.is_given("page") {
+        return Ok(Shown::Page);
+    }
+    match (given.text("net"), given.is_given("heat")) {
+        (Some(_), true) => Err("--net and --heat draw different pictures: give only one of them"),
+        (Some(name), false) => Ok(Shown::Net(name)),
+        (None, true) => Ok(Shown::Channels(full_of(given)?)),
+        (None, false) => Ok(Shown::Nets),
+    }
+}
+
+/// The number of used tracks of a full channel.
+fn full_of(given: &Given<'_>) -> Result<Full, &'static str> {
+    if given.text("tracks").is_none() {
+        return Ok(Full::Fullest);
+    }
+    let tracks = given.number("tracks")?;
+    if !(1..=MAX_TRACKS).contains(&tracks) {
+        return Err(NO_DEVICE);
+    }
+    Ok(Full::Tracks(tracks))
+}
+
+/// Draws a tenancy from its files.
+pub fn print<H: Files + AllocGlobal, W: Sink, E: Sink>(
+    rt: &H,
+    wishes: StripWishes<'_>,
+    writer: &mut W,
+    teller: &mut E,
+) -> Result<(), Outcome> {
+    let net = read_file(rt, FileRole::Net, wishes.net_file, u64::MAX, teller)?;
+    let outcome = print_packed(rt, wishes, net.as_slice(), writer, teller);
+    drop(net);
+    outcome
+}
+
+/// Draws a tenancy from the text of its packing and its other files.
+fn print_packed<H: Files + AllocGlobal, W: Sink, E: Sink>(
+    rt: &H,
+    wishes: StripWishes<'_>,
+    net: &[u8],
+    writer: &mut W,
+    teller: &mut E,
+) -> Result<(), Outcome> {
+    let place = read_file(rt, FileRole::Places, wishes.place_file, u64::MAX, teller)?;
+    let outcome = print_placed(rt, wishes, net, place.as_slice(), writer, teller);
+    drop(place);
+    outcome
+}
+
+/// Draws a tenancy from the texts of its packing and placement and the file of its routes.
+fn print_placed<H: Files + AllocGlobal, W: Sink, E: Sink>(
+    rt: &H,
+    wishes: StripWishes<'_>,
+    net: &[u8],
+    place: &[u8],
+    writer: &mut W,
+    teller: &mut E,
+) -> Result<(), Outcome> {
+    if wishes.route_file == NONE {
+        return print_unrouted(rt.alloc(), wishes, net, place, writer);
+    }
+    let route = read_file(rt, FileRole::Routes, wishes.route_file, u64::MAX, teller)?;
+    let texts = StripTexts {
+        net,
+        place,
+        route: route.as_slice(),
+    };
+    let outcome = checked_and_drawn(rt, wishes, texts, writer, teller);
+    drop(route);
+    outcome
+}
+
+/// Draws a tenancy from the texts of its files. If a netlist is given, it is checked first.
+fn checked_and_drawn<H: Files + AllocGlobal, W: Sink, E: Sink>(
+    rt: &H,
+    wishes: StripWishes<'_>,
+    texts: StripTexts<'_>,
+    writer: &mut W,
+    teller: &mut E,
+) -> Result<(), Outcome> {
+    if let Some(against) = wishes.against {
+        check_against(rt, against, texts, teller)?;
+    }
+    draw_strip(rt.alloc(), texts, wishes.shown, writer)
+}
+
+/// Draws a tenancy without routes from the texts of its packing and placement.
+fn print_unrouted<W: Sink>(
+    alloc: Global,
+    wishes: StripWishes<'_>,
+    net: &[u8],
+    place: &[u8],
+    writer: &mut W,
+) -> Result<(), Outcome> {
+    let route = no_routes(alloc, place)?;
+    let outcome = match without_nets(alloc, net) {
+        Ok(net) => {
+            let texts = StripTexts {
+                net: net.as_slice(),
+                place,
+                route: route.as_slice(),
+            };
+            let outcome = draw_strip(alloc, texts, wishes.shown, writer);
+            drop(net);
+            outcome
+        }
+        Err(_) => Err(Outcome::NoMemory),
+    };
+    drop(route);
+    outcome
+}
+
+/// The text of a `.net` file with an empty line in place of each list of pins: no block has a net.
+/// Fails if memory runs out.
+fn without_nets(alloc: Global, net: &[u8]) -> Result<Vec<u8>, AllocError> {
+    let mut text = Vec::new(alloc);
+    let mut rest = net;
+    while !rest.is_empty() {
+        let (line, later) = split_line(rest);
+        if !line.starts_with(b"pinlist:") {
+            text.extend_from_slice(line)?;
+        }
+        text.push(b'\n')?;
+        rest = later;
+    }
+    Ok(text)
+}
+
+/// The text of a `.route` file without nets, for a strip of the size in that `.place` file.
+fn no_routes(alloc: Global, place: &[u8]) -> Result<Vec<u8>, Outcome> {
+    let (_, rest) = split_line(place);
+    let (size, _) = split_line(rest);
+    let mut text = MemorySink::new(alloc);
+    match write_slices(&mut text, &[size, b".\n\nRouting:\n\n"]) {
+        Ok(()) => Ok(text.into_bytes()),
+        Err(_) => {
+            drop(text);
+            Err(Outcome::NoMemory)
+        }
+    }
+}
+
+/// Prints the page of one tenancy.
+fn print_page<W: Sink>(texts: StripTexts<'_>, writer: &mut W) -> Result<(), Outcome> {
+    let items = [
+        item("net", texts.net),
+        item("place", texts.place),
+        item("route", texts.route),
+    ];
+    write_page(writer, viewer(), items.as_slice()).or(Err(Outcome::OutputFailed))
+}
+
+/// A text of the tenancy.
+fn item<'a>(kind: &'static str, text: &'a [u8]) -> PageItem<'a> {
+    PageItem {
+        kind,
+        name: b"strip",
+        text,
+    }
+}
+
+/// Draws a tenancy from the texts of its files.
+fn draw_strip<W: Sink>(
+    alloc: Global,
+    texts: StripTexts<'_>,
+    shown: Shown<'_>,
+    writer: &mut W,
+) -> Result<(), Outcome> {
+    let strip = match read_strip(alloc, texts) {
+        Ok(strip) => strip,
+        Err(TextError::NoMemory) => return Err(Outcome::NoMemory),
+        Err(TextError::Fault(fault)) => return Err(Outcome::StripRefused(fault)),
+    };
+    let outcome = match (shown, view_of(&strip, shown)) {
+        (Shown::Page, _) => print_page(texts, writer),
+        (_, Some(View::Net(net))) => drawn_net(alloc, texts.route, &strip, net, writer),
+        (_, Some(view)) => drawing_outcome(draw(alloc, &strip, view, writer)),
+        (_, None) => Err(Outcome::NoNet),
+    };
+    drop(strip);
+    outcome
+}
+
+/// Draws a net in front of the others, with its ends.
+fn drawn_net<W: Sink>(
+    alloc: Global,
+    route: &[u8],
+    strip: &RoutedStrip<'_>,
+    net: usize,
+    writer: &mut W,
+) -> Result<(), Outcome> {
+    match global_ends(alloc, route, net) {
+        Ok(ends) => {
+            let drawn = draw_with_ends(alloc, strip, View::Net(net), &ends, writer);
+            drop(ends);
+            drawing_outcome(drawn)
+        }
+        Err(_) => Err(Outcome::NoMemory),
+    }
+}
+
+/// The numbers of the blocks that the text of a `.route` file lists for the net of that number, the
+/// driver first: those that a global net connects. A net with a route has none. Fails if memory
+/// runs out.
+fn global_ends(alloc: Global, route: &[u8], net: usize) -> Result<Vec<usize>, AllocError> {
+    let mut ends = Vec::new(alloc);
+    let mut is_in = false;
+    let mut rest = route;
+    while !rest.is_empty() {
+        let (line, later) = split_line(rest);
+        if let Some((number, _, _)) = net_in(line) {
+            is_in = number as usize == net;
+        }
+        if let Some(block) = block_in(line) {
+            if is_in {
+                ends.push(block as usize)?;
+            }
+        }
+        rest = later;
+    }
+    Ok(ends)
+}
+
+/// The view that is asked for. None if no net has the name.
+fn view_of(strip: &RoutedStrip<'_>, shown: Shown<'_>) -> Option<View> {
+    match shown {
+        Shown::Nets => Some(View::Nets),
+        Shown::Channels(full) => Some(View::Channels(full)),
+        Shown::Page => None,
+        Shown::Net(name) => Some(View::Net(strip.net_named(name.as_bytes())?)),
+    }
+}
+
+/// How the errand ends after a drawing that ended so.
+fn drawing_outcome(drawn: Result<(), DrawError>) -> Result<(), Outcome> {
+    match drawn {
+        Ok(()) => Ok(()),
+        Err(DrawError::NoMemory) => Err(Outcome::NoMemory),
+        Err(DrawError::Failed) => Err(Outcome::OutputFailed),
+    }
+}

@@ -1,0 +1,15 @@
+//! The tools of the desk that begin with a netlist or make one.
+//!
+//! - [`route`] packs, places and routes one netlist on a device of its own, and writes its files.
+//! - [`script`] prints the lines of one tenancy around a netlist.
+//! - [`random`] prints a script with random circuits, to measure the service with.
+#![tactic(auto)]
+
+mod overuse;
+pub mod random;
+pub mod route;
+mod route_size;
+pub mod route_wishes;
+mod routed_table;
+pub mod script;
+mod silence;

@@ -1,0 +1,319 @@
+//! The tool that routes one netlist on a device of its own.
+ghost use Rattle.std.specs.Prelude.{◌≤◌};
+ghost use Rattle.strip_place.specs.declared.placing.TheConstants.{MAX_EFFORT};
+
+use crate::overuse::tell_overuse;
+use crate::route_size::{Sized, size_for};
+use crate::route_wishes::{GivenSize, RouteWishes, Tracks};
+use crate::routed_table::{Routed, print_routed};
+use crate::silence::Silence;
+use arch_file::ArchError;
+use desk_circuits::warn_of_latches;
+use desk_common::{
+    FileRole, Outcome, ResultFile, make_folder, read_file, tell_reply, tell_stale, told_refused,
+    write_arch_fault, write_file,
+};
+use line_text::{MAX_TEXT, Sink, Text, TextError};
+use one_user::{
+    DevicePlan, Figures, Files as Results, FlowOutcome as End, Least, Request, Run, Unrouted,
+    least_tracks, run_with,
+};
+use std::alloc::Global;
+use std::rt::Files;
+use strip_files::StripTexts;
+use tenant_slot::{Ending, Refusal, Reply, SharedText, StateName, Status};
+
+/// The most bytes of a text that are read: one more than it may have.
+const MAX_READ: u64 = MAX_TEXT as u64 + 1;
+
+/// Routes a netlist, writes its files, and prints what they use.
+pub fn run<H: Files + AllocGlobal, W: Sink, E: Sink>(
+    rt: &H,
+    wishes: RouteWishes<'_>,
+    writer: &mut W,
+    teller: &mut E,
+    is_terminal: bool,
+) -> Result<(), Outcome> {
+    let arch = read_file(rt, FileRole::Architecture, wishes.arch, MAX_READ, teller)?;
+    let is_told = wishes.is_told || is_terminal;
+    let outcome = run_with_arch(rt, wishes, arch.as_slice(), writer, teller, is_told);
+    drop(arch);
+    if let Err(Outcome::NetlistRefused | Outcome::ArchRefused(_)) = outcome {
+        tell_stale(rt, result_file(wishes, "net"), teller);
+        tell_stale(rt, result_file(wishes, "place"), teller);
+    }
+    if let Err(Outcome::Unrouted | Outcome::NetlistRefused | Outcome::ArchRefused(_)) = outcome {
+        tell_stale(rt, result_file(wishes, "route"), teller);
+    }
+    outcome
+}
+
+/// Routes a netlist on devices of that architecture.
+fn run_with_arch<H: Files + AllocGlobal, W: Sink, E: Sink>(
+    rt: &H,
+    wishes: RouteWishes<'_>,
+    arch: &[u8],
+    writer: &mut W,
+    teller: &mut E,
+    is_told: bool,
+) -> Result<(), Outcome> {
+    let netlist = netlist_of(rt, wishes, teller)?;
+    let request = Request {
+        netlist: &netlist,
+        seed: wishes.seed,
+        effort: wishes.effort,
+    };
+    let outcome = match size_for(rt.alloc(), wishes, arch, request) {
+        Ok(Sized::Size(size)) => {
+            run_on_size(rt, wishes, arch, request, size, writer, teller, is_told)
+        }
+        Ok(Sized::Refused(refusal)) => Err(told_refused(rt.alloc(), refusal, teller)),
+        Err(error) => Err(told_arch(error, wishes, teller)),
+    };
+    drop(netlist);
+    outcome
+}
+
+/// Routes a netlist on a device of that size.
+fn run_on_size<H: Files + AllocGlobal, W: Sink, E: Sink>(
+    rt: &H,
+    wishes: RouteWishes<'_>,
+    arch: &[u8],
+    request: Request<'_>,
+    size: GivenSize,
+    writer: &mut W,
+    teller: &mut E,
+    is_told: bool,
+) -> Result<(), Outcome>
+    requires { request.effort ≤ MAX_EFFORT }
+{
+    let trial = if is_told {
+        trial_with(rt.alloc(), wishes, arch, request, size, teller)
+    } else {
+        trial_with(rt.alloc(), wishes, arch, request, size, &mut Silence)
+    };
+    match trial {
+        Ok(Trial::Decided(run)) => {
+            if is_given_up(&run.outcome) {
+                tell_overuse(rt.alloc(), wishes, arch, request, size, teller);
+            }
+            write_run(rt, wishes, size, request, run, writer, teller)
+        }
+        Ok(Trial::NeverRouted) => Err(Outcome::Unrouted),
+        Err(error) => Err(told_arch(error, wishes, teller)),
+    }
+}
+
+/// Returns whether the routing was given up after its last iteration.
+fn is_given_up(outcome: &End) -> bool {
+    match outcome {
+        End::Unrouted(left) => matches!(left.ending, Ending::GaveUp),
+        End::Routed(_) | End::Refused(_) => false,
+    }
+}
+
+/// Writes what is wrong with the architecture, and returns how the errand ended.
+fn told_arch<E: Sink>(error: ArchError, wishes: RouteWishes<'_>, teller: &mut E) -> Outcome {
+    match error {
+        TextError::NoMemory => Outcome::NoMemory,
+        TextError::Fault(fault) => {
+            let _ = write_arch_fault(teller, wishes.arch, fault);
+            Outcome::ArchRefused(fault)
+        }
+    }
+}
+
+/// The file of that kind.
+fn result_file<'a>(wishes: RouteWishes<'a>, kind: &'static str) -> ResultFile<'a> {
+    ResultFile {
+        folder: wishes.folder,
+        name: stem_of(wishes.netlist),
+        kind,
+    }
+}
+
+/// The result of trying one or several numbers of tracks.
+#[derive(Drop)]
+enum Trial {
+    /// The run with the number that is asked for, or else with the least with which the netlist is
+    /// routed or refused.
+    Decided(Run),
+    /// The netlist was left unrouted with each number that a channel may have.
+    NeverRouted,
+}
+
+impl Trial {
+    /// The result of a search for the least number.
+    fn of_least(least: Least) -> Self {
+        match least {
+            Least::Routed { run, .. } => Trial::Decided(run),
+            Least::Refused(run) => Trial::Decided(run),
+            Least::Unrouted => Trial::NeverRouted,
+        }
+    }
+}
+
+/// Reads the netlist that is to be routed, and warns of its latches without a clock.
+fn netlist_of<H: Files + AllocGlobal, E: Sink>(
+    rt: &H,
+    wishes: RouteWishes<'_>,
+    teller: &mut E,
+) -> Result<SharedText, Outcome> {
+    let netlist = read_file(rt, FileRole::Netlist, wishes.netlist, MAX_READ, teller)?;
+    warn_of_latches(rt.alloc(), netlist.as_slice(), teller);
+    match SharedText::new(rt.alloc(), Text::new(netlist)) {
+        Ok(netlist) => Ok(netlist),
+        Err(refused) => {
+            drop(refused);
+            Err(Outcome::NoMemory)
+        }
+    }
+}
+
+/// Runs the netlist with the number of tracks that is asked for, or else with one number after
+/// another until it is routed or refused.
+fn trial_with<E: Sink>(
+    alloc: Global,
+    wishes: RouteWishes<'_>,
+    arch: &[u8],
+    request: Request<'_>,
+    size: GivenSize,
+    teller: &mut E,
+) -> Result<Trial, ArchError>
+    requires { request.effort ≤ MAX_EFFORT }
+{
+    let plan = DevicePlan {
+        text: arch,
+        columns: size.columns,
+        rows: size.rows,
+    };
+    match wishes.tracks {
+        Some(Tracks { number, .. }) => {
+            let run = run_with(alloc, plan, number, request, teller)?;
+            Ok(Trial::Decided(run))
+        }
+        None => {
+            let least = least_tracks(alloc, plan, request, teller)?;
+            Ok(Trial::of_least(least))
+        }
+    }
+}
+
+/// Writes the result of a run.
+fn write_run<H: Files + AllocGlobal, W: Sink, E: Sink>(
+    rt: &H,
+    wishes: RouteWishes<'_>,
+    size: GivenSize,
+    request: Request<'_>,
+    run: Run,
+    writer: &mut W,
+    teller: &mut E,
+) -> Result<(), Outcome> {
+    let Run { outcome, figures } = run;
+    match outcome {
+        End::Routed(files) => {
+            let mut saved = save_files(rt, wishes, &files, teller);
+            if let Ok(()) = saved {
+                saved = print_known(rt.alloc(), wishes, size, request, figures, &files, writer);
+            }
+            drop(files);
+            saved
+        }
+        End::Unrouted(left) => {
+            let saved = saved_left(rt, wishes, &left, teller);
+            let outcome = told_unrouted(rt.alloc(), left, teller);
+            saved?;
+            Err(outcome)
+        }
+        End::Refused(refusal) => Err(told_refused(rt.alloc(), refusal, teller)),
+    }
+}
+
+/// Prints what a run uses, if that is known.
+fn print_known<W: Sink>(
+    alloc: Global,
+    wishes: RouteWishes<'_>,
+    size: GivenSize,
+    request: Request<'_>,
+    figures: Option<Figures>,
+    files: &Results,
+    writer: &mut W,
+) -> Result<(), Outcome> {
+    match figures {
+        Some(figures) => {
+            let routed = Routed {
+                name: stem_of(wishes.netlist).as_bytes(),
+                netlist: request.netlist.as_bytes(),
+                texts: StripTexts {
+                    net: files.net.as_bytes(),
+                    place: files.places.as_bytes(),
+                    route: files.routes.as_bytes(),
+                },
+                size,
+                figures,
+            };
+            print_routed(alloc, wishes, routed, writer).or(Err(Outcome::OutputFailed))
+        }
+        None => Ok(()),
+    }
+}
+
+/// Writes the three files.
+fn save_files<H: Files + AllocGlobal, E: Sink>(
+    rt: &H,
+    wishes: RouteWishes<'_>,
+    files: &Results,
+    teller: &mut E,
+) -> Result<(), Outcome> {
+    make_folder(rt, wishes.folder, teller)?;
+    let (net, places) = (files.net.as_bytes(), files.places.as_bytes());
+    write_file(rt, result_file(wishes, "net"), net, teller)?;
+    write_file(rt, result_file(wishes, "place"), places, teller)?;
+    let routes = files.routes.as_bytes();
+    write_file(rt, result_file(wishes, "route"), routes, teller)
+}
+
+/// Writes the two files of a netlist that was left without routes.
+fn saved_left<H: Files + AllocGlobal, E: Sink>(
+    rt: &H,
+    wishes: RouteWishes<'_>,
+    left: &Unrouted,
+    teller: &mut E,
+) -> Result<(), Outcome> {
+    make_folder(rt, wishes.folder, teller)?;
+    write_file(rt, result_file(wishes, "net"), left.net.as_bytes(), teller)?;
+    write_file(
+        rt,
+        result_file(wishes, "place"),
+        left.places.as_bytes(),
+        teller,
+    )
+}
+
+/// The name of a file without its folders and the ending `.blif`.
+fn stem_of(path: &str) -> &str {
+    let name = match path.rsplit_once('/') {
+        Some((_, name)) => name,
+        None => path,
+    };
+    name.strip_suffix(".blif").unwrap_or(name)
+}
+
+/// Writes how a routing ended without routes, as the service would reply, and returns how the
+/// errand ended.
+fn told_unrouted<E: Sink>(alloc: Global, left: Unrouted, teller: &mut E) -> Outcome {
+    let Unrouted {
+        ending,
+        net,
+        places,
+    } = left;
+    drop(net);
+    drop(places);
+    let reply = Reply::Status(Status {
+        state: StateName::Unrouted,
+        steps: 0,
+        ending: Some(ending),
+    });
+    tell_reply(alloc, reply, teller);
+    Outcome::Unrouted
+}

@@ -1,0 +1,206 @@
+//! What the tool that routes one netlist is asked for.
+ghost use Rattle.std.specs.Prelude.{◌≤◌};
+ghost use Rattle.strip_place.specs.declared.placing.TheConstants.{MAX_EFFORT};
+ghost use Rattle.arch_file.specs.declared.arch.TheConstants.{MAX_TRACKS};
+ghost use Rattle.grid.specs.declared.TheConstants.{MAX_COLUMNS, MAX_ROWS};
+
+use desk_common::{DEVICE, EFFORT, FOLDER, NO_DEVICE, SEED};
+use grid::{MAX_COLUMNS, MAX_ROWS};
+use option_words::{Given, OptionWord, Program, Takes};
+
+const NO_FILE: &str = "give an architecture, a netlist and a folder";
+
+const NO_ROWS: &str = "give --rows NY with --least-columns, and no --columns";
+
+const NO_TRACKS: &str = "give either --tracks W or --least-tracks";
+
+/// The tool and its options.
+pub const TOOL: Program = Program {
+    name: "route",
+    about: "Packs, places and routes one netlist on a device of its own, and writes its .net, .place and .route files to a folder",
+    after_help: "\
+The files are the ones that the service prints for this netlist in a strip of this size, on any device and beside any other tenants.
+At the end, a summary says how much of the device they use. With --progress, or if standard error is a terminal, each step prints a line there.
+
+Example: fpgad_desk route --arch my.arch --tracks 8 --columns 10 --rows 10 --effort 100 t.blif results",
+    options: &[
+        OptionWord {
+            name: "arch",
+            value_name: "FILE",
+            help: "The architecture",
+            takes: Takes::GivenText,
+            default: None,
+        },
+        OptionWord {
+            name: "tracks",
+            value_name: "W",
+            help: "Tracks of each channel, 1 to 64",
+            takes: Takes::Number(1, 64),
+            default: None,
+        },
+        OptionWord {
+            name: "least-tracks",
+            value_name: "",
+            help: "Tries 1 track, then 2, and so on, until the netlist can be routed",
+            takes: Takes::Nothing,
+            default: None,
+        },
+        OptionWord {
+            name: "columns",
+            value_name: "NX",
+            help: "Columns of the device, 1 to 256; without --columns and --rows it is the least square that fits",
+            takes: Takes::Number(1, 256),
+            default: None,
+        },
+        OptionWord {
+            name: "rows",
+            value_name: "NY",
+            help: "Rows of the device, 1 to 64",
+            takes: Takes::Number(1, 64),
+            default: None,
+        },
+        OptionWord {
+            name: "least-columns",
+            value_name: "",
+            help: "Takes the least number of columns that fits, with --rows NY",
+            takes: Takes::Nothing,
+            default: None,
+        },
+        DEVICE,
+        SEED,
+        EFFORT,
+        OptionWord {
+            name: "csv",
+            value_name: "",
+            help: "Prints the summary as a table: a line of headings, and a line of numbers",
+            takes: Takes::Nothing,
+            default: None,
+        },
+        OptionWord {
+            name: "progress",
+            value_name: "",
+            help: "Prints a line for each step on standard error, even if it is not a terminal",
+            takes: Takes::Nothing,
+            default: None,
+        },
+        OptionWord {
+            name: "netlist",
+            value_name: "NETLIST",
+            help: "The netlist, in BLIF; the files are named after it",
+            takes: Takes::Alone,
+            default: None,
+        },
+        FOLDER,
+    ],
+};
+
+/// A number of tracks, 1 to 64.
+#[derive(Clone, Copy)]
+pub(crate) struct Tracks {
+    pub(crate) number: u32,
+    ghost lawful: { (1 ≤ number) × (number ≤ MAX_TRACKS) },
+}
+
+/// What is routed, on which device, and the folder for the files.
+#[derive(Clone, Copy)]
+pub struct RouteWishes<'a> {
+    pub(crate) arch: &'a str,
+    pub(crate) netlist: &'a str,
+    pub(crate) folder: &'a str,
+    /// None: the least number with which the netlist is routed.
+    pub(crate) tracks: Option<Tracks>,
+    pub(crate) size: Size,
+    pub(crate) seed: u64,
+    pub(crate) effort: u32,
+    /// Whether a line for each step is written in any case.
+    pub(crate) is_told: bool,
+    /// Whether the summary is a table.
+    pub(crate) is_table: bool,
+    ghost effort_lawful: { effort ≤ MAX_EFFORT },
+}
+
+/// The size of the device.
+#[derive(Clone, Copy)]
+pub(crate) enum Size {
+    Given(GivenSize),
+    /// The least square on which the netlist fits.
+    LeastSquare,
+    /// The least number of columns with that number of rows.
+    LeastColumns(u32),
+}
+
+/// The columns and rows of a device.
+#[derive(Clone, Copy)]
+pub(crate) struct GivenSize {
+    pub(crate) columns: u32,
+    pub(crate) rows: u32,
+    ghost columns_lawful: { (1 ≤ columns) × (columns ≤ MAX_COLUMNS) },
+    ghost rows_lawful: { (1 ≤ rows) × (rows ≤ MAX_ROWS) },
+}
+
+/// What the options ask for, or why they are refused.
+pub fn wishes_of<'a>(given: &Given<'a>) -> Result<RouteWishes<'a>, &'static str> {
+    let effort = given.number("effort")?;
+    if effort > 100 {
+        return Err(NO_DEVICE);
+    }
+    Ok(RouteWishes {
+        arch: given.text("arch").ok_or(NO_FILE)?,
+        netlist: given.text("netlist").ok_or(NO_FILE)?,
+        folder: given.text("folder").ok_or(NO_FILE)?,
+        tracks: tracks_of(given)?,
+        size: size_of(given)?,
+        seed: given.long_number("seed")?,
+        effort,
+        is_told: given.is_given("progress"),
+        is_table: given.is_given("csv"),
+    })
+}
+
+/// The size of the device. With one of --columns and --rows the other one is 9 or 1, as for fpgad.
+fn size_of(given: &Given<'_>) -> Result<Size, &'static str> {
+    let columns = number_or(given, "columns", 9)?;
+    let rows = number_or(given, "rows", 1)?;
+    let has_columns = given.text("columns").is_some();
+    let has_rows = given.text("rows").is_some();
+    match (given.is_given("least-columns"), has_columns, has_rows) {
+        (true, false, true) => Ok(Size::LeastColumns(rows)),
+        (true, _, _) => Err(NO_ROWS),
+        (false, false, false) => Ok(Size::LeastSquare),
+        (false, _, _) => match device_size(columns, rows) {
+            Some(size) => Ok(Size::Given(size)),
+            None => Err(NO_DEVICE),
+        },
+    }
+}
+
+/// That size, if a device may have it.
+pub(crate) fn device_size(columns: u32, rows: u32) -> Option<GivenSize> {
+    if !(1..=MAX_COLUMNS).contains(&columns) || !(1..=MAX_ROWS).contains(&rows) {
+        return None;
+    }
+    Some(GivenSize { columns, rows })
+}
+
+/// The value of an option with a number, or the other number if it isn't given.
+fn number_or(given: &Given<'_>, name: &str, other: u32) -> Result<u32, &'static str> {
+    match given.text(name) {
+        Some(_) => given.number(name),
+        None => Ok(other),
+    }
+}
+
+/// The number of tracks. None if the least is wanted.
+fn tracks_of(given: &Given<'_>) -> Result<Option<Tracks>, &'static str> {
+    match (given.text("tracks"), given.is_given("least-tracks")) {
+        (Some(_), false) => {
+            let number = given.number("tracks")?;
+            if number < 1 || number > 64 {
+                return Err(NO_DEVICE);
+            }
+            Ok(Some(Tracks { number }))
+        }
+        (None, true) => Ok(None),
+        _ => Err(NO_TRACKS),
+    }
+}

@@ -1,0 +1,302 @@
+//! The tool that saves the files which the service printed.
+use crate::script_input::{Lines, acts_of, lines_of, replies_of};
+use crate::tenants::save_replies;
+use desk_circuits::print_usages;
+use desk_common::{
+    DEVICE, FOLDER, FileRole, Outcome, ResultFile, make_folder, read_file, tell_stale, write_file,
+};
+use line_text::{Failed, NameSet, Sink, Source, read_all};
+use option_words::{Given, OptionWord, Program, Takes};
+use printed_replies::Replies;
+use script_replies::{ToldLine, file_of, script_lines, session_names, told_lines, write_told};
+use script_text::Act;
+use std::alloc::Global;
+use std::rt::Files;
+use tenant_slot::FileKind;
+use text_parts::{Part, write_parts};
+
+const NO_FILE: &str = "give a script and a folder";
+
+/// The tool and its options.
+pub const TOOL: Program = Program {
+    name: "files",
+    about: "Saves the result files from what fpgad printed for a script (read from standard input), and prints each line of the script with its reply",
+    after_help: "\
+For each name, the last .net, .place and .route file that the service printed is written to the folder. The length in the reply
+says where a file ends, whatever it contains. Each refusal is explained, with advice. The last line counts the served lines, the
+refused lines and the files. The status is 1 if a line was refused. A file left in the folder by an earlier run is named on standard error.
+
+A line for each name counts what the replies say of it: the columns of its last admission, its lines, the refused ones, the jobs that
+began, and the steps for which the operator asked by `op step`. A line after it tells the longest path of its last netlist that was not
+refused, in tables, and, if all three files were printed for it, in wires. With --csv only a table is printed, with a row for each name.
+
+Example: fpgad --arch my.arch --tracks 8 --columns 10 < my.script | fpgad_desk files --arch my.arch my.script results",
+    options: &[
+        OptionWord {
+            name: "arch",
+            value_name: "FILE",
+            help: "Give it if fpgad was run with --arch: the script then does not begin with the architecture",
+            takes: Takes::Text,
+            default: None,
+        },
+        OptionWord {
+            name: "script",
+            value_name: "SCRIPT",
+            help: "The script",
+            takes: Takes::Alone,
+            default: None,
+        },
+        OptionWord {
+            name: "csv",
+            value_name: "",
+            help: "Prints only what each name used, as a line of headings and a line for each name",
+            takes: Takes::Nothing,
+            default: None,
+        },
+        DEVICE,
+        FOLDER,
+    ],
+};
+
+/// Whose files are wanted, and the folder to write them to.
+#[derive(Clone, Copy)]
+pub struct FilesWishes<'a> {
+    script: &'a str,
+    folder: &'a str,
+    /// Whether the script begins with the architecture.
+    has_architecture: bool,
+    /// Whether what each name used is printed as a table, and nothing else.
+    is_table: bool,
+}
+
+/// What the options ask for, or why they are refused.
+pub fn wishes_of<'a>(given: &Given<'a>) -> Result<FilesWishes<'a>, &'static str> {
+    Ok(FilesWishes {
+        script: given.text("script").ok_or(NO_FILE)?,
+        folder: given.text("folder").ok_or(NO_FILE)?,
+        has_architecture: given.text("arch").is_none(),
+        is_table: given.is_given("csv"),
+    })
+}
+
+/// Reads the script, and what was printed for its lines. Writes the files, and prints the lines
+/// beside their replies.
+pub fn run<H: Files + AllocGlobal, R: Source, W: Sink, E: Sink>(
+    rt: &H,
+    wishes: FilesWishes<'_>,
+    reader: &mut R,
+    writer: &mut W,
+    teller: &mut E,
+) -> Result<(), Outcome> {
+    let script = read_file(rt, FileRole::Script, wishes.script, u64::MAX, teller)?;
+    let lines = lines_of(script.as_slice(), wishes.has_architecture);
+    let outcome = run_on_lines(rt, wishes, lines, reader, writer, teller);
+    drop(script);
+    outcome
+}
+
+/// Reads what was printed for the lines, writes the files and prints the lines.
+fn run_on_lines<H: Files + AllocGlobal, R: Source, W: Sink, E: Sink>(
+    rt: &H,
+    wishes: FilesWishes<'_>,
+    lines: Lines<'_>,
+    reader: &mut R,
+    writer: &mut W,
+    teller: &mut E,
+) -> Result<(), Outcome> {
+    match read_all(rt.alloc(), reader) {
+        Ok(printed) => {
+            let outcome = run_on_texts(rt, wishes, lines, printed.as_slice(), writer, teller);
+            drop(printed);
+            outcome
+        }
+        Err(error) => Err(Outcome::of_reading(error)),
+    }
+}
+
+/// Reads the replies from the printed text, writes the files and prints the lines.
+fn run_on_texts<H: Files + AllocGlobal, W: Sink, E: Sink>(
+    rt: &H,
+    wishes: FilesWishes<'_>,
+    lines: Lines<'_>,
+    printed: &[u8],
+    writer: &mut W,
+    teller: &mut E,
+) -> Result<(), Outcome> {
+    let acts = acts_of(rt.alloc(), lines)?;
+    let outcome = match replies_of(rt.alloc(), &acts, printed) {
+        Ok(replies) => {
+            let saved = save_files(rt, wishes.folder, &acts, &replies, teller);
+            let outcome = match saved {
+                Ok(files) => print(rt, wishes, lines, &acts, &replies, files, writer, teller),
+                Err(outcome) => Err(outcome),
+            };
+            drop(replies);
+            outcome
+        }
+        Err(outcome) => Err(outcome),
+    };
+    drop(acts);
+    outcome
+}
+
+/// Writes the files of all names into the folder, and returns how many they are.
+fn save_files<H: Files + AllocGlobal, E: Sink>(
+    rt: &H,
+    folder: &str,
+    acts: &[Act<&[u8]>],
+    replies: &Replies<'_, '_>,
+    teller: &mut E,
+) -> Result<u32, Outcome> {
+    make_folder(rt, folder, teller)?;
+    let Ok(names) = session_names(rt.alloc(), acts) else {
+        return Err(Outcome::NoMemory);
+    };
+    let saved = save_all(rt, folder, &names, replies, teller);
+    drop(names);
+    saved
+}
+
+/// Writes the files of all names, and returns how many they are.
+fn save_all<H: Files + AllocGlobal, E: Sink>(
+    rt: &H,
+    folder: &str,
+    names: &NameSet<'_>,
+    replies: &Replies<'_, '_>,
+    teller: &mut E,
+) -> Result<u32, Outcome> {
+    let mut files = 0u32;
+    for number in 0..names.len() {
+        let saved = save_name(rt, folder, names.name(number), replies, teller)?;
+        files = files.saturating_add(saved);
+    }
+    Ok(files)
+}
+
+/// Writes the files of a name, and returns how many they are.
+fn save_name<H: Files + AllocGlobal, E: Sink>(
+    rt: &H,
+    folder: &str,
+    name: &[u8],
+    replies: &Replies<'_, '_>,
+    teller: &mut E,
+) -> Result<u32, Outcome> {
+    let Ok(text) = str::from_utf8(name) else {
+        return Ok(0);
+    };
+    let mut files = 0u32;
+    for kind in KINDS.iter() {
+        let file = ResultFile {
+            folder,
+            name: text,
+            kind: kind.name(),
+        };
+        match file_of(replies, name, *kind) {
+            Some(bytes) => {
+                write_file(rt, file, bytes, teller)?;
+                files = files.saturating_add(1);
+            }
+            None => tell_stale(rt, file, teller),
+        }
+    }
+    Ok(files)
+}
+
+/// The kinds of files that a name may have.
+pub(crate) const KINDS: [FileKind; 3] = [FileKind::Net, FileKind::Place, FileKind::Route];
+
+/// Prints the lines beside their replies, and their numbers.
+fn print<H: Files + AllocGlobal, W: Sink, E: Sink>(
+    rt: &H,
+    wishes: FilesWishes<'_>,
+    lines: Lines<'_>,
+    acts: &[Act<&[u8]>],
+    replies: &Replies<'_, '_>,
+    files: u32,
+    writer: &mut W,
+    teller: &mut E,
+) -> Result<(), Outcome> {
+    let Ok(asked) = script_lines(rt.alloc(), lines.text, lines.number, acts) else {
+        return Err(Outcome::NoMemory);
+    };
+    let told = told_lines(rt.alloc(), &asked, replies);
+    drop(asked);
+    match told {
+        Ok(told) => {
+            let outcome = print_told(rt, wishes, acts, replies, &told, files, writer, teller);
+            drop(told);
+            outcome
+        }
+        Err(_) => Err(Outcome::NoMemory),
+    }
+}
+
+/// Prints the lines with their replies, writes those of each name into the folder, and prints how
+/// many were served and refused.
+fn print_told<H: Files + AllocGlobal, W: Sink, E: Sink>(
+    rt: &H,
+    wishes: FilesWishes<'_>,
+    acts: &[Act<&[u8]>],
+    replies: &Replies<'_, '_>,
+    told: &[ToldLine<'_>],
+    files: u32,
+    writer: &mut W,
+    teller: &mut E,
+) -> Result<(), Outcome> {
+    let refused = told.iter().filter(|line| line.is_refused()).count();
+    let served = told.len().saturating_sub(refused);
+    if !wishes.is_table {
+        write_told(writer, told).or(Err(Outcome::OutputFailed))?;
+    }
+    save_told(rt, wishes, acts, replies, told, writer, teller)?;
+    if !wishes.is_table {
+        write_summary(writer, served, refused, files).or(Err(Outcome::OutputFailed))?;
+    }
+    if refused > 0 {
+        return Err(Outcome::LinesRefused(refused));
+    }
+    Ok(())
+}
+
+/// Writes the lines of each name into the folder, and prints what each used.
+fn save_told<H: Files + AllocGlobal, W: Sink, E: Sink>(
+    rt: &H,
+    wishes: FilesWishes<'_>,
+    acts: &[Act<&[u8]>],
+    replies: &Replies<'_, '_>,
+    told: &[ToldLine<'_>],
+    writer: &mut W,
+    teller: &mut E,
+) -> Result<(), Outcome> {
+    let Ok(names) = session_names(rt.alloc(), acts) else {
+        return Err(Outcome::NoMemory);
+    };
+    let mut saved = save_replies(rt, wishes.folder, &names, acts, told, teller);
+    if let Ok(()) = saved {
+        let printed = print_usages(rt.alloc(), wishes.is_table, &names, acts, replies, writer);
+        saved = printed.or(Err(Outcome::OutputFailed));
+    }
+    drop(names);
+    saved
+}
+
+/// Writes the numbers of lines that were served and refused, and of files.
+fn write_summary<W: Sink>(
+    writer: &mut W,
+    served: usize,
+    refused: usize,
+    files: u32,
+) -> Result<(), Failed> {
+    write_parts(
+        writer,
+        &[
+            Part::Text("served "),
+            Part::Long(served as u64),
+            Part::Text(", refused "),
+            Part::Long(refused as u64),
+            Part::Text(", files written "),
+            Part::Number(files),
+            Part::Text("\n"),
+        ],
+    )
+}

@@ -1,0 +1,21 @@
+//! The tools of the desk that read what the service printed.
+//!
+//! - [`files`] saves the result files which the service printed for a script, and prints each line
+//!   beside its reply.
+//! - [`picture`] draws the device. [`report`] says how full it is, and the longest paths of its
+//!   tenancies if it reads the script too.
+//! - [`page_tool`] prints one HTML file with the device and its tenancies, for a browser.
+#![tactic(auto)]
+
+mod device_input;
+pub mod files;
+pub mod page_tool;
+pub mod picture;
+pub mod report;
+mod report_paths;
+mod script_input;
+mod size;
+mod tenancy_table;
+mod tenants;
+
+pub use size::size_of;

@@ -1,0 +1,262 @@
+//! The tool that prints a page for a browser.
+use crate::files::KINDS;
+use crate::script_input::{Lines, acts_of, lines_of, replies_of};
+use desk_common::{DEVICE, FileRole, Outcome, read_file};
+use line_text::{Failed, MemorySink, NameSet, Sink, Source, read_all, write_all};
+use option_words::{Given, OptionWord, Program, Takes};
+use page::{PageItem, Viewer, viewer, write_page};
+use printed_replies::Replies;
+use script_replies::{file_of, script_lines, session_names, told_lines, write_told};
+use script_text::Act;
+use std::alloc::Global;
+use std::rt::Files;
+use text_parts::{Part, write_parts};
+
+const NO_FILE: &str = "give a script";
+
+/// The beginning of its help.
+const ABOUT: &str =
+    "Prints one HTML file for a browser, from a script and what fpgad printed for it, which it reads from standard input";
+
+/// The tool without its options, for the program's help.
+pub const NAMED: Program = Program {
+    name: "page",
+    about: ABOUT,
+    after_help: "",
+    options: &[],
+};
+
+/// The tool and its options.
+pub const TOOL: Program = Program {
+    name: "page",
+    about: ABOUT,
+    after_help: "\
+The page has the strips with their names, and of each tenancy its placement and routes: zoom with the wheel, drag, search for a net
+or a block, click one to see its driver, its readers and its wires, show the use of channels. It lists refused lines with advice.
+The page needs nothing else. A name or a line of the script is never markup in it. NAME.html#TENANCY/NET opens with that net.
+
+Example: fpgad --arch my.arch --tracks 8 --columns 10 < my.script > my.out; fpgad_desk page --arch my.arch my.script < my.out > my.html",
+    options: &[
+        OptionWord {
+            name: "arch",
+            value_name: "FILE",
+            help: "Give it if fpgad was given it: then the script has no architecture at its beginning",
+            takes: Takes::Text,
+            default: None,
+        },
+        OptionWord {
+            name: "columns",
+            value_name: "NX",
+            help: "Columns of the device, 1 to 256; without it the page ends with the last strip",
+            takes: Takes::Number(1, 256),
+            default: None,
+        },
+        OptionWord {
+            name: "tracks",
+            value_name: "W",
+            help: "Tracks of each channel, 1 to 64; without it use is shown against the highest used track",
+            takes: Takes::Number(1, 64),
+            default: None,
+        },
+        DEVICE,
+        OptionWord {
+            name: "script",
+            value_name: "SCRIPT",
+            help: "The script",
+            takes: Takes::Alone,
+            default: None,
+        },
+    ],
+};
+
+/// The script, and the sizes of its device if they are given.
+#[derive(Clone, Copy)]
+pub struct PageWishes<'a> {
+    script: &'a str,
+    columns: Option<&'a str>,
+    tracks: Option<&'a str>,
+    /// Whether the script begins with the architecture.
+    has_architecture: bool,
+}
+
+/// What the options ask for, or why they are refused.
+pub fn wishes_of<'a>(given: &Given<'a>) -> Result<PageWishes<'a>, &'static str> {
+    Ok(PageWishes {
+        script: given.text("script").ok_or(NO_FILE)?,
+        columns: given.text("columns"),
+        tracks: given.text("tracks"),
+        has_architecture: given.text("arch").is_none(),
+    })
+}
+
+/// Reads the script, and what was printed for its lines, and prints the page.
+pub fn run<H: Files + AllocGlobal, R: Source, W: Sink, E: Sink>(
+    rt: &H,
+    wishes: PageWishes<'_>,
+    reader: &mut R,
+    writer: &mut W,
+    teller: &mut E,
+) -> Result<(), Outcome> {
+    let script = read_file(rt, FileRole::Script, wishes.script, u64::MAX, teller)?;
+    let lines = lines_of(script.as_slice(), wishes.has_architecture);
+    let outcome = match read_all(rt.alloc(), reader) {
+        Ok(printed) => {
+            let outcome = print(rt.alloc(), wishes, lines, printed.as_slice(), writer);
+            drop(printed);
+            outcome
+        }
+        Err(error) => Err(Outcome::of_reading(error)),
+    };
+    drop(script);
+    outcome
+}
+
+/// Prints the page of these lines and what was printed for them.
+fn print<W: Sink>(
+    alloc: Global,
+    wishes: PageWishes<'_>,
+    lines: Lines<'_>,
+    printed: &[u8],
+    writer: &mut W,
+) -> Result<(), Outcome> {
+    let acts = acts_of(alloc, lines)?;
+    let outcome = match replies_of(alloc, &acts, printed) {
+        Ok(replies) => {
+            let outcome = print_acts(alloc, wishes, lines, &acts, &replies, writer);
+            drop(replies);
+            outcome
+        }
+        Err(outcome) => Err(outcome),
+    };
+    drop(acts);
+    outcome
+}
+
+/// Prints the page of these acts and their replies.
+fn print_acts<W: Sink>(
+    alloc: Global,
+    wishes: PageWishes<'_>,
+    lines: Lines<'_>,
+    acts: &[Act<&[u8]>],
+    replies: &Replies<'_, '_>,
+    writer: &mut W,
+) -> Result<(), Outcome> {
+    let mut told = MemorySink::new(alloc);
+    let mut device = MemorySink::new(alloc);
+    let outcome = match write_lines(alloc, lines, acts, replies, &mut told) {
+        Ok(()) => {
+            write_device(wishes, &mut device);
+            print_texts(
+                alloc,
+                acts,
+                replies,
+                told.as_bytes(),
+                device.as_bytes(),
+                writer,
+            )
+        }
+        Err(outcome) => Err(outcome),
+    };
+    drop(told);
+    drop(device);
+    outcome
+}
+
+/// Writes the sizes of the device that are given.
+fn write_device<W: Sink>(wishes: PageWishes<'_>, writer: &mut W) {
+    if let Some(columns) = wishes.columns {
+        let _ = write_parts(
+            writer,
+            &[
+                Part::Text("columns "),
+                Part::Text(columns),
+                Part::Text("\n"),
+            ],
+        );
+    }
+    if let Some(tracks) = wishes.tracks {
+        let _ = write_parts(
+            writer,
+            &[Part::Text("tracks "), Part::Text(tracks), Part::Text("\n")],
+        );
+    }
+}
+
+/// Writes the lines of a script with their replies.
+fn write_lines<W: Sink>(
+    alloc: Global,
+    lines: Lines<'_>,
+    acts: &[Act<&[u8]>],
+    replies: &Replies<'_, '_>,
+    writer: &mut W,
+) -> Result<(), Outcome> {
+    let Ok(asked) = script_lines(alloc, lines.text, lines.number, acts) else {
+        return Err(Outcome::NoMemory);
+    };
+    let told = told_lines(alloc, &asked, replies);
+    drop(asked);
+    match told {
+        Ok(told) => {
+            let written = write_told(writer, &told);
+            drop(told);
+            written.or(Err(Outcome::NoMemory))
+        }
+        Err(_) => Err(Outcome::NoMemory),
+    }
+}
+
+/// Prints the page of these texts and the files of all names.
+fn print_texts<W: Sink>(
+    alloc: Global,
+    acts: &[Act<&[u8]>],
+    replies: &Replies<'_, '_>,
+    told: &[u8],
+    device: &[u8],
+    writer: &mut W,
+) -> Result<(), Outcome> {
+    let Ok(names) = session_names(alloc, acts) else {
+        return Err(Outcome::NoMemory);
+    };
+    let written = write_texts(&names, replies, told, device, writer);
+    drop(names);
+    written.or(Err(Outcome::OutputFailed))
+}
+
+/// Writes the page: the viewer around the lines, the device's sizes and the files of these names.
+fn write_texts<W: Sink>(
+    names: &NameSet<'_>,
+    replies: &Replies<'_, '_>,
+    told: &[u8],
+    device: &[u8],
+    writer: &mut W,
+) -> Result<(), Failed> {
+    let viewer = viewer();
+    write_all(writer, viewer.head.as_bytes())?;
+    write_text("lines", b"", told, writer)?;
+    write_text("device", b"", device, writer)?;
+    for number in 0..names.len() {
+        write_files(names.name(number), replies, writer)?;
+    }
+    write_all(writer, viewer.tail.as_bytes())
+}
+
+/// Writes the files of a name.
+fn write_files<W: Sink>(
+    name: &[u8],
+    replies: &Replies<'_, '_>,
+    writer: &mut W,
+) -> Result<(), Failed> {
+    for kind in KINDS.iter() {
+        if let Some(text) = file_of(replies, name, *kind) {
+            write_text(kind.name(), name, text, writer)?;
+        }
+    }
+    Ok(())
+}
+
+/// Writes one text of a name, without a viewer around it.
+fn write_text<W: Sink>(kind: &str, name: &[u8], text: &[u8], writer: &mut W) -> Result<(), Failed> {
+    let item = PageItem { kind, name, text };
+    let none = Viewer { head: "", tail: "" };
+    write_page(writer, none, &[item])
+}

@@ -1,0 +1,67 @@
+//! The tool that draws the device.
+use crate::device_input::device_in;
+use crate::size::SIZES;
+use desk_common::Outcome;
+use device_lines::{DeviceSize, ListedDevice};
+use device_picture::{DrawError, draw};
+use line_text::{Sink, Source, read_all};
+use option_words::Program;
+use std::alloc::Global;
+
+/// The beginning of its help.
+const ABOUT: &str =
+    "Draws the device as an SVG, from what fpgad printed for `op list` and `op owners`";
+
+/// The tool without its options, for the program's help.
+pub const NAMED: Program = Program {
+    name: "picture",
+    about: ABOUT,
+    after_help: "",
+    options: &[],
+};
+
+/// The tool and its options.
+pub const TOOL: Program = Program {
+    name: "picture",
+    about: ABOUT,
+    after_help: "Example: fpgad --tracks 8 --columns 10 --rows 8 < my.script | fpgad_desk picture --tracks 8 --columns 10 --rows 8 > my.svg",
+    options: SIZES,
+};
+
+/// Reads the device of that size from what the service printed, and draws it.
+pub fn run<R: Source, W: Sink>(
+    alloc: Global,
+    size: DeviceSize,
+    reader: &mut R,
+    writer: &mut W,
+) -> Outcome {
+    match read_all(alloc, reader) {
+        Ok(text) => {
+            let outcome = draw_text(alloc, size, text.as_slice(), writer);
+            drop(text);
+            outcome
+        }
+        Err(error) => Outcome::of_reading(error),
+    }
+}
+
+/// Draws the device of that size which the text prints.
+fn draw_text<W: Sink>(alloc: Global, size: DeviceSize, text: &[u8], writer: &mut W) -> Outcome {
+    match device_in(alloc, size, text) {
+        Ok(device) => {
+            let outcome = print(alloc, &device, writer);
+            drop(device);
+            outcome
+        }
+        Err(outcome) => outcome,
+    }
+}
+
+/// Draws a device, and returns how the errand ended.
+fn print<W: Sink>(alloc: Global, device: &ListedDevice<'_>, writer: &mut W) -> Outcome {
+    match draw(alloc, device, writer) {
+        Ok(()) => Outcome::Done,
+        Err(DrawError::NoMemory) => Outcome::NoMemory,
+        Err(DrawError::Failed) => Outcome::OutputFailed,
+    }
+}

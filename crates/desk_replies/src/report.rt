@@ -1,0 +1,205 @@
+//! The tool that says how full the device is.
+use crate::device_input::device_in;
+use crate::report_paths::{write_path_table, write_paths};
+use crate::script_input::{Lines, acts_of, lines_of, replies_of};
+use crate::size::{PADS, TRACKS, size_of};
+use crate::tenancy_table::write_table;
+use desk_common::{COLUMNS, DEVICE, FileRole, Outcome, ROWS, read_file};
+use device_lines::DeviceSize;
+use device_report::{Report, write_report};
+use line_text::{Sink, Source, read_all};
+use option_words::{Given, OptionWord, Program, Takes};
+use script_replies::Replies;
+use script_text::Act;
+use std::alloc::Global;
+use std::rt::Files;
+
+/// The beginning of its help.
+const ABOUT: &str =
+    "Reports how full the device is, from what fpgad printed for `op list` and `op owners`";
+
+/// The tool without its options, for the program's help.
+pub const NAMED: Program = Program {
+    name: "report",
+    about: ABOUT,
+    after_help: "",
+    options: &[],
+};
+
+/// The tool and its options.
+pub const TOOL: Program = Program {
+    name: "report",
+    about: ABOUT,
+    after_help: "\
+For each tenancy: how much of its strip it uses. For the device: its used, guard and free columns, the widest strip that
+`op admit` would accept now, and the fullest channels. With --csv only the tenancies are printed: a line of headings, and a line
+for each of them. With --script, which names the script whose output is read, also the longest path of the last netlist of each
+tenancy that was not refused: in tables, and, if all three files were printed for it, in wires; or that some tables form a loop.
+
+Example: fpgad --tracks 8 --columns 10 --rows 8 < my.script | fpgad_desk report --tracks 8 --columns 10 --rows 8",
+    options: OPTIONS,
+};
+
+/// The sizes of the device, whether a table is printed, and the script.
+const OPTIONS: &[OptionWord] = &[
+    TRACKS,
+    COLUMNS,
+    ROWS,
+    DEVICE,
+    PADS,
+    OptionWord {
+        name: "csv",
+        value_name: "",
+        help: "Prints only what the tenancies use, as a line of headings and a line for each",
+        takes: Takes::Nothing,
+        default: None,
+    },
+    OptionWord {
+        name: "script",
+        value_name: "SCRIPT",
+        help: "The script whose output is read: the longest path of each tenancy is printed too",
+        takes: Takes::Text,
+        default: None,
+    },
+    OptionWord {
+        name: "arch",
+        value_name: "FILE",
+        help: "Give it with --script if fpgad was run with --arch: the script then does not begin with the architecture",
+        takes: Takes::Text,
+        default: None,
+    },
+];
+
+/// The size of the device, what is printed, and the script whose output is read.
+#[derive(Clone, Copy)]
+pub struct ReportWishes<'a> {
+    size: DeviceSize,
+    /// Whether only a table of the tenancies is printed.
+    is_table: bool,
+    script: Option<&'a str>,
+    /// Whether the script begins with the architecture.
+    has_architecture: bool,
+}
+
+/// What the options ask for, or why they are refused.
+pub fn wishes_of<'a>(given: &Given<'a>) -> Result<ReportWishes<'a>, &'static str> {
+    Ok(ReportWishes {
+        size: size_of(given)?,
+        is_table: given.is_given("csv"),
+        script: given.text("script"),
+        has_architecture: given.text("arch").is_none(),
+    })
+}
+
+/// Reads what was printed, and the script if it is given, and prints the report.
+pub fn run<H: Files + AllocGlobal, R: Source, W: Sink, E: Sink>(
+    rt: &H,
+    wishes: ReportWishes<'_>,
+    reader: &mut R,
+    writer: &mut W,
+    teller: &mut E,
+) -> Result<(), Outcome> {
+    let Some(path) = wishes.script else {
+        return run_on_lines(rt.alloc(), wishes, None, reader, writer);
+    };
+    let script = read_file(rt, FileRole::Script, path, u64::MAX, teller)?;
+    let lines = lines_of(script.as_slice(), wishes.has_architecture);
+    let outcome = run_on_lines(rt.alloc(), wishes, Some(lines), reader, writer);
+    drop(script);
+    outcome
+}
+
+/// Reads what was printed, for these lines if the script is given, and prints the report.
+fn run_on_lines<R: Source, W: Sink>(
+    alloc: Global,
+    wishes: ReportWishes<'_>,
+    lines: Option<Lines<'_>>,
+    reader: &mut R,
+    writer: &mut W,
+) -> Result<(), Outcome> {
+    match read_all(alloc, reader) {
+        Ok(printed) => {
+            let outcome = run_on_text(alloc, wishes, lines, printed.as_slice(), writer);
+            drop(printed);
+            outcome
+        }
+        Err(error) => Err(Outcome::of_reading(error)),
+    }
+}
+
+/// Prints the report of the device that the text prints.
+fn run_on_text<W: Sink>(
+    alloc: Global,
+    wishes: ReportWishes<'_>,
+    lines: Option<Lines<'_>>,
+    printed: &[u8],
+    writer: &mut W,
+) -> Result<(), Outcome> {
+    let device = device_in(alloc, wishes.size, printed)?;
+    let report = Report::new(alloc, &device);
+    drop(device);
+    match report {
+        Ok(report) => {
+            let outcome = print(alloc, wishes.is_table, lines, printed, &report, writer);
+            drop(report);
+            outcome
+        }
+        Err(_) => Err(Outcome::NoMemory),
+    }
+}
+
+/// Prints a report, with the longest paths of the tenancies' netlists if the script is given.
+fn print<W: Sink>(
+    alloc: Global,
+    is_table: bool,
+    lines: Option<Lines<'_>>,
+    printed: &[u8],
+    report: &Report<'_>,
+    writer: &mut W,
+) -> Result<(), Outcome> {
+    let Some(lines) = lines else {
+        return print_plain(is_table, report, writer);
+    };
+    let acts = acts_of(alloc, lines)?;
+    let outcome = match replies_of(alloc, &acts, printed) {
+        Ok(replies) => {
+            let outcome = print_with_paths(alloc, is_table, report, &acts, &replies, writer);
+            drop(replies);
+            outcome
+        }
+        Err(outcome) => Err(outcome),
+    };
+    drop(acts);
+    outcome
+}
+
+/// Prints a report without longest paths.
+fn print_plain<W: Sink>(
+    is_table: bool,
+    report: &Report<'_>,
+    writer: &mut W,
+) -> Result<(), Outcome> {
+    let written = if is_table {
+        write_table(writer, report)
+    } else {
+        write_report(writer, report)
+    };
+    written.or(Err(Outcome::OutputFailed))
+}
+
+/// Prints a report with the longest path of each tenancy's last netlist.
+fn print_with_paths<W: Sink>(
+    alloc: Global,
+    is_table: bool,
+    report: &Report<'_>,
+    acts: &[Act<&[u8]>],
+    replies: &Replies<'_, '_>,
+    writer: &mut W,
+) -> Result<(), Outcome> {
+    if is_table {
+        let written = write_path_table(alloc, report, acts, replies, writer);
+        return written.or(Err(Outcome::OutputFailed));
+    }
+    print_plain(false, report, writer)?;
+    write_paths(alloc, report, acts, replies, writer).or(Err(Outcome::OutputFailed))
+}

@@ -1,0 +1,10 @@
+use Rattle.std.proofs.Common.{◌∙◌, [], ◌∷◌, refl}
+use Rattle.service_core.specs.Run.Call.{GiveBack}
+use Rattle.operator.proofs.Stepping.{lengths-run}
+use Rattle.live_lines.proofs.live.Live.give_back.Goals as goal
+
+pub returns-clause-steady : goal.returns-clause-steady
+returns-clause-steady c = record {
+  ids = c.requires.steady.ids ∙ lengths-run c.args.self.now.core c.give_back.new.self (GiveBack c.args.back ∷ []) (tt, tt) (c.give_back.new.self, c.give_back.ensures, refl);
+  said = c.requires.steady.said;
+}

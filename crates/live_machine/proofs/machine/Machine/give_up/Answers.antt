@@ -1,0 +1,13 @@
+use Rattle.std.proofs.Common.{◌≡◌, true, refl, rules}
+use Rattle.live_machine.specs.Parts.{has_wait}
+use Rattle.live_machine.specs.Held.{held_of}
+use Rattle.live_machine.proofs.MachineLemmas.{gave_up, taken_as}
+use Rattle.live_machine.proofs.machine.Machine.give_up.Goals as goal
+
+pub returns-clause-turn : goal.returns-clause-turn
+returns-clause-turn c =
+    let names = c.args.self.now.held in
+    let held = c.take.new.self in
+    let name = c.args.name.now in
+    let waits : has_wait (held_of names name) ≡ true = search rules in
+    gave_up (held_of names name) _ _ _ name c.take.result held refl waits (taken_as (held_of names name) names name c.take.result held refl c.take.ensures) (c.in_ok-tell_lost.ensures.tells held) c.in_ok-free_if_done.ensures.frees

@@ -1,0 +1,14 @@
+use Rattle.std.proofs.Common.{◌-◌}
+use Rattle.live_machine.specs.Parts.{HasTurns, machine_of}
+use Rattle.live_input.specs.Serving.{is_ready}
+use Rattle.live_machine.proofs.machine.Machine.serve_turns.Given as goal
+
+abbrev pub invariant-loop-served : goal.invariant-loop-served
+invariant-loop-served l =
+    record {
+      ready : is_ready l.self.server.lines;
+      turns : HasTurns l.name (machine_of l.fn.self) (machine_of l.self);
+    }
+
+abbrev pub decreases-loop-served : goal.decreases-loop-served
+decreases-loop-served l = 64 - l.served

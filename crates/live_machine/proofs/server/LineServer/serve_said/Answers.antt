@@ -1,0 +1,23 @@
+use Rattle.std.proofs.Common.{◌≡◌, Bool, true, sym, subst, ◌∙◌}
+use Rattle.tagged_lines.specs.Tags.{rest_of}
+use Rattle.live_input.specs.Serving.{state_in}
+use Rattle.live_machine.specs.Machine.{ServesSaid, must_wait}
+use Rattle.live_machine.specs.Parts.{state_with}
+use Rattle.live_machine.specs.Workers.{without_workers}
+use Rattle.live_machine.proofs.LineLemmas.{said_of}
+use Rattle.live_machine.proofs.MachineLemmas.{on_ok}
+use Rattle.live_machine.proofs.server.LineServer.serve_said.Goals as goal
+
+pub serve_status-requires-clause-name : goal.serve_status-requires-clause-name
+serve_status-requires-clause-name c = (said_of c.args.name.now (rest_of c.args.line.now) c.args.line.now c.requires.said.says).1
+
+pub returns-then-must_wait-clause-serves : goal.returns-then-must_wait-clause-serves
+returns-then-must_wait-clause-serves c =
+    let name = c.args.name.now in
+    let line = c.args.line.now in
+    let waits : must_wait (without_workers (state_in c.args.self.now.lines)) name line ≡ true = sym c.must_wait.ensures ∙ c.if-must_wait.true in
+    on_ok c.serve_status.result
+    (λ serves held.
+    let P : Bool → Type 0 = λ b. ServesSaid b name line (state_with c.args.self.now held) (state_with c.serve_status.new.self held) in
+    subst P (sym waits) (serves held line))
+    c.serve_status.ensures.serves
