@@ -6,7 +6,7 @@ ghost use Rattle.live_machine.specs.Parts.{IsReady};
 use crate::hand::Hand;
 use line_feed::MAX_FED_LINE;
 use line_text::split_line;
-use live_machine::{Machine, Stop};
+use live_machine::{Machine, StepEnd, Stop};
 use std::alloc::Global;
 use strips::DeviceGraph;
 
@@ -144,12 +144,12 @@ impl Day {
     }
 
     /// Notes whether a step is to be made again. Returns whether the machine goes on.
-    fn note(&mut self, id: u32, ended: Result<Option<u32>, Stop>) -> bool
+    fn note(&mut self, id: u32, ended: Result<StepEnd, Stop>) -> bool
         ensures { result ≡ true → IsOk ended }
     {
         match ended {
-            Ok(Some(_)) => self.late.push(id).is_ok(),
-            Ok(None) => true,
+            Ok(StepEnd::Again(_)) => self.late.push(id).is_ok(),
+            Ok(StepEnd::Made | StepEnd::Dropped | StepEnd::GivenUp) => true,
             Err(_) => false,
         }
     }

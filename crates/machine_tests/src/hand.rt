@@ -4,7 +4,7 @@ ghost use Rattle.job_state.specs.JobValue.{basis_in};
 ghost use Rattle.live_machine.specs.Parts.{IsReady};
 
 use job_state::{AnyJob, Back, Done};
-use live_machine::{Machine, Stop};
+use live_machine::{Machine, StepEnd, Stop};
 use sessions::window_of;
 use strips::{DeviceGraph, Window};
 
@@ -46,7 +46,7 @@ impl Hand {
     }
 
     /// Puts the step, or gives it back if it isn't made.
-    pub(crate) fn put(self, machine: &mut Machine<'_>) -> Result<Option<u32>, Stop>
+    pub(crate) fn put(self, machine: &mut Machine<'_>) -> Result<StepEnd, Stop>
         requires ready { IsReady machine.old }
         ensures ready { OnOk result (IsReady machine.new) }
     {
@@ -58,7 +58,7 @@ impl Hand {
     }
 
     /// Gives the step back, made or not.
-    pub(crate) fn give_back(self, machine: &mut Machine<'_>) -> Result<Option<u32>, Stop>
+    pub(crate) fn give_back(self, machine: &mut Machine<'_>) -> Result<StepEnd, Stop>
         requires ready { IsReady machine.old }
         ensures ready { OnOk result (IsReady machine.new) }
     {
