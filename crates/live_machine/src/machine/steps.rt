@@ -152,6 +152,10 @@ impl Machine<'_> {
         self.agenda.forget(id);
         let _had_wait = self.give_up(name)?;
         let _is_behind = self.serve_turns(name)?;
+        // Another `wait` of the name must be answered too.
+        if self.has_wait(name) {
+            self.mark(name)?;
+        }
         Ok(StepEnd::GivenUp)
     }
 
