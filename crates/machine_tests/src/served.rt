@@ -17,7 +17,7 @@ impl Saying {
     /// Appends a line of a name, but one without a word outside of texts.
     fn hear(&mut self, text: &mut Vec<u8>, said: &[u8]) -> bool {
         if self.is_in_text {
-            self.is_in_text = said != b".";
+            self.is_in_text = said != b".".as_slice();
             return push_line(text, said);
         }
         if is_blank_line(said) {
