@@ -47,22 +47,6 @@ impl<'g> Machine<'g> {
         }
     }
 
-    /// Ends the machine, and returns the live service. What wasn't drained is neither kept nor told,
-    /// and what names that are held have said is not served.
-    pub fn into_lines(self) -> LiveLines<'g>
-        ensures ready { IsReady self.entry → is_ready result }
-        ensures live { without_workers (state_in result) ≡ (machine_of self.entry).live }
-    {
-        let Machine {
-            alloc: _,
-            server,
-            held,
-            agenda,
-        } = self;
-        drop((held, agenda));
-        server.into_lines()
-    }
-
     /// The live service.
     pub fn lines(&self) -> &LiveLines<'g>
         ensures { result.now ≡ self.now.server.lines }

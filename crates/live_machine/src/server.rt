@@ -51,21 +51,6 @@ impl<'g> LineServer<'g> {
         }
     }
 
-    /// The live service, whose lines are served no longer.
-    pub(crate) fn into_lines(self) -> LiveLines<'g>
-        ensures { result ≡ self.entry.lines }
-    {
-        let LineServer {
-            alloc: _,
-            lines,
-            next: _,
-            log,
-            told,
-        } = self;
-        drop((log, told));
-        lines
-    }
-
     /// The live service.
     pub(crate) fn lines(&self) -> &LiveLines<'g>
         ensures { result.now ≡ self.now.lines }

@@ -149,7 +149,7 @@ impl Machine<'_> {
     }
 
     /// Whether that name is held for a `wait`.
-    pub(super) fn has_wait(&self, name: &[u8]) -> bool
+    fn has_wait(&self, name: &[u8]) -> bool
         ensures { result ≡ has_wait (held_of (self.now.held) name.now) }
     {
         match self.held.get(name) {

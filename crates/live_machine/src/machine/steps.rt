@@ -152,19 +152,7 @@ impl Machine<'_> {
         self.agenda.forget(id);
         let _had_wait = self.give_up(name)?;
         let _is_behind = self.serve_turns(name)?;
-        self.mark_waiting(name)?;
         Ok(StepEnd::GivenUp)
-    }
-
-    /// Has the step of that name's job made again, if the name has another `wait` to be answered.
-    fn mark_waiting(&mut self, name: &[u8]) -> Result<(), Stop>
-        ensures server { self.new.server ≡ self.old.server }
-        ensures held { self.new.held ≡ self.old.held }
-    {
-        if self.has_wait(name) {
-            return self.mark(name);
-        }
-        Ok(())
     }
 
     /// Has the step of that tenancy's job made again, for which memory ran out.
