@@ -3,6 +3,7 @@ mod AliveLemmas
 mod AtOnce
 mod Books
 mod CountLemmas
+mod EndLemmas
 mod Examples
 mod FollowLemmas
 mod HeldLemmas

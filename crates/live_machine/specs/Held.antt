@@ -1,8 +1,8 @@
 -- A name that is held: its job runs, and it has said `wait`. What it says until it is answered
 -- waits too.
-use Rattle.std.specs.Prelude.{ℕ, ◌≡◌, ◌⊎◌, List, [], ◌∷◌, ◌++◌, Bool, true, false, Option, Some, None, ⊤, if◌then◌else◌}
+use Rattle.std.specs.Prelude.{ℕ, ◌≡◌, ◌⊎◌, List, [], ◌∷◌, ◌++◌, Bool, true, false, Option, Some, None, ⊤, if◌then◌else◌, not}
 use Rattle.std.specs.Str.{bytes_eq}
-use Rattle.std.specs.List.{AllByRecursion}
+use Rattle.std.specs.List.{AllByRecursion, list_all}
 use Rattle.backlog.specs.declared.backlog.Turn.{Turn}
 use Rattle.backlog.specs.declared.backlog.Turn.TheVariants.{Item, Nothing as NothingWaits, Lost as ItemIsLost}
 use Rattle.line_feed.specs.Pieces.{is_one_line, kept_of}
@@ -146,3 +146,7 @@ TakesOf (Some h) old turn new = (after : Held) × TakesFirst h turn after × (ne
 abbrev pub text_of : Option Held → OpenText
 text_of None = NoText
 text_of (Some h) = h.text
+
+-- no name has an item
+abbrev pub are_at_rest : List Held → Bool
+are_at_rest held = list_all (λ h. not (has_items h.items)) held

@@ -1,16 +1,18 @@
 -- private: the parts of the machine's code, and what they do.
-use Rattle.std.specs.Prelude.{ℕ, ◌≡◌, List, [], ◌∷◌, Bool, true, false, nat_lt, Option, Some, None, IsSomeAnd, ⊤}
-use Rattle.std.specs.List.{AllByRecursion, list_all}
+use Rattle.std.specs.Prelude.{ℕ, ◌≡◌, List, [], ◌∷◌, ◌++◌, Bool, true, false, nat_lt, Option, Some, None, IsSomeAnd, ⊤}
+use Rattle.std.specs.List.{AllByRecursion, flat_map, list_all}
 use Rattle.script_text.specs.declared.operator_line.OperatorLine.TheVariants.{Step}
 use Rattle.job_state.specs.declared.step.JobStep.{JobStep}
 use Rattle.tenant_slot.specs.declared.slot.TheConstants.{MAX_ENTRIES}
 use Rattle.tenant_slot.specs.Slot.{next_job}
 use Rattle.service_core.specs.History.{slot_of, state_of}
 use Rattle.service_core.specs.Service.{live_of}
+use Rattle.sessions.specs.SessionText.{no_memory_text}
 use Rattle.operator.specs.OperatorText.{last_id, name_of}
-use Rattle.live_lines.specs.Live.{LiveState}
+use Rattle.tagged_lines.specs.Tags.{output_of}
+use Rattle.live_lines.specs.Live.{LiveState, for_name}
 use Rattle.live_lines.specs.Live.Asked.{Operates}
-use Rattle.live_input.specs.Serving.{is_ready, state_in}
+use Rattle.live_input.specs.Serving.{ClosesTexts, is_ready, state_in}
 use Rattle.live_machine.specs.declared.machine.Machine.{Machine}
 use Rattle.live_machine.specs.declared.machine.steps.StepEnd.{StepEnd}
 use Rattle.live_machine.specs.declared.machine.steps.StepEnd.TheVariants.{Made}
@@ -123,3 +125,14 @@ pub record Counts (live : LiveState) (done : JobStep) (name : List ℕ) : Type 0
   pub last : last_id live.stage.names name ≡ done.id
   pub next : IsSomeAnd (live_of live.stage.service.histories done.id) (λ h. (next_job (slot_of h) ≡ Some done) × (nat_lt (state_of h).entries MAX_ENTRIES ≡ true))
   pub out : is_busy live name ≡ false
+
+-- what held names are told for an item that was lost, each in its turn
+abbrev pub lost_texts : List Held → List ℕ
+lost_texts held = flat_map (λ h. output_of (for_name h.name no_memory_text ∷ [])) held
+
+-- the machine ends: names that are held still are told that memory ran out, and each text that is
+-- open is refused
+pub record EndsMachine (live : LiveState) (held : List Held) (reply : List ℕ) : Type 0 where
+  pub closes : List ℕ
+  pub closed : ClosesTexts live closes
+  pub reply_is : reply ≡ lost_texts held ++ closes

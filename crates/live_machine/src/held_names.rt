@@ -1,7 +1,7 @@
 //! The names that are held.
 ghost use Rattle.std.specs.Prelude.{◌≡◌, ◌==◌, ◌++◌, ◌∷◌, [], Some, length, position, slice_get, IfErr, OnErr, OnOk, is_ok, option_copied, option_map, if◌then◌else◌};
 ghost use Rattle.std.specs.Str.{bytes_eq};
-ghost use Rattle.live_machine.specs.Held.{HearsOf, IsSaidBy, IsSaidText, TakesOf, held_of, text_of, without_name};
+ghost use Rattle.live_machine.specs.Held.{are_at_rest, HearsOf, IsSaidBy, IsSaidText, TakesOf, held_of, text_of, without_name};
 ghost use Rattle.live_machine.specs.declared.held.OpenText.TheVariants.{NoText};
 
 use crate::held::{Hold, OpenText, TooManyItems};
@@ -47,6 +47,13 @@ impl HeldNames {
         ensures { result ≡ length self.now }
     {
         self.holds.len()
+    }
+
+    /// Whether no held name has an item.
+    pub(crate) fn are_at_rest(&self) -> bool
+        ensures { result ≡ are_at_rest self.now }
+    {
+        are_at_rest(self.holds.as_slice())
     }
 
     /// What is held of a name, if it is.
@@ -145,6 +152,13 @@ impl HeldNames {
         forget(&mut self.holds, name);
         text
     }
+}
+
+/// Whether none of them has an item.
+fn are_at_rest(holds: &[Hold]) -> bool
+    ensures { result ≡ are_at_rest holds.now }
+{
+    holds.iter().all(|hold| !hold.has_items())
 }
 
 /// The place of the first that holds the name.

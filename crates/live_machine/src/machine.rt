@@ -11,6 +11,7 @@ ghost use Rattle.live_machine.specs.Machine.{Happens, HearsAsked, HearsFree, Hea
 ghost use Rattle.live_machine.specs.Machine.Call.{Line};
 ghost use Rattle.live_machine.specs.Parts.{HearsHolding, IsReady, machine_of};
 
+mod ending;
 mod holding;
 mod steps;
 

@@ -9,7 +9,7 @@ ghost use Rattle.operator.specs.OperatorText.{last_id};
 ghost use Rattle.tagged_lines.specs.Tags.{with_feed};
 ghost use Rattle.live_lines.specs.Live.{asked_of};
 ghost use Rattle.live_lines.specs.Live.Asked.{Operates};
-ghost use Rattle.live_input.specs.Serving.{AnswersLine, is_ready, state_in};
+ghost use Rattle.live_input.specs.Serving.{AnswersLine, ClosesTexts, is_ready, state_in};
 ghost use Rattle.live_machine.specs.Held.{Held, IsSaidBy};
 ghost use Rattle.live_machine.specs.Machine.{IsLine, Serves, ServesAll, ServesNobodys, ServesSaid, TellsLost, is_busy, is_by_hand, must_wait};
 ghost use Rattle.live_machine.specs.Parts.{PutsIf, state_with};
@@ -58,8 +58,17 @@ impl<'g> LineServer<'g> {
         &self.lines
     }
 
+    /// The number of bytes that are to be kept.
+    pub(crate) fn to_keep(&self) -> usize
+        ensures { result ≡ length self.now.log.items }
+    {
+        self.log.len()
+    }
+
     /// The number of bytes that are to be told.
-    pub(crate) fn to_tell(&self) -> usize {
+    pub(crate) fn to_tell(&self) -> usize
+        ensures { result ≡ length self.now.told.items }
+    {
         self.told.len()
     }
 
@@ -261,6 +270,42 @@ impl<'g> LineServer<'g> {
             ≡ (state_in self.old.lines).stage.names }
     {
         self.lines.give_back(back);
+    }
+
+    /// Ends the live service, and returns that text and the replies to texts that have no end.
+    pub(crate) fn end(self, text: Vec<u8>) -> Result<Vec<u8>, Stop>
+        requires { is_ready self.lines }
+        ensures { IfOk result (λ reply. (closes : List ℕ)
+            × (reply.items ≡ text.items ++ closes)
+            × ClosesTexts (state_in self.entry.lines) closes) }
+    {
+        let LineServer {
+            alloc: _,
+            mut lines,
+            next: _,
+            log,
+            told,
+        } = self;
+        drop((log, told));
+        let closed = lines.end();
+        lines.close();
+        let closed = closed?;
+        let mut text = text;
+        text.extend_from_slice(closed.as_slice())?;
+        Ok(text)
+    }
+
+    /// Ends the live service.
+    pub(crate) fn close(self) {
+        let LineServer {
+            alloc: _,
+            lines,
+            next: _,
+            log,
+            told,
+        } = self;
+        drop((log, told));
+        lines.close();
     }
 
     /// Takes what is to be kept, and what is to be told.

@@ -149,7 +149,7 @@ impl Machine<'_> {
     }
 
     /// Whether that name is held for a `wait`.
-    fn has_wait(&self, name: &[u8]) -> bool
+    pub(super) fn has_wait(&self, name: &[u8]) -> bool
         ensures { result ≡ has_wait (held_of (self.now.held) name.now) }
     {
         match self.held.get(name) {

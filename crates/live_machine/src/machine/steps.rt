@@ -152,6 +152,7 @@ impl Machine<'_> {
         self.agenda.forget(id);
         let _had_wait = self.give_up(name)?;
         let _is_behind = self.serve_turns(name)?;
+        self.mark_waited(name)?;
         Ok(StepEnd::GivenUp)
     }
 
@@ -171,6 +172,18 @@ impl Machine<'_> {
     {
         if self.server.has_step(name) {
             self.agenda.mark(self.server.last_id(name))?;
+        }
+        Ok(())
+    }
+
+    /// Notes that the job of that name's tenancy may have a step to take, if another `wait` of the
+    /// name is for it.
+    fn mark_waited(&mut self, name: &[u8]) -> Result<(), Stop>
+        ensures server { self.new.server ≡ self.old.server }
+        ensures held { self.new.held ≡ self.old.held }
+    {
+        if self.has_wait(name) {
+            return self.mark(name);
         }
         Ok(())
     }

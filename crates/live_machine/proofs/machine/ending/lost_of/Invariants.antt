@@ -1,0 +1,6 @@
+use Rattle.std.proofs.Common.{◌≡◌, take}
+use Rattle.live_machine.specs.Parts.{lost_texts}
+use Rattle.live_machine.proofs.machine.ending.lost_of.Given as goal
+
+abbrev pub invariant-loop-place : goal.invariant-loop-place
+invariant-loop-place l = l.text.items ≡ lost_texts (take l.place l.held)
