@@ -114,7 +114,7 @@ fn is_told_on(alloc: Global, graph: &DeviceGraph) -> bool {
     match new_machine(alloc, graph) {
         Some(mut machine) => {
             let is_so = is_told(alloc, &mut machine, graph);
-            machine.into_lines().close();
+            machine.close();
             is_so
         }
         None => false,
@@ -246,7 +246,7 @@ fn are_rows_told_on(alloc: Global, graph: &DeviceGraph) -> bool {
     match new_machine(alloc, graph) {
         Some(mut machine) => {
             let is_so = are_rows_told(alloc, &mut machine, graph);
-            machine.into_lines().close();
+            machine.close();
             is_so
         }
         None => false,

@@ -97,7 +97,7 @@ fn are_given_up_on(alloc: Global, graph: &DeviceGraph) -> bool {
     match new_machine(alloc, graph) {
         Some(mut machine) => {
             let is_so = are_given_up(alloc, &mut machine, graph);
-            machine.into_lines().close();
+            machine.close();
             is_so
         }
         None => false,

@@ -111,7 +111,7 @@ fn is_so_on(alloc: Global, graph: &DeviceGraph) -> bool {
     match new_machine(alloc, graph) {
         Some(mut machine) => {
             let is_so = is_so(alloc, &mut machine, graph);
-            machine.into_lines().close();
+            machine.close();
             is_so
         }
         None => false,

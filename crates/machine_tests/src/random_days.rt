@@ -17,10 +17,10 @@ use strips::DeviceGraph;
 use tagged_lines::split_tag;
 
 /// The number of dialogues.
-const DAYS: u64 = 300;
+const DAYS: u64 = 150;
 
 /// The number of events of each: lines that come, steps that are taken and so on.
-const EVENTS: u32 = 400;
+const EVENTS: u32 = 240;
 
 /// What each dialogue begins with.
 const OPENING: &[u8] = b"op admit alice 1\nop admit bob 2\nop admit carol 1\nop admit dave 2\n";
@@ -38,6 +38,8 @@ enum Wrong {
     Stops,
     /// A line of a name that isn't held was not answered at once.
     IsLate,
+    /// Something waits for its turn in the end.
+    Waits,
     /// A job runs in the end.
     Runs,
     /// A line of this name was not served, or not in its turn.
@@ -196,6 +198,9 @@ fn end(
     {
         return Err(Wrong::Stops);
     }
+    if !machine.is_at_rest() {
+        return Err(Wrong::Waits);
+    }
     if NAMES
         .iter()
         .any(|name| is_running(machine.lines(), name.as_bytes()))
@@ -312,7 +317,7 @@ fn live_on(alloc: Global, graph: &DeviceGraph) -> Result<(), (u64, Wrong)> {
     match new_machine(alloc, graph) {
         Some(mut machine) => {
             let lived = live_beside(alloc, &mut machine, graph);
-            machine.into_lines().close();
+            machine.close();
             lived
         }
         None => Err((0, Wrong::Stops)),
