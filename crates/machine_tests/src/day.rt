@@ -1,5 +1,6 @@
 //! What a test gives a machine, and takes from it.
-ghost use Rattle.std.specs.Prelude.{◌≡◌, true, IsOk, OnSome};
+ghost use Rattle.std.specs.Prelude.{◌≡◌, ◌==◌, not, true, IsOk, OnSome};
+ghost use Rattle.std.specs.List.{list_all};
 ghost use Rattle.live_machine.specs.Machine.{IsLine};
 ghost use Rattle.live_machine.specs.Parts.{IsReady};
 
@@ -208,7 +209,14 @@ impl Day {
 fn is_line(line: &[u8]) -> bool
     ensures { result ≡ true → IsLine line.now }
 {
-    line.len() <= MAX_FED_LINE && line.iter().all(|byte| *byte != b'\n')
+    line.len() <= MAX_FED_LINE && has_no_feed(line)
+}
+
+/// Whether no byte is LF.
+fn has_no_feed(line: &[u8]) -> bool
+    ensures { result ≡ list_all (λ byte. not (byte == 10)) line.now }
+{
+    line.iter().all(|byte| *byte != b'\n')
 }
 
 /// Adds a line with LF.

@@ -198,28 +198,45 @@ fn long_text(alloc: Global) -> Option<Vec<u8>> {
     }
 }
 
+/// Whether that is told for these lines, once all is done that is left to do.
+fn tells(
+    day: &mut Day,
+    machine: &mut Machine<'_>,
+    graph: &DeviceGraph,
+    lines: &[u8],
+    told: &[u8],
+) -> bool
+    requires ready { IsReady machine.old }
+    ensures ready { result ≡ true → IsReady machine.new }
+{
+    day.told.clear();
+    day.hear_all(machine, lines) && day.settle(machine, graph) && day.told.as_slice() == told
+}
+
+/// Whether that is told for these lines at once.
+fn tells_at_once(day: &mut Day, machine: &mut Machine<'_>, lines: &[u8], told: &[u8]) -> bool
+    requires ready { IsReady machine.old }
+    ensures ready { result ≡ true → IsReady machine.new }
+{
+    day.told.clear();
+    day.hear_all(machine, lines) && day.drain(machine) && day.told.as_slice() == told
+}
+
 /// Whether what a row says is told.
 fn is_row_told(
     day: &mut Day,
     machine: &mut Machine<'_>,
     graph: &DeviceGraph,
     text: &[u8],
-    row: &Row,
+    row: Row,
 ) -> bool
     requires ready { IsReady machine.old }
     ensures ready { result ≡ true → IsReady machine.new }
 {
-    day.told.clear();
-    if !(day.hear_all(machine, row.before)
+    day.hear_all(machine, row.before)
         && day.hear_all(machine, text)
-        && day.hear_all(machine, row.after)
-        && day.settle(machine, graph)
-        && day.told.as_slice() == row.told)
-    {
-        return false;
-    }
-    day.told.clear();
-    day.hear_all(machine, row.later) && day.drain(machine) && day.told.as_slice() == row.told_later
+        && tells(day, machine, graph, row.after, row.told)
+        && tells_at_once(day, machine, row.later, row.told_later)
 }
 
 /// Whether all rows are told.
@@ -235,7 +252,7 @@ fn are_rows_told(alloc: Global, machine: &mut Machine<'_>, graph: &DeviceGraph) 
         return false;
     }
     for row in ROWS.iter() {
-        if !is_row_told(&mut day, machine, graph, text.as_slice(), row) {
+        if !is_row_told(&mut day, machine, graph, text.as_slice(), *row) {
             return false;
         }
     }
