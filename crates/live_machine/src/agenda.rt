@@ -17,6 +17,8 @@ struct Lack {
 pub(crate) struct Agenda {
     ready: VecDeque<u32>,
     lacks: Vec<Lack>,
+    /// The place, among the names that are held, after the one that had the last turn.
+    after_turn: usize,
 }
 
 impl Agenda {
@@ -25,7 +27,19 @@ impl Agenda {
         Agenda {
             ready: VecDeque::new(alloc),
             lacks: Vec::new(alloc),
+            after_turn: 0,
         }
+    }
+
+    /// The place of the name that has the next turn, if it can be served on: names have their turns
+    /// round and round.
+    pub(crate) fn after_turn(&self) -> usize {
+        self.after_turn
+    }
+
+    /// Notes that the name at that place has its turn.
+    pub(crate) fn note_turn(&mut self, place: usize) {
+        self.after_turn = place.saturating_add(1);
     }
 
     /// How many tenancies may have a step to take.

@@ -138,9 +138,22 @@ impl Machine<'_> {
         let id = back.id();
         self.server.give_back(back);
         match self.server.lines().live().names().name_of(id) {
-            Some(name) => self.count_lack(id, name),
+            Some(name) => self.give_back_of(id, name),
             None => Ok(StepEnd::Dropped),
         }
+    }
+
+    /// Counts that memory ran out for a job that was taken back, unless it was dropped.
+    fn give_back_of(&mut self, id: u32, name: &[u8]) -> Result<StepEnd, Stop>
+        requires ready { IsReady self.old }
+        ensures ready { OnOk result (IsReady self.new) }
+        ensures works { OnOk result (IsWorked (machine_of self.old) (machine_of self.new)) }
+    {
+        if self.server.has_step(name) {
+            return self.count_lack(id, name);
+        }
+        self.go_on(id, name)?;
+        Ok(StepEnd::Dropped)
     }
 
     /// Counts one more time that memory ran out for a step of that tenancy. After the last one a
@@ -215,7 +228,8 @@ impl Machine<'_> {
         Ok(true)
     }
 
-    /// Serves the first held name that can be served on. Returns whether there was one.
+    /// Serves the next held name that can be served on, after the one that had the last turn.
+    /// Returns whether there was one. With more than 16 MiB to be told none is served.
     ///
     /// # Errors
     /// Why the machine stops. It takes no call after that but `close`.
@@ -224,7 +238,10 @@ impl Machine<'_> {
         ensures ready { OnOk result (IsReady self.new) }
         ensures works { OnOk result (IsWorked (machine_of self.old) (machine_of self.new)) }
     {
-        match self.first_free()? {
+        if self.server.to_tell() > MOST_TOLD {
+            return Ok(false);
+        }
+        match self.next_free()? {
             Some(name) => {
                 let _is_behind = self.serve_turns(name.as_slice())?;
                 self.mark(name.as_slice())?;
@@ -234,17 +251,43 @@ impl Machine<'_> {
         }
     }
 
-    /// The first held name that can be served on.
-    fn first_free(&self) -> Result<Option<Vec<u8>>, AllocError> {
-        for place in 0..self.held.len() {
+    /// The next held name that can be served on. It has its turn.
+    fn next_free(&mut self) -> Result<Option<Vec<u8>>, AllocError>
+        ensures server { self.new.server ≡ self.old.server }
+        ensures held { self.new.held ≡ self.old.held }
+    {
+        let mut free = self.free_from(self.agenda.after_turn());
+        if free.is_none() {
+            free = self.free_from(0);
+        }
+        match free {
+            Some(place) => {
+                self.agenda.note_turn(place);
+                self.name_at(place)
+            }
+            None => Ok(None),
+        }
+    }
+
+    /// The place of the first held name, from that place on, that can be served on.
+    fn free_from(&self, first: usize) -> Option<usize> {
+        for place in first..self.held.len() {
             if let Some(name) = self.held.name_at(place)
                 && self.has_items(name)
                 && !self.is_waiting(name)
             {
-                return Ok(Some(Vec::from_slice(self.alloc, name)?));
+                return Some(place);
             }
         }
-        Ok(None)
+        None
+    }
+
+    /// A copy of the held name at that place.
+    fn name_at(&self, place: usize) -> Result<Option<Vec<u8>>, AllocError> {
+        match self.held.name_at(place) {
+            Some(name) => Ok(Some(Vec::from_slice(self.alloc, name)?)),
+            None => Ok(None),
+        }
     }
 
     /// Takes what is to be kept, and what is to be told once that is kept.
