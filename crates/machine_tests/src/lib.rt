@@ -8,6 +8,7 @@
 //!   moments, beside a service without workers.
 //! - `floods`: more than can wait for one name, and texts that are too long to wait.
 //! - `given_up`: a `wait` for whose job memory goes on running out.
+//! - `turns`: names that have said much have their turns round and round.
 //! - `day`, `hand`: what a test gives a machine and takes from it, and steps that are out.
 //! - `talk`: random lines of a few names.
 //! - `served`: lines that came beside lines that were served.
@@ -35,3 +36,5 @@ mod random_days;
 mod served;
 #[cfg(test)]
 mod talk;
+#[cfg(test)]
+mod turns;
