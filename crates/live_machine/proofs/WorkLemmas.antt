@@ -1,14 +1,14 @@
 -- What workers do, call by call.
-use Rattle.std.specs.List.{AllByRecursion, list_all}
-use Rattle.std.proofs.Common.{◌≡◌, ℕ, List, [], ◌∷◌, ◌++◌, Bool, true, false, ◌&&◌, Some, None, refl, sym, ap, subst, ◌∙◌}
-use Rattle.std.proofs.lemmas.List.Folds.{list_all-append}
+use Rattle.std.specs.List.{AllByRecursion}
+use Rattle.std.proofs.Common.{◌≡◌, ℕ, List, [], ◌∷◌, ◌++◌, Bool, true, false, Option, Some, None, Result, Ok, Err, IfOk, refl, sym, ap, subst, ◌∙◌}
 use Rattle.live_machine.specs.declared.machine.steps.StepEnd.{StepEnd}
-use Rattle.live_machine.specs.declared.machine.steps.StepEnd.TheVariants.{Again, Dropped, GivenUp, Made}
+use Rattle.live_machine.specs.declared.machine.steps.StepEnd.TheVariants.{Dropped}
 use Rattle.live_machine.specs.declared.machine.Machine.{Machine}
+use Rattle.live_machine.specs.declared.stop.Stop.{Stop}
 use Rattle.live_machine.specs.declared.server.LineServer.{LineServer}
-use Rattle.live_machine.specs.Parts.{PutsIf, PutsStep, machine_of, state_with, EndsStep, HasTurn, HasTurns, IsGivenUp, IsTurnOf, IsWorked, is_workers}
+use Rattle.live_machine.specs.Parts.{PutsIf, PutsStep, machine_of, state_with, EndsPut, EndsStep, HasTurn, HasTurns, IsTurnOf}
 use Rattle.live_machine.specs.Machine.{Call, MachineState, Run}
-use Rattle.live_machine.specs.Machine.Call.{GiveUp, ServeHeld}
+use Rattle.live_machine.specs.Machine.Call.{ServeHeld}
 
 run_both : (a b c : MachineState) (first more : List Call) → Run a first b → Run b more c → Run a (first ++ more) c
 run_both a b c [] more same run = let P : MachineState → Type 0 = λ m. Run m more c in subst P same run
@@ -37,53 +37,25 @@ turn_none name a b c went is t one =
     let Q : MachineState → Type 0 = λ m. HasTurns name a m in
     subst Q (sym (subst P is one)) t
 
--- what workers do
-pub no_work : (old new : MachineState) → new ≡ old → IsWorked old new
-no_work old new same = record { calls = []; works = refl; run = same }
+pub turns_after : (name : List ℕ) (old mid new : MachineState) → mid ≡ old → HasTurns name mid new → HasTurns name old new
+turns_after name old mid new same turns = let P : MachineState → Type 0 = λ m. HasTurns name m new in subst P same turns
 
-work_turns : (name : List ℕ) (calls : List Call) → AllByRecursion (IsTurnOf name) calls → list_all is_workers calls ≡ true
-work_turns name [] all = refl
-work_turns name (call ∷ calls) all = ap (λ c. is_workers c && list_all is_workers calls) all.0 ∙ work_turns name calls all.1
-
-pub turns_work : (name : List ℕ) (old new : MachineState) → HasTurns name old new → IsWorked old new
-turns_work name old new t = record { calls = t.calls; works = work_turns name t.calls t.turns; run = t.run }
-
-pub work_both : (a b c : MachineState) → IsWorked a b → IsWorked b c → IsWorked a c
-work_both a b c one other =
-    record {
-      calls = one.calls ++ other.calls;
-      works = list_all-append is_workers one.calls other.calls ∙ (ap (λ x. x && list_all is_workers other.calls) one.works ∙ other.works);
-      run = run_both a b c one.calls other.calls one.run other.run;
-    }
-
-pub works_after : (old mid new : MachineState) → mid ≡ old → IsWorked mid new → IsWorked old new
-works_after old mid new same works = let P : MachineState → Type 0 = λ m. IsWorked m new in subst P same works
-
-pub works_to : (a b c : MachineState) → c ≡ b → IsWorked a b → IsWorked a c
-works_to a b c same works = let P : MachineState → Type 0 = λ m. IsWorked a m in subst P (sym same) works
+pub turns_to : (name : List ℕ) (a b c : MachineState) → c ≡ b → HasTurns name a b → HasTurns name a c
+turns_to name a b c same turns = let P : MachineState → Type 0 = λ m. HasTurns name a m in subst P (sym same) turns
 
 pub same_state : (a b : Machine) → a.server ≡ b.server → a.held ≡ b.held → machine_of a ≡ machine_of b
 same_state a b server held = ap (λ (s : LineServer). state_with s a.held) server ∙ ap (λ h. state_with b.server h) held
 
 -- a step is put
-pub made_puts : (name : List ℕ) (old mid new : MachineState) → EndsStep (Some true) name old mid → IsWorked mid new → PutsStep Made old new
-made_puts name old mid new put works = (name, mid, put, works)
+pub ends_after : (end : StepEnd) (name : List ℕ) (old mid new : MachineState) → mid ≡ old → EndsPut end name mid new → EndsPut end name old new
+ends_after end name old mid new same ends = let P : MachineState → Type 0 = λ m. EndsPut end name m new in subst P same ends
 
-pub dropped_puts : (name : List ℕ) (old mid new : MachineState) → EndsStep None name old mid → IsWorked mid new → PutsStep Dropped old new
-dropped_puts name old mid new same works = works_after old mid new same works
+pub gives_by : (names : Option (List ℕ)) (name : List ℕ) (old mid new : MachineState) (result : Result StepEnd Stop) → names ≡ Some name → mid ≡ old → IfOk result (λ end. EndsPut end name mid new) → IfOk result (λ end. PutsStep end names old new)
+gives_by names name old mid new (Ok end) is same ends = let P : Option (List ℕ) → Type 0 = λ n. PutsStep end n old new in subst P (sym is) (ends_after end name old mid new same ends)
+gives_by names name old mid new (Err stop) is same ends = tt
 
-pub lacking_puts : (end : StepEnd) (name : List ℕ) (old mid new : MachineState) → (end ≡ Made → ⊥) → EndsStep (Some false) name old mid → IsWorked mid new → PutsStep end old new
-lacking_puts Made name old mid new apart same works = absurd (apart refl)
-lacking_puts Dropped name old mid new apart same works = works_after old mid new same works
-lacking_puts (Again tries) name old mid new apart same works = works_after old mid new same works
-lacking_puts GivenUp name old mid new apart same works = works_after old mid new same works
-
-pub puts_after : (end : StepEnd) (old mid new : MachineState) → mid ≡ old → PutsStep end mid new → PutsStep end old new
-puts_after end old mid new same puts = let P : MachineState → Type 0 = λ m. PutsStep end m new in subst P same puts
-
-pub give_up_works : (went : Bool) (name : List ℕ) (old new : MachineState) → IsGivenUp went name old new → IsWorked old new
-give_up_works true name old new given = record { calls = GiveUp name ∷ []; works = refl; run = (new, given, refl) }
-give_up_works false name old new same = no_work old new same
+pub puts_none : (names : Option (List ℕ)) (old new : MachineState) → names ≡ None → new ≡ old → PutsStep Dropped names old new
+puts_none names old new is same = let P : Option (List ℕ) → Type 0 = λ n. PutsStep Dropped n old new in subst P (sym is) (refl, same)
 
 -- with the same state before
 pub ends_by : (made : Bool) (name : List ℕ) (old mid new : MachineState) → mid ≡ old → PutsIf made name mid new → EndsStep (Some made) name old new

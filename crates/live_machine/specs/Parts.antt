@@ -1,6 +1,6 @@
 -- private: the parts of the machine's code, and what they do.
 use Rattle.std.specs.Prelude.{ℕ, ◌≡◌, List, [], ◌∷◌, ◌++◌, Bool, true, false, nat_lt, Option, Some, None, IsSomeAnd, ⊤}
-use Rattle.std.specs.List.{AllByRecursion, flat_map, list_all}
+use Rattle.std.specs.List.{AllByRecursion, flat_map}
 use Rattle.script_text.specs.declared.operator_line.OperatorLine.TheVariants.{Step}
 use Rattle.job_state.specs.declared.step.JobStep.{JobStep}
 use Rattle.tenant_slot.specs.declared.slot.TheConstants.{MAX_ENTRIES}
@@ -15,7 +15,7 @@ use Rattle.live_lines.specs.Live.Asked.{Operates}
 use Rattle.live_input.specs.Serving.{ClosesTexts, is_ready, state_in}
 use Rattle.live_machine.specs.declared.machine.Machine.{Machine}
 use Rattle.live_machine.specs.declared.machine.steps.StepEnd.{StepEnd}
-use Rattle.live_machine.specs.declared.machine.steps.StepEnd.TheVariants.{Made}
+use Rattle.live_machine.specs.declared.machine.steps.StepEnd.TheVariants.{Again, Dropped, GivenUp, Made}
 use Rattle.live_machine.specs.declared.server.LineServer.{LineServer}
 use Rattle.live_machine.specs.Held.{Held, HeldItem, begins_with_wait, held_of}
 use Rattle.live_machine.specs.Machine.{Call, Frees, FreesIf, Happens, HearsAfter, IsMade, MachineState, Run, ServesItem, ServesItems, Works, is_busy}
@@ -95,28 +95,30 @@ EndsStep None name old new = new ≡ old
 abbrev pub IsTurnOf : List ℕ → Call → Type 0
 IsTurnOf name call = call ≡ ServeHeld name
 
--- private: turns of a name that is held, one after another
+-- turns of a name that is held, one after another
 pub record HasTurns (name : List ℕ) (old new : MachineState) : Type 0 where
   pub calls : List Call
   pub turns : AllByRecursion (IsTurnOf name) calls
   pub run : Run old calls new
 
--- what workers do: they put steps, and after that names have their turns, or a `wait` is given up
-abbrev pub is_workers : Call → Bool
-is_workers (PutStep name) = true
-is_workers (GiveUp name) = true
-is_workers (ServeHeld name) = true
-is_workers call = false
+-- a step of that name's tenancy is put, and ends so: it is made, and then the name has its turns; it
+-- is dropped, and the name has its turns; or memory ran out for it, once more, or too often, and then
+-- a `wait` of the name is given up
+abbrev pub EndsPut : StepEnd → List ℕ → MachineState → MachineState → Type 0
+EndsPut Made name old new = (mid : MachineState) × Happens old (PutStep name) mid × HasTurns name mid new
+EndsPut Dropped name old new = HasTurns name old new
+EndsPut (Again tries) name old new = new ≡ old
+EndsPut GivenUp name old new = (went : Bool) × (mid : MachineState) × IsGivenUp went name old mid × HasTurns name mid new
 
-pub record IsWorked (old new : MachineState) : Type 0 where
-  pub calls : List Call
-  pub works : list_all is_workers calls ≡ true
-  pub run : Run old calls new
+-- a step is put, of the tenancy with that name, or of one that has none
+abbrev pub PutsStep : StepEnd → Option (List ℕ) → MachineState → MachineState → Type 0
+PutsStep end (Some name) old new = EndsPut end name old new
+PutsStep end None old new = (end ≡ Dropped) × (new ≡ old)
 
--- a step that is made is put, and then workers go on
-abbrev pub PutsStep : StepEnd → MachineState → MachineState → Type 0
-PutsStep Made old new = (name : List ℕ) × (mid : MachineState) × Happens old (PutStep name) mid × IsWorked mid new
-PutsStep end old new = IsWorked old new
+-- a name that is held has its turn, or none has
+abbrev pub TakesTurn : Bool → MachineState → MachineState → Type 0
+TakesTurn true old new = (name : List ℕ) × HasTurns name old new
+TakesTurn false old new = new ≡ old
 
 -- the step counts: it is the next one of the running job of the name's tenancy, it was out, and the
 -- tenancy's journal has room

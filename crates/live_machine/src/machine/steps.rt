@@ -1,10 +1,11 @@
 //! The steps that workers make, and the turns of names that are held.
 ghost use Rattle.std.specs.Prelude.{◌≡◌, ◌≢◌, List, ℕ, None, IfOk, OnOk};
+ghost use Rattle.operator.specs.OperatorText.{name_of};
 ghost use Rattle.live_input.specs.Serving.{state_in};
 ghost use Rattle.live_machine.specs.declared.machine.steps.StepEnd.TheVariants.{Dropped, Made};
 ghost use Rattle.live_machine.specs.Machine.{Happens};
 ghost use Rattle.live_machine.specs.Machine.Call.{Drain};
-ghost use Rattle.live_machine.specs.Parts.{Counts, EndsStep, HasTurns, IsReady, IsWorked, PutsStep, machine_of};
+ghost use Rattle.live_machine.specs.Parts.{Counts, EndsPut, EndsStep, HasTurns, IsReady, PutsStep, TakesTurn, machine_of};
 
 use crate::machine::Machine;
 use crate::stop::Stop;
@@ -52,15 +53,16 @@ impl Machine<'_> {
     }
 
     /// Puts a step that a worker made. If it is still the next one of its tenancy's running job,
-    /// that is a line `op step NAME 1`; if not, it is dropped. Then the name has its turn, if it is
-    /// held.
+    /// that is a line `op step NAME 1`; if not, it is dropped. Then the name has its turns, if it
+    /// is held.
     ///
     /// # Errors
     /// Why the machine stops. It takes no call after that but `close`.
     pub fn put(&mut self, done: Done) -> Result<StepEnd, Stop>
         requires ready { IsReady self.old }
         ensures ready { OnOk result (IsReady self.new) }
-        ensures puts { IfOk result (λ end. PutsStep end (machine_of self.old)
+        ensures puts { IfOk result (λ end. PutsStep end
+            (name_of (machine_of self.old).live.stage.names done.id) (machine_of self.old)
             (machine_of self.new)) }
         ensures counts { (name : List ℕ) → Counts (state_in self.old.server.lines) done name →
             IfOk result (λ end. end ≢ Dropped) }
@@ -79,7 +81,7 @@ impl Machine<'_> {
     fn put_of(&mut self, id: u32, name: &[u8], done: Done) -> Result<StepEnd, Stop>
         requires ready { IsReady self.old }
         ensures ready { OnOk result (IsReady self.new) }
-        ensures puts { IfOk result (λ end. PutsStep end (machine_of self.old)
+        ensures puts { IfOk result (λ end. EndsPut end name.now (machine_of self.old)
             (machine_of self.new)) }
         ensures counts { Counts (state_in self.old.server.lines) done name.now →
             IfOk result (λ end. end ≢ Dropped) }
@@ -119,7 +121,8 @@ impl Machine<'_> {
     fn go_on(&mut self, id: u32, name: &[u8]) -> Result<(), Stop>
         requires ready { IsReady self.old }
         ensures ready { OnOk result (IsReady self.new) }
-        ensures works { OnOk result (IsWorked (machine_of self.old) (machine_of self.new)) }
+        ensures turns { OnOk result (HasTurns name.now (machine_of self.old)
+            (machine_of self.new)) }
     {
         self.agenda.forget(id);
         let _is_behind = self.serve_turns(name)?;
@@ -133,7 +136,10 @@ impl Machine<'_> {
     pub fn give_back(&mut self, back: Back) -> Result<StepEnd, Stop>
         requires ready { IsReady self.old }
         ensures ready { OnOk result (IsReady self.new) }
-        ensures works { OnOk result (IsWorked (machine_of self.old) (machine_of self.new)) }
+        ensures gives { IfOk result (λ end. PutsStep end
+            (name_of (machine_of self.old).live.stage.names back.step.id) (machine_of self.old)
+            (machine_of self.new)) }
+        ensures unmade { IfOk result (λ end. end ≢ Made) }
     {
         let id = back.id();
         self.server.give_back(back);
@@ -147,7 +153,9 @@ impl Machine<'_> {
     fn give_back_of(&mut self, id: u32, name: &[u8]) -> Result<StepEnd, Stop>
         requires ready { IsReady self.old }
         ensures ready { OnOk result (IsReady self.new) }
-        ensures works { OnOk result (IsWorked (machine_of self.old) (machine_of self.new)) }
+        ensures gives { IfOk result (λ end. EndsPut end name.now (machine_of self.old)
+            (machine_of self.new)) }
+        ensures unmade { IfOk result (λ end. end ≢ Made) }
     {
         if self.server.has_step(name) {
             return self.count_lack(id, name);
@@ -161,7 +169,8 @@ impl Machine<'_> {
     fn count_lack(&mut self, id: u32, name: &[u8]) -> Result<StepEnd, Stop>
         requires ready { IsReady self.old }
         ensures ready { OnOk result (IsReady self.new) }
-        ensures works { OnOk result (IsWorked (machine_of self.old) (machine_of self.new)) }
+        ensures ends { IfOk result (λ end. EndsPut end name.now (machine_of self.old)
+            (machine_of self.new)) }
         ensures lacks { IfOk result (λ end. (end ≢ Made) × (end ≢ Dropped)) }
     {
         let tries = self.agenda.count(id)?;
@@ -236,7 +245,8 @@ impl Machine<'_> {
     pub fn turn(&mut self) -> Result<bool, Stop>
         requires ready { IsReady self.old }
         ensures ready { OnOk result (IsReady self.new) }
-        ensures works { OnOk result (IsWorked (machine_of self.old) (machine_of self.new)) }
+        ensures turns { IfOk result (λ went. TakesTurn went (machine_of self.old)
+            (machine_of self.new)) }
     {
         if self.server.to_tell() > MOST_TOLD {
             return Ok(false);

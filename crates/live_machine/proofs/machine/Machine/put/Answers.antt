@@ -1,5 +1,10 @@
-use Rattle.live_machine.proofs.WorkLemmas.{no_work}
+use Rattle.std.proofs.Common.{◌≡◌, None, rules}
+use Rattle.operator.specs.OperatorText.{name_of}
+use Rattle.live_machine.specs.Parts.{machine_of}
+use Rattle.live_machine.proofs.WorkLemmas.{puts_none}
 use Rattle.live_machine.proofs.machine.Machine.put.Goals as goal
 
 pub returns-in-None-clause-puts : goal.returns-in-None-clause-puts
-returns-in-None-clause-puts c = no_work _ _ (c.give_back.ensures.same c.args.self.now.held)
+returns-in-None-clause-puts c =
+    let is : name_of (machine_of c.args.self.now).live.stage.names c.args.done.id ≡ None = search rules in
+    puts_none _ _ _ is (c.give_back.ensures.same c.args.self.now.held)

@@ -1,10 +1,9 @@
 use Rattle.std.proofs.Common.{◌≡◌, Bool, Option, Some, true, subst, rules}
 use Rattle.live_machine.specs.Parts.{EndsStep, machine_of}
-use Rattle.live_machine.proofs.WorkLemmas.{made_puts}
 use Rattle.live_machine.proofs.machine.Machine.put_of.Goals as goal
 
 pub returns-in_ok-go_on-in-Some-true-clause-puts : goal.returns-in_ok-go_on-in-Some-true-clause-puts
 returns-in_ok-go_on-in-Some-true-clause-puts c =
     let P : Option Bool → Type 0 = λ e. EndsStep e c.args.name.now (machine_of c.args.self.now) (machine_of c.put_step.new.self) in
     let is : c.in_ok-put_step.field-0 ≡ Some true = search rules in
-    made_puts c.args.name.now _ _ _ (subst P is c.in_ok-put_step.ensures.ends) c.in_ok-go_on-in-Some-true.ensures.works
+    (_, subst P is c.in_ok-put_step.ensures.ends, c.in_ok-go_on-in-Some-true.ensures.turns)
