@@ -101,9 +101,9 @@ pub record HasTurns (name : List ℕ) (old new : MachineState) : Type 0 where
   pub turns : AllByRecursion (IsTurnOf name) calls
   pub run : Run old calls new
 
--- a step of that name's tenancy is put, and ends so: it is made, and then the name has its turns; it
--- is dropped, and the name has its turns; or memory ran out for it, once more, or too often, and then
--- a `wait` of the name is given up
+-- a step of that name's tenancy is put, and ends so: it is made, and then the name has turns; it is
+-- dropped, and the name has turns; memory ran out for it; or memory ran out too often, and a `wait`
+-- of the name is given up
 abbrev pub EndsPut : StepEnd → List ℕ → MachineState → MachineState → Type 0
 EndsPut Made name old new = (mid : MachineState) × Happens old (PutStep name) mid × HasTurns name mid new
 EndsPut Dropped name old new = HasTurns name old new
