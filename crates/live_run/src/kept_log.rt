@@ -14,7 +14,7 @@ use std::rt::Files;
 const CHUNK: usize = 65_536;
 
 /// A log that is open: what it kept before, and the log for what comes.
-pub(crate) struct KeptLog<F: Read + Write + OpenFile + Drop> {
+pub struct KeptLog<F: Read + Write + OpenFile + Drop> {
     pub past: StdSource<Take<F>>,
     pub log: FileLog<F>,
 }

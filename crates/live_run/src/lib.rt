@@ -3,7 +3,7 @@
 //! - [`read_options`] reads the command line. [`first_line`] is the line that a log begins with.
 //! - [`serve`] serves the lines of a dialogue as they come, after those of a log if there is one.
 //! - [`run_line`] serves as a command line says. [`Outcome`] says how a service ended.
-//! - [`LockLog`] keeps a log to one service at a time.
+//! - [`log_at`] opens a log, as what it kept and what comes ([`KeptLog`]). [`LockLog`] keeps a log to one service at a time.
 #![tactic(auto)]
 
 mod beginning;
@@ -15,8 +15,9 @@ mod program;
 mod serving;
 
 pub use beginning::first_line;
+pub use kept_log::KeptLog;
 pub use log_lock::LockLog;
 pub use options::{CommandLine, Options, read_options};
 pub use outcome::Outcome;
-pub use program::{read_architecture, run_line};
+pub use program::{log_at, read_architecture, run_line};
 pub use serving::serve;

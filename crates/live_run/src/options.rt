@@ -24,7 +24,7 @@ A line of input is a request; NAME is 1 to 32 letters, digits and `_`:
 Each line of a reply begins with `op` or `@NAME`; `? N` says that line N has no form.
 
 Status: 0 served, 1 the architecture or a device failed, 2 the options are refused,
-  4 memory ran out, 5 the journals differ from the answers
+  4 memory ran out
 
 Example: fpgad_live --arch my.arch --tracks 8 --columns 20 --rows 10 --log day.log
 All of it: docs/LIVE.md";
@@ -99,9 +99,6 @@ const MIB: u64 = 1_048_576;
 const BEYOND: &str = "a number is beyond its limits";
 
 const NO_ARCH: &str = "--arch FILE is missing";
-
-const LOG_ALONE: &str =
-    "--log and --workers exclude each other: without workers a log leads to one state";
 
 /// The size of the device and of its channels, and of what a tenancy's journal may hold, within
 /// their limits.
@@ -184,7 +181,7 @@ impl Options {
 }
 
 /// A command line: the options, the path of the architecture's file, the path of the log if there
-/// is one, and the number of workers. With workers there is no log.
+/// is one, and the number of workers.
 #[derive(Clone, Copy)]
 pub struct CommandLine<'a> {
     pub options: Options,
@@ -216,9 +213,6 @@ fn line_of<'a>(given: &Given<'a>) -> Result<CommandLine<'a>, &'static str> {
     let options = options.with_tenant_memory(tenant_memory).ok_or(BEYOND)?;
     let workers = given.number("workers")?;
     let log = given.text("log");
-    if workers > 0 && log.is_some() {
-        return Err(LOG_ALONE);
-    }
     Ok(CommandLine {
         options,
         arch: given.text("arch").ok_or(NO_ARCH)?,

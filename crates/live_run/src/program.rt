@@ -66,8 +66,9 @@ where
     }
 }
 
-/// The log at that path, of these options and that architecture.
-fn log_at<H: Files + AllocGlobal>(
+/// Opens the log at that path, of these options and that architecture. A new log gets its first
+/// line.
+pub fn log_at<H: Files + AllocGlobal>(
     rt: &H,
     line: &CommandLine<'_>,
     path: &str,

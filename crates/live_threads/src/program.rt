@@ -1,23 +1,16 @@
 //! The program, with workers or without.
-ghost use Rattle.std.specs.Prelude.{◌≡◌, ◌⊎◌, IfOk, is_some, option_map};
+ghost use Rattle.std.specs.Prelude.{◌≡◌, ◌⊎◌, IfOk, option_map};
 ghost use Rattle.std.specs.Process.{exit_status};
 ghost use Rattle.live_run.specs.declared.outcome.Outcome.TheVariants.{NoMemory};
-ghost use Rattle.live_threads.specs.declared.outcome.ProgramOutcome.TheVariants.{Ended};
-ghost use Rattle.live_threads.specs.Endings.{IsProgramEnd, IsProgramRun, program_status, run_status, threaded_outcome};
-ghost use Rattle.service_core.specs.Kept.{IsDevice};
+ghost use Rattle.live_run.specs.Outcomes.{status_of};
+ghost use Rattle.live_threads.specs.Endings.{IsProgramEnd, IsProgramRun, run_status};
 
-use crate::ending::ServiceEnd;
-use crate::outcome::ProgramOutcome;
-use crate::running::{Workers, serve_with_workers};
-use arch_file::{ArchError, read_arch};
+use crate::threaded::run_threads;
 use clap::Error;
 use clap::error::ErrorKind;
 use dialogue::{Connection, Dialogue, FileLog};
-use line_text::{ReadError, Sink, Source};
-use live_run::{CommandLine, LockLog, Outcome, read_architecture, read_options, run_line};
-use service_core::{Device, Service};
-use sessions::device_graph;
-use std::alloc::Global;
+use line_text::{Sink, Source};
+use live_run::{CommandLine, LockLog, Outcome, read_options, run_line};
 use std::convert::AsStr;
 use std::fmt::Display;
 use std::io;
@@ -39,7 +32,7 @@ pub struct ProgramEnd<D> {
 #[derive(Drop)]
 pub struct ProgramRun<D> {
     /// How it ended. An error is clap's: the words are refused, or ask for help.
-    pub outcome: Result<ProgramOutcome, Error>,
+    pub outcome: Result<Outcome, Error>,
     /// The connection as it was left. With workers there is none.
     pub connection: Option<D>,
 }
@@ -58,7 +51,7 @@ pub fn run_program<
     writer: W,
 ) -> ProgramEnd<Connection<S, W, FileLog<H::File>>>
 where
-    H::File: LockLog,
+    H::File: LockLog + Send,
     ensures { IsProgramEnd (S.remaining reader) (W.contents writer)
         (option_map (⟦<Connection<S, W, FileLog<H::File>> as Dialogue>⟧.view) result.connection)
         (exit_status result.status) }
@@ -79,7 +72,7 @@ fn run_called<
     W: Sink + Drop + Send,
 >(rt: &H, words: &[String], reader: S, writer: W) -> ProgramEnd<Connection<S, W, FileLog<H::File>>>
 where
-    H::File: LockLog,
+    H::File: LockLog + Send,
     ensures { IsProgramEnd (S.remaining reader) (W.contents writer)
         (option_map (⟦<Connection<S, W, FileLog<H::File>> as Dialogue>⟧.view) result.connection)
         (exit_status result.status) }
@@ -104,7 +97,7 @@ pub fn run_words<
     W: Sink + Drop + Send,
 >(rt: &H, words: &[T], reader: S, writer: W) -> ProgramRun<Connection<S, W, FileLog<H::File>>>
 where
-    H::File: LockLog,
+    H::File: LockLog + Send,
     ensures { IsProgramRun (S.remaining reader) (W.contents writer)
         (option_map (⟦<Connection<S, W, FileLog<H::File>> as Dialogue>⟧.view) result.connection)
         result.outcome }
@@ -123,11 +116,11 @@ where
 }
 
 /// Words that are refused, unless memory ran out.
-fn refusal_of(error: Error) -> Result<ProgramOutcome, Error>
-    ensures { IfOk result (λ outcome. outcome ≡ Ended NoMemory) }
+fn refusal_of(error: Error) -> Result<Outcome, Error>
+    ensures { IfOk result (λ outcome. outcome ≡ NoMemory) }
 {
     if error.kind() == ErrorKind::OutOfMemory {
-        return Ok(ProgramOutcome::Ended(Outcome::NoMemory));
+        return Ok(Outcome::NoMemory);
     }
     Err(error)
 }
@@ -140,7 +133,7 @@ fn run_alone<H: Files + Wait + AllocGlobal, S: Source + Drop, W: Sink + Drop>(
     writer: W,
 ) -> ProgramRun<Connection<S, W, FileLog<H::File>>>
 where
-    H::File: LockLog,
+    H::File: LockLog + Send,
     ensures { IsProgramRun (S.remaining reader) (W.contents writer)
         (option_map (⟦<Connection<S, W, FileLog<H::File>> as Dialogue>⟧.view) result.connection)
         result.outcome }
@@ -148,85 +141,13 @@ where
     let mut connection = Connection::new(reader, writer);
     let outcome = run_line(rt, line, &mut connection);
     ProgramRun {
-        outcome: Ok(ProgramOutcome::Ended(outcome)),
+        outcome: Ok(outcome),
         connection: Some(connection),
     }
 }
 
-/// Serves with workers as the command line says.
-fn run_threads<
-    H: Files + Threads + Wait + Clock + AllocGlobal + Sync,
-    S: Source + Drop,
-    W: Sink + Drop + Send,
->(rt: &H, line: &CommandLine<'_>, reader: S, writer: W) -> ProgramOutcome {
-    match read_device(rt, line) {
-        Ok(device) => run_device(rt, line, device, reader, writer),
-        Err(outcome) => {
-            drop((reader, writer));
-            ProgramOutcome::Ended(outcome)
-        }
-    }
-}
-
-/// The device of a command line.
-fn read_device<H: Files + AllocGlobal>(rt: &H, line: &CommandLine<'_>) -> Result<Device, Outcome>
-    ensures { IfOk result IsDevice }
-{
-    match read_architecture(rt, line.arch) {
-        Ok(architecture) => device_of(rt.alloc(), line, architecture.as_slice()),
-        Err(ReadError::Failed) => Err(Outcome::ArchUnreadable),
-        Err(ReadError::NoMemory) => Err(Outcome::NoMemory),
-    }
-}
-
-/// The device of a command line over that architecture.
-fn device_of(alloc: Global, line: &CommandLine<'_>, architecture: &[u8]) -> Result<Device, Outcome>
-    ensures { IfOk result IsDevice }
-{
-    match read_arch(alloc, architecture, line.options.tracks) {
-        Ok(arch) => Ok(line.options.device(arch)),
-        Err(ArchError::Fault(fault)) => Err(Outcome::ArchRefused(fault)),
-        Err(ArchError::NoMemory) => Err(Outcome::NoMemory),
-    }
-}
-
-/// Serves over that device.
-fn run_device<
-    H: Files + Threads + Wait + Clock + AllocGlobal + Sync,
-    S: Source + Drop,
-    W: Sink + Drop + Send,
->(rt: &H, line: &CommandLine<'_>, device: Device, reader: S, writer: W) -> ProgramOutcome
-    requires { IsDevice device }
-{
-    let Ok(graph) = device_graph(rt.alloc(), &device) else {
-        drop((device, reader, writer));
-        return ProgramOutcome::Ended(Outcome::NoMemory);
-    };
-    let workers = Workers {
-        count: line.workers,
-        graph: &graph,
-    };
-    match Service::with_text_limit(rt.alloc(), device, line.options.text_limit()) {
-        Ok(service) => outcome_of(serve_with_workers(rt, workers, service, reader, writer)),
-        Err(_) => {
-            drop((reader, writer));
-            ProgramOutcome::Ended(Outcome::NoMemory)
-        }
-    }
-}
-
-/// The outcome of a service with workers that ended so.
-fn outcome_of(end: ServiceEnd) -> ProgramOutcome
-    ensures { result ≡ threaded_outcome (is_some end.service) end.outcome }
-{
-    let ServiceEnd { outcome, service } = end;
-    let is_settled = service.is_some();
-    drop(service);
-    ProgramOutcome::of_threads(is_settled, outcome)
-}
-
 /// Writes the last message of a run to standard error, and returns its status.
-fn report_run<H: Eprint>(rt: &H, outcome: Result<ProgramOutcome, Error>) -> ExitCode
+fn report_run<H: Eprint>(rt: &H, outcome: Result<Outcome, Error>) -> ExitCode
     ensures { exit_status result ≡ run_status outcome }
 {
     match outcome {
@@ -237,22 +158,22 @@ fn report_run<H: Eprint>(rt: &H, outcome: Result<ProgramOutcome, Error>) -> Exit
 
 /// Reports words that can't be read.
 fn report_unread<H: Eprint>(rt: &H, error: io::Error) -> ExitCode
-    ensures { (exit_status result ≡ 2) ⊎ (exit_status result ≡ program_status (Ended NoMemory)) }
+    ensures { (exit_status result ≡ 2) ⊎ (exit_status result ≡ status_of NoMemory) }
 {
     if error.kind() == io::ErrorKind::OutOfMemory {
-        return report_outcome(rt, ProgramOutcome::Ended(Outcome::NoMemory));
+        return report_outcome(rt, Outcome::NoMemory);
     }
     report_refusal(rt, "error: an argument is no text\n")
 }
 
 /// Writes the message of how a run ended to standard error, and returns its status.
-fn report_outcome<H: Eprint>(rt: &H, outcome: ProgramOutcome) -> ExitCode
-    ensures { exit_status result ≡ program_status outcome }
+fn report_outcome<H: Eprint>(rt: &H, outcome: Outcome) -> ExitCode
+    ensures { exit_status result ≡ status_of outcome }
 {
     if outcome.status() != 0 {
         let _ = rt.eprintln(outcome);
     }
-    outcome.exit_code()
+    ExitCode::from(outcome.status())
 }
 
 /// Writes why the words are refused to standard error, and returns status 2.

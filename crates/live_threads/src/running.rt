@@ -1,311 +1,199 @@
-//! A service with workers, from the service that it begins with to its end.
-ghost use Rattle.std.specs.Prelude.{◌≡◌, ◌+◌, All, IfOk, IfSome, false};
-ghost use Rattle.inbox.specs.Sessions.{IsEndedSession};
-ghost use Rattle.name_threads.specs.Served.{IsServedByThreads};
-ghost use Rattle.service_core.specs.declared.service.TheConstants.{MAX_ADMISSIONS};
-ghost use Rattle.shared_core.specs.declared.shared.TheConstants.{MAX_WORKERS};
-
-use crate::ending::{ServiceEnd, ThreadResults, outcome_with, settle_all, without_memory};
-use crate::talking::serve_lines;
-use inbox::Inbox;
-use job_queue::{Ready, Seat};
-use line_service::ConversationEnd;
+//! A service with workers, from its log to its end.
+use crate::crew::Crew;
+use crate::outlet::Devices;
+use crate::reader::read_lines;
+use crate::replaying::replay;
+use crate::serving::{MOST_AHEAD, serve_machine};
+use crate::worker::run_worker;
+use dialogue::Log;
 use line_text::{Sink, Source};
-use name_threads::{
-    Crowd, Members, Served, close_inboxes, join_inboxes, new_inboxes, shares_of, start_inboxes,
-};
-use service_core::{MAX_ADMISSIONS, Service};
-use shared_core::{Begun, Core, MAX_WORKERS, Share, Shared};
-use shared_output::Output;
-use std::alloc::{AllocError, AllocGlobal, Global};
-use std::marker::Brand;
-use std::rt::Files;
+use live_input::LiveLines;
+use live_machine::Machine;
+use live_run::Outcome;
+use rtrb::{Consumer, Producer, RingBuffer};
+use service_core::Service;
+use std::alloc::AllocGlobal;
 use std::sync::Wait;
-use std::sync::ledger::{Blank, Ledger};
 use std::thread;
 use std::thread::{Scope, Threads};
 use std::time::Clock;
-use strips::{DeviceGraph, MAX_STRIPS};
-use worker_pool::{Pool, join_workers, start_workers};
+use strips::DeviceGraph;
 
-/// The workers: how many, and the graph of the whole device.
-#[derive(Clone, Copy)]
-pub struct Workers<'g> {
-    /// 1 to 16.
-    pub count: u32,
-    pub graph: &'g DeviceGraph,
-}
-
-/// Blanks of the ledgers for the entries of sessions and for the steps of workers.
-struct Ledgers {
-    commands: Blank,
-    puts: Blank,
-}
-
-/// What the threads begin with.
+/// A service that has admitted no tenancy, the lines of its log, and where it keeps and tells.
 #[derive(Drop)]
-struct Prepared<C: Begun, P: Ledger> {
-    ready: Ready,
-    benches: (Vec<Seat>, Vec<Share<P>>),
-    inboxes: Vec<Inbox<C>>,
-    members: Members,
+pub(crate) struct Opened<P: Source + Drop, W: Sink + Drop, L: Log + Drop> {
+    pub(crate) service: Service,
+    pub(crate) past: Option<P>,
+    pub(crate) devices: Devices<W, L>,
 }
 
-/// Serves the lines of an input as they come, over a service that has admitted no tenancy. Texts
-/// that are open at the input's end are refused.
-pub fn serve_with_workers<
-    H: Files + Threads + Wait + Clock + AllocGlobal + Sync,
+/// Serves the lines of a log, and then those of an input, over the graph of the whole device, with
+/// that many workers.
+pub(crate) fn serve_with_workers<
+    H: Threads + Wait + Clock + AllocGlobal + Sync,
+    P: Source + Drop + Send,
     S: Source + Drop,
     W: Sink + Drop + Send,
->(rt: &H, workers: Workers<'_>, service: Service, reader: S, writer: W) -> ServiceEnd
-    // What the sessions were answered is what the journals say, and the service goes on from the
-    // one that the threads began with.
-    ensures { IfSome result.service (IsServedByThreads service) }
-{
-    let ledgers = Ledgers {
-        commands: Blank::new(MAX_ADMISSIONS as u64 + 1),
-        puts: Blank::new(u64::from(MAX_WORKERS) + 1),
-    };
-    serve_branded::<Brand, Brand, H, S, W>(rt, workers, service, ledgers, (reader, writer))
-}
-
-/// Serves with those ledgers.
-fn serve_branded<
-    C: Begun + Send + Sync,
-    P: Ledger + Send + Sync,
-    H: Files + Threads + Wait + Clock + AllocGlobal + Sync,
-    S: Source + Drop,
-    W: Sink + Drop + Send,
->(rt: &H, workers: Workers<'_>, service: Service, ledgers: Ledgers, streams: (S, W)) -> ServiceEnd
-    requires commands { (ledgers.commands.name ≡ C.name) × (ledgers.commands.parts ≡ C.parts)
-        × (ledgers.commands.parts ≡ MAX_ADMISSIONS + 1) }
-    requires puts { (ledgers.puts.name ≡ P.name) × (ledgers.puts.parts ≡ P.parts)
-        × (ledgers.puts.parts ≡ MAX_WORKERS + 1) }
-    requires begun { C.begun ≡ service }
-    requires stay { C.stay ≡ false }
-    ensures { IfSome result.service (IsServedByThreads service) }
-{
-    let Ledgers { commands, puts } = ledgers;
-    match Core::<C, P>::over(rt.alloc(), service, commands, puts) {
-        Ok(core) => {
-            let mut core = core;
-            let prepared = prepare(rt.alloc(), workers.count, &mut core);
-            serve_core(rt, workers.graph, core, prepared, streams)
-        }
-        Err(refused) => {
-            drop((refused, streams));
-            without_memory()
-        }
-    }
-}
-
-/// Asks for all that the threads begin with.
-fn prepare<C: Begun, P: Ledger>(
-    alloc: Global,
+    L: Log + Drop + Send,
+>(
+    rt: &H,
     workers: u32,
-    core: &mut Core<C, P>,
-) -> Result<Prepared<C, P>, AllocError>
-    ensures { IfOk result (λ p. All (λ s. s.of ≡ p.ready) p.benches.0.items) }
-{
-    let inboxes = new_inboxes(alloc, MAX_STRIPS)?;
-    let members = Members::new(alloc, MAX_STRIPS)?;
-    let shares = shares_of(alloc, core, workers)?;
-    prepared_of(alloc, shares, inboxes, members)
-}
-
-/// Makes the queue for these shares.
-fn prepared_of<C: Begun, P: Ledger>(
-    alloc: Global,
-    shares: Vec<Share<P>>,
-    inboxes: Vec<Inbox<C>>,
-    members: Members,
-) -> Result<Prepared<C, P>, AllocError>
-    ensures { IfOk result (λ p. All (λ s. s.of ≡ p.ready) p.benches.0.items) }
-{
-    match Ready::new(alloc, shares.len(), 0) {
-        Ok((ready, seats, passes)) => {
-            drop(passes);
-            Ok(Prepared {
-                ready,
-                benches: (seats, shares),
-                inboxes,
-                members,
-            })
-        }
-        Err(error) => {
-            drop((shares, inboxes, members));
-            Err(error)
-        }
-    }
-}
-
-/// Serves with that core.
-fn serve_core<
-    C: Begun + Send + Sync,
-    P: Ledger + Send + Sync,
-    H: Files + Threads + Wait + Clock + AllocGlobal + Sync,
-    S: Source + Drop,
-    W: Sink + Drop + Send,
->(
-    rt: &H,
     graph: &DeviceGraph,
-    core: Core<C, P>,
-    prepared: Result<Prepared<C, P>, AllocError>,
-    streams: (S, W),
-) -> ServiceEnd
-    requires seats { IfOk prepared (λ p. All (λ s. s.of ≡ p.ready) p.benches.0.items) }
-    requires stay { C.stay ≡ false }
-    ensures { IfSome result.service (IsServedByThreads C.begun) }
-{
-    let Ok(prepared) = prepared else {
-        drop((core, streams));
-        return without_memory();
-    };
-    let (reader, writer) = streams;
-    let shared = Shared::new(core);
-    let output = Output::new(writer);
-    let results = serve_prepared(rt, graph, &shared, &output, prepared, reader);
-    drop(output);
-    settle_all(shared.into_core(), results)
-}
-
-/// Serves the lines beside the threads.
-fn serve_prepared<
-    C: Begun + Send + Sync,
-    P: Ledger + Send + Sync,
-    H: Files + Threads + Wait + Clock + AllocGlobal + Sync,
-    S: Source + Drop,
-    W: Sink + Drop + Send,
->(
-    rt: &H,
-    graph: &DeviceGraph,
-    shared: &Shared<C, P>,
-    output: &Output<W>,
-    prepared: Prepared<C, P>,
+    opened: Opened<P, W, L>,
     reader: S,
-) -> ThreadResults<C, P>
-    requires seats { All (λ s. s.of ≡ prepared.ready) prepared.benches.0.items }
-    requires stay { C.stay ≡ false }
-    ensures { IfSome result.transcripts (λ transcripts.
-        All IsEndedSession transcripts.items) }
-{
-    let Prepared {
-        ready,
-        benches,
-        inboxes,
-        members,
-    } = prepared;
-    let pool = Pool {
-        rt,
-        shared,
-        ready: &ready,
-        graph,
+) -> Outcome {
+    let crew = Crew::new(rt.alloc());
+    let outcome = match RingBuffer::new(rt.alloc(), MOST_AHEAD) {
+        Ok(ring) => run_threads(rt, &crew, workers, graph, opened, (ring, reader)),
+        Err(_) => {
+            drop((opened, reader));
+            Outcome::NoMemory
+        }
     };
-    let crowd = Crowd {
-        rt,
-        shared,
-        inboxes: inboxes.as_slice(),
-        members,
-    };
-    let results = run_threads(pool, crowd, output, benches, reader);
-    drop(inboxes);
-    drop(ready);
-    results
+    drop(crew);
+    outcome
 }
 
-/// Serves the lines within a scope for the threads.
+/// The two ends of the ring of lines.
+type Ring = (Producer<Vec<u8>>, Consumer<Vec<u8>>);
+
+/// Runs the threads to their end.
 fn run_threads<
-    's,
-    C: Begun + Send + Sync,
-    P: Ledger + Send + Sync,
-    H: Files + Threads + Wait + Clock + AllocGlobal + Sync,
+    H: Threads + Wait + Clock + AllocGlobal + Sync,
+    P: Source + Drop + Send,
     S: Source + Drop,
     W: Sink + Drop + Send,
+    L: Log + Drop + Send,
 >(
-    pool: Pool<'s, H, C, P>,
-    crowd: Crowd<'s, C, P, H>,
-    output: &'s Output<W>,
-    benches: (Vec<Seat>, Vec<Share<P>>),
-    reader: S,
-) -> ThreadResults<C, P>
-    requires seats { All (λ s. s.of ≡ pool.ready.now) benches.0.items }
-    requires stay { C.stay ≡ false }
-    ensures { IfSome result.transcripts (λ transcripts.
-        All IsEndedSession transcripts.items) }
-{
-    thread::scope(
-        thread::scope_env(),
-        pool.rt,
-        move |scope| -> ThreadResults<C, P>
-            requires seats { All (λ s. s.of ≡ pool.ready.now) benches.0.items }
-            requires stay { C.stay ≡ false }
-            ensures { IfSome result.transcripts (λ transcripts.
-                All IsEndedSession transcripts.items) }
-        { run_in(scope, pool, crowd, output, benches, reader) },
-    )
+    rt: &H,
+    crew: &Crew,
+    workers: u32,
+    graph: &DeviceGraph,
+    opened: Opened<P, W, L>,
+    input: (Ring, S),
+) -> Outcome {
+    thread::scope(thread::scope_env(), rt, move |scope| -> Outcome {
+        run_in(scope, rt, crew, workers, graph, opened, input)
+    })
 }
 
-/// Starts the threads, serves the lines, and joins the threads.
+/// Starts the threads, reads the input, and waits until the service is over.
 fn run_in<
     's,
     E,
-    C: Begun + Send + Sync + 's,
-    P: Ledger + Send + Sync + 's,
-    H: Files + Threads + Wait + Clock + AllocGlobal + Sync + 's,
+    H: Threads + Wait + Clock + AllocGlobal + Sync + 's,
+    P: Source + Drop + Send + 's,
     S: Source + Drop,
     W: Sink + Drop + Send + 's,
+    L: Log + Drop + Send + 's,
 >(
     scope: &Scope<'s, E>,
-    pool: Pool<'s, H, C, P>,
-    crowd: Crowd<'s, C, P, H>,
-    output: &'s Output<W>,
-    benches: (Vec<Seat>, Vec<Share<P>>),
-    reader: S,
-) -> ThreadResults<C, P>
-    requires seats { All (λ s. s.of ≡ pool.ready.now) benches.0.items }
-    requires stay { C.stay ≡ false }
-    ensures { IfSome result.transcripts (λ transcripts.
-        All IsEndedSession transcripts.items) }
-{
-    let rt = pool.rt;
-    let inboxes = crowd.inboxes;
-    let (seats, shares) = benches;
-    let mut workers = Vec::new(rt.alloc());
-    let mut threads = Vec::new(rt.alloc());
-    let served = Served {
-        rt,
-        shared: pool.shared,
-        ready: pool.ready,
-        output,
-    };
-    let are_started = start_workers(scope, pool, seats, shares, &mut workers)
-        && start_inboxes(scope, served, inboxes, &mut threads);
-    let end = serve_if(are_started, crowd, output, reader);
-    close_inboxes(rt, inboxes, end == ConversationEnd::Done);
-    let transcripts = join_inboxes(rt, threads);
-    pool.ready.close();
-    let shares = join_workers(rt, workers);
-    ThreadResults {
-        outcome: outcome_with(end, output.trouble(rt)),
-        transcripts,
-        shares,
+    rt: &'s H,
+    crew: &'s Crew,
+    workers: u32,
+    graph: &'s DeviceGraph,
+    opened: Opened<P, W, L>,
+    input: (Ring, S),
+) -> Outcome {
+    let ((producer, consumer), reader) = input;
+    let mut are_started = true;
+    for _ in 0..workers {
+        are_started = are_started && start_worker(scope, rt, crew, graph);
+    }
+    if !are_started {
+        drop((opened, producer, consumer, reader));
+        crew.close(rt);
+        return Outcome::NoMemory;
+    }
+    match scope.spawn(move || serve_opened(rt, crew, graph, opened, consumer)) {
+        Ok(server) => {
+            read_lines(rt, crew, producer, reader);
+            server.join(rt)
+        }
+        Err(error) => {
+            drop((error, producer, reader));
+            crew.close(rt);
+            Outcome::NoMemory
+        }
     }
 }
 
-/// Serves the lines of an input, if all threads were started.
-fn serve_if<
-    's,
-    C: Begun,
-    P: Ledger,
-    W: Sink + Drop,
-    H: Files + Wait + AllocGlobal,
-    S: Source + Drop,
->(are_started: bool, crowd: Crowd<'s, C, P, H>, output: &'s Output<W>, reader: S) -> ConversationEnd
-    requires { C.stay ≡ false }
-{
-    if are_started {
-        return serve_lines(crowd, output, reader);
+/// Starts a worker. Returns whether it was started.
+fn start_worker<'s, E, H: Threads + Wait + Clock + Sync + 's>(
+    scope: &Scope<'s, E>,
+    rt: &'s H,
+    crew: &'s Crew,
+    graph: &'s DeviceGraph,
+) -> bool {
+    match scope.spawn(move || run_worker(rt, crew, graph)) {
+        Ok(worker) => {
+            drop(worker);
+            true
+        }
+        Err(error) => {
+            drop(error);
+            false
+        }
     }
-    drop((crowd, reader));
-    ConversationEnd::NoMemory
+}
+
+/// Serves the lines of the log, and then those that come.
+fn serve_opened<
+    R: Wait + AllocGlobal,
+    P: Source + Drop,
+    W: Sink + Drop,
+    L: Log + Drop,
+>(
+    rt: &R,
+    crew: &Crew,
+    graph: &DeviceGraph,
+    opened: Opened<P, W, L>,
+    lines: Consumer<Vec<u8>>,
+) -> Outcome {
+    let Opened {
+        service,
+        past,
+        mut devices,
+    } = opened;
+    let mut lines = lines;
+    let live = LiveLines::new(rt.alloc(), graph, service);
+    let outcome = match resume(rt, crew, live, past) {
+        Ok(machine) => serve_machine(rt, crew, &mut lines, machine, &mut devices),
+        Err(outcome) => outcome,
+    };
+    crew.close(rt);
+    drop((lines, devices));
+    outcome
+}
+
+/// The machine after the lines of the log, if there is one.
+fn resume<'g, R: Wait + AllocGlobal, P: Source + Drop>(
+    rt: &R,
+    crew: &Crew,
+    live: LiveLines<'g>,
+    past: Option<P>,
+) -> Result<Machine<'g>, Outcome> {
+    let mut live = live;
+    let Some(past) = past else {
+        return Ok(Machine::new(rt.alloc(), live, 1));
+    };
+    match replay(rt, crew, &mut live, past) {
+        Ok(next) => with_steps(Machine::new(rt.alloc(), live, next)),
+        Err(outcome) => {
+            live.close();
+            Err(outcome)
+        }
+    }
+}
+
+/// The machine, which knows all steps that can be made.
+fn with_steps(machine: Machine<'_>) -> Result<Machine<'_>, Outcome> {
+    let mut machine = machine;
+    match machine.find_steps() {
+        Ok(()) => Ok(machine),
+        Err(_) => {
+            machine.close();
+            Err(Outcome::NoMemory)
+        }
+    }
 }

@@ -1,2 +1,0 @@
-mod ReplySteps
-mod RunEnds

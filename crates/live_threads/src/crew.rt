@@ -1,0 +1,37 @@
+//! What the threads of a service share.
+use crate::letters::{Order, StepOrder};
+use crate::mailbox::Mailbox;
+use crate::orders::Orders;
+use std::alloc::{AllocError, Global};
+use std::sync::Wait;
+
+/// What the threads of a service share: what workers do next, and what comes to the thread that
+/// serves.
+#[derive(Drop)]
+pub(crate) struct Crew {
+    pub(crate) orders: Orders,
+    pub(crate) mailbox: Mailbox,
+}
+
+impl Crew {
+    /// Takes no memory.
+    pub(crate) fn new(alloc: Global) -> Self {
+        Crew {
+            orders: Orders::new(alloc),
+            mailbox: Mailbox::new(alloc),
+        }
+    }
+
+    /// Has a worker make a step.
+    pub(crate) fn order<R: Wait>(&self, rt: &R, order: Order) -> Result<(), AllocError> {
+        self.orders.open(rt).put(order)?;
+        self.orders.wake(1);
+        Ok(())
+    }
+
+    /// Says that the service is over.
+    pub(crate) fn close<R: Wait>(&self, rt: &R) {
+        self.orders.close(rt);
+        self.mailbox.close(rt);
+    }
+}

@@ -1,0 +1,188 @@
+//! The thread that serves: it alone has the machine, the log and the output.
+use crate::crew::Crew;
+use crate::fault::Fault;
+use crate::letters::InputEnd;
+use crate::mailbox::News;
+use crate::outlet::Outlet;
+use crate::steps::{give_orders, put_steps};
+use dialogue::FailedDevice;
+use line_feed::MAX_FED_LINE;
+use line_text::split_line;
+use live_machine::{MOST_TOLD, Machine};
+use live_run::Outcome;
+use rtrb::Consumer;
+use std::alloc::AllocGlobal;
+use std::sync::Wait;
+
+/// How many texts of lines a reader may be ahead.
+pub(crate) const MOST_AHEAD: usize = 16;
+
+/// The most bytes that are kept back until there is something to tell.
+const MOST_KEPT_BACK: usize = 1_048_576;
+
+/// What a service does after a round.
+#[derive(Clone, Copy, PartialEq, Eq)]
+enum Next {
+    /// More of a held name may be served.
+    GoesOn,
+    /// A name waits for its job.
+    Waits,
+    /// No name waits.
+    Rests,
+}
+
+/// Serves with that machine until the input has ended and no name waits.
+pub(crate) fn serve_machine<R: Wait + AllocGlobal, O: Outlet>(
+    rt: &R,
+    crew: &Crew,
+    lines: &mut Consumer<Vec<u8>>,
+    machine: Machine<'_>,
+    outlet: &mut O,
+) -> Outcome {
+    let mut machine = machine;
+    match serve_rounds(rt, crew, lines, &mut machine, outlet) {
+        Ok(()) => end_service(machine, outlet),
+        Err(fault) => {
+            machine.close();
+            fault.outcome()
+        }
+    }
+}
+
+/// Serves round by round, until the input has ended and no name waits.
+///
+/// # Errors
+/// Why the service stops before. The machine takes no call after that but `close`.
+fn serve_rounds<R: Wait + AllocGlobal, O: Outlet>(
+    rt: &R,
+    crew: &Crew,
+    lines: &mut Consumer<Vec<u8>>,
+    machine: &mut Machine<'_>,
+    outlet: &mut O,
+) -> Result<(), Fault> {
+    let mut has_ended = false;
+    let mut next = Next::GoesOn;
+    for _ in rt.forever() {
+        let News { steps, end } = crew.mailbox.take_news(rt, next != Next::GoesOn);
+        put_steps(rt, crew, machine, steps)?;
+        next = serve_round(rt, crew, lines, machine, outlet)?;
+        has_ended = has_ended || has_ended_well(end)?;
+        if has_ended && next == Next::Rests {
+            return Ok(());
+        }
+    }
+    unreachable!()
+}
+
+/// Whether the input has ended.
+///
+/// # Errors
+/// Why it ended before its end.
+fn has_ended_well(end: Option<InputEnd>) -> Result<bool, Fault> {
+    match end {
+        None => Ok(false),
+        Some(InputEnd::Done) => Ok(true),
+        Some(InputEnd::Failed) => Err(Fault::Device(FailedDevice::Input)),
+        Some(InputEnd::NoMemory) => Err(Fault::NoMemory),
+    }
+}
+
+/// Serves the lines that have come and a turn of a held name, and has workers make the steps that
+/// can be made.
+fn serve_round<R: Wait, O: Outlet>(
+    rt: &R,
+    crew: &Crew,
+    lines: &mut Consumer<Vec<u8>>,
+    machine: &mut Machine<'_>,
+    outlet: &mut O,
+) -> Result<Next, Fault> {
+    let had_lines = serve_lines(rt, crew, lines, machine, outlet)?;
+    let has_more = machine.turn()?;
+    give_orders(rt, crew, machine)?;
+    if had_lines || machine.to_tell() > 0 || machine.to_keep() > MOST_KEPT_BACK {
+        deliver(machine, outlet)?;
+    }
+    if has_more {
+        return Ok(Next::GoesOn);
+    }
+    if machine.is_at_rest() {
+        return Ok(Next::Rests);
+    }
+    Ok(Next::Waits)
+}
+
+/// Serves the lines that have come. Returns whether there were some.
+fn serve_lines<R: Wait, O: Outlet>(
+    rt: &R,
+    crew: &Crew,
+    lines: &mut Consumer<Vec<u8>>,
+    machine: &mut Machine<'_>,
+    outlet: &mut O,
+) -> Result<bool, Fault> {
+    for count in 0..MOST_AHEAD {
+        let Ok(batch) = lines.pop() else {
+            return Ok(count > 0);
+        };
+        crew.mailbox.note_room(rt);
+        let served = serve_batch(machine, outlet, batch.as_slice());
+        drop(batch);
+        served?;
+    }
+    Ok(true)
+}
+
+/// Serves lines, each ended by LF.
+fn serve_batch<O: Outlet>(
+    machine: &mut Machine<'_>,
+    outlet: &mut O,
+    batch: &[u8],
+) -> Result<(), Fault> {
+    let mut rest = batch;
+    while !rest.is_empty() {
+        let (line, after) = split_line(rest);
+        machine.line(cut_line(line))?;
+        if machine.to_tell() > MOST_TOLD {
+            deliver(machine, outlet)?;
+        }
+        rest = after;
+    }
+    Ok(())
+}
+
+/// The bytes that are kept of a line.
+fn cut_line(line: &[u8]) -> &[u8] {
+    &line[..line.len().min(MAX_FED_LINE)]
+}
+
+/// Keeps what is to be kept, and then tells what is to be told.
+fn deliver<O: Outlet>(machine: &mut Machine<'_>, outlet: &mut O) -> Result<(), Fault> {
+    let (log, told) = machine.drain();
+    outlet.keep(log.as_slice())?;
+    outlet.tell(told.as_slice())?;
+    Ok(())
+}
+
+/// Ends a service whose input has ended. Without a log each text that is open is refused; with one
+/// it stays open, for a service that goes on from the log.
+fn end_service<O: Outlet>(machine: Machine<'_>, outlet: &mut O) -> Outcome {
+    let mut machine = machine;
+    if let Err(fault) = deliver(&mut machine, outlet) {
+        machine.close();
+        return fault.outcome();
+    }
+    if outlet.has_log() {
+        machine.close();
+        return Outcome::Done;
+    }
+    match close_texts(machine, outlet) {
+        Ok(()) => Outcome::Done,
+        Err(fault) => fault.outcome(),
+    }
+}
+
+/// Refuses each text that is open.
+fn close_texts<O: Outlet>(machine: Machine<'_>, outlet: &mut O) -> Result<(), Fault> {
+    let reply = machine.end()?;
+    outlet.tell(reply.as_slice())?;
+    Ok(())
+}

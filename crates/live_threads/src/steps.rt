@@ -1,0 +1,68 @@
+//! The steps that workers make of a machine's jobs.
+use crate::crew::Crew;
+use crate::fault::Fault;
+use crate::letters::{Order, StepLetter, StepOrder};
+use live_machine::{Machine, StepEnd};
+use std::sync::Wait;
+
+/// Puts what workers did.
+pub(crate) fn put_steps<R: Wait>(
+    rt: &R,
+    crew: &Crew,
+    machine: &mut Machine<'_>,
+    steps: Vec<StepLetter>,
+) -> Result<(), Fault> {
+    for letter in steps {
+        put_step(rt, crew, machine, letter)?;
+    }
+    Ok(())
+}
+
+/// Puts what a worker did. If memory ran out for a step, a worker pauses before it is made again.
+fn put_step<R: Wait>(
+    rt: &R,
+    crew: &Crew,
+    machine: &mut Machine<'_>,
+    letter: StepLetter,
+) -> Result<(), Fault> {
+    let (id, end) = match letter {
+        StepLetter::Made(made) => {
+            let done = made.into_done();
+            (done.id(), machine.put(done)?)
+        }
+        StepLetter::NoMemory(job) => {
+            let back = job.into_back();
+            (back.id(), machine.give_back(back)?)
+        }
+        StepLetter::Paused(id) => return Ok(machine.retry(id)?),
+    };
+    if let StepEnd::Again(tries) = end {
+        crew.order(rt, Order::Pause(id, tries))?;
+    }
+    Ok(())
+}
+
+/// Has workers make the steps that can be made.
+pub(crate) fn give_orders<R: Wait>(
+    rt: &R,
+    crew: &Crew,
+    machine: &mut Machine<'_>,
+) -> Result<(), Fault> {
+    let count = machine.steps_to_take();
+    if count == 0 {
+        return Ok(());
+    }
+    let mut waiting = crew.orders.open(rt);
+    let mut given = 0;
+    for _ in 0..count {
+        let Some(job) = machine.take() else {
+            break;
+        };
+        let offset = machine.lines().live().service().offset(job.id());
+        waiting.put(Order::Make(StepOrder::new(job, offset)))?;
+        given += 1;
+    }
+    drop(waiting);
+    crew.orders.wake(given);
+    Ok(())
+}

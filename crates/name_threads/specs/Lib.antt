@@ -1,4 +1,0 @@
-pub mod Admission
-pub mod Members
-pub mod Naming
-pub mod Served
