@@ -1,2 +1,4 @@
 pub mod Endings
 pub mod Outlet
+pub mod Serving
+pub mod Taken

@@ -1,4 +1,6 @@
 //! Why a service stops before its input ends.
+ghost use Rattle.std.specs.Prelude.{◌≢◌};
+
 use dialogue::FailedDevice;
 use live_machine::Stop;
 use live_run::Outcome;
@@ -16,7 +18,9 @@ pub(crate) enum Fault {
 
 impl Fault {
     /// How a service ends that stops so.
-    pub(crate) fn outcome(self) -> Outcome {
+    pub(crate) fn outcome(self) -> Outcome
+        ensures { result ≢ Outcome.Done }
+    {
         match self {
             Fault::Device(device) => Outcome::Stopped(device),
             Fault::Machine(Stop::TooManyLines) => Outcome::TooManyLines,

@@ -1,4 +1,11 @@
 //! The thread that serves: it alone has the machine, the log and the output.
+ghost use Rattle.std.specs.Prelude.{◌≡◌, [], OnErr, OnOk};
+ghost use Rattle.line_feed.specs.Pieces.{kept_of};
+ghost use Rattle.live_input.specs.Serving.{kept_lines};
+ghost use Rattle.live_machine.specs.Parts.{IsReady, machine_of};
+ghost use Rattle.live_threads.specs.Serving.{HasStopped, IsServed};
+ghost use Rattle.live_threads.specs.Taken.{ClosesTexts, CutsClosing, EndsServing, TakesLines};
+
 use crate::crew::Crew;
 use crate::fault::Fault;
 use crate::letters::InputEnd;
@@ -38,7 +45,11 @@ pub(crate) fn serve_machine<R: Wait + AllocGlobal, O: Outlet>(
     lines: &mut Consumer<Vec<u8>>,
     machine: Machine<'_>,
     outlet: &mut O,
-) -> Outcome {
+) -> Outcome
+    requires { IsReady machine }
+    ensures { TakesLines lines.old lines.new (λ heard. EndsServing (machine_of machine.entry)
+        (O.view outlet.old) heard (O.view outlet.new) result) }
+{
     let mut machine = machine;
     match serve_rounds(rt, crew, lines, &mut machine, outlet) {
         Ok(()) => end_service(machine, outlet),
@@ -59,7 +70,15 @@ fn serve_rounds<R: Wait + AllocGlobal, O: Outlet>(
     lines: &mut Consumer<Vec<u8>>,
     machine: &mut Machine<'_>,
     outlet: &mut O,
-) -> Result<(), Fault> {
+) -> Result<(), Fault>
+    requires ready { IsReady machine.old }
+    ensures ready { OnOk result (IsReady machine.new) }
+    ensures served { OnOk result (TakesLines lines.old lines.new (λ heard.
+        IsServed (machine_of machine.old) (O.view outlet.old) heard
+        (machine_of machine.new) (O.view outlet.new))) }
+    ensures stopped { OnErr result (TakesLines lines.old lines.new (λ heard.
+        HasStopped (machine_of machine.old) (O.view outlet.old) heard (O.view outlet.new))) }
+{
     let mut has_ended = false;
     let mut next = Next::GoesOn;
     for _ in rt.forever() {
@@ -95,7 +114,15 @@ fn serve_round<R: Wait, O: Outlet>(
     lines: &mut Consumer<Vec<u8>>,
     machine: &mut Machine<'_>,
     outlet: &mut O,
-) -> Result<Next, Fault> {
+) -> Result<Next, Fault>
+    requires ready { IsReady machine.old }
+    ensures ready { OnOk result (IsReady machine.new) }
+    ensures served { OnOk result (TakesLines lines.old lines.new (λ heard.
+        IsServed (machine_of machine.old) (O.view outlet.old) heard
+        (machine_of machine.new) (O.view outlet.new))) }
+    ensures stopped { OnErr result (TakesLines lines.old lines.new (λ heard.
+        HasStopped (machine_of machine.old) (O.view outlet.old) heard (O.view outlet.new))) }
+{
     let had_lines = serve_lines(rt, crew, lines, machine, outlet)?;
     let has_more = machine.turn()?;
     give_orders(rt, crew, machine)?;
@@ -118,7 +145,15 @@ fn serve_lines<R: Wait, O: Outlet>(
     lines: &mut Consumer<Vec<u8>>,
     machine: &mut Machine<'_>,
     outlet: &mut O,
-) -> Result<bool, Fault> {
+) -> Result<bool, Fault>
+    requires ready { IsReady machine.old }
+    ensures ready { OnOk result (IsReady machine.new) }
+    ensures served { OnOk result (TakesLines lines.old lines.new (λ heard.
+        IsServed (machine_of machine.old) (O.view outlet.old) heard
+        (machine_of machine.new) (O.view outlet.new))) }
+    ensures stopped { OnErr result (TakesLines lines.old lines.new (λ heard.
+        HasStopped (machine_of machine.old) (O.view outlet.old) heard (O.view outlet.new))) }
+{
     for count in 0..MOST_AHEAD {
         let Ok(batch) = lines.pop() else {
             return Ok(count > 0);
@@ -136,7 +171,14 @@ fn serve_batch<O: Outlet>(
     machine: &mut Machine<'_>,
     outlet: &mut O,
     batch: &[u8],
-) -> Result<(), Fault> {
+) -> Result<(), Fault>
+    requires ready { IsReady machine.old }
+    ensures ready { OnOk result (IsReady machine.new) }
+    ensures served { OnOk result (IsServed (machine_of machine.old) (O.view outlet.old)
+        (kept_lines batch.now) (machine_of machine.new) (O.view outlet.new)) }
+    ensures stopped { OnErr result (HasStopped (machine_of machine.old) (O.view outlet.old)
+        (kept_lines batch.now) (O.view outlet.new)) }
+{
     let mut rest = batch;
     while !rest.is_empty() {
         let (line, after) = split_line(rest);
@@ -150,12 +192,21 @@ fn serve_batch<O: Outlet>(
 }
 
 /// The bytes that are kept of a line.
-fn cut_line(line: &[u8]) -> &[u8] {
+fn cut_line(line: &[u8]) -> &[u8]
+    ensures { result.now ≡ kept_of line.now }
+{
     &line[..line.len().min(MAX_FED_LINE)]
 }
 
 /// Keeps what is to be kept, and then tells what is to be told.
-fn deliver<O: Outlet>(machine: &mut Machine<'_>, outlet: &mut O) -> Result<(), Fault> {
+fn deliver<O: Outlet>(machine: &mut Machine<'_>, outlet: &mut O) -> Result<(), Fault>
+    requires ready { IsReady machine.old }
+    ensures ready { OnOk result (IsReady machine.new) }
+    ensures served { OnOk result (IsServed (machine_of machine.old) (O.view outlet.old) []
+        (machine_of machine.new) (O.view outlet.new)) }
+    ensures stopped { OnErr result (HasStopped (machine_of machine.old) (O.view outlet.old) []
+        (O.view outlet.new)) }
+{
     let (log, told) = machine.drain();
     outlet.keep(log.as_slice())?;
     outlet.tell(told.as_slice())?;
@@ -164,7 +215,11 @@ fn deliver<O: Outlet>(machine: &mut Machine<'_>, outlet: &mut O) -> Result<(), F
 
 /// Ends a service whose input has ended. Without a log each text that is open is refused; with one
 /// it stays open, for a service that goes on from the log.
-fn end_service<O: Outlet>(machine: Machine<'_>, outlet: &mut O) -> Outcome {
+fn end_service<O: Outlet>(machine: Machine<'_>, outlet: &mut O) -> Outcome
+    requires { IsReady machine }
+    ensures { EndsServing (machine_of machine.entry) (O.view outlet.old) [] (O.view outlet.new)
+        result }
+{
     let mut machine = machine;
     if let Err(fault) = deliver(&mut machine, outlet) {
         machine.close();
@@ -181,7 +236,13 @@ fn end_service<O: Outlet>(machine: Machine<'_>, outlet: &mut O) -> Outcome {
 }
 
 /// Refuses each text that is open.
-fn close_texts<O: Outlet>(machine: Machine<'_>, outlet: &mut O) -> Result<(), Fault> {
+fn close_texts<O: Outlet>(machine: Machine<'_>, outlet: &mut O) -> Result<(), Fault>
+    requires { IsReady machine }
+    ensures closed { OnOk result (ClosesTexts (machine_of machine.entry) (O.view outlet.old)
+        (O.view outlet.new)) }
+    ensures stopped { OnErr result (CutsClosing (machine_of machine.entry) (O.view outlet.old)
+        (O.view outlet.new)) }
+{
     let reply = machine.end()?;
     outlet.tell(reply.as_slice())?;
     Ok(())

@@ -1,4 +1,9 @@
 //! The steps that workers make of a machine's jobs.
+ghost use Rattle.std.specs.Prelude.{◌≡◌, [], OnOk};
+ghost use Rattle.dialogue.specs.History.{View};
+ghost use Rattle.live_machine.specs.Parts.{IsReady, machine_of};
+ghost use Rattle.live_threads.specs.Serving.{IsServed};
+
 use crate::crew::Crew;
 use crate::fault::Fault;
 use crate::letters::{Order, StepLetter, StepOrder};
@@ -11,7 +16,12 @@ pub(crate) fn put_steps<R: Wait>(
     crew: &Crew,
     machine: &mut Machine<'_>,
     steps: Vec<StepLetter>,
-) -> Result<(), Fault> {
+) -> Result<(), Fault>
+    requires ready { IsReady machine.old }
+    ensures ready { OnOk result (IsReady machine.new) }
+    ensures served { OnOk result ((view : View) →
+        IsServed (machine_of machine.old) view [] (machine_of machine.new) view) }
+{
     for letter in steps {
         put_step(rt, crew, machine, letter)?;
     }
@@ -24,7 +34,12 @@ fn put_step<R: Wait>(
     crew: &Crew,
     machine: &mut Machine<'_>,
     letter: StepLetter,
-) -> Result<(), Fault> {
+) -> Result<(), Fault>
+    requires ready { IsReady machine.old }
+    ensures ready { OnOk result (IsReady machine.new) }
+    ensures served { OnOk result ((view : View) →
+        IsServed (machine_of machine.old) view [] (machine_of machine.new) view) }
+{
     let (id, end) = match letter {
         StepLetter::Made(made) => {
             let done = made.into_done();
@@ -47,7 +62,11 @@ pub(crate) fn give_orders<R: Wait>(
     rt: &R,
     crew: &Crew,
     machine: &mut Machine<'_>,
-) -> Result<(), Fault> {
+) -> Result<(), Fault>
+    requires ready { IsReady machine.old }
+    ensures ready { IsReady machine.new }
+    ensures same { machine_of machine.new ≡ machine_of machine.old }
+{
     let count = machine.steps_to_take();
     if count == 0 {
         return Ok(());

@@ -1,0 +1,155 @@
+-- What was served, one after another.
+use Rattle.std.proofs.Common.{◌≡◌, ℕ, List, [], ◌∷◌, ◌++◌, ◌⊎◌, inl, inr, Option, Some, None, refl, sym, ap, subst, ◌∙◌, append-nil, append_assoc, take}
+use Rattle.std.specs.List.{flat_map}
+use Rattle.std.specs.Io.KnownBytes.{Appends}
+use Rattle.std.proofs.KnownBytes.{Appends-nil, Appends-trans}
+use Rattle.std.proofs.lemmas.Grind.{flat_map-append}
+use Rattle.dialogue.specs.History.{Event, Fails, Follows, Happens, View, bytes_kept, bytes_told, kept_in, told_in}
+use Rattle.dialogue.specs.History.Event.{Kept, Told}
+use Rattle.dialogue.specs.declared.dialogue.FailedDevice.{FailedDevice}
+use Rattle.live_machine.specs.Account.{line_in, lines_in}
+use Rattle.live_machine.specs.Machine.{Call, Happens as HappensTo, MachineState, Run}
+use Rattle.live_machine.specs.Machine.Call.{Drain, Line}
+use Rattle.live_threads.specs.Serving.{EndsIn, HasStopped, IsCut, IsPart, IsServed, events_in, events_of}
+
+follows_none : (a : Option (List Event)) → Follows a a []
+follows_none None = tt
+follows_none (Some events) = sym (append-nil events)
+
+follows_then : (a b c : Option (List Event)) (events more : List Event) → Follows a b events → Follows b c more → Follows a c (events ++ more)
+follows_then None b c events more p q = tt
+follows_then (Some x) None c events more p q = absurd (cc)
+follows_then (Some x) (Some y) None events more p q = absurd (cc)
+follows_then (Some x) (Some y) (Some z) events more p q = q ∙ (ap (λ l. l ++ more) p ∙ append_assoc x events more)
+
+pub nothing_happens : (view : View) → Happens view view []
+nothing_happens view = record { kept = Appends-nil view.log; told = Appends-nil view.output; in_order = follows_none view.history }
+
+pub happens_then : (a b c : View) (events more : List Event) → Happens a b events → Happens b c more → Happens a c (events ++ more)
+happens_then a b c events more first second =
+    let K : List ℕ → Type 0 = λ bytes. Appends a.log c.log bytes in
+    let T : List ℕ → Type 0 = λ bytes. Appends a.output c.output bytes in
+    record {
+      kept = subst K (sym (flat_map-append bytes_kept events more)) (Appends-trans a.log b.log c.log (kept_in events) (kept_in more) first.kept second.kept);
+      told = subst T (sym (flat_map-append bytes_told events more)) (Appends-trans a.output b.output c.output (told_in events) (told_in more) first.told second.told);
+      in_order = follows_then a.history b.history c.history events more first.in_order second.in_order;
+    }
+
+pub runs_then : (a b c : MachineState) (calls more : List Call) → Run a calls b → Run b more c → Run a (calls ++ more) c
+runs_then a b c [] more same run = let P : MachineState → Type 0 = λ m. Run m more c in subst P same run
+runs_then a b c (call ∷ calls) more (mid, one, rest) run = (mid, one, runs_then mid b c calls more rest run)
+
+-- nothing was served
+pub served_none : (state : MachineState) (view : View) → IsServed state view [] state view
+served_none state view = record { calls = []; run = refl; heard = refl; happens = nothing_happens view }
+
+-- one after the other
+pub served_then : (a b c : MachineState) (u v w : View) (lines more : List (List ℕ)) → IsServed a u lines b v → IsServed b v more c w → IsServed a u (lines ++ more) c w
+served_then a b c u v w lines more first second =
+    let E : List Event → Type 0 = λ events. Happens u w events in
+    record {
+      calls = first.calls ++ second.calls;
+      run = runs_then a b c first.calls second.calls first.run second.run;
+      heard = flat_map-append line_in first.calls second.calls ∙ (ap (λ l. l ++ lines_in second.calls) first.heard ∙ ap (λ l. lines ++ l) second.heard);
+      happens = subst E (sym (flat_map-append events_in first.calls second.calls)) (happens_then u v w (events_of first.calls) (events_of second.calls) first.happens second.happens);
+    }
+
+-- calls that take no line and drain nothing
+pub served_calls : (old new : MachineState) (view : View) (calls : List Call) → Run old calls new → lines_in calls ≡ [] → events_of calls ≡ [] → IsServed old view [] new view
+served_calls old new view calls run none quiet =
+    let E : List Event → Type 0 = λ events. Happens view view events in
+    record { calls = calls; run = run; heard = none; happens = subst E (sym quiet) (nothing_happens view) }
+
+-- a line
+pub served_line : (old new : MachineState) (view : View) (line : List ℕ) → HappensTo old (Line line) new → IsServed old view (line ∷ []) new view
+served_line old new view line one = record { calls = Line line ∷ []; run = (new, one, refl); heard = refl; happens = nothing_happens view }
+
+-- what was drained was kept and told
+pub served_drain : (old new : MachineState) (u v w : View) (log told : List ℕ) → HappensTo old (Drain log told) new → Happens u v (Kept log ∷ []) → Happens v w (Told told ∷ []) → IsServed old u [] new w
+served_drain old new u v w log told one kept tells = record {
+  calls = Drain log told ∷ [];
+  run = (new, one, refl);
+  heard = refl;
+  happens = happens_then u v w (Kept log ∷ []) (Told told ∷ []) kept tells;
+}
+
+-- the log failed
+pub stopped_log : (old new : MachineState) (u v : View) (log told : List ℕ) (fault : FailedDevice) → HappensTo old (Drain log told) new → Fails u v fault Kept log → HasStopped old u [] v
+stopped_log old new u v log told fault one fails = record {
+  calls = Drain log told ∷ [];
+  new = new;
+  run = (new, one, refl);
+  unheard = [];
+  heard = refl;
+  events = Kept (take fails.count log) ∷ [];
+  cut = record { done = []; more = Kept log ∷ Told told ∷ []; whole_is = refl; ends = inr (Kept (take fails.count log), (fails.count, refl), refl) };
+  happens = fails.happens;
+}
+
+-- the output failed
+pub stopped_output : (old new : MachineState) (u v w : View) (log told : List ℕ) (fault : FailedDevice) → HappensTo old (Drain log told) new → Happens u v (Kept log ∷ []) → Fails v w fault Told told → HasStopped old u [] w
+stopped_output old new u v w log told fault one kept fails = record {
+  calls = Drain log told ∷ [];
+  new = new;
+  run = (new, one, refl);
+  unheard = [];
+  heard = refl;
+  events = Kept log ∷ Told (take fails.count told) ∷ [];
+  cut = record { done = Kept log ∷ []; more = Told told ∷ []; whole_is = refl; ends = inr (Told (take fails.count told), (fails.count, refl), refl) };
+  happens = happens_then u v w (Kept log ∷ []) (Told (take fails.count told) ∷ []) kept fails.happens;
+}
+
+ends_later : (before done more events : List Event) → EndsIn done more events → EndsIn (before ++ done) more (before ++ events)
+ends_later before done [] events same = ap (λ l. before ++ l) same
+ends_later before done (event ∷ more) events (inl same) = inl (ap (λ l. before ++ l) same)
+ends_later before done (event ∷ more) events (inr (part, is, all)) = inr (part, is, ap (λ l. before ++ l) all ∙ sym (append_assoc before done (part ∷ [])))
+
+-- some was served, and then the service stopped
+pub served_stops : (a b : MachineState) (u v w : View) (lines more : List (List ℕ)) → IsServed a u lines b v → HasStopped b v more w → HasStopped a u (lines ++ more) w
+served_stops a b u v w lines more first s =
+    let c = s.cut in
+    record {
+      calls = first.calls ++ s.calls;
+      new = s.new;
+      run = runs_then a b s.new first.calls s.calls first.run s.run;
+      unheard = s.unheard;
+      heard = ap (λ l. lines ++ l) s.heard ∙ (sym (append_assoc lines (lines_in s.calls) s.unheard) ∙ ap (λ l. l ++ s.unheard) (ap (λ l. l ++ lines_in s.calls) (sym first.heard) ∙ sym (flat_map-append line_in first.calls s.calls)));
+      events = events_of first.calls ++ s.events;
+      cut = record {
+        done = events_of first.calls ++ c.done;
+        more = c.more;
+        whole_is = flat_map-append events_in first.calls s.calls ∙ (ap (λ l. events_of first.calls ++ l) c.whole_is ∙ sym (append_assoc (events_of first.calls) c.done c.more));
+        ends = ends_later (events_of first.calls) c.done c.more s.events c.ends;
+      };
+      happens = happens_then u v w (events_of first.calls) s.events first.happens s.happens;
+    }
+
+-- more lines would have come
+pub stopped_before : (a : MachineState) (u w : View) (lines more : List (List ℕ)) → HasStopped a u lines w → HasStopped a u (lines ++ more) w
+stopped_before a u w lines more s = record {
+  calls = s.calls;
+  new = s.new;
+  run = s.run;
+  unheard = s.unheard ++ more;
+  heard = ap (λ l. l ++ more) s.heard ∙ append_assoc (lines_in s.calls) s.unheard more;
+  events = s.events;
+  cut = s.cut;
+  happens = s.happens;
+}
+
+-- nothing more was served
+pub stopped_here : (a b : MachineState) (u v : View) (lines : List (List ℕ)) → IsServed a u lines b v → HasStopped a u lines v
+stopped_here a b u v lines s = record {
+  calls = s.calls;
+  new = b;
+  run = s.run;
+  unheard = [];
+  heard = sym (append-nil (lines_in s.calls) ∙ s.heard);
+  events = events_of s.calls;
+  cut = record { done = events_of s.calls; more = []; whole_is = sym (append-nil (events_of s.calls)); ends = refl };
+  happens = s.happens;
+}
+
+-- it stopped before anything was served
+pub stopped_at_once : (a : MachineState) (u : View) (lines : List (List ℕ)) → HasStopped a u lines u
+stopped_at_once a u lines = stopped_before a u u [] lines (stopped_here a a u u [] (served_none a u))

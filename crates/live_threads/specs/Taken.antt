@@ -1,0 +1,65 @@
+-- What is taken from the ring of lines, and how a service ends.
+use Rattle.std.specs.Prelude.{ℕ, ◌≡◌, ◌⊎◌, List, [], ◌∷◌, ◌++◌, Bool, true, false, ⊤}
+use Rattle.std.specs.List.{flat_map}
+use Rattle.std.specs.declared.vec.Vec.{Vec}
+use Rattle.rtrb.specs.Ring.{SameConsumer, received}
+use Rattle.rtrb.specs.declared.consumer.Consumer.{Consumer}
+use Rattle.dialogue.specs.History.{Event, Happens, View}
+use Rattle.dialogue.specs.History.Event.{Told}
+use Rattle.live_lines.specs.Live.{LiveState}
+use Rattle.live_input.specs.Serving.{kept_lines}
+use Rattle.live_machine.specs.Machine.{Call, MachineState, Run}
+use Rattle.live_machine.specs.Account.{lines_in}
+use Rattle.live_machine.specs.Parts.{EndsMachine}
+use Rattle.live_run.specs.declared.outcome.Outcome.{Outcome}
+use Rattle.live_run.specs.declared.outcome.Outcome.TheVariants.{Done}
+use Rattle.live_threads.specs.Serving.{HasStopped, IsCut, IsServed, events_of}
+
+-- the lines of texts, each cut to the bytes that are kept of it
+abbrev pub lines_of : {A : Type 0} → List (Vec ℕ A) → List (List ℕ)
+lines_of batches = flat_map (λ batch. kept_lines batch.items) batches
+
+-- texts were taken from a ring, and this holds of their lines
+pub record TakesLines {A G P : Type 0} (old new : Consumer (Vec ℕ A) G P) (holds : List (List ℕ) → Type 0) : Type 0 where
+  pub ring : SameConsumer old new
+  pub batches : List (Vec ℕ A)
+  pub taken : received new ≡ received old ++ batches
+  pub held : holds (lines_of batches)
+
+-- each text that is open is refused, and that is told
+pub record ClosesTexts (last : MachineState) (before after : View) : Type 0 where
+  pub live : LiveState
+  pub reply : List ℕ
+  pub ends : EndsMachine live last.held reply
+  pub happens : Happens before after (Told reply ∷ [])
+
+-- or a beginning of it is told, or nothing
+pub record CutsClosing (last : MachineState) (before after : View) : Type 0 where
+  pub live : LiveState
+  pub reply : List ℕ
+  pub ends : EndsMachine live last.held reply
+  pub events : List Event
+  pub cut : IsCut (Told reply ∷ []) events
+  pub happens : Happens before after events
+
+-- the end of a service whose input has ended
+abbrev pub ClosesAs : Bool → MachineState → View → View → Type 0
+ClosesAs true last before after = after ≡ before
+ClosesAs false last before after = ClosesTexts last before after
+
+-- all lines were served, and all is kept and told
+pub record IsServedToEnd (old : MachineState) (before : View) (lines : List (List ℕ)) (after : View) : Type 0 where
+  pub last : MachineState
+  pub mid : View
+  pub served : IsServed old before lines last mid
+  pub log : last.log ≡ []
+  pub told : last.told ≡ []
+  pub closes : ClosesAs mid.has_log last mid after
+
+-- the service stopped before its input ended, or as it told what it tells last
+abbrev pub StopsServing : MachineState → View → List (List ℕ) → View → Type 0
+StopsServing old before lines after = HasStopped old before lines after ⊎ ((last : MachineState) × (mid : View) × IsServed old before lines last mid × CutsClosing last mid after)
+
+abbrev pub EndsServing : MachineState → View → List (List ℕ) → View → Outcome → Type 0
+EndsServing old before lines after Done = IsServedToEnd old before lines after
+EndsServing old before lines after outcome = StopsServing old before lines after
