@@ -1,1 +1,2 @@
+mod FedLemmas
 mod ServedLemmas

@@ -1,6 +1,6 @@
 //! What comes to the thread that serves.
 ghost use Rattle.std.specs.Prelude.{◌≡◌};
-ghost use Rattle.rtrb.specs.Ring.{sent};
+ghost use Rattle.rtrb.specs.Ring.{SameProducer, sent};
 
 use crate::letters::{InputEnd, StepLetter};
 use rtrb::Producer;
@@ -118,7 +118,8 @@ impl Mailbox {
 
     /// Waits until a ring has room for lines. Returns whether the service goes on.
     pub(crate) fn await_room<R: Wait>(&self, rt: &R, lines: &mut Producer<Vec<u8>>) -> bool
-        ensures { sent lines.new ≡ sent lines.old }
+        ensures ring { SameProducer lines.old lines.new }
+        ensures same { sent lines.new ≡ sent lines.old }
     {
         let mut letters = self.letters.lock(rt);
         for _ in rt.forever() {

@@ -1,14 +1,29 @@
 //! The thread that reads.
-ghost use Rattle.std.specs.Prelude.{◌≡◌};
+ghost use Rattle.std.specs.Prelude.{◌≡◌, ◌++◌, ◌∷◌, [], List, ℕ, Option, Some, IfOk, OnOk, MatchBool, ◌⊎◌};
+ghost use Rattle.line_feed.specs.Feed.{ahead_of, line_of};
+ghost use Rattle.line_feed.specs.Pieces.{IsKept};
+ghost use Rattle.live_input.specs.Serving.{kept_lines};
+ghost use Rattle.tagged_lines.specs.Tags.{with_feed};
+ghost use Rattle.live_threads.specs.Fed.{AreAllLines, EndsWith, Fed, PutsLines};
+ghost use Rattle.live_threads.specs.declared.letters.InputEnd.TheVariants.{Done};
+ghost use Rattle.rtrb.specs.Ring.{SameProducer, sent};
 
 use crate::crew::Crew;
 use crate::letters::InputEnd;
-use dialogue::{FailedDevice, Replay};
+use dialogue::{Dialogue, Replay};
 use line_feed::LineFeed;
 use line_text::Source;
 use rtrb::{Producer, PushError};
 use std::alloc::{AllocError, AllocGlobal, Global};
 use std::sync::Wait;
+
+/// What is left of a reader: its end of the ring, and how the input ended. None if the service was
+/// over before.
+#[derive(Drop)]
+pub(crate) struct ReaderEnd {
+    pub(crate) lines: Producer<Vec<u8>>,
+    pub(crate) end: Option<InputEnd>,
+}
 
 /// Reads the lines of an input up to its end, as long as the service goes on. The lines of one read
 /// go into the ring as one text, each cut to the bytes that are kept of it and ended by LF.
@@ -17,60 +32,97 @@ pub(crate) fn read_lines<S: Source + Drop, R: Wait + AllocGlobal>(
     crew: &Crew,
     lines: Producer<Vec<u8>>,
     reader: S,
-) {
+) -> ReaderEnd
+    ensures { PutsLines lines.entry result.lines
+        (λ fed. AreAllLines (S.remaining reader) result.end fed) }
+{
     let mut lines = lines;
     let mut source = Replay::new(reader);
     let end = match LineFeed::new(rt.alloc()) {
         Ok(mut feed) => feed_lines(rt, crew, &mut lines, &mut feed, &mut source),
         Err(_) => Some(InputEnd::NoMemory),
     };
-    drop((source, lines));
+    drop(source);
     if let Some(end) = end {
         crew.mailbox.note_end(rt, end);
     }
+    ReaderEnd { lines, end }
 }
 
 /// Hands over all lines of an input. Returns how it ended. None if the service is over before.
-fn feed_lines<S: Source + Drop, R: Wait + AllocGlobal>(
+fn feed_lines<D: Dialogue, R: Wait + AllocGlobal>(
     rt: &R,
     crew: &Crew,
     lines: &mut Producer<Vec<u8>>,
     feed: &mut LineFeed,
-    source: &mut Replay<S>,
-) -> Option<InputEnd> {
+    source: &mut D,
+) -> Option<InputEnd>
+    requires ahead { ahead_of feed.old ≡ [] }
+    requires line { IsKept (line_of feed.old) [] }
+    ensures { PutsLines lines.old lines.new
+        (λ fed. AreAllLines (D.view source.old).remaining result fed) }
+{
     for _ in rt.forever() {
         if feed.refill(source).is_err() {
             return Some(InputEnd::Failed);
         }
-        let is_last = feed.is_empty();
-        let Ok(batch) = take_lines(rt.alloc(), feed, is_last) else {
+        if feed.is_empty() {
+            return feed_last(rt, crew, lines, feed.line());
+        }
+        let Ok(batch) = take_lines(rt.alloc(), feed) else {
             return Some(InputEnd::NoMemory);
         };
         if !hand_over(rt, crew, lines, batch) {
             return None;
         }
-        if is_last {
-            return Some(InputEnd::Done);
-        }
     }
     unreachable!()
 }
 
-/// The lines that have come, and the beginning of one at the input's end.
-fn take_lines(alloc: Global, feed: &mut LineFeed, is_last: bool) -> Result<Vec<u8>, AllocError> {
+/// Hands over the beginning of a line at the input's end, if there is one.
+fn feed_last<R: Wait + AllocGlobal>(
+    rt: &R,
+    crew: &Crew,
+    lines: &mut Producer<Vec<u8>>,
+    line: &[u8],
+) -> Option<InputEnd>
+    ensures { PutsLines lines.old lines.new (λ fed. (result ≡ Some Done) →
+        EndsWith line.now fed) }
+{
+    if line.is_empty() {
+        return Some(InputEnd::Done);
+    }
+    let mut batch = Vec::new(rt.alloc());
+    if push_line(&mut batch, line).is_err() {
+        drop(batch);
+        return Some(InputEnd::NoMemory);
+    }
+    if hand_over(rt, crew, lines, batch) {
+        return Some(InputEnd::Done);
+    }
+    None
+}
+
+/// The lines that have come.
+fn take_lines(alloc: Global, feed: &mut LineFeed) -> Result<Vec<u8>, AllocError>
+    ensures ahead { IfOk result (λ batch. ahead_of feed.new ≡ []) }
+    ensures fed { IfOk result (λ batch. (input now : Option (List ℕ)) (fed : List (List ℕ)) →
+        Fed input now (ahead_of feed.old) (line_of feed.old) fed →
+        Fed input now (ahead_of feed.new) (line_of feed.new)
+        (fed ++ kept_lines batch.items)) }
+{
     let mut batch = Vec::new(alloc);
     while feed.take_piece() {
         push_line(&mut batch, feed.line())?;
         feed.begin_line();
     }
-    if is_last && !feed.line().is_empty() {
-        push_line(&mut batch, feed.line())?;
-    }
     Ok(batch)
 }
 
 /// Adds a line with LF.
-fn push_line(batch: &mut Vec<u8>, line: &[u8]) -> Result<(), AllocError> {
+fn push_line(batch: &mut Vec<u8>, line: &[u8]) -> Result<(), AllocError>
+    ensures { OnOk result (batch.new.items ≡ batch.old.items ++ with_feed line.now) }
+{
     batch.extend_from_slice(line)?;
     batch.push(b'\n')?;
     Ok(())
@@ -82,11 +134,12 @@ fn hand_over<R: Wait>(
     crew: &Crew,
     lines: &mut Producer<Vec<u8>>,
     batch: Vec<u8>,
-) -> bool {
-    if batch.is_empty() {
-        drop(batch);
-        return true;
-    }
+) -> bool
+    ensures ring { SameProducer lines.old lines.new }
+    ensures put { MatchBool result (sent lines.new ≡ sent lines.old ++ batch.entry ∷ [])
+        ((sent lines.new ≡ sent lines.old ++ batch.entry ∷ [])
+        ⊎ (sent lines.new ≡ sent lines.old)) }
+{
     let mut batch = batch;
     for _ in rt.forever() {
         match lines.push(batch) {

@@ -44,7 +44,7 @@ fn run_all<H: Input + Print + Files + Threads + Wait + Clock + AllocGlobal + Syn
     rt: &H,
 ) -> io::Result<bool>
 where
-    H::File: LockLog,
+    H::File: LockLog + Send,
 {
     let mut differing = 0u64;
     for line in rt.lines(rt.alloc()) {
@@ -67,7 +67,7 @@ fn agrees<H: Print + Files + Threads + Wait + Clock + AllocGlobal + Sync>(
     line: &str,
 ) -> io::Result<bool>
 where
-    H::File: LockLog,
+    H::File: LockLog + Send,
 {
     let verdict = match row_in(line) {
         Some(row) => verdict_on(rt, row)?,

@@ -22,7 +22,7 @@ pub(crate) fn verdict_on<H: Files + Threads + Wait + Clock + AllocGlobal + Sync>
     row: Row<'_>,
 ) -> Result<Verdict, AllocError>
 where
-    H::File: LockLog,
+    H::File: LockLog + Send,
 {
     let words = words(rt.alloc(), row.words)?;
     let ended = run_words(rt, row.name, words.as_slice());
@@ -40,7 +40,7 @@ fn run_words<H: Files + Threads + Wait + Clock + AllocGlobal + Sync>(
     words: &[&str],
 ) -> Result<Ended, AllocError>
 where
-    H::File: LockLog,
+    H::File: LockLog + Send,
 {
     if let ["cmp", left, right] = words {
         return compare_files(rt, left, right);
@@ -58,7 +58,7 @@ fn run_program<H: Files + Threads + Wait + Clock + AllocGlobal + Sync>(
     input: &[u8],
 ) -> Result<Ended, AllocError>
 where
-    H::File: LockLog,
+    H::File: LockLog + Send,
 {
     match words.first() {
         Some(&"fpgad_desk") => run_tool(rt, words, input),
@@ -96,7 +96,7 @@ fn run_live<H: Files + Threads + Wait + Clock + AllocGlobal + Sync>(
     lines: &[u8],
 ) -> Result<Ended, AllocError>
 where
-    H::File: LockLog,
+    H::File: LockLog + Send,
 {
     let replies = Replies::new(rt.alloc());
     let reader = Client::new(rt, &replies, lines);

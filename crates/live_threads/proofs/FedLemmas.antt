@@ -1,0 +1,116 @@
+-- The lines of an input, one after another.
+use Rattle.std.proofs.Common.{◌≡◌, ℕ, ◌<◌, List, [], ◌∷◌, ◌++◌, length, take, map, Bool, true, false, not, Option, Some, None, refl, sym, ap, subst, ◌∙◌, arith, append-nil, append_assoc, length-take, take-take}
+use Rattle.std.specs.Prelude.{◌&&◌, ◌==◌, IfSome, if◌then◌else◌}
+use Rattle.std.specs.List.{flat_map, list_all, onto_first}
+use Rattle.std.specs.Io.KnownBytes.{Consumes, IsAtEnd}
+use Rattle.std.proofs.KnownBytes.{Consumes-nil, Consumes-trans}
+use Rattle.std.proofs.lemmas.Bool.{and_from, and_parts}
+use Rattle.std.proofs.lemmas.Grind.{flat_map-append, map-append}
+use Rattle.line_text.specs.Lines.{physical_lines}
+use Rattle.tagged_lines.specs.Tags.{with_feed}
+use Rattle.line_feed.specs.Pieces.{IsKept, TakesPiece, is_one_line, kept_of}
+use Rattle.line_feed.proofs.CutLemmas.{kept_none}
+use Rattle.line_service.proofs.LineLemmas.{both_lines, last_line, lines_push, lines_then}
+use Rattle.line_service.proofs.TalkLemmas.{split_line, whole_lines}
+use Rattle.live_input.specs.Serving.{kept_lines}
+use Rattle.live_threads.specs.Fed.{Fed}
+
+-- what is kept of a cut line is the line
+pub kept_twice : (line : List ℕ) → kept_of (kept_of line) ≡ kept_of line
+unfolding kept_of
+kept_twice line = take-take 1048640 1048640 line (omega arith)
+
+
+known_all : (input left : Option (List ℕ)) (bytes : List ℕ) (P : List ℕ → Type 0) → Consumes input left bytes → IsAtEnd left → P bytes → IfSome input P
+known_all None left bytes P read end is = tt
+known_all (Some all) None bytes P read end is = absurd read
+known_all (Some all) (Some rest) bytes P read end is = subst P (sym (read ∙ (ap (λ r. bytes ++ r) end ∙ append-nil bytes))) is
+
+-- nothing was read
+pub fed_none : (input : Option (List ℕ)) (ahead kept : List ℕ) → ahead ≡ [] → IsKept kept [] → Fed input input ahead kept []
+fed_none input ahead kept none line = record {
+  bytes = [];
+  consumes = Consumes-nil input;
+  lines = [];
+  begun = [];
+  split = sym none;
+  are_lines = refl;
+  is_begun = refl;
+  line = line;
+  fed_is = refl;
+}
+
+-- what was read ahead is of the line that has begun
+pub fed_piece : (input now : Option (List ℕ)) (ahead kept rest after : List ℕ) (fed : List (List ℕ)) → Fed input now ahead kept fed → TakesPiece ahead kept false rest after → Fed input now rest after fed
+fed_piece input now ahead kept rest after fed g p = record {
+  bytes = g.bytes;
+  consumes = g.consumes;
+  lines = g.lines;
+  begun = g.begun ++ p.piece;
+  split = g.split ∙ ap (λ l. flat_map with_feed g.lines ++ l) (ap (λ a. g.begun ++ a) (p.rest.0 ∙ (sym (append-nil p.piece) ∙ ap (λ r. p.piece ++ r) (sym p.rest.1))) ∙ sym (append_assoc g.begun p.piece rest));
+  are_lines = g.are_lines;
+  is_begun = both_lines g.begun p.piece g.is_begun p.one;
+  line = p.kept g.begun g.line;
+  fed_is = g.fed_is;
+}
+
+-- a line has ended
+pub fed_line : (input now : Option (List ℕ)) (ahead kept rest after cleared : List ℕ) (fed : List (List ℕ)) → Fed input now ahead kept fed → TakesPiece ahead kept true rest after → IsKept cleared [] → Fed input now rest cleared (fed ++ after ∷ [])
+fed_line input now ahead kept rest after cleared fed g p none = record {
+  bytes = g.bytes;
+  consumes = g.consumes;
+  lines = g.lines ++ (g.begun ++ p.piece) ∷ [];
+  begun = [];
+  split = g.split ∙ split_line g.begun p.piece rest ahead g.lines p.rest;
+  are_lines = lines_push g.lines (g.begun ++ p.piece) g.are_lines (both_lines g.begun p.piece g.is_begun p.one);
+  is_begun = refl;
+  line = none;
+  fed_is = ap (λ l. l ++ after ∷ []) g.fed_is ∙ (ap (λ l. map kept_of g.lines ++ l ∷ []) (p.kept g.begun g.line) ∙ sym (map-append kept_of g.lines ((g.begun ++ p.piece) ∷ [])));
+}
+
+-- more was read
+pub fed_read : (input now next : Option (List ℕ)) (ahead kept bytes : List ℕ) (fed : List (List ℕ)) → ahead ≡ [] → Fed input now ahead kept fed → Consumes now next bytes → Fed input next bytes kept fed
+fed_read input now next ahead kept bytes fed none g reads = record {
+  bytes = g.bytes ++ bytes;
+  consumes = Consumes-trans input now next g.bytes bytes g.consumes reads;
+  lines = g.lines;
+  begun = g.begun;
+  split = ap (λ l. l ++ bytes) (g.split ∙ ap (λ l. flat_map with_feed g.lines ++ l) (ap (λ a. g.begun ++ a) none ∙ append-nil g.begun)) ∙ append_assoc (flat_map with_feed g.lines) g.begun bytes;
+  are_lines = g.are_lines;
+  is_begun = g.is_begun;
+  line = g.line;
+  fed_is = g.fed_is;
+}
+
+nothing_begun : (begun kept : List ℕ) → IsKept kept begun → kept ≡ [] → begun ≡ []
+nothing_begun [] kept is none = refl
+nothing_begun (x ∷ begun) kept is none = absurd (begins x begun kept is none)
+  where
+    begins : (x : ℕ) (begun kept : List ℕ) → kept ≡ kept_of (x ∷ begun) → kept ≡ [] → ⊥
+    unfolding kept_of
+    begins x begun kept is none = let n : length (take 1048640 (x ∷ begun)) ≡ 0 = ap length (sym is ∙ none) in omega (arith, length-take 1048640 (x ∷ begun))
+
+-- the bytes that were read, with nothing ahead
+all_bytes : (input now : Option (List ℕ)) (ahead kept : List ℕ) (fed : List (List ℕ)) → ahead ≡ [] → (g : Fed input now ahead kept fed) → g.bytes ≡ flat_map with_feed g.lines ++ g.begun
+all_bytes input now ahead kept fed none g = g.split ∙ ap (λ l. flat_map with_feed g.lines ++ l) (ap (λ a. g.begun ++ a) none ∙ append-nil g.begun)
+
+-- at the input's end all its lines were handed over
+pub fed_whole : (input now : Option (List ℕ)) (ahead kept : List ℕ) (fed : List (List ℕ)) → ahead ≡ [] → kept ≡ [] → Fed input now ahead kept fed → IsAtEnd now → IfSome input (λ bytes. fed ≡ kept_lines bytes)
+fed_whole input now ahead kept fed none no_line g end =
+    let own : g.lines ≡ physical_lines g.bytes = sym (ap physical_lines (all_bytes input now ahead kept fed none g) ∙ (lines_then g.lines g.begun g.are_lines ∙ (ap (λ b. g.lines ++ physical_lines b) (nothing_begun g.begun kept g.line no_line) ∙ append-nil g.lines))) in
+    known_all input now g.bytes (λ bytes. fed ≡ kept_lines bytes) g.consumes end (g.fed_is ∙ ap (map kept_of) own)
+
+last_of : (begun kept : List ℕ) → IsKept kept begun → 0 < length kept → is_one_line begun ≡ true → physical_lines begun ≡ begun ∷ []
+last_of [] kept is some one = absurd (let n : length kept ≡ 0 = ap length (is ∙ kept_none) in omega (arith, n))
+last_of (x ∷ begun) kept is some one = last_line x begun one
+
+-- and the beginning of the last one too
+pub fed_last : (input now : Option (List ℕ)) (ahead kept : List ℕ) (fed : List (List ℕ)) → ahead ≡ [] → 0 < length kept → Fed input now ahead kept fed → IsAtEnd now → IfSome input (λ bytes. fed ++ kept ∷ [] ≡ kept_lines bytes)
+fed_last input now ahead kept fed none some g end =
+    let own : g.lines ++ g.begun ∷ [] ≡ physical_lines g.bytes = sym (ap physical_lines (all_bytes input now ahead kept fed none g) ∙ (lines_then g.lines g.begun g.are_lines ∙ ap (λ ls. g.lines ++ ls) (last_of g.begun kept g.line some g.is_begun))) in
+    known_all input now g.bytes (λ bytes. fed ++ kept ∷ [] ≡ kept_lines bytes) g.consumes end
+        (ap (λ l. l ++ kept ∷ []) g.fed_is ∙ (ap (λ l. map kept_of g.lines ++ l ∷ []) g.line ∙ (sym (map-append kept_of g.lines (g.begun ∷ [])) ∙ ap (map kept_of) own)))
+
+-- a cut line with its end is a text of that line
+pub kept_line : (line kept : List ℕ) → IsKept kept line → is_one_line line ≡ true → kept_lines (with_feed kept) ≡ kept ∷ []
+kept_line line kept is one = todo

@@ -1,0 +1,43 @@
+-- The lines of an input, as a reader hands them over.
+use Rattle.std.specs.Prelude.{ℕ, ◌≡◌, List, [], ◌∷◌, ◌++◌, map, Bool, true, false, Option, Some, None, IfSome, ⊤}
+use Rattle.std.specs.List.{flat_map, list_all}
+use Rattle.std.specs.Io.KnownBytes.{Consumes}
+use Rattle.std.specs.declared.vec.Vec.{Vec}
+use Rattle.rtrb.specs.Ring.{SameProducer, sent}
+use Rattle.rtrb.specs.declared.producer.Producer.{Producer}
+use Rattle.tagged_lines.specs.Tags.{with_feed}
+use Rattle.line_feed.specs.Pieces.{IsKept, is_one_line, kept_of}
+use Rattle.live_input.specs.Serving.{kept_lines}
+use Rattle.live_threads.specs.declared.letters.InputEnd.{InputEnd}
+use Rattle.live_threads.specs.declared.letters.InputEnd.TheVariants.{Done}
+use Rattle.live_threads.specs.Taken.{lines_of}
+
+-- private: of an input these bytes are ahead, and that is kept of the line that has begun; the
+-- lines before it are `fed`, each cut
+pub record Fed (input now : Option (List ℕ)) (ahead kept : List ℕ) (fed : List (List ℕ)) : Type 0 where
+  pub bytes : List ℕ
+  pub consumes : Consumes input now bytes
+  pub lines : List (List ℕ)
+  pub begun : List ℕ
+  pub split : bytes ≡ flat_map with_feed lines ++ (begun ++ ahead)
+  pub are_lines : list_all is_one_line lines ≡ true
+  pub is_begun : is_one_line begun ≡ true
+  pub line : IsKept kept begun
+  pub fed_is : fed ≡ map kept_of lines
+
+-- texts were put into a ring, and this holds of their lines
+pub record PutsLines {A G P : Type 0} (old new : Producer (Vec ℕ A) G P) (holds : List (List ℕ) → Type 0) : Type 0 where
+  pub ring : SameProducer old new
+  pub batches : List (Vec ℕ A)
+  pub put : sent new ≡ sent old ++ batches
+  pub held : holds (lines_of batches)
+
+-- if the input was read to its end, these are all its lines
+abbrev pub AreAllLines : Option (List ℕ) → Option InputEnd → List (List ℕ) → Type 0
+AreAllLines input (Some Done) lines = IfSome input (λ bytes. lines ≡ kept_lines bytes)
+AreAllLines input end lines = ⊤
+
+-- private: the beginning of a last line is handed over, if it has a byte
+abbrev pub EndsWith : List ℕ → List (List ℕ) → Type 0
+EndsWith [] fed = fed ≡ []
+EndsWith (byte ∷ line) fed = fed ≡ kept_lines (with_feed (byte ∷ line))
