@@ -1,7 +1,7 @@
 -- The lines of an input, one after another.
-use Rattle.std.proofs.Common.{◌≡◌, ℕ, ◌<◌, List, [], ◌∷◌, ◌++◌, length, take, map, Bool, true, false, not, Option, Some, None, refl, sym, ap, subst, ◌∙◌, arith, append-nil, append_assoc, length-take, take-take}
+use Rattle.std.proofs.Common.{◌≡◌, ⊥, ℕ, zero, suc, ◌<◌, List, [], ◌∷◌, ◌++◌, length, take, map, Bool, true, false, not, Option, Some, None, refl, sym, ap, subst, ◌∙◌, arith, append-nil, append_assoc, length-take, take-take}
 use Rattle.std.specs.Prelude.{◌&&◌, ◌==◌, IfSome, if◌then◌else◌}
-use Rattle.std.specs.List.{flat_map, list_all, onto_first}
+use Rattle.std.specs.List.{AllByRecursion, flat_map, list_all, onto_first}
 use Rattle.std.specs.Io.KnownBytes.{Consumes, IsAtEnd}
 use Rattle.std.proofs.KnownBytes.{Consumes-nil, Consumes-trans}
 use Rattle.std.proofs.lemmas.Bool.{and_from, and_parts}
@@ -13,6 +13,7 @@ use Rattle.line_feed.proofs.CutLemmas.{kept_none}
 use Rattle.line_service.proofs.LineLemmas.{both_lines, last_line, lines_push, lines_then}
 use Rattle.line_service.proofs.TalkLemmas.{split_line, whole_lines}
 use Rattle.live_input.specs.Serving.{kept_lines}
+use Rattle.live_machine.specs.Machine.{IsLine}
 use Rattle.live_threads.specs.Fed.{Fed}
 
 -- what is kept of a cut line is the line
@@ -111,6 +112,32 @@ fed_last input now ahead kept fed none some g end =
     known_all input now g.bytes (λ bytes. fed ++ kept ∷ [] ≡ kept_lines bytes) g.consumes end
         (ap (λ l. l ++ kept ∷ []) g.fed_is ∙ (ap (λ l. map kept_of g.lines ++ l ∷ []) g.line ∙ (sym (map-append kept_of g.lines (g.begun ∷ [])) ∙ ap (map kept_of) own)))
 
--- a cut line with its end is a text of that line
-pub kept_line : (line kept : List ℕ) → IsKept kept line → is_one_line line ≡ true → kept_lines (with_feed kept) ≡ kept ∷ []
-kept_line line kept is one = todo
+one_take : (n : ℕ) (line : List ℕ) → is_one_line line ≡ true → is_one_line (take n line) ≡ true
+one_take zero line one = refl
+one_take (suc n) [] one = refl
+one_take (suc n) (x ∷ line) one =
+    let parts = and_parts (not (x == 10)) (is_one_line line) one in
+    and_from _ _ parts.0 (one_take n line parts.1)
+
+pub one_kept : (line : List ℕ) → is_one_line line ≡ true → is_one_line (kept_of line) ≡ true
+unfolding kept_of
+one_kept line one = one_take 1048640 line one
+
+-- a cut line is a line as the machine takes it
+pub cut_is_line : (line kept : List ℕ) → IsKept kept line → is_one_line line ≡ true → IsLine kept
+cut_is_line line kept is one =
+    let P : List ℕ → Type 0 = λ l. IsLine l in
+    subst P (sym is) (record { kept = kept_twice line; one = one_kept line one })
+
+same_lines : (lines : List (List ℕ)) → AllByRecursion IsLine lines → map kept_of lines ≡ lines
+same_lines [] all = refl
+same_lines (line ∷ lines) (one, all) = ap (λ l. l ∷ map kept_of lines) one.kept ∙ ap (λ ls. line ∷ ls) (same_lines lines all)
+
+all_one : (lines : List (List ℕ)) → AllByRecursion IsLine lines → list_all is_one_line lines ≡ true
+all_one [] all = refl
+all_one (line ∷ lines) (one, all) = and_from _ _ one.one (all_one lines all)
+
+-- the lines of a text that is put together of cut lines
+pub batch_lines : (lines : List (List ℕ)) → AllByRecursion IsLine lines → kept_lines (flat_map with_feed lines) ≡ lines
+batch_lines lines all =
+    ap (λ t. kept_lines t) (sym (append-nil (flat_map with_feed lines))) ∙ (ap (map kept_of) (lines_then lines [] (all_one lines all) ∙ append-nil lines) ∙ same_lines lines all)

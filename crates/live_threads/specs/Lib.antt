@@ -1,4 +1,5 @@
 pub mod Endings
+pub mod Ends
 pub mod Fed
 pub mod Outlet
 pub mod Serving

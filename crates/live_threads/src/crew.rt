@@ -4,6 +4,7 @@ use crate::mailbox::Mailbox;
 use crate::orders::Orders;
 use std::alloc::{AllocError, Global};
 use std::sync::Wait;
+use strips::DeviceGraph;
 
 /// What the threads of a service share: what workers do next, and what comes to the thread that
 /// serves.
@@ -34,4 +35,13 @@ impl Crew {
         self.orders.close(rt);
         self.mailbox.close(rt);
     }
+}
+
+/// What a thread of a service works with: the handle by which it waits, what it shares with the
+/// others, and the graph of the whole device.
+#[derive_where(Clone, Copy)]
+pub(crate) struct Site<'s, H> {
+    pub(crate) rt: &'s H,
+    pub(crate) crew: &'s Crew,
+    pub(crate) graph: &'s DeviceGraph,
 }

@@ -15,7 +15,9 @@
 mod crew;
 mod fault;
 mod letters;
+mod logged;
 mod mailbox;
+mod opened;
 mod orders;
 mod outlet;
 mod program;

@@ -1,16 +1,26 @@
 //! The lines of a log, served again, while workers make its steps.
 use crate::crew::Crew;
 use crate::letters::{Order, StepLetter, StepOrder};
+use crate::logged::LoggedLine;
 use dialogue::Replay;
+use itoa::Buffer;
 use line_feed::LineFeed;
 use line_service::Answers;
 use line_text::Source;
 use live_input::LiveLines;
-use live_lines::{LineRequest, asked_of};
+use live_lines::asked_of;
 use live_run::Outcome;
-use script_text::OperatorLine;
-use std::alloc::{AllocError, AllocGlobal, Global};
+use std::alloc::{AllocError, AllocGlobal};
 use std::sync::Wait;
+
+/// What a log leads to, beside the live service.
+#[derive(Drop)]
+pub(crate) struct Resumed {
+    /// The number of the next line.
+    pub(crate) next: u64,
+    /// Lines that were served after those of the log, each with LF. They are to be kept.
+    pub(crate) more: Vec<u8>,
+}
 
 /// A live service whose log is served again. Each running job's next step is handed to a worker at
 /// once, and the line that makes it waits for it.
@@ -20,39 +30,56 @@ struct Replayed<'r, 'g, R> {
     lines: &'r mut LiveLines<'g>,
     /// The tenancies whose jobs are out with workers.
     out: Vec<u32>,
-    /// The number of the next line.
-    next: u64,
+    /// How many jobs the operator has taken.
+    taken: u32,
+    /// The numbers of those that he holds.
+    held: Vec<u32>,
+    resumed: Resumed,
 }
 
-/// Serves the lines of a log, and drops their replies. Returns the number of the line after them.
+/// Serves the lines of a log, and drops their replies. Jobs that the operator holds afterwards are
+/// put, each by a line of its own: with workers he can't put them.
 pub(crate) fn replay<P: Source + Drop, R: Wait + AllocGlobal>(
     rt: &R,
     crew: &Crew,
     lines: &mut LiveLines<'_>,
     past: P,
-) -> Result<u64, Outcome> {
+) -> Result<Resumed, Outcome> {
     let mut replayed = Replayed {
         rt,
         crew,
         lines,
         out: Vec::new(rt.alloc()),
-        next: 1,
+        taken: 0,
+        held: Vec::new(rt.alloc()),
+        resumed: Resumed {
+            next: 1,
+            more: Vec::new(rt.alloc()),
+        },
     };
     let mut source = Replay::new(past);
     let served = match LineFeed::new(rt.alloc()) {
-        Ok(mut feed) => replayed.serve_all(&mut feed, &mut source),
+        Ok(mut feed) => replayed.serve_log(&mut feed, &mut source),
         Err(_) => Err(Outcome::NoMemory),
     };
     drop(source);
-    let Replayed { rt: _, crew: _, lines: _, out, next } = replayed;
-    drop(out);
+    let Replayed {
+        rt: _,
+        crew: _,
+        lines: _,
+        out,
+        taken: _,
+        held,
+        resumed,
+    } = replayed;
+    drop((out, held));
     served?;
-    Ok(next)
+    Ok(resumed)
 }
 
 impl<'g, R: Wait + AllocGlobal> Replayed<'_, 'g, R> {
     /// Serves the lines of the log up to its end.
-    fn serve_all<P: Source + Drop>(
+    fn serve_log<P: Source + Drop>(
         &mut self,
         feed: &mut LineFeed,
         source: &mut Replay<P>,
@@ -67,53 +94,89 @@ impl<'g, R: Wait + AllocGlobal> Replayed<'_, 'g, R> {
                 return Err(Outcome::LogUnreadable);
             }
             if feed.is_empty() {
-                if !feed.line().is_empty() {
-                    self.serve(feed.line())?;
-                }
-                while !self.out.is_empty() {
-                    self.take_home();
-                }
-                return Ok(());
+                return self.end_log(feed.line());
             }
         }
         unreachable!()
     }
 
-    /// Serves a line.
-    fn serve(&mut self, line: &[u8]) -> Result<(), Outcome> {
-        if self.next == u64::MAX {
-            return Err(Outcome::TooManyLines);
+    /// Serves what the log has of a last line, and takes all jobs home.
+    fn end_log(&mut self, line: &[u8]) -> Result<(), Outcome> {
+        if !line.is_empty() {
+            self.serve(line)?;
         }
-        match self.serve_asked(line) {
+        while !self.out.is_empty() {
+            self.take_home();
+        }
+        match self.put_held() {
             Ok(()) => Ok(()),
             Err(_) => Err(Outcome::NoMemory),
         }
     }
 
-    /// Serves a line, after the job that it may need has come home.
-    fn serve_asked(&mut self, line: &[u8]) -> Result<(), AllocError> {
-        let (name, needs_job) = match asked_of(self.rt.alloc(), line)? {
-            LineRequest::Says(_, name, said) => (name, says_wait(said)),
-            LineRequest::Operates(asked) => by_hand(asked),
-            LineRequest::Nothing | LineRequest::NoForm => (&line[..0], false),
-        };
-        if needs_job {
+    /// Serves a line.
+    fn serve(&mut self, line: &[u8]) -> Result<(), Outcome> {
+        if self.resumed.next == u64::MAX {
+            return Err(Outcome::TooManyLines);
+        }
+        match self.answer(line) {
+            Ok(()) => Ok(()),
+            Err(_) => Err(Outcome::NoMemory),
+        }
+    }
+
+    /// Answers a line, after the job that it may need has come home.
+    fn answer(&mut self, line: &[u8]) -> Result<(), AllocError> {
+        let logged = LoggedLine::of(asked_of(self.rt.alloc(), line)?);
+        if let Some(name) = logged.needs_job_of() {
             let id = self.lines.live().names().last_id(name);
             while self.out.contains(&id) {
                 self.take_home();
             }
         }
-        drop(self.lines.answer(self.next, line)?);
-        self.next += 1;
-        self.order_step(name)
+        let reply = self.lines.answer(self.resumed.next, line)?;
+        let is_taken = reply.starts_with(b"op ok job ");
+        drop(reply);
+        self.resumed.next += 1;
+        match logged {
+            LoggedLine::Takes(_) => self.note_taken(is_taken),
+            LoggedLine::Puts(number) => {
+                self.held.retain(|held| *held != number);
+                Ok(())
+            }
+            LoggedLine::Steps(name) | LoggedLine::Waits(name) | LoggedLine::Says(name) => {
+                self.order_step(name)
+            }
+            LoggedLine::Other => Ok(()),
+        }
+    }
+
+    /// Notes that the operator took a job, if he did.
+    fn note_taken(&mut self, is_taken: bool) -> Result<(), AllocError> {
+        if !is_taken {
+            return Ok(());
+        }
+        self.taken = self.taken.saturating_add(1);
+        self.held.push(self.taken)?;
+        Ok(())
+    }
+
+    /// Puts the jobs that the operator holds.
+    fn put_held(&mut self) -> Result<(), AllocError> {
+        while let Some(number) = self.held.pop() {
+            let mut line = Vec::from_slice(self.rt.alloc(), b"op put ")?;
+            line.extend_from_slice(Buffer::new().format(number).as_bytes())?;
+            drop(self.lines.answer(self.resumed.next, line.as_slice())?);
+            self.resumed.next += 1;
+            line.push(b'\n')?;
+            self.resumed.more.extend_from_slice(line.as_slice())?;
+        }
+        Ok(())
     }
 
     /// Has a worker make the next step of that name's job, if there is one to make.
     fn order_step(&mut self, name: &[u8]) -> Result<(), AllocError> {
         let id = self.lines.live().names().last_id(name);
-        if !self.lines.live().service().has_step(id) {
-            return Ok(());
-        }
         let Some(job) = self.lines.take_job(id) else {
             return Ok(());
         };
@@ -130,6 +193,7 @@ impl<'g, R: Wait + AllocGlobal> Replayed<'_, 'g, R> {
         }
     }
 
+    /// Gives a job back.
     fn give_back(&mut self, letter: StepLetter) {
         let back = match letter {
             StepLetter::Made(made) => made.into_done().into_back(),
@@ -142,22 +206,4 @@ impl<'g, R: Wait + AllocGlobal> Replayed<'_, 'g, R> {
             self.out.swap_remove(place);
         }
     }
-}
-
-/// The name whose job the operator steps by hand, if he does.
-fn by_hand<'l>(asked: OperatorLine<&'l [u8]>) -> (&'l [u8], bool) {
-    match asked {
-        OperatorLine::Step(name, _) | OperatorLine::Take(name) => (name, true),
-        OperatorLine::Admit(..)
-        | OperatorLine::Evict(_)
-        | OperatorLine::Move(..)
-        | OperatorLine::List
-        | OperatorLine::Owners
-        | OperatorLine::Put(_) => (b"", false),
-    }
-}
-
-/// Whether a line says `wait`.
-fn says_wait(said: &[u8]) -> bool {
-    said.trim_ascii().starts_with(b"wait")
 }

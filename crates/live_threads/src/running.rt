@@ -1,17 +1,15 @@
 //! A service with workers, from its log to its end.
-use crate::crew::Crew;
-use crate::outlet::Devices;
-use crate::reader::read_lines;
-use crate::replaying::replay;
-use crate::serving::{MOST_AHEAD, serve_machine};
+use crate::crew::{Crew, Site};
+use crate::opened::{Opened, ServerEnd, ServesOpened, serve_opened};
+use crate::outlet::{Devices, Outlet};
+use crate::reader::{ReaderEnd, read_lines};
+use crate::letters::InputEnd;
+use crate::serving::MOST_AHEAD;
 use crate::worker::run_worker;
-use dialogue::Log;
+use dialogue::{FailedDevice, Log};
 use line_text::{Sink, Source};
-use live_input::LiveLines;
-use live_machine::Machine;
 use live_run::Outcome;
 use rtrb::{Consumer, Producer, RingBuffer};
-use service_core::Service;
 use std::alloc::AllocGlobal;
 use std::sync::Wait;
 use std::thread;
@@ -19,12 +17,12 @@ use std::thread::{Scope, Threads};
 use std::time::Clock;
 use strips::DeviceGraph;
 
-/// A service that has admitted no tenancy, the lines of its log, and where it keeps and tells.
+/// How a service ended, and its devices.
 #[derive(Drop)]
-pub(crate) struct Opened<P: Source + Drop, W: Sink + Drop, L: Log + Drop> {
-    pub(crate) service: Service,
-    pub(crate) past: Option<P>,
-    pub(crate) devices: Devices<W, L>,
+pub(crate) struct RunEnd<W: Sink + Drop, L: Log + Drop> {
+    pub(crate) outcome: Outcome,
+    /// None if the service did not begin.
+    pub(crate) devices: Option<Devices<W, L>>,
 }
 
 /// Serves the lines of a log, and then those of an input, over the graph of the whole device, with
@@ -41,39 +39,59 @@ pub(crate) fn serve_with_workers<
     graph: &DeviceGraph,
     opened: Opened<P, W, L>,
     reader: S,
-) -> Outcome {
+) -> RunEnd<W, L> {
     let crew = Crew::new(rt.alloc());
-    let outcome = match RingBuffer::new(rt.alloc(), MOST_AHEAD) {
-        Ok(ring) => run_threads(rt, &crew, workers, graph, opened, (ring, reader)),
+    let site = Site {
+        rt,
+        crew: &crew,
+        graph,
+    };
+    let end = match RingBuffer::new(rt.alloc(), MOST_AHEAD) {
+        Ok((producer, consumer)) => {
+            let input = Input { producer, reader };
+            run_threads(site, workers, opened, consumer, input)
+        }
         Err(_) => {
             drop((opened, reader));
-            Outcome::NoMemory
+            not_begun()
         }
     };
     drop(crew);
-    outcome
+    end
 }
 
-/// The two ends of the ring of lines.
-type Ring = (Producer<Vec<u8>>, Consumer<Vec<u8>>);
+/// The end of a service that did not begin.
+fn not_begun<W: Sink + Drop, L: Log + Drop>() -> RunEnd<W, L> {
+    RunEnd {
+        outcome: Outcome::NoMemory,
+        devices: None,
+    }
+}
+
+/// An input, and the end of the ring that its lines go into.
+#[derive(Drop)]
+struct Input<S: Source + Drop> {
+    producer: Producer<Vec<u8>>,
+    reader: S,
+}
 
 /// Runs the threads to their end.
 fn run_threads<
+    's,
     H: Threads + Wait + Clock + AllocGlobal + Sync,
     P: Source + Drop + Send,
     S: Source + Drop,
     W: Sink + Drop + Send,
     L: Log + Drop + Send,
 >(
-    rt: &H,
-    crew: &Crew,
+    site: Site<'s, H>,
     workers: u32,
-    graph: &DeviceGraph,
     opened: Opened<P, W, L>,
-    input: (Ring, S),
-) -> Outcome {
-    thread::scope(thread::scope_env(), rt, move |scope| -> Outcome {
-        run_in(scope, rt, crew, workers, graph, opened, input)
+    lines: Consumer<Vec<u8>>,
+    input: Input<S>,
+) -> RunEnd<W, L> {
+    thread::scope(thread::scope_env(), site.rt, move |scope| -> RunEnd<W, L> {
+        run_in(scope, site, workers, opened, lines, input)
     })
 }
 
@@ -88,112 +106,70 @@ fn run_in<
     L: Log + Drop + Send + 's,
 >(
     scope: &Scope<'s, E>,
-    rt: &'s H,
-    crew: &'s Crew,
+    site: Site<'s, H>,
     workers: u32,
-    graph: &'s DeviceGraph,
-    opened: Opened<P, W, L>,
-    input: (Ring, S),
-) -> Outcome {
-    let ((producer, consumer), reader) = input;
-    let mut are_started = true;
-    for _ in 0..workers {
-        are_started = are_started && start_worker(scope, rt, crew, graph);
-    }
-    if !are_started {
-        drop((opened, producer, consumer, reader));
-        crew.close(rt);
-        return Outcome::NoMemory;
-    }
-    match scope.spawn(move || serve_opened(rt, crew, graph, opened, consumer)) {
-        Ok(server) => {
-            read_lines(rt, crew, producer, reader);
-            server.join(rt)
-        }
-        Err(error) => {
-            drop((error, producer, reader));
-            crew.close(rt);
-            Outcome::NoMemory
-        }
-    }
-}
-
-/// Starts a worker. Returns whether it was started.
-fn start_worker<'s, E, H: Threads + Wait + Clock + Sync + 's>(
-    scope: &Scope<'s, E>,
-    rt: &'s H,
-    crew: &'s Crew,
-    graph: &'s DeviceGraph,
-) -> bool {
-    match scope.spawn(move || run_worker(rt, crew, graph)) {
-        Ok(worker) => {
-            drop(worker);
-            true
-        }
-        Err(error) => {
-            drop(error);
-            false
-        }
-    }
-}
-
-/// Serves the lines of the log, and then those that come.
-fn serve_opened<
-    R: Wait + AllocGlobal,
-    P: Source + Drop,
-    W: Sink + Drop,
-    L: Log + Drop,
->(
-    rt: &R,
-    crew: &Crew,
-    graph: &DeviceGraph,
     opened: Opened<P, W, L>,
     lines: Consumer<Vec<u8>>,
-) -> Outcome {
-    let Opened {
-        service,
-        past,
-        mut devices,
-    } = opened;
-    let mut lines = lines;
-    let live = LiveLines::new(rt.alloc(), graph, service);
-    let outcome = match resume(rt, crew, live, past) {
-        Ok(machine) => serve_machine(rt, crew, &mut lines, machine, &mut devices),
-        Err(outcome) => outcome,
-    };
-    crew.close(rt);
-    drop((lines, devices));
-    outcome
-}
-
-/// The machine after the lines of the log, if there is one.
-fn resume<'g, R: Wait + AllocGlobal, P: Source + Drop>(
-    rt: &R,
-    crew: &Crew,
-    live: LiveLines<'g>,
-    past: Option<P>,
-) -> Result<Machine<'g>, Outcome> {
-    let mut live = live;
-    let Some(past) = past else {
-        return Ok(Machine::new(rt.alloc(), live, 1));
-    };
-    match replay(rt, crew, &mut live, past) {
-        Ok(next) => with_steps(Machine::new(rt.alloc(), live, next)),
-        Err(outcome) => {
-            live.close();
-            Err(outcome)
+    input: Input<S>,
+) -> RunEnd<W, L> {
+    if !start_workers(scope, site, workers) {
+        drop((opened, lines, input));
+        site.crew.close(site.rt);
+        return not_begun();
+    }
+    let promise = ServesOpened::of(&opened, &lines, site.graph);
+    match scope.spawn_with(promise, move || serve_opened(site, opened, lines)) {
+        Ok(server) => {
+            let Input { producer, reader } = input;
+            let read = read_lines(site.rt, site.crew, producer, reader);
+            end_of(read, server.join(site.rt))
+        }
+        Err(error) => {
+            drop((error, input));
+            site.crew.close(site.rt);
+            not_begun()
         }
     }
 }
 
-/// The machine, which knows all steps that can be made.
-fn with_steps(machine: Machine<'_>) -> Result<Machine<'_>, Outcome> {
-    let mut machine = machine;
-    match machine.find_steps() {
-        Ok(()) => Ok(machine),
-        Err(_) => {
-            machine.close();
-            Err(Outcome::NoMemory)
+/// How the service ended, whose two threads ended so. It is done if all lines that were read are
+/// served, which no thread knows alone.
+fn end_of<W: Sink + Drop, L: Log + Drop>(read: ReaderEnd, served: ServerEnd<W, L>) -> RunEnd<W, L> {
+    let ReaderEnd {
+        lines: mut producer,
+        end,
+    } = read;
+    let ServerEnd {
+        lines: mut consumer,
+        devices,
+        outcome,
+    } = served;
+    let are_all = consumer.slots_beside(&mut producer) == 0 && end == Some(InputEnd::Done);
+    drop((producer, consumer));
+    let outcome = match outcome {
+        Outcome::Done if !are_all => Outcome::Stopped(FailedDevice::Input),
+        outcome => outcome,
+    };
+    RunEnd {
+        outcome,
+        devices: Some(devices),
+    }
+}
+
+/// Starts the workers. Returns whether all were started.
+fn start_workers<'s, E, H: Threads + Wait + Clock + Sync + 's>(
+    scope: &Scope<'s, E>,
+    site: Site<'s, H>,
+    count: u32,
+) -> bool {
+    for _ in 0..count {
+        match scope.spawn(move || run_worker(site.rt, site.crew, site.graph)) {
+            Ok(worker) => drop(worker),
+            Err(error) => {
+                drop(error);
+                return false;
+            }
         }
     }
+    true
 }

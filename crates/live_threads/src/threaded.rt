@@ -3,7 +3,8 @@ ghost use Rattle.std.specs.Prelude.{IfOk};
 ghost use Rattle.service_core.specs.Kept.{IsDevice};
 
 use crate::outlet::Devices;
-use crate::running::{Opened, serve_with_workers};
+use crate::opened::Opened;
+use crate::running::{RunEnd, serve_with_workers};
 use arch_file::{ArchError, read_arch};
 use dialogue::FileLog;
 use line_text::{ReadError, Sink, Source, StdSource};
@@ -143,7 +144,10 @@ where
                 past,
                 devices,
             };
-            serve_with_workers(rt, line.workers, &graph, opened, reader)
+            let RunEnd { outcome, devices } =
+                serve_with_workers(rt, line.workers, &graph, opened, reader);
+            drop(devices);
+            outcome
         }
         Err(_) => {
             drop((past, devices, reader));
