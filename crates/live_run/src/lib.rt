@@ -3,7 +3,8 @@
 //! - [`read_options`] reads the command line. [`first_line`] is the line that a log begins with.
 //! - [`serve`] serves the lines of a dialogue as they come, after those of a log if there is one.
 //! - [`run_line`] serves as a command line says. [`Outcome`] says how a service ended.
-//! - [`log_at`] opens a log, as what it kept and what comes ([`KeptLog`]). [`LockLog`] keeps a log to one service at a time.
+//! - [`log_at`] opens a log, as what it kept and what comes ([`KeptLog`]).
+//! - [`LockLog`] keeps a log to one service at a time.
 #![tactic(auto)]
 
 mod beginning;

@@ -1,11 +1,12 @@
 -- The lines of an input, one after another.
-use Rattle.std.proofs.Common.{◌≡◌, ⊥, ℕ, zero, suc, ◌<◌, List, [], ◌∷◌, ◌++◌, length, take, map, Bool, true, false, not, Option, Some, None, refl, sym, ap, subst, ◌∙◌, arith, append-nil, append_assoc, length-take, take-take}
+use Rattle.std.proofs.Common.{◌≡◌, ℕ, zero, suc, ◌<◌, List, [], ◌∷◌, ◌++◌, length, take, map, Bool, true, false, not, Option, Some, None, refl, sym, ap, subst, ◌∙◌, arith, append-nil, append_assoc, length-take, take-take}
 use Rattle.std.specs.Prelude.{◌&&◌, ◌==◌, IfSome, if◌then◌else◌}
 use Rattle.std.specs.List.{AllByRecursion, flat_map, list_all, onto_first}
 use Rattle.std.specs.Io.KnownBytes.{Consumes, IsAtEnd}
 use Rattle.std.proofs.KnownBytes.{Consumes-nil, Consumes-trans}
 use Rattle.std.proofs.lemmas.Bool.{and_from, and_parts}
-use Rattle.std.proofs.lemmas.Grind.{flat_map-append, map-append}
+use Rattle.std.proofs.lemmas.Grind.{flat_map-append}
+use Rattle.std.proofs.lemmas.List.{map-append}
 use Rattle.line_text.specs.Lines.{physical_lines}
 use Rattle.tagged_lines.specs.Tags.{with_feed}
 use Rattle.line_feed.specs.Pieces.{IsKept, TakesPiece, is_one_line, kept_of}
@@ -83,13 +84,16 @@ fed_read input now next ahead kept bytes fed none g reads = record {
   fed_is = g.fed_is;
 }
 
+take_some : (n x : ℕ) (line : List ℕ) → take (suc n) (x ∷ line) ≡ [] → ⊥
+take_some n x line is = absurd (cc)
+
+begins_so : (x : ℕ) (begun kept : List ℕ) → kept ≡ kept_of (x ∷ begun) → kept ≡ [] → ⊥
+unfolding kept_of
+begins_so x begun kept is none = take_some 1048639 x begun (sym is ∙ none)
+
 nothing_begun : (begun kept : List ℕ) → IsKept kept begun → kept ≡ [] → begun ≡ []
 nothing_begun [] kept is none = refl
-nothing_begun (x ∷ begun) kept is none = absurd (begins x begun kept is none)
-  where
-    begins : (x : ℕ) (begun kept : List ℕ) → kept ≡ kept_of (x ∷ begun) → kept ≡ [] → ⊥
-    unfolding kept_of
-    begins x begun kept is none = let n : length (take 1048640 (x ∷ begun)) ≡ 0 = ap length (sym is ∙ none) in omega (arith, length-take 1048640 (x ∷ begun))
+nothing_begun (x ∷ begun) kept is none = absurd (begins_so x begun kept is none)
 
 -- the bytes that were read, with nothing ahead
 all_bytes : (input now : Option (List ℕ)) (ahead kept : List ℕ) (fed : List (List ℕ)) → ahead ≡ [] → (g : Fed input now ahead kept fed) → g.bytes ≡ flat_map with_feed g.lines ++ g.begun

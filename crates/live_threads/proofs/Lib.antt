@@ -1,2 +1,4 @@
 mod FedLemmas
 mod ServedLemmas
+mod StepLemmas
+mod TakenLemmas

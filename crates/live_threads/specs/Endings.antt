@@ -1,11 +1,19 @@
 -- How the program of a live service ends.
-use Rattle.std.specs.Prelude.{ℕ, ◌≡◌, ⊤, ⊥, ◌⊎◌, List, Option, Some, None, Result, Ok, Err, false}
+use Rattle.std.specs.Prelude.{ℕ, ◌≡◌, ◌≢◌, ◌⊎◌, List, Bool, Option, Some, None, Result, Ok, Err, is_some, false}
+use Rattle.arch_file.specs.declared.arch.Arch.{Arch}
+use Rattle.arch_file.specs.Arch.{arch_of}
 use Rattle.dialogue.specs.History.{View}
+use Rattle.service_core.specs.Service.{empty_service}
+use Rattle.sessions.specs.Fitting.{own_graph}
+use Rattle.service_core.specs.declared.device.Device.{Device}
 use Rattle.live_run.specs.declared.options.CommandLine.{CommandLine}
+use Rattle.live_run.specs.declared.options.Options.{Options}
 use Rattle.live_run.specs.declared.outcome.Outcome.{Outcome}
-use Rattle.live_run.specs.declared.outcome.Outcome.TheVariants.{NoMemory}
+use Rattle.live_run.specs.declared.outcome.Outcome.TheVariants.{Done, NoMemory}
 use Rattle.live_run.specs.Commands.{RunsLine}
+use Rattle.live_run.specs.Limits.{device_of}
 use Rattle.live_run.specs.Outcomes.{status_of}
+use Rattle.live_threads.specs.Ends.{RunsInput, RunsOpened}
 
 -- the status is 2 if the words are refused
 abbrev pub run_status : {E : Type 0} → Result Outcome E → ℕ
@@ -27,12 +35,41 @@ pub record RunsAlone {E : Type 0} (input output : Option (List ℕ)) (after : Vi
   pub has_log : before.has_log ≡ false
   pub runs : RunsWords before after outcome
 
--- the run of a program: without workers there is the connection as it was left
-abbrev pub IsProgramRun : {E : Type 0} → Option (List ℕ) → Option (List ℕ) → Option View → Result Outcome E → Type 0
-IsProgramRun input output (Some after) outcome = RunsAlone input output after outcome
-IsProgramRun input output None (Ok outcome) = ⊤
-IsProgramRun input output None (Err error) = ⊥
+-- with workers: a service with the numbers of the command line, over the architecture of its file,
+-- and with a log exactly if the command line names one
+pub record RunsThreads (line : CommandLine) (input output : Option (List ℕ)) (after : View) (outcome : Outcome) : Type 0 where
+  pub architecture : List ℕ
+  pub arch : Arch
+  pub is_read : arch_of architecture line.options.tracks ≡ Ok arch
+  pub begun : View
+  pub written : begun.output ≡ output
+  pub has_log : begun.has_log ≡ is_some line.log
+  pub runs : RunsInput (is_some line.log) (empty_service (device_of line.options arch)) (own_graph (device_of line.options arch)) begun input after outcome
+
+-- private: the device of that architecture
+abbrev pub IsDeviceOf : Options → List ℕ → Device → Type 0
+IsDeviceOf options architecture device = (arch : Arch) × (arch_of architecture options.tracks ≡ Ok arch) × (device ≡ device_of options arch)
+
+-- private: a service over that device, or one that does not begin
+abbrev pub RunsOver : Bool → Device → View → Option (List ℕ) → Option View → Outcome → Type 0
+RunsOver has_log device before input after outcome = RunsOpened has_log (empty_service device) (own_graph device) before input after outcome
+
+-- or one that does not begin
+abbrev pub RunsThreaded : CommandLine → Option (List ℕ) → Option (List ℕ) → Option View → Outcome → Type 0
+RunsThreaded line input output None outcome = outcome ≢ Done
+RunsThreaded line input output (Some after) outcome = RunsThreads line input output after outcome
+
+-- a run of words with workers
+abbrev pub RunsWorkers : {E : Type 0} → Option (List ℕ) → Option (List ℕ) → Option View → Result Outcome E → Type 0
+RunsWorkers input output devices (Ok outcome) = (line : CommandLine) × RunsThreaded line input output devices outcome
+RunsWorkers input output devices (Err error) = ⊥
+
+-- the run of a program: without workers there is the connection as it was left, with workers the
+-- log and the output, if the service began
+abbrev pub IsProgramRun : {E : Type 0} → Option (List ℕ) → Option (List ℕ) → Option View → Option View → Result Outcome E → Type 0
+IsProgramRun input output (Some after) devices outcome = RunsAlone input output after outcome
+IsProgramRun input output None devices outcome = RunsWorkers input output devices outcome
 
 -- its end: the status is that of the run
-abbrev pub IsProgramEnd : Option (List ℕ) → Option (List ℕ) → Option View → ℕ → Type 0
-IsProgramEnd input output connection status = (outcome : Result Outcome (Unit {0})) × IsProgramRun input output connection outcome × (status ≡ run_status outcome)
+abbrev pub IsProgramEnd : Option (List ℕ) → Option (List ℕ) → Option View → Option View → ℕ → Type 0
+IsProgramEnd input output connection devices status = (outcome : Result Outcome (Unit {0})) × IsProgramRun input output connection devices outcome × (status ≡ run_status outcome)

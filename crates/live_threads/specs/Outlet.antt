@@ -1,8 +1,9 @@
 -- What the calls of an outlet do.
-use Rattle.std.specs.Prelude.{ℕ, List, [], ◌∷◌, Bool, false, Option, Some, None, Result, Ok, Err}
+use Rattle.std.specs.Prelude.{ℕ, List, [], ◌∷◌, Bool, false, Option, Some, None, Result, Ok, Err, is_some}
 use Rattle.dialogue.specs.History.{Fails, Happens, View}
 use Rattle.dialogue.specs.History.Event.{Kept, Told}
 use Rattle.dialogue.specs.declared.dialogue.FailedDevice.{FailedDevice}
+use Rattle.live_threads.specs.declared.outlet.Devices.{Devices}
 use Rattle.dialogue.specs.declared.dialogue.FailedDevice.TheVariants.{Input, Log, Output}
 
 -- the bytes are kept
@@ -30,3 +31,14 @@ abbrev pub has_failed : {L : Type 0} → (L → Bool) → Option L → Bool → 
 has_failed failed log output Input = false
 has_failed failed log output Log = log_failed failed log
 has_failed failed log output Output = output
+
+-- what one sees of a log and an output
+abbrev pub view_of : {W L : Type 0} → (W → Option (List ℕ)) → (W → Bool) → (L → Option (List ℕ)) → (L → Bool) → Devices W L → View
+view_of contents writer_failed kept log_failed devices = record {
+  remaining = None;
+  has_log = is_some devices.log;
+  log = log_of kept devices.log;
+  output = contents devices.writer;
+  history = None;
+  has_failed = has_failed log_failed devices.log (writer_failed devices.writer);
+}

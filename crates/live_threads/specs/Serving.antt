@@ -1,5 +1,5 @@
 -- What a service with workers takes, keeps and tells.
-use Rattle.std.specs.Prelude.{ℕ, ◌≡◌, ⊥, ⊤, ◌⊎◌, List, [], ◌∷◌, ◌++◌, take, map, Bool, true, false, Option, Some, None, Result, Ok, Err}
+use Rattle.std.specs.Prelude.{ℕ, ◌≡◌, ⊤, ◌⊎◌, List, [], ◌∷◌, ◌++◌, take, map, Bool, true, false, Option, Some, None, Result, Ok, Err}
 use Rattle.std.specs.List.{flat_map}
 use Rattle.dialogue.specs.History.{Event, Happens, View}
 use Rattle.dialogue.specs.History.Event.{Kept, Told}

@@ -72,7 +72,9 @@ impl Mailbox {
     pub(crate) fn take_news<R: Wait + AllocGlobal>(&self, rt: &R, waits: bool) -> News {
         let mut letters = self.letters.lock(rt);
         if waits {
-            letters = self.news.wait_while(rt, letters, |letters| !letters.has_news());
+            letters = self
+                .news
+                .wait_while(rt, letters, |letters| !letters.has_news());
         }
         letters.has_lines = false;
         News {
@@ -84,7 +86,9 @@ impl Mailbox {
     /// Takes what workers did. Waits for it.
     pub(crate) fn take_steps<R: Wait + AllocGlobal>(&self, rt: &R) -> Vec<StepLetter> {
         let letters = self.letters.lock(rt);
-        let mut letters = self.news.wait_while(rt, letters, |letters| letters.steps.is_empty());
+        let mut letters = self
+            .news
+            .wait_while(rt, letters, |letters| letters.steps.is_empty());
         mem::replace(&mut letters.steps, Vec::new(rt.alloc()))
     }
 

@@ -1,5 +1,10 @@
 //! The thread that serves, from the log to the end.
-ghost use Rattle.live_threads.specs.Ends.{RunsService};
+ghost use Rattle.std.specs.Prelude.{◌≡◌, ◌≢◌, [], true, is_some, IfErr, IfOk, OnOk};
+ghost use Rattle.live_input.specs.Serving.{is_ready, state_in};
+ghost use Rattle.live_machine.specs.Parts.{IsReady, machine_of};
+ghost use Rattle.live_run.specs.declared.outcome.Outcome.TheVariants.{Done};
+ghost use Rattle.live_threads.specs.Outlet.{view_of};
+ghost use Rattle.live_threads.specs.Ends.{BeginsWith, IsResumed, RunsService};
 ghost use Rattle.live_threads.specs.Taken.{TakesLines};
 
 use crate::crew::Site;
@@ -48,7 +53,11 @@ impl<P: Source + Drop, W: Sink + Drop, L: Log + Drop> ServesOpened<P, W, L> {
         opened: &Opened<P, W, L>,
         lines: &Consumer<Vec<u8>>,
         graph: &DeviceGraph,
-    ) -> Self {
+    ) -> Self
+        ensures opened { result.opened.value ≡ opened.now }
+        ensures lines { result.lines.value ≡ lines.now }
+        ensures graph { result.graph.value ≡ graph.now }
+    {
         ServesOpened {
             opened: Snapshot::of(opened),
             lines: Snapshot::of(lines),
@@ -58,30 +67,29 @@ impl<P: Source + Drop, W: Sink + Drop, L: Log + Drop> ServesOpened<P, W, L> {
 }
 
 impl<P: Source + Drop, W: Sink + Drop, L: Log + Drop> Promise<ServerEnd<W, L>>
-    for ServesOpened<P, W, L>
-{
+    for ServesOpened<P, W, L> {
+    ghost use Rattle.std.specs.Prelude.{is_some};
+    ghost use Rattle.live_threads.specs.Ends.{RunsService};
+    ghost use Rattle.live_threads.specs.Outlet.{view_of};
+    ghost use Rattle.live_threads.specs.Taken.{TakesLines};
+
     ghost kept_by = { λ p r. TakesLines p.lines.value r.lines (λ heard.
-        RunsService p.opened.value.past p.opened.value.service p.graph.value
-        (⟦<Devices<W, L> as Outlet>⟧.view p.opened.value.devices) heard
-        (⟦<Devices<W, L> as Outlet>⟧.view r.devices) r.outcome) };
+        RunsService (is_some p.opened.value.past) p.opened.value.service p.graph.value
+        (view_of W.contents W.has_failed L.kept L.has_failed p.opened.value.devices) heard
+        (view_of W.contents W.has_failed L.kept L.has_failed r.devices) r.outcome) };
 }
 
 /// Serves the lines of the log, and then those that come.
-pub(crate) fn serve_opened<
-    H: Wait + AllocGlobal,
-    P: Source + Drop,
-    W: Sink + Drop,
-    L: Log + Drop,
->(
+pub(crate) fn serve_opened<H: Wait + AllocGlobal, P: Source + Drop, W: Sink + Drop, L: Log + Drop>(
     site: Site<'_, H>,
     opened: Opened<P, W, L>,
     lines: Consumer<Vec<u8>>,
 ) -> ServerEnd<W, L>
     requires { opened.service.histories ≡ [] }
-    ensures { TakesLines lines.entry result.lines (λ heard.
-        RunsService opened.entry.past opened.entry.service site.entry.graph.now
-        (⟦<Devices<W, L> as Outlet>⟧.view opened.entry.devices) heard
-        (⟦<Devices<W, L> as Outlet>⟧.view result.devices) result.outcome) }
+    ensures { TakesLines lines result.lines (λ heard.
+        RunsService (is_some opened.past) opened.service site.entry.graph.now
+        (view_of W.contents W.has_failed L.kept L.has_failed opened.devices) heard
+        (view_of W.contents W.has_failed L.kept L.has_failed result.devices) result.outcome) }
 {
     let Opened {
         service,
@@ -109,7 +117,16 @@ fn resume<'g, H: Wait + AllocGlobal, P: Source + Drop, O: Outlet>(
     live: LiveLines<'g>,
     past: Option<P>,
     outlet: &mut O,
-) -> Result<Machine<'g>, Outcome> {
+) -> Result<Machine<'g>, Outcome>
+    requires { is_ready live }
+    ensures ready { IfOk result IsReady }
+    ensures begins { IfOk result (λ machine. BeginsWith (is_some past)
+        (state_in live.entry) (machine_of machine)) }
+    ensures resumed { OnOk result (IsResumed (is_some past) (O.view outlet.old)
+        (O.view outlet.new)) }
+    ensures none { IfErr result (λ outcome. (outcome ≢ Done)
+        × ((O.view outlet.new).output ≡ (O.view outlet.old).output)) }
+{
     match past {
         Some(past) => resume_log(site, live, past, outlet),
         None => Ok(Machine::new(site.rt.alloc(), live, 1)),
@@ -122,7 +139,15 @@ fn resume_log<'g, H: Wait + AllocGlobal, P: Source + Drop, O: Outlet>(
     live: LiveLines<'g>,
     past: P,
     outlet: &mut O,
-) -> Result<Machine<'g>, Outcome> {
+) -> Result<Machine<'g>, Outcome>
+    requires { is_ready live }
+    ensures ready { IfOk result IsReady }
+    ensures begins { IfOk result (λ machine. BeginsWith true (state_in live.entry)
+        (machine_of machine)) }
+    ensures resumed { OnOk result (IsResumed true (O.view outlet.old) (O.view outlet.new)) }
+    ensures none { IfErr result (λ outcome. (outcome ≢ Done)
+        × ((O.view outlet.new).output ≡ (O.view outlet.old).output)) }
+{
     let mut live = live;
     let resumed = match replay(site.rt, site.crew, &mut live, past) {
         Ok(resumed) => keep_more(outlet, resumed),
@@ -138,7 +163,11 @@ fn resume_log<'g, H: Wait + AllocGlobal, P: Source + Drop, O: Outlet>(
 }
 
 /// Keeps the lines that were served after those of the log. Returns the next number.
-fn keep_more<O: Outlet>(outlet: &mut O, resumed: Resumed) -> Result<u64, Outcome> {
+fn keep_more<O: Outlet>(outlet: &mut O, resumed: Resumed) -> Result<u64, Outcome>
+    ensures resumed { OnOk result (IsResumed true (O.view outlet.old) (O.view outlet.new)) }
+    ensures none { IfErr result (λ outcome. (outcome ≢ Done)
+        × ((O.view outlet.new).output ≡ (O.view outlet.old).output)) }
+{
     let Resumed { next, more } = resumed;
     let kept = if more.is_empty() {
         Ok(())
@@ -153,7 +182,12 @@ fn keep_more<O: Outlet>(outlet: &mut O, resumed: Resumed) -> Result<u64, Outcome
 }
 
 /// The machine, which knows all steps that can be made.
-fn with_steps(machine: Machine<'_>) -> Result<Machine<'_>, Outcome> {
+fn with_steps(machine: Machine<'_>) -> Result<Machine<'_>, Outcome>
+    requires { IsReady machine }
+    ensures ready { IfOk result IsReady }
+    ensures same { IfOk result (λ new. machine_of new ≡ machine_of machine.entry) }
+    ensures none { IfErr result (λ outcome. outcome ≢ Done) }
+{
     let mut machine = machine;
     match machine.find_steps() {
         Ok(()) => Ok(machine),

@@ -1,4 +1,5 @@
 //! Where a service keeps its lines and tells its replies.
+ghost use Rattle.std.specs.Prelude.{◌≡◌};
 ghost use Rattle.live_threads.specs.Outlet.{Keeps, Tells};
 
 use dialogue::{FailedDevice, Log};
@@ -39,17 +40,9 @@ pub struct Devices<W: Sink + Drop, L: Log + Drop> {
 }
 
 impl<W: Sink + Drop, L: Log + Drop> Outlet for Devices<W, L> {
-    ghost use Rattle.std.specs.Prelude.{None, is_some};
-    ghost use Rattle.live_threads.specs.Outlet.{has_failed, log_of};
+    ghost use Rattle.live_threads.specs.Outlet.{view_of};
 
-    ghost view = { λ d. record {
-      remaining = None;
-      has_log = is_some d.log;
-      log = log_of L.kept d.log;
-      output = W.contents d.writer;
-      history = None;
-      has_failed = has_failed L.has_failed d.log (W.has_failed d.writer);
-    } };
+    ghost view = { λ d. view_of W.contents W.has_failed L.kept L.has_failed d };
 
     fn has_log(&self) -> bool {
         self.log.is_some()

@@ -5,6 +5,8 @@ ghost use Rattle.live_run.specs.declared.outcome.Outcome.TheVariants.{NoMemory};
 ghost use Rattle.live_run.specs.Outcomes.{status_of};
 ghost use Rattle.live_threads.specs.Endings.{IsProgramEnd, IsProgramRun, run_status};
 
+use crate::outlet::{Devices, Outlet};
+use crate::running::RunEnd;
 use crate::threaded::run_threads;
 use clap::Error;
 use clap::error::ErrorKind;
@@ -22,19 +24,23 @@ use std::time::Clock;
 
 /// What the program leaves at its end.
 #[derive(Drop)]
-pub struct ProgramEnd<D> {
+pub struct ProgramEnd<C, D> {
     pub status: ExitCode,
     /// The connection as it was left. With workers there is none.
-    pub connection: Option<D>,
+    pub connection: Option<C>,
+    /// With workers, the log and the output as they were left, if the service began.
+    pub devices: Option<D>,
 }
 
 /// What a run of the program's words leaves.
 #[derive(Drop)]
-pub struct ProgramRun<D> {
+pub struct ProgramRun<C, D> {
     /// How it ended. An error is clap's: the words are refused, or ask for help.
     pub outcome: Result<Outcome, Error>,
     /// The connection as it was left. With workers there is none.
-    pub connection: Option<D>,
+    pub connection: Option<C>,
+    /// With workers, the log and the output as they were left, if the service began.
+    pub devices: Option<D>,
 }
 
 /// The program: serves the lines of a reader as the words say, the first being the program's name.
@@ -49,11 +55,12 @@ pub fn run_program<
     words: io::Result<Vec<String>>,
     reader: S,
     writer: W,
-) -> ProgramEnd<Connection<S, W, FileLog<H::File>>>
+) -> ProgramEnd<Connection<S, W, FileLog<H::File>>, Devices<W, FileLog<H::File>>>
 where
     H::File: LockLog + Send,
     ensures { IsProgramEnd (S.remaining reader) (W.contents writer)
         (option_map (⟦<Connection<S, W, FileLog<H::File>> as Dialogue>⟧.view) result.connection)
+        (option_map (⟦<Devices<W, FileLog<H::File>> as Outlet>⟧.view) result.devices)
         (exit_status result.status) }
 {
     match words {
@@ -61,6 +68,7 @@ where
         Err(error) => ProgramEnd {
             status: report_unread(rt, error),
             connection: Some(Connection::new(reader, writer)),
+            devices: None,
         },
     }
 }
@@ -70,20 +78,28 @@ fn run_called<
     H: Files + Threads + Wait + Clock + AllocGlobal + Eprint + Sync,
     S: Source + Drop,
     W: Sink + Drop + Send,
->(rt: &H, words: &[String], reader: S, writer: W) -> ProgramEnd<Connection<S, W, FileLog<H::File>>>
+>(
+    rt: &H,
+    words: &[String],
+    reader: S,
+    writer: W,
+) -> ProgramEnd<Connection<S, W, FileLog<H::File>>, Devices<W, FileLog<H::File>>>
 where
     H::File: LockLog + Send,
     ensures { IsProgramEnd (S.remaining reader) (W.contents writer)
         (option_map (⟦<Connection<S, W, FileLog<H::File>> as Dialogue>⟧.view) result.connection)
+        (option_map (⟦<Devices<W, FileLog<H::File>> as Outlet>⟧.view) result.devices)
         (exit_status result.status) }
 {
     let ProgramRun {
         outcome,
         connection,
+        devices,
     } = run_words(rt, words, reader, writer);
     ProgramEnd {
         status: report_run(rt, outcome),
         connection,
+        devices,
     }
 }
 
@@ -95,22 +111,26 @@ pub fn run_words<
     T: AsStr,
     S: Source + Drop,
     W: Sink + Drop + Send,
->(rt: &H, words: &[T], reader: S, writer: W) -> ProgramRun<Connection<S, W, FileLog<H::File>>>
+>(
+    rt: &H,
+    words: &[T],
+    reader: S,
+    writer: W,
+) -> ProgramRun<Connection<S, W, FileLog<H::File>>, Devices<W, FileLog<H::File>>>
 where
     H::File: LockLog + Send,
     ensures { IsProgramRun (S.remaining reader) (W.contents writer)
         (option_map (⟦<Connection<S, W, FileLog<H::File>> as Dialogue>⟧.view) result.connection)
+        (option_map (⟦<Devices<W, FileLog<H::File>> as Outlet>⟧.view) result.devices)
         result.outcome }
 {
     match read_options(rt.alloc(), words) {
-        Ok(line) if line.workers > 0 => ProgramRun {
-            outcome: Ok(run_threads(rt, &line, reader, writer)),
-            connection: None,
-        },
+        Ok(line) if line.workers > 0 => with_workers(rt, &line, reader, writer),
         Ok(line) => run_alone(rt, &line, reader, writer),
         Err(error) => ProgramRun {
             outcome: refusal_of(error),
             connection: Some(Connection::new(reader, writer)),
+            devices: None,
         },
     }
 }
@@ -131,11 +151,12 @@ fn run_alone<H: Files + Wait + AllocGlobal, S: Source + Drop, W: Sink + Drop>(
     line: &CommandLine<'_>,
     reader: S,
     writer: W,
-) -> ProgramRun<Connection<S, W, FileLog<H::File>>>
+) -> ProgramRun<Connection<S, W, FileLog<H::File>>, Devices<W, FileLog<H::File>>>
 where
     H::File: LockLog + Send,
     ensures { IsProgramRun (S.remaining reader) (W.contents writer)
         (option_map (⟦<Connection<S, W, FileLog<H::File>> as Dialogue>⟧.view) result.connection)
+        (option_map (⟦<Devices<W, FileLog<H::File>> as Outlet>⟧.view) result.devices)
         result.outcome }
 {
     let mut connection = Connection::new(reader, writer);
@@ -143,6 +164,33 @@ where
     ProgramRun {
         outcome: Ok(outcome),
         connection: Some(connection),
+        devices: None,
+    }
+}
+
+/// Serves with workers as the command line says.
+fn with_workers<
+    H: Files + Threads + Wait + Clock + AllocGlobal + Sync,
+    S: Source + Drop,
+    W: Sink + Drop + Send,
+>(
+    rt: &H,
+    line: &CommandLine<'_>,
+    reader: S,
+    writer: W,
+) -> ProgramRun<Connection<S, W, FileLog<H::File>>, Devices<W, FileLog<H::File>>>
+where
+    H::File: LockLog + Send,
+    ensures { IsProgramRun (S.remaining reader) (W.contents writer)
+        (option_map (⟦<Connection<S, W, FileLog<H::File>> as Dialogue>⟧.view) result.connection)
+        (option_map (⟦<Devices<W, FileLog<H::File>> as Outlet>⟧.view) result.devices)
+        result.outcome }
+{
+    let RunEnd { outcome, devices } = run_threads(rt, line, reader, writer);
+    ProgramRun {
+        outcome: Ok(outcome),
+        connection: None,
+        devices,
     }
 }
 

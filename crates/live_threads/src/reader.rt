@@ -33,7 +33,7 @@ pub(crate) fn read_lines<S: Source + Drop, R: Wait + AllocGlobal>(
     lines: Producer<Vec<u8>>,
     reader: S,
 ) -> ReaderEnd
-    ensures { PutsLines lines.entry result.lines
+    ensures { PutsLines lines result.lines
         (λ fed. AreAllLines (S.remaining reader) result.end fed) }
 {
     let mut lines = lines;
@@ -129,15 +129,10 @@ fn push_line(batch: &mut Vec<u8>, line: &[u8]) -> Result<(), AllocError>
 }
 
 /// Puts lines into the ring. Waits for room. Returns whether the service goes on.
-fn hand_over<R: Wait>(
-    rt: &R,
-    crew: &Crew,
-    lines: &mut Producer<Vec<u8>>,
-    batch: Vec<u8>,
-) -> bool
+fn hand_over<R: Wait>(rt: &R, crew: &Crew, lines: &mut Producer<Vec<u8>>, batch: Vec<u8>) -> bool
     ensures ring { SameProducer lines.old lines.new }
-    ensures put { MatchBool result (sent lines.new ≡ sent lines.old ++ batch.entry ∷ [])
-        ((sent lines.new ≡ sent lines.old ++ batch.entry ∷ [])
+    ensures put { MatchBool result (sent lines.new ≡ sent lines.old ++ batch ∷ [])
+        ((sent lines.new ≡ sent lines.old ++ batch ∷ [])
         ⊎ (sent lines.new ≡ sent lines.old)) }
 {
     let mut batch = batch;

@@ -1,4 +1,7 @@
 //! The lines of a log, served again, while workers make its steps.
+ghost use Rattle.std.specs.Prelude.{◌≢◌, IfErr, OnOk};
+ghost use Rattle.live_input.specs.Serving.{is_ready};
+
 use crate::crew::Crew;
 use crate::letters::{Order, StepLetter, StepOrder};
 use crate::logged::LoggedLine;
@@ -11,6 +14,7 @@ use live_input::LiveLines;
 use live_lines::asked_of;
 use live_run::Outcome;
 use std::alloc::{AllocError, AllocGlobal};
+use std::mem;
 use std::sync::Wait;
 
 /// What a log leads to, beside the live service.
@@ -44,7 +48,11 @@ pub(crate) fn replay<P: Source + Drop, R: Wait + AllocGlobal>(
     crew: &Crew,
     lines: &mut LiveLines<'_>,
     past: P,
-) -> Result<Resumed, Outcome> {
+) -> Result<Resumed, Outcome>
+    requires { is_ready lines.old }
+    ensures ready { OnOk result (is_ready lines.new) }
+    ensures none { IfErr result (λ outcome. outcome ≢ Outcome.Done) }
+{
     let mut replayed = Replayed {
         rt,
         crew,
@@ -83,7 +91,11 @@ impl<'g, R: Wait + AllocGlobal> Replayed<'_, 'g, R> {
         &mut self,
         feed: &mut LineFeed,
         source: &mut Replay<P>,
-    ) -> Result<(), Outcome> {
+    ) -> Result<(), Outcome>
+        requires { is_ready self.old.lines.now }
+        ensures ready { OnOk result (is_ready self.new.lines.now) }
+        ensures none { IfErr result (λ outcome. outcome ≢ Outcome.Done) }
+    {
         for _ in self.rt.forever() {
             if feed.take_piece() {
                 self.serve(feed.line())?;
@@ -101,13 +113,15 @@ impl<'g, R: Wait + AllocGlobal> Replayed<'_, 'g, R> {
     }
 
     /// Serves what the log has of a last line, and takes all jobs home.
-    fn end_log(&mut self, line: &[u8]) -> Result<(), Outcome> {
+    fn end_log(&mut self, line: &[u8]) -> Result<(), Outcome>
+        requires { is_ready self.old.lines.now }
+        ensures ready { OnOk result (is_ready self.new.lines.now) }
+        ensures none { IfErr result (λ outcome. outcome ≢ Outcome.Done) }
+    {
         if !line.is_empty() {
             self.serve(line)?;
         }
-        while !self.out.is_empty() {
-            self.take_home();
-        }
+        self.await_jobs();
         match self.put_held() {
             Ok(()) => Ok(()),
             Err(_) => Err(Outcome::NoMemory),
@@ -115,7 +129,11 @@ impl<'g, R: Wait + AllocGlobal> Replayed<'_, 'g, R> {
     }
 
     /// Serves a line.
-    fn serve(&mut self, line: &[u8]) -> Result<(), Outcome> {
+    fn serve(&mut self, line: &[u8]) -> Result<(), Outcome>
+        requires { is_ready self.old.lines.now }
+        ensures ready { OnOk result (is_ready self.new.lines.now) }
+        ensures none { IfErr result (λ outcome. outcome ≢ Outcome.Done) }
+    {
         if self.resumed.next == u64::MAX {
             return Err(Outcome::TooManyLines);
         }
@@ -126,13 +144,13 @@ impl<'g, R: Wait + AllocGlobal> Replayed<'_, 'g, R> {
     }
 
     /// Answers a line, after the job that it may need has come home.
-    fn answer(&mut self, line: &[u8]) -> Result<(), AllocError> {
+    fn answer(&mut self, line: &[u8]) -> Result<(), AllocError>
+        requires { is_ready self.old.lines.now }
+        ensures { OnOk result (is_ready self.new.lines.now) }
+    {
         let logged = LoggedLine::of(asked_of(self.rt.alloc(), line)?);
         if let Some(name) = logged.needs_job_of() {
-            let id = self.lines.live().names().last_id(name);
-            while self.out.contains(&id) {
-                self.take_home();
-            }
+            self.await_job(self.lines.live().names().last_id(name));
         }
         let reply = self.lines.answer(self.resumed.next, line)?;
         let is_taken = reply.starts_with(b"op ok job ");
@@ -162,20 +180,39 @@ impl<'g, R: Wait + AllocGlobal> Replayed<'_, 'g, R> {
     }
 
     /// Puts the jobs that the operator holds.
-    fn put_held(&mut self) -> Result<(), AllocError> {
-        while let Some(number) = self.held.pop() {
-            let mut line = Vec::from_slice(self.rt.alloc(), b"op put ")?;
-            line.extend_from_slice(Buffer::new().format(number).as_bytes())?;
-            drop(self.lines.answer(self.resumed.next, line.as_slice())?);
-            self.resumed.next += 1;
-            line.push(b'\n')?;
-            self.resumed.more.extend_from_slice(line.as_slice())?;
+    fn put_held(&mut self) -> Result<(), AllocError>
+        requires { is_ready self.old.lines.now }
+        ensures { OnOk result (is_ready self.new.lines.now) }
+    {
+        let held = mem::replace(&mut self.held, Vec::new(self.rt.alloc()));
+        for number in held {
+            self.put_job(number)?;
         }
         Ok(())
     }
 
+    /// Puts the job of that number, by a line that is to be kept.
+    fn put_job(&mut self, number: u32) -> Result<(), AllocError>
+        requires { is_ready self.old.lines.now }
+        ensures { OnOk result (is_ready self.new.lines.now) }
+    {
+        if self.resumed.next == u64::MAX {
+            return Err(AllocError);
+        }
+        let mut line = Vec::from_slice(self.rt.alloc(), b"op put ")?;
+        line.extend_from_slice(Buffer::new().format(number).as_bytes())?;
+        drop(self.lines.answer(self.resumed.next, line.as_slice())?);
+        self.resumed.next += 1;
+        line.push(b'\n')?;
+        self.resumed.more.extend_from_slice(line.as_slice())?;
+        Ok(())
+    }
+
     /// Has a worker make the next step of that name's job, if there is one to make.
-    fn order_step(&mut self, name: &[u8]) -> Result<(), AllocError> {
+    fn order_step(&mut self, name: &[u8]) -> Result<(), AllocError>
+        requires { is_ready self.old.lines.now }
+        ensures { OnOk result (is_ready self.new.lines.now) }
+    {
         let id = self.lines.live().names().last_id(name);
         let Some(job) = self.lines.take_job(id) else {
             return Ok(());
@@ -186,15 +223,49 @@ impl<'g, R: Wait + AllocGlobal> Replayed<'_, 'g, R> {
         self.crew.order(self.rt, Order::Make(order))
     }
 
-    /// Takes the jobs home whose steps were made. Waits for one if there is none.
-    fn take_home(&mut self) {
-        for letter in self.crew.mailbox.take_steps(self.rt) {
+    /// Waits until that tenancy's job is home.
+    fn await_job(&mut self, id: u32)
+        requires { is_ready self.old.lines.now }
+        ensures { is_ready self.new.lines.now }
+    {
+        for _ in self.rt.forever() {
+            if !self.out.contains(&id) {
+                return;
+            }
+            self.take_home(self.crew.mailbox.take_steps(self.rt));
+        }
+        unreachable!()
+    }
+
+    /// Waits until all jobs are home.
+    fn await_jobs(&mut self)
+        requires { is_ready self.old.lines.now }
+        ensures { is_ready self.new.lines.now }
+    {
+        for _ in self.rt.forever() {
+            if self.out.is_empty() {
+                return;
+            }
+            self.take_home(self.crew.mailbox.take_steps(self.rt));
+        }
+        unreachable!()
+    }
+
+    /// Takes the jobs home whose steps were made.
+    fn take_home(&mut self, letters: Vec<StepLetter>)
+        requires { is_ready self.old.lines.now }
+        ensures { is_ready self.new.lines.now }
+    {
+        for letter in letters {
             self.give_back(letter);
         }
     }
 
     /// Gives a job back.
-    fn give_back(&mut self, letter: StepLetter) {
+    fn give_back(&mut self, letter: StepLetter)
+        requires { is_ready self.old.lines.now }
+        ensures { is_ready self.new.lines.now }
+    {
         let back = match letter {
             StepLetter::Made(made) => made.into_done().into_back(),
             StepLetter::NoMemory(job) => job.into_back(),

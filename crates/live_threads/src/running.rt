@@ -1,9 +1,14 @@
 //! A service with workers, from its log to its end.
+ghost use Rattle.std.specs.Prelude.{◌≡◌, [], None, is_some, option_map};
+ghost use Rattle.rtrb.specs.Ring.{IsPair, received, sent};
+ghost use Rattle.live_threads.specs.Outlet.{view_of};
+ghost use Rattle.live_threads.specs.Ends.{RunsOpened};
+
 use crate::crew::{Crew, Site};
+use crate::letters::InputEnd;
 use crate::opened::{Opened, ServerEnd, ServesOpened, serve_opened};
 use crate::outlet::{Devices, Outlet};
 use crate::reader::{ReaderEnd, read_lines};
-use crate::letters::InputEnd;
 use crate::serving::MOST_AHEAD;
 use crate::worker::run_worker;
 use dialogue::{FailedDevice, Log};
@@ -33,13 +38,12 @@ pub(crate) fn serve_with_workers<
     S: Source + Drop,
     W: Sink + Drop + Send,
     L: Log + Drop + Send,
->(
-    rt: &H,
-    workers: u32,
-    graph: &DeviceGraph,
-    opened: Opened<P, W, L>,
-    reader: S,
-) -> RunEnd<W, L> {
+>(rt: &H, workers: u32, graph: &DeviceGraph, opened: Opened<P, W, L>, reader: S) -> RunEnd<W, L>
+    requires { opened.service.histories ≡ [] }
+    ensures { RunsOpened (is_some opened.past) opened.service graph.now
+        (view_of W.contents W.has_failed L.kept L.has_failed opened.devices) (S.remaining reader)
+        (option_map (view_of W.contents W.has_failed L.kept L.has_failed) result.devices) result.outcome }
+{
     let crew = Crew::new(rt.alloc());
     let site = Site {
         rt,
@@ -53,18 +57,23 @@ pub(crate) fn serve_with_workers<
         }
         Err(_) => {
             drop((opened, reader));
-            not_begun()
+            RunEnd::not_begun(Outcome::NoMemory)
         }
     };
     drop(crew);
     end
 }
 
-/// The end of a service that did not begin.
-fn not_begun<W: Sink + Drop, L: Log + Drop>() -> RunEnd<W, L> {
-    RunEnd {
-        outcome: Outcome::NoMemory,
-        devices: None,
+impl<W: Sink + Drop, L: Log + Drop> RunEnd<W, L> {
+    /// The end of a service that did not begin.
+    pub(crate) fn not_begun(outcome: Outcome) -> Self
+        ensures outcome { result.outcome ≡ outcome }
+        ensures devices { result.devices ≡ None }
+    {
+        RunEnd {
+            outcome,
+            devices: None,
+        }
     }
 }
 
@@ -89,10 +98,30 @@ fn run_threads<
     opened: Opened<P, W, L>,
     lines: Consumer<Vec<u8>>,
     input: Input<S>,
-) -> RunEnd<W, L> {
-    thread::scope(thread::scope_env(), site.rt, move |scope| -> RunEnd<W, L> {
-        run_in(scope, site, workers, opened, lines, input)
-    })
+) -> RunEnd<W, L>
+    requires histories { opened.service.histories ≡ [] }
+    requires pair { IsPair input.producer lines }
+    requires sent { sent input.producer ≡ [] }
+    requires received { received lines ≡ [] }
+    ensures { RunsOpened (is_some opened.past) opened.service site.entry.graph.now
+        (view_of W.contents W.has_failed L.kept L.has_failed opened.devices) (S.remaining input.reader)
+        (option_map (view_of W.contents W.has_failed L.kept L.has_failed) result.devices) result.outcome }
+{
+    thread::scope(
+        thread::scope_env(),
+        site.rt,
+        move |scope| -> RunEnd<W, L>
+            requires histories { opened.service.histories ≡ [] }
+            requires pair { IsPair input.producer lines }
+            requires sent { sent input.producer ≡ [] }
+            requires received { received lines ≡ [] }
+            ensures { RunsOpened (is_some opened.past) opened.service
+                site.entry.graph.now
+                (view_of W.contents W.has_failed L.kept L.has_failed opened.devices)
+                (S.remaining input.reader)
+                (option_map (view_of W.contents W.has_failed L.kept L.has_failed) result.devices) result.outcome }
+        { run_in(scope, site, workers, opened, lines, input) },
+    )
 }
 
 /// Starts the threads, reads the input, and waits until the service is over.
@@ -111,11 +140,19 @@ fn run_in<
     opened: Opened<P, W, L>,
     lines: Consumer<Vec<u8>>,
     input: Input<S>,
-) -> RunEnd<W, L> {
+) -> RunEnd<W, L>
+    requires histories { opened.service.histories ≡ [] }
+    requires pair { IsPair input.producer lines }
+    requires sent { sent input.producer ≡ [] }
+    requires received { received lines ≡ [] }
+    ensures { RunsOpened (is_some opened.past) opened.service site.entry.graph.now
+        (view_of W.contents W.has_failed L.kept L.has_failed opened.devices) (S.remaining input.reader)
+        (option_map (view_of W.contents W.has_failed L.kept L.has_failed) result.devices) result.outcome }
+{
     if !start_workers(scope, site, workers) {
         drop((opened, lines, input));
         site.crew.close(site.rt);
-        return not_begun();
+        return RunEnd::not_begun(Outcome::NoMemory);
     }
     let promise = ServesOpened::of(&opened, &lines, site.graph);
     match scope.spawn_with(promise, move || serve_opened(site, opened, lines)) {
@@ -127,7 +164,7 @@ fn run_in<
         Err(error) => {
             drop((error, input));
             site.crew.close(site.rt);
-            not_begun()
+            RunEnd::not_begun(Outcome::NoMemory)
         }
     }
 }

@@ -195,7 +195,10 @@ fn serve_batch<O: Outlet>(
 fn cut_line(line: &[u8]) -> &[u8]
     ensures { result.now ≡ kept_of line.now }
 {
-    &line[..line.len().min(MAX_FED_LINE)]
+    if line.len() <= MAX_FED_LINE {
+        return line;
+    }
+    &line[..MAX_FED_LINE]
 }
 
 /// Keeps what is to be kept, and then tells what is to be told.

@@ -40,21 +40,47 @@ fn put_step<R: Wait>(
     ensures served { OnOk result ((view : View) →
         IsServed (machine_of machine.old) view [] (machine_of machine.new) view) }
 {
-    let (id, end) = match letter {
-        StepLetter::Made(made) => {
-            let done = made.into_done();
-            (done.id(), machine.put(done)?)
-        }
-        StepLetter::NoMemory(job) => {
-            let back = job.into_back();
-            (back.id(), machine.give_back(back)?)
-        }
-        StepLetter::Paused(id) => return Ok(machine.retry(id)?),
-    };
-    if let StepEnd::Again(tries) = end {
+    if let Some((id, tries)) = put_letter(machine, letter)? {
         crew.order(rt, Order::Pause(id, tries))?;
     }
     Ok(())
+}
+
+/// Puts what a worker did. Returns the tenancy for whose step memory ran out, and how many times in
+/// a row.
+fn put_letter(
+    machine: &mut Machine<'_>,
+    letter: StepLetter,
+) -> Result<Option<(u32, u32)>, Fault>
+    requires ready { IsReady machine.old }
+    ensures ready { OnOk result (IsReady machine.new) }
+    ensures served { OnOk result ((view : View) →
+        IsServed (machine_of machine.old) view [] (machine_of machine.new) view) }
+{
+    match letter {
+        StepLetter::Made(made) => {
+            let done = made.into_done();
+            let id = done.id();
+            Ok(lack_of(id, machine.put(done)?))
+        }
+        StepLetter::NoMemory(job) => {
+            let back = job.into_back();
+            let id = back.id();
+            Ok(lack_of(id, machine.give_back(back)?))
+        }
+        StepLetter::Paused(id) => {
+            machine.retry(id)?;
+            Ok(None)
+        }
+    }
+}
+
+/// The tenancy for whose step memory ran out, and how many times in a row, if it did.
+fn lack_of(id: u32, end: StepEnd) -> Option<(u32, u32)> {
+    match end {
+        StepEnd::Again(tries) => Some((id, tries)),
+        StepEnd::Made | StepEnd::Dropped | StepEnd::GivenUp => None,
+    }
 }
 
 /// Has workers make the steps that can be made.
@@ -79,7 +105,7 @@ pub(crate) fn give_orders<R: Wait>(
         };
         let offset = machine.lines().live().service().offset(job.id());
         waiting.put(Order::Make(StepOrder::new(job, offset)))?;
-        given += 1;
+        given = given.saturating_add(1);
     }
     drop(waiting);
     crew.orders.wake(given);

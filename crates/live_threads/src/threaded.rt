@@ -1,9 +1,10 @@
 //! The program with workers.
-ghost use Rattle.std.specs.Prelude.{IfOk};
+ghost use Rattle.std.specs.Prelude.{◌≡◌, ◌≢◌, IfErr, IfOk, is_some, option_map};
 ghost use Rattle.service_core.specs.Kept.{IsDevice};
+ghost use Rattle.live_threads.specs.Endings.{IsDeviceOf, RunsOver, RunsThreaded};
 
-use crate::outlet::Devices;
 use crate::opened::Opened;
+use crate::outlet::{Devices, Outlet};
 use crate::running::{RunEnd, serve_with_workers};
 use arch_file::{ArchError, read_arch};
 use dialogue::FileLog;
@@ -31,52 +32,75 @@ pub(crate) fn run_threads<
     H: Files + Threads + Wait + Clock + AllocGlobal + Sync,
     S: Source + Drop,
     W: Sink + Drop + Send,
->(rt: &H, line: &CommandLine<'_>, reader: S, writer: W) -> Outcome
+>(rt: &H, line: &CommandLine<'_>, reader: S, writer: W) -> RunEnd<W, FileLog<H::File>>
 where
     H::File: LockLog + Send,
+    ensures { RunsThreaded line.now (S.remaining reader) (W.contents writer)
+        (option_map (⟦<Devices<W, FileLog<H::File>> as Outlet>⟧.view) result.devices)
+        result.outcome }
 {
-    match read_device(rt, line) {
-        Ok((architecture, device)) => {
-            let outcome = match open_streams(rt, line, architecture.as_slice(), writer) {
-                Ok(streams) => run_device(rt, line, device, streams, reader),
-                Err(outcome) => {
-                    drop((device, reader));
-                    outcome
-                }
-            };
+    match read_architecture(rt, line.arch) {
+        Ok(architecture) => {
+            let end = run_over(rt, line, architecture.as_slice(), reader, writer);
             drop(architecture);
-            outcome
+            end
         }
-        Err(outcome) => {
+        Err(error) => {
             drop((reader, writer));
-            outcome
+            RunEnd::not_begun(unread_architecture(error))
         }
     }
 }
 
-/// The text of a command line's architecture, and its device.
-fn read_device<H: Files + AllocGlobal>(
+/// How a service ends whose architecture can't be read.
+fn unread_architecture(error: ReadError) -> Outcome
+    ensures { result ≢ Outcome.Done }
+{
+    match error {
+        ReadError::Failed => Outcome::ArchUnreadable,
+        ReadError::NoMemory => Outcome::NoMemory,
+    }
+}
+
+/// Serves over that architecture, with a log if the command line names one.
+fn run_over<
+    H: Files + Threads + Wait + Clock + AllocGlobal + Sync,
+    S: Source + Drop,
+    W: Sink + Drop + Send,
+>(
     rt: &H,
     line: &CommandLine<'_>,
-) -> Result<(Vec<u8>, Device), Outcome>
-    ensures { IfOk result (λ r. IsDevice r.1) }
+    architecture: &[u8],
+    reader: S,
+    writer: W,
+) -> RunEnd<W, FileLog<H::File>>
+where
+    H::File: LockLog + Send,
+    ensures { RunsThreaded line.now (S.remaining reader) (W.contents writer)
+        (option_map (⟦<Devices<W, FileLog<H::File>> as Outlet>⟧.view) result.devices)
+        result.outcome }
 {
-    match read_architecture(rt, line.arch) {
-        Ok(architecture) => match device_of(rt.alloc(), line, architecture.as_slice()) {
-            Ok(device) => Ok((architecture, device)),
-            Err(outcome) => {
-                drop(architecture);
-                Err(outcome)
-            }
-        },
-        Err(ReadError::Failed) => Err(Outcome::ArchUnreadable),
-        Err(ReadError::NoMemory) => Err(Outcome::NoMemory),
+    let device = match device_of(rt.alloc(), line, architecture) {
+        Ok(device) => device,
+        Err(outcome) => {
+            drop((reader, writer));
+            return RunEnd::not_begun(outcome);
+        }
+    };
+    match open_streams(rt, line, architecture, writer) {
+        Ok(streams) => run_device(rt, line, device, streams, reader),
+        Err(outcome) => {
+            drop((device, reader));
+            RunEnd::not_begun(outcome)
+        }
     }
 }
 
 /// The device of a command line over that architecture.
 fn device_of(alloc: Global, line: &CommandLine<'_>, architecture: &[u8]) -> Result<Device, Outcome>
-    ensures { IfOk result IsDevice }
+    ensures device { IfOk result (λ device. IsDevice device
+        × IsDeviceOf line.now.options architecture.now device) }
+    ensures none { IfErr result (λ outcome. outcome ≢ Outcome.Done) }
 {
     match read_arch(alloc, architecture, line.options.tracks) {
         Ok(arch) => Ok(line.options.device(arch)),
@@ -94,6 +118,12 @@ fn open_streams<H: Files + AllocGlobal, W: Sink + Drop>(
 ) -> Result<Streams<H::File, W>, Outcome>
 where
     H::File: LockLog,
+    ensures past { IfOk result (λ s. is_some s.past ≡ is_some line.now.log) }
+    ensures log { IfOk result (λ s. (⟦<Devices<W, FileLog<H::File>> as Outlet>⟧.view
+        s.devices).has_log ≡ is_some line.now.log) }
+    ensures output { IfOk result (λ s. (⟦<Devices<W, FileLog<H::File>> as Outlet>⟧.view
+        s.devices).output ≡ W.contents writer) }
+    ensures none { IfErr result (λ outcome. outcome ≢ Outcome.Done) }
 {
     let Some(path) = line.log else {
         return Ok(Streams {
@@ -127,16 +157,20 @@ fn run_device<
     device: Device,
     streams: Streams<H::File, W>,
     reader: S,
-) -> Outcome
+) -> RunEnd<W, FileLog<H::File>>
 where
     H::File: LockLog + Send,
     requires { IsDevice device }
+    ensures { RunsOver (is_some streams.past) device
+        (⟦<Devices<W, FileLog<H::File>> as Outlet>⟧.view streams.devices) (S.remaining reader)
+        (option_map (⟦<Devices<W, FileLog<H::File>> as Outlet>⟧.view) result.devices)
+        result.outcome }
 {
-    let Ok(graph) = device_graph(rt.alloc(), &device) else {
-        drop((device, streams, reader));
-        return Outcome::NoMemory;
-    };
     let Streams { past, devices } = streams;
+    let Ok(graph) = device_graph(rt.alloc(), &device) else {
+        drop((device, past, devices, reader));
+        return RunEnd::not_begun(Outcome::NoMemory);
+    };
     match Service::with_text_limit(rt.alloc(), device, line.options.text_limit()) {
         Ok(service) => {
             let opened = Opened {
@@ -144,14 +178,11 @@ where
                 past,
                 devices,
             };
-            let RunEnd { outcome, devices } =
-                serve_with_workers(rt, line.workers, &graph, opened, reader);
-            drop(devices);
-            outcome
+            serve_with_workers(rt, line.workers, &graph, opened, reader)
         }
         Err(_) => {
             drop((past, devices, reader));
-            Outcome::NoMemory
+            RunEnd::not_begun(Outcome::NoMemory)
         }
     }
 }

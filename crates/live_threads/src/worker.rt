@@ -57,7 +57,7 @@ fn put_letter<R: Wait + Clock>(rt: &R, crew: &Crew, letter: StepLetter) {
             Err(back) => letter = back,
         }
         pause(rt, tries);
-        tries = 16.min(tries + 1);
+        tries = tries.saturating_add(1);
     }
     unreachable!()
 }
