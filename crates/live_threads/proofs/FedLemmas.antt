@@ -15,13 +15,18 @@ use Rattle.line_service.proofs.LineLemmas.{both_lines, last_line, lines_push, li
 use Rattle.line_service.proofs.TalkLemmas.{split_line, whole_lines}
 use Rattle.live_input.specs.Serving.{kept_lines}
 use Rattle.live_machine.specs.Machine.{IsLine}
-use Rattle.live_threads.specs.Fed.{Fed}
+use Rattle.std.specs.Prelude.{Result, Ok, Err, is_err}
+use Rattle.dialogue.specs.History.{View}
+use Rattle.dialogue.specs.declared.dialogue.FailedDevice.{FailedDevice}
+use Rattle.line_feed.specs.Feed.{ReadsAhead, Refills}
+use Rattle.live_threads.specs.declared.letters.InputEnd.{InputEnd}
+use Rattle.live_threads.specs.declared.letters.InputEnd.TheVariants.{Done, Failed, NoMemory}
+use Rattle.live_threads.specs.Fed.{AreAllLines, Fed, IsFed, PutsLast, TakesSome}
 
 -- what is kept of a cut line is the line
 pub kept_twice : (line : List ℕ) → kept_of (kept_of line) ≡ kept_of line
 unfolding kept_of
 kept_twice line = take-take 1048640 1048640 line (omega arith)
-
 
 known_all : (input left : Option (List ℕ)) (bytes : List ℕ) (P : List ℕ → Type 0) → Consumes input left bytes → IsAtEnd left → P bytes → IfSome input P
 known_all None left bytes P read end is = tt
@@ -114,7 +119,7 @@ pub fed_last : (input now : Option (List ℕ)) (ahead kept : List ℕ) (fed : Li
 fed_last input now ahead kept fed none some g end =
     let own : g.lines ++ g.begun ∷ [] ≡ physical_lines g.bytes = sym (ap physical_lines (all_bytes input now ahead kept fed none g) ∙ (lines_then g.lines g.begun g.are_lines ∙ ap (λ ls. g.lines ++ ls) (last_of g.begun kept g.line some g.is_begun))) in
     known_all input now g.bytes (λ bytes. fed ++ kept ∷ [] ≡ kept_lines bytes) g.consumes end
-        (ap (λ l. l ++ kept ∷ []) g.fed_is ∙ (ap (λ l. map kept_of g.lines ++ l ∷ []) g.line ∙ (sym (map-append kept_of g.lines (g.begun ∷ [])) ∙ ap (map kept_of) own)))
+    (ap (λ l. l ++ kept ∷ []) g.fed_is ∙ (ap (λ l. map kept_of g.lines ++ l ∷ []) g.line ∙ (sym (map-append kept_of g.lines (g.begun ∷ [])) ∙ ap (map kept_of) own)))
 
 one_take : (n : ℕ) (line : List ℕ) → is_one_line line ≡ true → is_one_line (take n line) ≡ true
 one_take zero line one = refl
@@ -145,3 +150,54 @@ all_one (line ∷ lines) (one, all) = and_from _ _ one.one (all_one lines all)
 pub batch_lines : (lines : List (List ℕ)) → AllByRecursion IsLine lines → kept_lines (flat_map with_feed lines) ≡ lines
 batch_lines lines all =
     ap (λ t. kept_lines t) (sym (append-nil (flat_map with_feed lines))) ∙ (ap (map kept_of) (lines_then lines [] (all_one lines all) ∙ append-nil lines) ∙ same_lines lines all)
+
+-- a line is taken from what is ahead
+pub fed_more : (ahead kept rest after cleared : List ℕ) → IsFed ahead kept → TakesPiece ahead kept true rest after → IsKept cleared [] → IsFed rest cleared
+fed_more ahead kept rest after cleared (input, now, fed, g) p none = (input, now, fed ++ after ∷ [], fed_line input now ahead kept rest after cleared fed g p none)
+
+piece_is_line : (ahead kept rest after : List ℕ) → IsFed ahead kept → TakesPiece ahead kept true rest after → IsLine after
+piece_is_line ahead kept rest after (input, now, fed, g) p = cut_is_line (g.begun ++ p.piece) after (p.kept g.begun g.line) (both_lines g.begun p.piece g.is_begun p.one)
+
+all_push : (lines : List (List ℕ)) (line : List ℕ) → AllByRecursion IsLine lines → IsLine line → AllByRecursion IsLine (lines ++ line ∷ [])
+all_push [] line all one = (one, tt)
+all_push (l ∷ lines) line (first, all) one = (first, all_push lines line all one)
+
+pub some_more : (batch a0 k0 ahead kept rest after cleared : List ℕ) → IsFed ahead kept → TakesSome batch a0 k0 ahead kept → TakesPiece ahead kept true rest after → IsKept cleared [] → TakesSome (batch ++ with_feed after) a0 k0 rest cleared
+some_more batch a0 k0 ahead kept rest after cleared is s p none = record {
+  lines = s.lines ++ after ∷ [];
+  batch_is = ap (λ b. b ++ with_feed after) s.batch_is ∙ (ap (λ l. flat_map with_feed s.lines ++ l) (sym (append-nil (with_feed after))) ∙ sym (flat_map-append with_feed s.lines (after ∷ [])));
+  all = all_push s.lines after s.all (piece_is_line ahead kept rest after is p);
+  fed = λ input now fed g.
+      let P : List (List ℕ) → Type 0 = λ l. Fed input now rest cleared l in
+      subst P (append_assoc fed s.lines (after ∷ [])) (fed_line input now ahead kept rest after cleared (fed ++ s.lines) (s.fed input now fed g) p none);
+}
+
+pub some_none : (ahead kept : List ℕ) → TakesSome [] ahead kept ahead kept
+some_none ahead kept = record { lines = []; batch_is = refl; all = tt; fed = λ input now fed g. let P : List (List ℕ) → Type 0 = λ l. Fed input now ahead kept l in subst P (sym (append-nil fed)) g }
+
+-- what was taken is put together
+pub some_fed : (batch a0 k0 ahead kept rest after : List ℕ) → TakesSome batch a0 k0 ahead kept → TakesPiece ahead kept false rest after → (input now : Option (List ℕ)) (fed : List (List ℕ)) → Fed input now a0 k0 fed → Fed input now rest after (fed ++ kept_lines batch)
+some_fed batch a0 k0 ahead kept rest after s p input now fed g =
+    let P : List (List ℕ) → Type 0 = λ l. Fed input now rest after (fed ++ l) in
+    subst P (sym (ap kept_lines s.batch_is ∙ batch_lines s.lines s.all)) (fed_piece input now ahead kept rest after (fed ++ s.lines) (s.fed input now fed g) p)
+
+-- a read that was made
+pub read_ok : (old new : View) (ahead : List ℕ) (result : Result (Unit {0}) FailedDevice) → false ≡ is_err result → Refills old new ahead result → ReadsAhead old new ahead
+read_ok old new ahead (Ok u) ok reads = reads
+read_ok old new ahead (Err fault) ok reads = absurd (cc)
+
+last_line_of : (kept begun : List ℕ) → IsKept kept begun → is_one_line begun ≡ true → kept_lines (with_feed kept) ≡ kept ∷ []
+last_line_of kept begun is one =
+    ap kept_lines (sym (append-nil (with_feed kept))) ∙ batch_lines (kept ∷ []) (cut_is_line begun kept is one, tt)
+
+-- at the input's end
+pub last_fed : (input now : Option (List ℕ)) (ahead kept : List ℕ) (fed more : List (List ℕ)) (end : Option InputEnd) → ahead ≡ [] → IsAtEnd now → Fed input now ahead kept fed → PutsLast kept end more → AreAllLines input end (fed ++ more)
+last_fed input now ahead kept fed more None none at g put = tt
+last_fed input now ahead kept fed more (Some Failed) none at g put = tt
+last_fed input now ahead kept fed more (Some NoMemory) none at g put = tt
+last_fed input now ahead [] fed more (Some Done) none at g put =
+    let P : List (List ℕ) → Type 0 = λ l. IfSome input (λ bytes. l ≡ kept_lines bytes) in
+    subst P (sym (ap (λ m. fed ++ m) put ∙ append-nil fed)) (fed_whole input now ahead [] fed none refl g at)
+last_fed input now ahead (x ∷ kept) fed more (Some Done) none at g put =
+    let P : List (List ℕ) → Type 0 = λ l. IfSome input (λ bytes. l ≡ kept_lines bytes) in
+    subst P (sym (ap (λ m. fed ++ m) (put ∙ last_line_of (x ∷ kept) g.begun g.line g.is_begun))) (fed_last input now ahead (x ∷ kept) fed none (omega arith) g at)

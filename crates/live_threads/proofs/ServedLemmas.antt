@@ -1,5 +1,6 @@
 -- What was served, one after another.
 use Rattle.std.proofs.Common.{◌≡◌, ℕ, List, [], ◌∷◌, ◌++◌, ◌⊎◌, inl, inr, Option, Some, None, refl, sym, ap, subst, ◌∙◌, append-nil, append_assoc, take}
+use Rattle.std.specs.Prelude.{OnErr, OnOk, Result, Ok, Err}
 use Rattle.std.specs.List.{flat_map}
 use Rattle.std.specs.Io.KnownBytes.{Appends}
 use Rattle.std.proofs.KnownBytes.{Appends-nil, Appends-trans}
@@ -10,7 +11,7 @@ use Rattle.dialogue.specs.declared.dialogue.FailedDevice.{FailedDevice}
 use Rattle.live_machine.specs.Account.{line_in, lines_in}
 use Rattle.live_machine.specs.Machine.{Call, Happens as HappensTo, MachineState, Run}
 use Rattle.live_machine.specs.Machine.Call.{Drain, Line}
-use Rattle.live_threads.specs.Serving.{EndsIn, HasStopped, IsCut, IsPart, IsServed, events_in, events_of}
+use Rattle.live_threads.specs.Serving.{EndsIn, HasStopped, IsCut, IsPart, IsServed, ServesSome, events_in, events_of}
 
 follows_none : (a : Option (List Event)) → Follows a a []
 follows_none None = tt
@@ -153,3 +154,40 @@ stopped_here a b u v lines s = record {
 -- it stopped before anything was served
 pub stopped_at_once : (a : MachineState) (u : View) (lines : List (List ℕ)) → HasStopped a u lines u
 stopped_at_once a u lines = stopped_before a u u [] lines (stopped_here a a u u [] (served_none a u))
+
+-- what holds of an error
+pub on_err : {T E : Type 0} (result : Result T E) (P : Type 0) → P → OnErr result P
+on_err (Ok x) P p = tt
+on_err (Err e) P p = p
+
+-- what holds of a value
+pub on_ok : {T E : Type 0} (result : Result T E) (P : Type 0) → P → OnOk result P
+on_ok (Ok x) P p = p
+on_ok (Err e) P p = tt
+
+-- nothing more came
+pub served_more : (a b c : MachineState) (u v w : View) (lines : List (List ℕ)) → IsServed a u lines b v → IsServed b v [] c w → IsServed a u lines c w
+served_more a b c u v w lines first second = let P : List (List ℕ) → Type 0 = λ l. IsServed a u l c w in subst P (append-nil lines) (served_then a b c u v w lines [] first second)
+
+pub served_same : (a b c : MachineState) (u v : View) (lines : List (List ℕ)) → IsServed a u lines b v → c ≡ b → IsServed a u lines c v
+served_same a b c u v lines first same = let P : MachineState → Type 0 = λ m. IsServed a u lines m v in subst P (sym same) first
+
+pub stops_more : (a b : MachineState) (u v w : View) (lines : List (List ℕ)) → IsServed a u lines b v → HasStopped b v [] w → HasStopped a u lines w
+stops_more a b u v w lines first s = let P : List (List ℕ) → Type 0 = λ l. HasStopped a u l w in subst P (append-nil lines) (served_stops a b u v w lines [] first s)
+
+-- one more of some lines
+pub some_line : (all left rest : List (List ℕ)) (line : List ℕ) (a b c : MachineState) (u v : View) → ServesSome all left a u b v → left ≡ line ∷ rest → HappensTo b (Line line) c → ServesSome all rest a u c v
+some_line all left rest line a b c u v s is one = record {
+  lines = s.lines ++ line ∷ [];
+  cut = s.cut ∙ (ap (λ l. s.lines ++ l) is ∙ sym (append_assoc s.lines (line ∷ []) rest));
+  served = served_then a b c u v v s.lines (line ∷ []) s.served (served_line b c v line one);
+}
+
+pub some_more : (all left : List (List ℕ)) (a b c : MachineState) (u v w : View) → ServesSome all left a u b v → IsServed b v [] c w → ServesSome all left a u c w
+some_more all left a b c u v w s t = record { lines = s.lines; cut = s.cut; served = served_more a b c u v w s.lines s.served t }
+
+pub some_stopped : (all left : List (List ℕ)) (a b : MachineState) (u v : View) → ServesSome all left a u b v → HasStopped a u all v
+some_stopped all left a b u v s = let P : List (List ℕ) → Type 0 = λ l. HasStopped a u l v in subst P (sym s.cut) (stopped_before a u v s.lines left (stopped_here a b u v s.lines s.served))
+
+pub some_stops : (all left : List (List ℕ)) (a b : MachineState) (u v w : View) → ServesSome all left a u b v → HasStopped b v [] w → HasStopped a u all w
+some_stops all left a b u v w s t = let P : List (List ℕ) → Type 0 = λ l. HasStopped a u l w in subst P (sym s.cut) (stopped_before a u w s.lines left (stops_more a b u v w s.lines s.served t))

@@ -16,22 +16,22 @@ pub same_consumer : {T A P : Type 0} (a b c : Consumer T A P) → SameConsumer a
 same_consumer a b c (ring, room) (ring', room') = (same_ring a.end b.end c.end ring ring', room' ∙ room)
 
 -- nothing was taken
-pub takes_none : {A G P : Type 0} (lines : Consumer (Vec ℕ A) G P) (holds : List (List ℕ) → Type 0) → holds [] → TakesLines lines lines holds
+pub takes_none : {A G M : Type 0} (lines : Consumer (Vec ℕ A) G M) (holds : List (List ℕ) → Type 0) → holds [] → TakesLines lines lines holds
 takes_none lines holds is = record { ring = ((refl, refl, refl, refl), refl); batches = []; taken = sym (append-nil (received lines)); held = is }
 
 -- one more text
-pub takes_one : {A G P : Type 0} (a b c : Consumer (Vec ℕ A) G P) (batch : Vec ℕ A) (P Q : List (List ℕ) → Type 0) → TakesLines a b P → SameConsumer b c → received c ≡ received b ++ batch ∷ [] → ((lines : List (List ℕ)) → P lines → Q (lines ++ kept_lines batch.items)) → TakesLines a c Q
+pub takes_one : {A G M : Type 0} (a b c : Consumer (Vec ℕ A) G M) (batch : Vec ℕ A) (P Q : List (List ℕ) → Type 0) → TakesLines a b P → SameConsumer b c → received c ≡ received b ++ batch ∷ [] → ((lines : List (List ℕ)) → P lines → Q (lines ++ kept_lines batch.items)) → TakesLines a c Q
 takes_one a b c batch P Q t ring taken holds = record {
   ring = same_consumer a b c t.ring ring;
   batches = t.batches ++ batch ∷ [];
   taken = taken ∙ (ap (λ l. l ++ batch ∷ []) t.taken ∙ append_assoc (received a) t.batches (batch ∷ []));
   held =
-    let own : lines_of (t.batches ++ batch ∷ []) ≡ lines_of t.batches ++ kept_lines batch.items = flat_map-append (λ b. kept_lines b.items) t.batches (batch ∷ []) ∙ ap (λ l. lines_of t.batches ++ l) (append-nil (kept_lines batch.items)) in
-    subst Q (sym own) (holds (lines_of t.batches) t.held);
+      let own : lines_of (t.batches ++ batch ∷ []) ≡ lines_of t.batches ++ kept_lines batch.items = flat_map-append (λ b. kept_lines b.items) t.batches (batch ∷ []) ∙ ap (λ l. lines_of t.batches ++ l) (append-nil (kept_lines batch.items)) in
+      subst Q (sym own) (holds (lines_of t.batches) t.held);
 }
 
 -- texts after texts
-pub takes_then : {A G P : Type 0} (a b c : Consumer (Vec ℕ A) G P) (P Q R : List (List ℕ) → Type 0) → TakesLines a b P → TakesLines b c Q → ((lines more : List (List ℕ)) → P lines → Q more → R (lines ++ more)) → TakesLines a c R
+pub takes_then : {A G M : Type 0} (a b c : Consumer (Vec ℕ A) G M) (P Q R : List (List ℕ) → Type 0) → TakesLines a b P → TakesLines b c Q → ((lines more : List (List ℕ)) → P lines → Q more → R (lines ++ more)) → TakesLines a c R
 takes_then a b c P Q R t u holds = record {
   ring = same_consumer a b c t.ring u.ring;
   batches = t.batches ++ u.batches;
@@ -40,5 +40,5 @@ takes_then a b c P Q R t u holds = record {
 }
 
 -- the same of what was taken
-pub takes_so : {A G P : Type 0} (a b : Consumer (Vec ℕ A) G P) (P Q : List (List ℕ) → Type 0) → TakesLines a b P → ((lines : List (List ℕ)) → P lines → Q lines) → TakesLines a b Q
+pub takes_so : {A G M : Type 0} (a b : Consumer (Vec ℕ A) G M) (P Q : List (List ℕ) → Type 0) → TakesLines a b P → ((lines : List (List ℕ)) → P lines → Q lines) → TakesLines a b Q
 takes_so a b P Q t holds = record { ring = t.ring; batches = t.batches; taken = t.taken; held = holds (lines_of t.batches) t.held }

@@ -1,6 +1,6 @@
 -- The lines of an input, as a reader hands them over.
 use Rattle.std.specs.Prelude.{ℕ, ◌≡◌, List, [], ◌∷◌, ◌++◌, map, Bool, true, false, Option, Some, None, IfSome, ⊤}
-use Rattle.std.specs.List.{flat_map, list_all}
+use Rattle.std.specs.List.{AllByRecursion, flat_map, list_all}
 use Rattle.std.specs.Io.KnownBytes.{Consumes}
 use Rattle.std.specs.declared.vec.Vec.{Vec}
 use Rattle.rtrb.specs.Ring.{SameProducer, sent}
@@ -10,6 +10,7 @@ use Rattle.line_feed.specs.Pieces.{IsKept, is_one_line, kept_of}
 use Rattle.live_input.specs.Serving.{kept_lines}
 use Rattle.live_threads.specs.declared.letters.InputEnd.{InputEnd}
 use Rattle.live_threads.specs.declared.letters.InputEnd.TheVariants.{Done}
+use Rattle.live_machine.specs.Machine.{IsLine}
 use Rattle.live_threads.specs.Taken.{lines_of}
 
 -- private: of an input these bytes are ahead, and that is kept of the line that has begun; the
@@ -41,3 +42,18 @@ AreAllLines input end lines = ⊤
 abbrev pub EndsWith : List ℕ → List (List ℕ) → Type 0
 EndsWith [] fed = fed ≡ []
 EndsWith (byte ∷ line) fed = fed ≡ kept_lines (with_feed (byte ∷ line))
+
+abbrev pub PutsLast : List ℕ → Option InputEnd → List (List ℕ) → Type 0
+PutsLast line (Some Done) fed = EndsWith line fed
+PutsLast line end fed = ⊤
+
+-- private: so it is of some input
+abbrev pub IsFed : List ℕ → List ℕ → Type 0
+IsFed ahead kept = (input : Option (List ℕ)) × (now : Option (List ℕ)) × (fed : List (List ℕ)) × Fed input now ahead kept fed
+
+-- private: cut lines were taken from what is ahead, and put together
+pub record TakesSome (batch ahead kept rest after : List ℕ) : Type 0 where
+  pub lines : List (List ℕ)
+  pub batch_is : batch ≡ flat_map with_feed lines
+  pub all : AllByRecursion IsLine lines
+  pub fed : (input now : Option (List ℕ)) (fed : List (List ℕ)) → Fed input now ahead kept fed → Fed input now rest after (fed ++ lines)

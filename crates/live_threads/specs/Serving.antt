@@ -56,3 +56,9 @@ pub record HasStopped (old : MachineState) (before : View) (lines : List (List �
   pub events : List Event
   pub cut : IsCut (events_of calls) events
   pub happens : Happens before after events
+
+-- private: the first of these lines were served, and those are left
+pub record ServesSome (all left : List (List ℕ)) (old : MachineState) (before : View) (new : MachineState) (after : View) : Type 0 where
+  pub lines : List (List ℕ)
+  pub cut : all ≡ lines ++ left
+  pub served : IsServed old before lines new after

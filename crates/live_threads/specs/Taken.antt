@@ -42,6 +42,13 @@ pub record CutsClosing (last : MachineState) (before after : View) : Type 0 wher
   pub cut : IsCut (Told reply ∷ []) events
   pub happens : Happens before after events
 
+abbrev pub StopsClosing : MachineState → View → View → Type 0
+StopsClosing last before after = (after ≡ before) ⊎ CutsClosing last before after
+
+-- nothing is left that is to be kept or told
+abbrev pub IsDrained : MachineState → Type 0
+IsDrained state = (state.log ≡ []) × (state.told ≡ [])
+
 -- the end of a service whose input has ended
 abbrev pub ClosesAs : Bool → MachineState → View → View → Type 0
 ClosesAs true last before after = after ≡ before
@@ -52,13 +59,12 @@ pub record IsServedToEnd (old : MachineState) (before : View) (lines : List (Lis
   pub last : MachineState
   pub mid : View
   pub served : IsServed old before lines last mid
-  pub log : last.log ≡ []
-  pub told : last.told ≡ []
+  pub drained : IsDrained last
   pub closes : ClosesAs mid.has_log last mid after
 
 -- the service stopped before its input ended, or as it told what it tells last
 abbrev pub StopsServing : MachineState → View → List (List ℕ) → View → Type 0
-StopsServing old before lines after = HasStopped old before lines after ⊎ ((last : MachineState) × (mid : View) × IsServed old before lines last mid × CutsClosing last mid after)
+StopsServing old before lines after = HasStopped old before lines after ⊎ ((last : MachineState) × (mid : View) × IsServed old before lines last mid × StopsClosing last mid after)
 
 abbrev pub EndsServing : MachineState → View → List (List ℕ) → View → Outcome → Type 0
 EndsServing old before lines after Done = IsServedToEnd old before lines after

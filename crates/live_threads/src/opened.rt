@@ -4,7 +4,7 @@ ghost use Rattle.live_input.specs.Serving.{is_ready, state_in};
 ghost use Rattle.live_machine.specs.Parts.{IsReady, machine_of};
 ghost use Rattle.live_run.specs.declared.outcome.Outcome.TheVariants.{Done};
 ghost use Rattle.live_threads.specs.Outlet.{view_of};
-ghost use Rattle.live_threads.specs.Ends.{BeginsWith, IsResumed, RunsService};
+ghost use Rattle.live_threads.specs.Ends.{BeginsWith, IsResumed, RunsLive, RunsService, TellsNothing};
 ghost use Rattle.live_threads.specs.Taken.{TakesLines};
 
 use crate::crew::Site;
@@ -99,15 +99,30 @@ pub(crate) fn serve_opened<H: Wait + AllocGlobal, P: Source + Drop, W: Sink + Dr
     let mut devices = devices;
     let mut lines = lines;
     let live = LiveLines::new(site.rt.alloc(), site.graph, service);
-    let outcome = match resume(site, live, past, &mut devices) {
-        Ok(machine) => serve_machine(site.rt, site.crew, &mut lines, machine, &mut devices),
-        Err(outcome) => outcome,
-    };
+    let outcome = serve_resumed(site, live, past, &mut lines, &mut devices);
     site.crew.close(site.rt);
     ServerEnd {
         lines,
         devices,
         outcome,
+    }
+}
+
+/// Serves the lines of the log over that live service, and then those that come.
+fn serve_resumed<H: Wait + AllocGlobal, P: Source + Drop, O: Outlet>(
+    site: Site<'_, H>,
+    live: LiveLines<'_>,
+    past: Option<P>,
+    lines: &mut Consumer<Vec<u8>>,
+    outlet: &mut O,
+) -> Outcome
+    requires { is_ready live }
+    ensures { TakesLines lines.old lines.new (λ heard. RunsLive (is_some past)
+        (state_in live.entry) (O.view outlet.old) heard (O.view outlet.new) result) }
+{
+    match resume(site, live, past, outlet) {
+        Ok(machine) => serve_machine(site.rt, site.crew, lines, machine, outlet),
+        Err(outcome) => outcome,
     }
 }
 
@@ -125,7 +140,7 @@ fn resume<'g, H: Wait + AllocGlobal, P: Source + Drop, O: Outlet>(
     ensures resumed { OnOk result (IsResumed (is_some past) (O.view outlet.old)
         (O.view outlet.new)) }
     ensures none { IfErr result (λ outcome. (outcome ≢ Done)
-        × ((O.view outlet.new).output ≡ (O.view outlet.old).output)) }
+        × TellsNothing (O.view outlet.old) (O.view outlet.new)) }
 {
     match past {
         Some(past) => resume_log(site, live, past, outlet),
@@ -146,14 +161,10 @@ fn resume_log<'g, H: Wait + AllocGlobal, P: Source + Drop, O: Outlet>(
         (machine_of machine)) }
     ensures resumed { OnOk result (IsResumed true (O.view outlet.old) (O.view outlet.new)) }
     ensures none { IfErr result (λ outcome. (outcome ≢ Done)
-        × ((O.view outlet.new).output ≡ (O.view outlet.old).output)) }
+        × TellsNothing (O.view outlet.old) (O.view outlet.new)) }
 {
-    let mut live = live;
-    let resumed = match replay(site.rt, site.crew, &mut live, past) {
-        Ok(resumed) => keep_more(outlet, resumed),
-        Err(outcome) => Err(outcome),
-    };
-    match resumed {
+    let (live, resumed) = replay(site, live, past)?;
+    match keep_more(outlet, resumed) {
         Ok(next) => with_steps(Machine::new(site.rt.alloc(), live, next)),
         Err(outcome) => {
             live.close();
@@ -166,7 +177,7 @@ fn resume_log<'g, H: Wait + AllocGlobal, P: Source + Drop, O: Outlet>(
 fn keep_more<O: Outlet>(outlet: &mut O, resumed: Resumed) -> Result<u64, Outcome>
     ensures resumed { OnOk result (IsResumed true (O.view outlet.old) (O.view outlet.new)) }
     ensures none { IfErr result (λ outcome. (outcome ≢ Done)
-        × ((O.view outlet.new).output ≡ (O.view outlet.old).output)) }
+        × TellsNothing (O.view outlet.old) (O.view outlet.new)) }
 {
     let Resumed { next, more } = resumed;
     let kept = if more.is_empty() {

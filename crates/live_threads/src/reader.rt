@@ -4,7 +4,7 @@ ghost use Rattle.line_feed.specs.Feed.{ahead_of, line_of};
 ghost use Rattle.line_feed.specs.Pieces.{IsKept};
 ghost use Rattle.live_input.specs.Serving.{kept_lines};
 ghost use Rattle.tagged_lines.specs.Tags.{with_feed};
-ghost use Rattle.live_threads.specs.Fed.{AreAllLines, EndsWith, Fed, PutsLines};
+ghost use Rattle.live_threads.specs.Fed.{AreAllLines, Fed, IsFed, PutsLast, PutsLines};
 ghost use Rattle.live_threads.specs.declared.letters.InputEnd.TheVariants.{Done};
 ghost use Rattle.rtrb.specs.Ring.{SameProducer, sent};
 
@@ -86,8 +86,7 @@ fn feed_last<R: Wait + AllocGlobal>(
     lines: &mut Producer<Vec<u8>>,
     line: &[u8],
 ) -> Option<InputEnd>
-    ensures { PutsLines lines.old lines.new (λ fed. (result ≡ Some Done) →
-        EndsWith line.now fed) }
+    ensures { PutsLines lines.old lines.new (λ fed. PutsLast line.now result fed) }
 {
     if line.is_empty() {
         return Some(InputEnd::Done);
@@ -105,6 +104,7 @@ fn feed_last<R: Wait + AllocGlobal>(
 
 /// The lines that have come.
 fn take_lines(alloc: Global, feed: &mut LineFeed) -> Result<Vec<u8>, AllocError>
+    requires { IsFed (ahead_of feed.old) (line_of feed.old) }
     ensures ahead { IfOk result (λ batch. ahead_of feed.new ≡ []) }
     ensures fed { IfOk result (λ batch. (input now : Option (List ℕ)) (fed : List (List ℕ)) →
         Fed input now (ahead_of feed.old) (line_of feed.old) fed →

@@ -1,8 +1,11 @@
 //! A service with workers, from its log to its end.
-ghost use Rattle.std.specs.Prelude.{◌≡◌, [], None, is_some, option_map};
+ghost use Rattle.std.specs.Prelude.{◌≡◌, ◌⊎◌, [], None, Some, true, is_some, option_map};
+ghost use Rattle.dialogue.specs.declared.dialogue.FailedDevice.TheVariants.{Input};
+ghost use Rattle.live_run.specs.declared.outcome.Outcome.TheVariants.{Stopped};
 ghost use Rattle.rtrb.specs.Ring.{IsPair, received, sent};
 ghost use Rattle.live_threads.specs.Outlet.{view_of};
-ghost use Rattle.live_threads.specs.Ends.{RunsOpened};
+ghost use Rattle.live_threads.specs.Ends.{IsWhole, RunsOpened, RunsService};
+ghost use Rattle.live_threads.specs.Taken.{TakesLines};
 
 use crate::crew::{Crew, Site};
 use crate::letters::InputEnd;
@@ -52,7 +55,7 @@ pub(crate) fn serve_with_workers<
     };
     let end = match RingBuffer::new(rt.alloc(), MOST_AHEAD) {
         Ok((producer, consumer)) => {
-            let input = Input { producer, reader };
+            let input = InputLines { producer, reader };
             run_threads(site, workers, opened, consumer, input)
         }
         Err(_) => {
@@ -79,7 +82,7 @@ impl<W: Sink + Drop, L: Log + Drop> RunEnd<W, L> {
 
 /// An input, and the end of the ring that its lines go into.
 #[derive(Drop)]
-struct Input<S: Source + Drop> {
+struct InputLines<S: Source + Drop> {
     producer: Producer<Vec<u8>>,
     reader: S,
 }
@@ -97,7 +100,7 @@ fn run_threads<
     workers: u32,
     opened: Opened<P, W, L>,
     lines: Consumer<Vec<u8>>,
-    input: Input<S>,
+    input: InputLines<S>,
 ) -> RunEnd<W, L>
     requires histories { opened.service.histories ≡ [] }
     requires pair { IsPair input.producer lines }
@@ -139,7 +142,7 @@ fn run_in<
     workers: u32,
     opened: Opened<P, W, L>,
     lines: Consumer<Vec<u8>>,
-    input: Input<S>,
+    input: InputLines<S>,
 ) -> RunEnd<W, L>
     requires histories { opened.service.histories ≡ [] }
     requires pair { IsPair input.producer lines }
@@ -155,9 +158,17 @@ fn run_in<
         return RunEnd::not_begun(Outcome::NoMemory);
     }
     let promise = ServesOpened::of(&opened, &lines, site.graph);
-    match scope.spawn_with(promise, move || serve_opened(site, opened, lines)) {
+    let serve = move || -> ServerEnd<W, L>
+        requires { opened.service.histories ≡ [] }
+        ensures { TakesLines lines result.lines (λ heard. RunsService (is_some opened.past)
+            opened.service site.entry.graph.now
+            (view_of W.contents W.has_failed L.kept L.has_failed opened.devices) heard
+            (view_of W.contents W.has_failed L.kept L.has_failed result.devices)
+            result.outcome) }
+    { serve_opened(site, opened, lines) };
+    match scope.spawn_with(promise, serve) {
         Ok(server) => {
-            let Input { producer, reader } = input;
+            let InputLines { producer, reader } = input;
             let read = read_lines(site.rt, site.crew, producer, reader);
             end_of(read, server.join(site.rt))
         }
@@ -171,26 +182,44 @@ fn run_in<
 
 /// How the service ended, whose two threads ended so. It is done if all lines that were read are
 /// served, which no thread knows alone.
-fn end_of<W: Sink + Drop, L: Log + Drop>(read: ReaderEnd, served: ServerEnd<W, L>) -> RunEnd<W, L> {
+fn end_of<W: Sink + Drop, L: Log + Drop>(read: ReaderEnd, served: ServerEnd<W, L>) -> RunEnd<W, L>
+    requires { IsPair read.lines served.lines }
+    ensures devices { result.devices ≡ Some served.devices }
+    ensures done { result.outcome ≡ Outcome.Done → IsWhole (sent read.lines)
+        (received served.lines) read.end served.outcome }
+    ensures other { (result.outcome ≡ served.outcome) ⊎ (result.outcome ≡ Stopped Input) }
+{
     let ReaderEnd {
-        lines: mut producer,
+        lines: producer,
         end,
     } = read;
     let ServerEnd {
-        lines: mut consumer,
+        lines: consumer,
         devices,
         outcome,
     } = served;
-    let are_all = consumer.slots_beside(&mut producer) == 0 && end == Some(InputEnd::Done);
-    drop((producer, consumer));
-    let outcome = match outcome {
-        Outcome::Done if !are_all => Outcome::Stopped(FailedDevice::Input),
-        outcome => outcome,
+    let are_all = are_taken(consumer, producer) && end == Some(InputEnd::Done);
+    let outcome = if are_all || outcome != Outcome::Done {
+        outcome
+    } else {
+        Outcome::Stopped(FailedDevice::Input)
     };
     RunEnd {
         outcome,
         devices: Some(devices),
     }
+}
+
+/// Whether all texts that were put into a ring were taken.
+fn are_taken(consumer: Consumer<Vec<u8>>, producer: Producer<Vec<u8>>) -> bool
+    requires { IsPair producer consumer }
+    ensures { result ≡ true → received consumer ≡ sent producer }
+{
+    let mut consumer = consumer;
+    let mut producer = producer;
+    let left = consumer.slots_beside(&mut producer);
+    drop((producer, consumer));
+    left == 0
 }
 
 /// Starts the workers. Returns whether all were started.

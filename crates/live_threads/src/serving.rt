@@ -4,7 +4,7 @@ ghost use Rattle.line_feed.specs.Pieces.{kept_of};
 ghost use Rattle.live_input.specs.Serving.{kept_lines};
 ghost use Rattle.live_machine.specs.Parts.{IsReady, machine_of};
 ghost use Rattle.live_threads.specs.Serving.{HasStopped, IsServed};
-ghost use Rattle.live_threads.specs.Taken.{ClosesTexts, CutsClosing, EndsServing, TakesLines};
+ghost use Rattle.live_threads.specs.Taken.{ClosesTexts, EndsServing, IsDrained, StopsClosing, TakesLines};
 
 use crate::crew::Crew;
 use crate::fault::Fault;
@@ -85,8 +85,8 @@ fn serve_rounds<R: Wait + AllocGlobal, O: Outlet>(
         let News { steps, end } = crew.mailbox.take_news(rt, next != Next::GoesOn);
         put_steps(rt, crew, machine, steps)?;
         next = serve_round(rt, crew, lines, machine, outlet)?;
-        has_ended = has_ended || has_ended_well(end)?;
-        if has_ended && next == Next::Rests {
+        has_ended = note_end(has_ended, end)?;
+        if is_over(has_ended, next) {
             return Ok(());
         }
     }
@@ -97,13 +97,18 @@ fn serve_rounds<R: Wait + AllocGlobal, O: Outlet>(
 ///
 /// # Errors
 /// Why it ended before its end.
-fn has_ended_well(end: Option<InputEnd>) -> Result<bool, Fault> {
+fn note_end(has_ended: bool, end: Option<InputEnd>) -> Result<bool, Fault> {
     match end {
-        None => Ok(false),
+        None => Ok(has_ended),
         Some(InputEnd::Done) => Ok(true),
         Some(InputEnd::Failed) => Err(Fault::Device(FailedDevice::Input)),
         Some(InputEnd::NoMemory) => Err(Fault::NoMemory),
     }
+}
+
+/// Whether nothing is left to serve.
+fn is_over(has_ended: bool, next: Next) -> bool {
+    has_ended && next == Next::Rests
 }
 
 /// Serves the lines that have come and a turn of a held name, and has workers make the steps that
@@ -126,16 +131,38 @@ fn serve_round<R: Wait, O: Outlet>(
     let had_lines = serve_lines(rt, crew, lines, machine, outlet)?;
     let has_more = machine.turn()?;
     give_orders(rt, crew, machine)?;
-    if had_lines || machine.to_tell() > 0 || machine.to_keep() > MOST_KEPT_BACK {
-        deliver(machine, outlet)?;
-    }
+    deliver_due(machine, outlet, had_lines)?;
+    Ok(next_of(machine, has_more))
+}
+
+/// What a service does after a round in which a held name had a turn or had none.
+fn next_of(machine: &Machine<'_>, has_more: bool) -> Next {
     if has_more {
-        return Ok(Next::GoesOn);
+        return Next::GoesOn;
     }
     if machine.is_at_rest() {
-        return Ok(Next::Rests);
+        return Next::Rests;
     }
-    Ok(Next::Waits)
+    Next::Waits
+}
+
+/// Keeps and tells what there is, if lines have come, there is something to tell, or much to keep.
+fn deliver_due<O: Outlet>(
+    machine: &mut Machine<'_>,
+    outlet: &mut O,
+    had_lines: bool,
+) -> Result<(), Fault>
+    requires ready { IsReady machine.old }
+    ensures ready { OnOk result (IsReady machine.new) }
+    ensures served { OnOk result (IsServed (machine_of machine.old) (O.view outlet.old) []
+        (machine_of machine.new) (O.view outlet.new)) }
+    ensures stopped { OnErr result (HasStopped (machine_of machine.old) (O.view outlet.old) []
+        (O.view outlet.new)) }
+{
+    if had_lines || machine.to_tell() > 0 || machine.to_keep() > MOST_KEPT_BACK {
+        return deliver(machine, outlet);
+    }
+    Ok(())
 }
 
 /// Serves the lines that have come. Returns whether there were some.
@@ -195,10 +222,10 @@ fn serve_batch<O: Outlet>(
 fn cut_line(line: &[u8]) -> &[u8]
     ensures { result.now ≡ kept_of line.now }
 {
-    if line.len() <= MAX_FED_LINE {
-        return line;
+    match line.get(..MAX_FED_LINE) {
+        Some(cut) => cut,
+        None => line,
     }
-    &line[..MAX_FED_LINE]
 }
 
 /// Keeps what is to be kept, and then tells what is to be told.
@@ -207,6 +234,7 @@ fn deliver<O: Outlet>(machine: &mut Machine<'_>, outlet: &mut O) -> Result<(), F
     ensures ready { OnOk result (IsReady machine.new) }
     ensures served { OnOk result (IsServed (machine_of machine.old) (O.view outlet.old) []
         (machine_of machine.new) (O.view outlet.new)) }
+    ensures drained { OnOk result (IsDrained (machine_of machine.new)) }
     ensures stopped { OnErr result (HasStopped (machine_of machine.old) (O.view outlet.old) []
         (O.view outlet.new)) }
 {
@@ -243,7 +271,7 @@ fn close_texts<O: Outlet>(machine: Machine<'_>, outlet: &mut O) -> Result<(), Fa
     requires { IsReady machine }
     ensures closed { OnOk result (ClosesTexts (machine_of machine.entry) (O.view outlet.old)
         (O.view outlet.new)) }
-    ensures stopped { OnErr result (CutsClosing (machine_of machine.entry) (O.view outlet.old)
+    ensures stopped { OnErr result (StopsClosing (machine_of machine.entry) (O.view outlet.old)
         (O.view outlet.new)) }
 {
     let reply = machine.end()?;

@@ -48,10 +48,7 @@ fn put_step<R: Wait>(
 
 /// Puts what a worker did. Returns the tenancy for whose step memory ran out, and how many times in
 /// a row.
-fn put_letter(
-    machine: &mut Machine<'_>,
-    letter: StepLetter,
-) -> Result<Option<(u32, u32)>, Fault>
+fn put_letter(machine: &mut Machine<'_>, letter: StepLetter) -> Result<Option<(u32, u32)>, Fault>
     requires ready { IsReady machine.old }
     ensures ready { OnOk result (IsReady machine.new) }
     ensures served { OnOk result ((view : View) →
@@ -98,7 +95,7 @@ pub(crate) fn give_orders<R: Wait>(
         return Ok(());
     }
     let mut waiting = crew.orders.open(rt);
-    let mut given = 0;
+    let mut given = 0usize;
     for _ in 0..count {
         let Some(job) = machine.take() else {
             break;

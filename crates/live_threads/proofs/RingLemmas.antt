@@ -1,0 +1,48 @@
+-- The end of a ring into which texts are put.
+use Rattle.std.proofs.Common.{◌≡◌, ℕ, List, [], ◌∷◌, ◌++◌, Option, Some, None, refl, sym, ap, subst, ◌∙◌, append-nil, append_assoc}
+use Rattle.std.proofs.lemmas.Grind.{flat_map-append}
+use Rattle.std.specs.declared.vec.Vec.{Vec}
+use Rattle.rtrb.specs.Ends.{SameRing}
+use Rattle.rtrb.specs.Ring.{SameProducer, sent}
+use Rattle.rtrb.specs.declared.end.End.{End}
+use Rattle.rtrb.specs.declared.producer.Producer.{Producer}
+use Rattle.live_input.specs.Serving.{kept_lines}
+use Rattle.live_threads.specs.Taken.{lines_of}
+use Rattle.live_threads.specs.Fed.{PutsLines}
+
+same_ring : {T A M : Type 0} (a b c : End T A M) → SameRing a b → SameRing b c → SameRing a c
+same_ring a b c (w, s, n, h) (x, t, m, i) = (x ∙ w, t ∙ s, m ∙ n, i ∙ h)
+
+pub same_producer : {T A M : Type 0} (a b c : Producer T A M) → SameProducer a b → SameProducer b c → SameProducer a c
+same_producer a b c (ring, room) (ring', room') = (same_ring a.end b.end c.end ring ring', room' ∙ room)
+
+pub same_self : {T A M : Type 0} (a : Producer T A M) → SameProducer a a
+same_self a = ((refl, refl, refl, refl), refl)
+
+-- nothing was put
+pub puts_none : {A G M : Type 0} (a b : Producer (Vec ℕ A) G M) (holds : List (List ℕ) → Type 0) → SameProducer a b → sent b ≡ sent a → holds [] → PutsLines a b holds
+puts_none a b holds ring same is = record { ring = ring; batches = []; put = same ∙ sym (append-nil (sent a)); held = is }
+
+-- one more text
+pub puts_one : {A G M : Type 0} (a b c : Producer (Vec ℕ A) G M) (batch : Vec ℕ A) (P Q : List (List ℕ) → Type 0) → PutsLines a b P → SameProducer b c → sent c ≡ sent b ++ batch ∷ [] → ((lines : List (List ℕ)) → P lines → Q (lines ++ kept_lines batch.items)) → PutsLines a c Q
+puts_one a b c batch P Q t ring put holds = record {
+  ring = same_producer a b c t.ring ring;
+  batches = t.batches ++ batch ∷ [];
+  put = put ∙ (ap (λ l. l ++ batch ∷ []) t.put ∙ append_assoc (sent a) t.batches (batch ∷ []));
+  held =
+      let own : lines_of (t.batches ++ batch ∷ []) ≡ lines_of t.batches ++ kept_lines batch.items = flat_map-append (λ b. kept_lines b.items) t.batches (batch ∷ []) ∙ ap (λ l. lines_of t.batches ++ l) (append-nil (kept_lines batch.items)) in
+      subst Q (sym own) (holds (lines_of t.batches) t.held);
+}
+
+-- the same of what was put
+pub puts_so : {A G M : Type 0} (a b : Producer (Vec ℕ A) G M) (P Q : List (List ℕ) → Type 0) → PutsLines a b P → ((lines : List (List ℕ)) → P lines → Q lines) → PutsLines a b Q
+puts_so a b P Q t holds = record { ring = t.ring; batches = t.batches; put = t.put; held = holds (lines_of t.batches) t.held }
+
+-- texts after texts
+pub puts_then : {A G M : Type 0} (a b c : Producer (Vec ℕ A) G M) (P Q R : List (List ℕ) → Type 0) → PutsLines a b P → PutsLines b c Q → ((lines more : List (List ℕ)) → P lines → Q more → R (lines ++ more)) → PutsLines a c R
+puts_then a b c P Q R t u holds = record {
+  ring = same_producer a b c t.ring u.ring;
+  batches = t.batches ++ u.batches;
+  put = u.put ∙ (ap (λ l. l ++ u.batches) t.put ∙ append_assoc (sent a) t.batches u.batches);
+  held = subst R (sym (flat_map-append (λ b. kept_lines b.items) t.batches u.batches)) (holds (lines_of t.batches) (lines_of u.batches) t.held u.held);
+}

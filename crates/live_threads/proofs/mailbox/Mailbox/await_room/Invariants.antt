@@ -1,0 +1,9 @@
+use Rattle.std.proofs.Common.{◌≡◌}
+use Rattle.rtrb.specs.Ring.{SameProducer, sent}
+use Rattle.live_threads.proofs.mailbox.Mailbox.await_room.Given as goal
+
+abbrev pub invariant-loop : goal.invariant-loop
+invariant-loop g l = record {
+  ring : SameProducer l.fn.lines l.lines;
+  same : sent l.lines ≡ sent l.fn.lines;
+}

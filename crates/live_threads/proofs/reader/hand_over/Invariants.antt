@@ -1,0 +1,11 @@
+use Rattle.std.proofs.Common.{◌≡◌}
+use Rattle.rtrb.specs.Ring.{SameProducer, sent}
+use Rattle.live_threads.proofs.reader.hand_over.Given as goal
+
+-- nothing was put so far
+abbrev pub invariant-loop : goal.invariant-loop
+invariant-loop g l = record {
+  ring : SameProducer l.fn.lines l.lines;
+  same : sent l.lines ≡ sent l.fn.lines;
+  batch : l.batch ≡ l.fn.batch;
+}

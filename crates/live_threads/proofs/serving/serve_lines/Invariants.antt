@@ -1,0 +1,11 @@
+use Rattle.live_machine.specs.Parts.{IsReady, machine_of}
+use Rattle.live_threads.specs.Serving.{IsServed}
+use Rattle.live_threads.specs.Taken.{TakesLines}
+use Rattle.live_threads.proofs.serving.serve_lines.Given as goal
+
+-- what was taken so far is served
+abbrev pub invariant-loop-count : goal.invariant-loop-count
+invariant-loop-count g l = record {
+  ready : IsReady l.machine;
+  served : TakesLines l.fn.lines l.lines (λ heard. IsServed (machine_of l.fn.machine) (g.O.Outlet.view l.fn.outlet) heard (machine_of l.machine) (g.O.Outlet.view l.outlet));
+}
