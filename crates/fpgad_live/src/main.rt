@@ -10,8 +10,12 @@ use std::{env, io};
 fn main(rt: HostRuntime) -> ExitCode {
     let reader = StdSource::new(rt.reader());
     let writer = StdSink::new(io::writer(&rt));
-    let ProgramEnd { status, connection } = run_program(&rt, words(&rt), reader, writer);
-    drop(connection);
+    let ProgramEnd {
+        status,
+        connection,
+        devices,
+    } = run_program(&rt, words(&rt), reader, writer);
+    drop((connection, devices));
     status
 }
 

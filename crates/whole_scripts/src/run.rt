@@ -104,8 +104,9 @@ where
     let ProgramRun {
         outcome,
         connection,
+        devices,
     } = live_threads::run_words(rt, words, reader, writer);
-    drop(connection);
+    drop((connection, devices));
     let ReplyText {
         bytes,
         is_whole,
