@@ -1,1 +1,2 @@
+mod MomentLemmas
 mod ToldLemmas

@@ -1,0 +1,16 @@
+-- What a service with workers has kept and told, at each moment.
+use Rattle.std.specs.Prelude.{ℕ, ◌≡◌, List, ◌++◌}
+use Rattle.dialogue.specs.History.{Event, kept_in, told_in}
+use Rattle.live_lines.specs.Live.{LiveState}
+use Rattle.live_machine.specs.Turn.{IsDay, Turn, log_of, told_of}
+
+-- what was told is a beginning of what those turns tell, and they were kept before
+pub record IsBackedByTurns (begun : LiveState) (first : ℕ) (events : List Event) : Type 0 where
+  pub turns : List Turn
+  pub new : LiveState
+  pub next : ℕ
+  pub day : IsDay begun first turns new next
+  pub more : List ℕ
+  pub kept : kept_in events ≡ log_of turns ++ more
+  pub unsaid : List ℕ
+  pub told : told_of turns ≡ told_in events ++ unsaid
