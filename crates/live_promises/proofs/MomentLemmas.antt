@@ -1,7 +1,7 @@
 -- What was kept and told when a service with workers is ended.
 use Rattle.std.proofs.Common.{◌≡◌, ℕ, zero, suc, ◌+◌, List, [], ◌∷◌, ◌++◌, ◌⊎◌, inl, inr, take, drop, refl, sym, ap, subst, ◌∙◌, append-nil, append_assoc}
 use Rattle.std.specs.Prelude.{⊤}
-use Rattle.std.specs.List.{flat_map}
+use Rattle.std.specs.List.{AllByRecursion, flat_map}
 use Rattle.std.proofs.lemmas.Grind.{flat_map-append}
 use Rattle.std.proofs.lemmas.List.{take-append-drop}
 use Rattle.std.proofs.Math.Seq.{take-nil}
@@ -11,7 +11,7 @@ use Rattle.live_lines.specs.Live.{LiveState}
 use Rattle.live_machine.specs.Account.{IsAccount, log_drained, told_drained}
 use Rattle.live_machine.specs.Machine.{Call, Happens, MachineState, Run, begins_with}
 use Rattle.live_machine.specs.Machine.Call.{Drain, GiveUp, Line, PutStep, ServeHeld}
-use Rattle.live_machine.specs.Turn.{IsDay, Turn}
+use Rattle.live_machine.specs.Turn.{IsDay, IsServedTurn, Turn}
 use Rattle.live_machine.specs.Turn.Turn.{Answers, Loses, Works}
 use Rattle.live_threads.specs.Serving.{EndsIn, IsCut, IsPart, events_in, events_of}
 use Rattle.live_promises.specs.Moments.{IsBackedByTurns}
@@ -67,6 +67,10 @@ day_first (Answers heard line reply ∷ first) more old new number next (mid, on
 day_first (Works line reply ∷ first) more old new number next (mid, one, rest) = let r = day_first first more mid new (number + 1) next rest in (r.0, r.1, (mid, one, r.2))
 day_first (Loses name lines ∷ first) more old new number next day = day_first first more old new number next day
 
+first_all : (P : Turn → Type 0) (first more : List Turn) → AllByRecursion P (first ++ more) → AllByRecursion P first
+first_all P [] more all = tt
+first_all P (turn ∷ first) more (one, all) = (one, first_all P first more all)
+
 -- at least what those calls drained was kept, and no more than it was told
 backed : (begun : LiveState) (first : ℕ) (calls : List Call) (now : MachineState) (events : List Event) (more unsaid : List ℕ) → IsAccount begun first calls now → kept_in events ≡ flat_map log_drained calls ++ more → flat_map told_drained calls ≡ told_in events ++ unsaid → IsBackedByTurns begun first events
 backed begun first calls now events more unsaid a kept told =
@@ -76,6 +80,7 @@ backed begun first calls now events more unsaid a kept told =
       new = d.0;
       next = d.1;
       day = d.2;
+      served = first_all IsServedTurn a.taken a.rest a.served;
       more = more;
       kept = kept ∙ ap (λ l. l ++ more) a.log_taken;
       unsaid = unsaid;
