@@ -6,7 +6,8 @@ use Rattle.live_lines.specs.Live.{LiveState}
 use Rattle.live_machine.specs.Turn.{IsDay, IsServedTurn, Turn, log_of, told_of}
 
 -- what was told is a beginning of what those turns tell, and they were kept before; each turn is a
--- line that came and was served as itself, or as what stands for it, a worker's line, or a lost item
+-- line that came and was served as itself, or as what takes its place, or a worker's line, or an
+-- item that was lost
 pub record IsBackedByTurns (begun : LiveState) (first : ℕ) (events : List Event) : Type 0 where
   pub turns : List Turn
   pub new : LiveState
