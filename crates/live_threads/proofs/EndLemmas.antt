@@ -1,6 +1,6 @@
 -- How a service with workers ends.
 use Rattle.std.proofs.Common.{◌≡◌, ◌≢◌, ◌⊎◌, inl, inr, ℕ, List, [], ◌∷◌, ◌++◌, Bool, true, false, Option, Some, None, refl, sym, ap, subst, ◌∙◌, append-nil}
-use Rattle.dialogue.specs.History.{Event, Fails, Happens, View}
+use Rattle.dialogue.specs.History.{Fails, View}
 use Rattle.dialogue.specs.History.Event.{Told}
 use Rattle.dialogue.specs.declared.dialogue.FailedDevice.{FailedDevice}
 use Rattle.dialogue.specs.declared.dialogue.FailedDevice.TheVariants.{Input}
@@ -11,11 +11,9 @@ use Rattle.live_run.specs.declared.outcome.Outcome.{Outcome}
 use Rattle.live_run.specs.declared.outcome.Outcome.TheVariants.{ArchRefused, ArchUnreadable, Done, LogDiffers, LogInUse, LogUnreadable, NoMemory, Stopped, TooManyLines}
 use Rattle.rr_graph.specs.Graph.{Basis}
 use Rattle.service_core.specs.Service.{ServiceState}
-use Rattle.live_machine.specs.Machine.{begins_with}
 use Rattle.live_machine.specs.Workers.{without_workers}
 use Rattle.live_input.specs.Serving.{begins_on}
 use Rattle.std.specs.Prelude.{IfErr, Result, Ok, Err}
-use Rattle.std.specs.Io.KnownBytes.{Appends}
 use Rattle.std.proofs.KnownBytes.{Appends-nil}
 use Rattle.std.specs.declared.vec.Vec.{Vec}
 use Rattle.rtrb.specs.Ring.{received, sent}
@@ -25,9 +23,9 @@ use Rattle.live_threads.specs.declared.letters.InputEnd.{InputEnd}
 use Rattle.live_threads.specs.declared.letters.InputEnd.TheVariants.{Done as InputDone}
 use Rattle.live_threads.specs.Fed.{AreAllLines, PutsLines}
 use Rattle.live_threads.specs.Ends.{BeginsWith, IsResumed, IsWhole, RunsInput, RunsLive, RunsService, Serves, ServesInput, ServesLive, TellsNothing}
-use Rattle.live_threads.specs.Serving.{HasStopped, IsCut, IsServed}
-use Rattle.live_threads.specs.Taken.{ClosesAs, ClosesTexts, CutsClosing, EndsServing, IsDrained, IsServedToEnd, StopsClosing, StopsServing, TakesLines, lines_of}
-use Rattle.live_threads.proofs.ServedLemmas.{served_stops, served_then, stopped_here}
+use Rattle.live_threads.specs.Serving.{HasStopped, IsServed}
+use Rattle.live_threads.specs.Taken.{ClosesAs, ClosesTexts, CutsClosing, EndsServing, StopsClosing, StopsServing, TakesLines, lines_of}
+use Rattle.live_threads.proofs.ServedLemmas.{served_stops, served_then}
 
 closed_cut : (last : MachineState) (before after : View) → ClosesTexts last before after → CutsClosing last before after
 closed_cut last before after c = record {

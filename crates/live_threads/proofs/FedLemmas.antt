@@ -1,7 +1,7 @@
 -- The lines of an input, one after another.
-use Rattle.std.proofs.Common.{◌≡◌, ℕ, zero, suc, ◌<◌, List, [], ◌∷◌, ◌++◌, length, take, map, Bool, true, false, not, Option, Some, None, refl, sym, ap, subst, ◌∙◌, arith, append-nil, append_assoc, length-take, take-take}
-use Rattle.std.specs.Prelude.{◌&&◌, ◌==◌, IfSome, if◌then◌else◌}
-use Rattle.std.specs.List.{AllByRecursion, flat_map, list_all, onto_first}
+use Rattle.std.proofs.Common.{◌≡◌, ℕ, zero, suc, ◌<◌, List, [], ◌∷◌, ◌++◌, length, take, map, true, false, not, Option, Some, None, refl, sym, ap, subst, ◌∙◌, arith, append-nil, append_assoc, take-take}
+use Rattle.std.specs.Prelude.{◌==◌, IfSome}
+use Rattle.std.specs.List.{AllByRecursion, flat_map, list_all}
 use Rattle.std.specs.Io.KnownBytes.{Consumes, IsAtEnd}
 use Rattle.std.proofs.KnownBytes.{Consumes-nil, Consumes-trans}
 use Rattle.std.proofs.lemmas.Bool.{and_from, and_parts}
@@ -12,7 +12,7 @@ use Rattle.tagged_lines.specs.Tags.{with_feed}
 use Rattle.line_feed.specs.Pieces.{IsKept, TakesPiece, is_one_line, kept_of}
 use Rattle.line_feed.proofs.CutLemmas.{kept_none}
 use Rattle.line_service.proofs.LineLemmas.{both_lines, last_line, lines_push, lines_then}
-use Rattle.line_service.proofs.TalkLemmas.{split_line, whole_lines}
+use Rattle.line_service.proofs.TalkLemmas.{split_line}
 use Rattle.live_input.specs.Serving.{kept_lines}
 use Rattle.live_machine.specs.Machine.{IsLine}
 use Rattle.std.specs.Prelude.{Result, Ok, Err, is_err}

@@ -1,6 +1,6 @@
 -- The bytes that are kept of a line.
 use Rattle.std.proofs.Common.{◌≡◌, ◌⊎◌, inl, inr, ℕ, ◌≤◌, ◌<◌, List, [], ◌∷◌, length, map, take, Bool, true, false, not, refl, sym, ap, subst, ◌∙◌, arith, take_all}
-use Rattle.std.specs.Prelude.{◌&&◌, ◌==◌, if◌then◌else◌}
+use Rattle.std.specs.Prelude.{◌==◌, if◌then◌else◌}
 use Rattle.std.specs.List.{list_all, onto_first}
 use Rattle.std.proofs.lemmas.Bool.{and_from, and_parts}
 use Rattle.line_text.specs.Lines.{physical_lines}

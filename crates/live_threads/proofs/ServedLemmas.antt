@@ -1,7 +1,6 @@
 -- What was served, one after another.
-use Rattle.std.proofs.Common.{◌≡◌, ℕ, List, [], ◌∷◌, ◌++◌, ◌⊎◌, inl, inr, Option, Some, None, refl, sym, ap, subst, ◌∙◌, append-nil, append_assoc, take}
+use Rattle.std.proofs.Common.{◌≡◌, ℕ, List, [], ◌∷◌, ◌++◌, inl, inr, Option, Some, None, refl, sym, ap, subst, ◌∙◌, append-nil, append_assoc, take}
 use Rattle.std.specs.Prelude.{OnErr, OnOk, Result, Ok, Err}
-use Rattle.std.specs.List.{flat_map}
 use Rattle.std.specs.Io.KnownBytes.{Appends}
 use Rattle.std.proofs.KnownBytes.{Appends-nil, Appends-trans}
 use Rattle.std.proofs.lemmas.Grind.{flat_map-append}
@@ -11,7 +10,7 @@ use Rattle.dialogue.specs.declared.dialogue.FailedDevice.{FailedDevice}
 use Rattle.live_machine.specs.Account.{line_in, lines_in}
 use Rattle.live_machine.specs.Machine.{Call, Happens as HappensTo, MachineState, Run}
 use Rattle.live_machine.specs.Machine.Call.{Drain, Line}
-use Rattle.live_threads.specs.Serving.{EndsIn, HasStopped, IsCut, IsPart, IsServed, ServesSome, events_in, events_of}
+use Rattle.live_threads.specs.Serving.{EndsIn, HasStopped, IsServed, ServesSome, events_in, events_of}
 
 follows_none : (a : Option (List Event)) → Follows a a []
 follows_none None = tt

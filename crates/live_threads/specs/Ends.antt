@@ -13,7 +13,7 @@ use Rattle.live_run.specs.declared.outcome.Outcome.{Outcome}
 use Rattle.live_run.specs.declared.outcome.Outcome.TheVariants.{Done}
 use Rattle.live_threads.specs.declared.letters.InputEnd.{InputEnd}
 use Rattle.live_threads.specs.declared.letters.InputEnd.TheVariants.{Done as InputDone}
-use Rattle.live_threads.specs.Taken.{EndsServing, TakesLines}
+use Rattle.live_threads.specs.Taken.{EndsServing}
 
 -- without a log a service begins with an empty device; with one it goes on from there
 abbrev pub BeginsAt : Bool → ServiceState → Basis → LiveState → ℕ → Type 0

@@ -1,13 +1,8 @@
 -- What a service with workers takes, keeps and tells.
-use Rattle.std.specs.Prelude.{ℕ, ◌≡◌, ⊤, ◌⊎◌, List, [], ◌∷◌, ◌++◌, take, map, Bool, true, false, Option, Some, None, Result, Ok, Err}
+use Rattle.std.specs.Prelude.{ℕ, ◌≡◌, ◌⊎◌, List, [], ◌∷◌, ◌++◌, take}
 use Rattle.std.specs.List.{flat_map}
 use Rattle.dialogue.specs.History.{Event, Happens, View}
 use Rattle.dialogue.specs.History.Event.{Kept, Told}
-use Rattle.dialogue.specs.declared.dialogue.FailedDevice.{FailedDevice}
-use Rattle.dialogue.specs.declared.dialogue.FailedDevice.TheVariants.{Input, Log, Output}
-use Rattle.line_text.specs.Lines.{physical_lines}
-use Rattle.line_feed.specs.Pieces.{kept_of}
-use Rattle.live_lines.specs.Live.{LiveState}
 use Rattle.live_machine.specs.Account.{lines_in}
 use Rattle.live_machine.specs.Machine.{Call, MachineState, Run}
 use Rattle.live_machine.specs.Machine.Call.{Drain}

@@ -1,5 +1,5 @@
 -- What is taken from the ring of lines, and how a service ends.
-use Rattle.std.specs.Prelude.{ℕ, ◌≡◌, ◌⊎◌, List, [], ◌∷◌, ◌++◌, Bool, true, false, ⊤}
+use Rattle.std.specs.Prelude.{ℕ, ◌≡◌, ◌⊎◌, List, [], ◌∷◌, ◌++◌, Bool, true, false}
 use Rattle.std.specs.List.{flat_map}
 use Rattle.std.specs.declared.vec.Vec.{Vec}
 use Rattle.rtrb.specs.Ring.{SameConsumer, received}
@@ -8,12 +8,11 @@ use Rattle.dialogue.specs.History.{Event, Happens, View}
 use Rattle.dialogue.specs.History.Event.{Told}
 use Rattle.live_lines.specs.Live.{LiveState}
 use Rattle.live_input.specs.Serving.{kept_lines}
-use Rattle.live_machine.specs.Machine.{Call, MachineState, Run}
-use Rattle.live_machine.specs.Account.{lines_in}
+use Rattle.live_machine.specs.Machine.{MachineState}
 use Rattle.live_machine.specs.Parts.{EndsMachine}
 use Rattle.live_run.specs.declared.outcome.Outcome.{Outcome}
 use Rattle.live_run.specs.declared.outcome.Outcome.TheVariants.{Done}
-use Rattle.live_threads.specs.Serving.{HasStopped, IsCut, IsServed, events_of}
+use Rattle.live_threads.specs.Serving.{HasStopped, IsCut, IsServed}
 
 -- the lines of texts, each cut to the bytes that are kept of it
 abbrev pub lines_of : {A : Type 0} → List (Vec ℕ A) → List (List ℕ)

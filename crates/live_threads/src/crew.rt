@@ -1,5 +1,5 @@
 //! What the threads of a service share.
-use crate::letters::{Order, StepOrder};
+use crate::letters::Order;
 use crate::mailbox::Mailbox;
 use crate::orders::Orders;
 use std::alloc::{AllocError, Global};

@@ -1,5 +1,4 @@
 //! What goes from thread to thread: a step to make, and a step that was made.
-ghost use Rattle.std.specs.Prelude.{◌≡◌};
 
 use job_state::{AnyJob, Back, Done};
 

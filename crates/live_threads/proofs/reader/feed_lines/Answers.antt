@@ -1,5 +1,5 @@
 use Rattle.std.proofs.Common.{List, ℕ, refl, subst, sym}
-use Rattle.line_feed.specs.Feed.{ahead_of, line_of}
+use Rattle.line_feed.specs.Feed.{ahead_of}
 use Rattle.live_threads.specs.Fed.{Fed, PutsLast}
 use Rattle.live_threads.specs.Taken.{lines_of}
 use Rattle.live_threads.proofs.FedLemmas.{fed_none, fed_read, last_fed, read_ok}

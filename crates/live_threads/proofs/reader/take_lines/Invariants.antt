@@ -1,4 +1,4 @@
-use Rattle.std.proofs.Common.{ℕ, length}
+use Rattle.std.proofs.Common.{length}
 use Rattle.line_feed.specs.Feed.{ahead_of, line_of}
 use Rattle.live_threads.specs.Fed.{IsFed, TakesSome}
 use Rattle.live_threads.proofs.reader.take_lines.Given as goal

@@ -1,4 +1,4 @@
-use Rattle.std.proofs.Common.{◌≡◌, List, ℕ, Option, Some, sym, subst, ap, ◌∙◌}
+use Rattle.std.proofs.Common.{Option, sym, subst, ap, ◌∙◌}
 use Rattle.std.specs.Prelude.{is_some, option_map}
 use Rattle.rtrb.specs.Ring.{received}
 use Rattle.live_threads.specs.declared.opened.ServesOpened.{ServesOpened}

@@ -1,4 +1,4 @@
-use Rattle.std.proofs.Common.{arith, inl, inr}
+use Rattle.std.proofs.Common.{arith}
 use Rattle.live_threads.proofs.LineLemmas.{kept_part, kept_short}
 use Rattle.live_threads.proofs.serving.cut_line.Goals as goal
 

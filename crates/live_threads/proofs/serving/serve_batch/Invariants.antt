@@ -1,4 +1,4 @@
-use Rattle.std.proofs.Common.{ℕ, length}
+use Rattle.std.proofs.Common.{length}
 use Rattle.live_input.specs.Serving.{kept_lines}
 use Rattle.live_machine.specs.Parts.{IsReady, machine_of}
 use Rattle.live_threads.specs.Serving.{ServesSome}

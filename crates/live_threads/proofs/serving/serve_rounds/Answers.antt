@@ -1,7 +1,5 @@
-use Rattle.std.proofs.Common.{[]}
-use Rattle.live_machine.specs.Parts.{machine_of}
-use Rattle.live_threads.proofs.ServedLemmas.{on_err, served_more, served_none, served_stops, served_then, stopped_here}
-use Rattle.live_threads.proofs.TakenLemmas.{takes_none, takes_so, takes_then}
+use Rattle.live_threads.proofs.ServedLemmas.{on_err, served_more, served_stops, served_then, stopped_here}
+use Rattle.live_threads.proofs.TakenLemmas.{takes_so, takes_then}
 use Rattle.live_threads.proofs.serving.serve_rounds.Goals as goal
 
 pub returns-in_err-put_steps-clause-stopped : goal.returns-in_err-put_steps-clause-stopped
