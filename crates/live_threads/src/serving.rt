@@ -129,13 +129,15 @@ fn serve_round<R: Wait, O: Outlet>(
         HasStopped (machine_of machine.old) (O.view outlet.old) heard (O.view outlet.new))) }
 {
     let had_lines = serve_lines(rt, crew, lines, machine, outlet)?;
+    // Then no name has a turn before that is told.
+    let is_full = machine.to_tell() > MOST_TOLD;
     let has_more = machine.turn()?;
     give_orders(rt, crew, machine)?;
     deliver_due(machine, outlet, had_lines)?;
-    Ok(next_of(machine, has_more))
+    Ok(next_of(machine, has_more || is_full))
 }
 
-/// What a service does after a round in which a held name had a turn or had none.
+/// What a service does after a round, if more of a held name may be served, or not.
 fn next_of(machine: &Machine<'_>, has_more: bool) -> Next {
     if has_more {
         return Next::GoesOn;
