@@ -47,3 +47,14 @@ abbrev pub Takes : {T : Type 0} → List (Option T) → Turn T → List (Option 
 Takes old (Item item) new = old ≡ Some item ∷ new
 Takes old Lost new = old ≡ None ∷ new
 Takes old Nothing new = (old ≡ []) × (new ≡ [])
+
+-- the first one that waits was lost
+abbrev pub is_lost_next : {T : Type 0} → List (Option T) → Bool
+is_lost_next [] = false
+is_lost_next (None ∷ rest) = true
+is_lost_next (Some item ∷ rest) = false
+
+-- all that were lost and come next have their turn, that many
+pub record TakesLost {T : Type 0} (old : List (Option T)) (count : ℕ) (new : List (Option T)) : Type 0 where
+  pub taken : old ≡ replicate count None ++ new
+  pub all : is_lost_next new ≡ false

@@ -1,10 +1,11 @@
 //! Items that wait for their turn.
 ghost use Rattle.std.specs.Prelude.{◌≡◌, ◌<◌, ◌≤◌, [], length, option_copied, false, true};
-ghost use Rattle.backlog.specs.Waiting.{IsBounded, Puts, PutsLost, Takes, first_of, is_none_left};
+ghost use Rattle.backlog.specs.Waiting.{IsBounded, Puts, PutsLost, Takes, TakesLost, first_of, is_none_left};
 
 use std::alloc::Global;
 use std::collections::VecDeque;
 use std::marker::Model;
+use std::mem;
 
 /// The most items that wait.
 pub const MAX_ITEMS: usize = 4_096;
@@ -132,5 +133,16 @@ impl<T: Weighs + Drop> Backlog<T> {
             return Turn::Lost;
         }
         Turn::Nothing
+    }
+
+    /// Takes all that were lost and come next. Returns their number.
+    pub fn take_lost(&mut self) -> u64
+        ensures takes { TakesLost self.old result self.new }
+        ensures bounded { IsBounded T.weight self.new }
+    {
+        if !self.items.is_empty() {
+            return 0;
+        }
+        mem::replace(&mut self.lost, 0)
     }
 }

@@ -11,6 +11,7 @@ use std::alloc::{AllocError, Global};
 use tagged_lines::split_tag;
 
 /// What a line asks.
+#[derive(Clone, Copy)]
 pub enum LineRequest<'l> {
     /// It is a comment, or has no word.
     Nothing,

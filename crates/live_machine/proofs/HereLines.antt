@@ -6,9 +6,7 @@ use Rattle.script_text.specs.declared.act.Act.{Act}
 use Rattle.script_text.specs.declared.act.Act.TheVariants.{Operator, Session}
 use Rattle.script_text.specs.declared.operator_line.OperatorLine.{OperatorLine}
 use Rattle.script_text.specs.Script.{Acts, is_name, script_of}
-use Rattle.service_core.specs.Calls.{takeable_in}
 use Rattle.service_core.specs.Run.{Call}
-use Rattle.service_core.specs.Service.{live_of}
 use Rattle.sessions.specs.declared.line.LineForm.{LineForm}
 use Rattle.sessions.specs.declared.line.LineForm.TheVariants.{Asks, Begins}
 use Rattle.sessions.specs.declared.line.SessionLine.{SessionLine}
@@ -24,9 +22,10 @@ use Rattle.live_lines.specs.Acts.{IsAnswered, Telling}
 use Rattle.live_lines.specs.Live.{Asked, LiveState, TakesAsked, TellsItem, asked_by, asked_of, is_passed, operator_asks}
 use Rattle.live_lines.specs.Live.Asked.{NoForm, Nothing, Operates, Says}
 use Rattle.live_input.specs.Serving.{AnswersLine}
-use Rattle.live_machine.specs.Held.{is_wait}
-use Rattle.live_machine.specs.Machine.{is_busy, is_by_hand, is_outside, must_wait}
-use Rattle.live_machine.specs.Workers.{NeedNotWait, all_here, without_workers}
+use Rattle.live_machine.specs.Held.{form_of, is_wait}
+use Rattle.live_machine.specs.Machine.{is_busy, is_by_hand, is_outside}
+use Rattle.live_machine.specs.Workers.{IsHome, NeedNotWait, without_workers}
+use Rattle.live_machine.proofs.HereHome.{IsAtHome, idle_home}
 use Rattle.live_machine.proofs.HereServed.{served_here, stage_here}
 use Rattle.live_machine.proofs.HereWaits.{session_here}
 
@@ -77,10 +76,22 @@ not_busy true true busy is must = must
 not_busy true false busy is must = absurd (cc)
 not_busy false waits busy is must = absurd (cc)
 
-idle_wait : (old new : LiveState) (name said line : List ℕ) → said ≡ rest_of line → GivesItem (old.texts name) said (Some Wait) (new.texts name) → must_wait (without_workers old) name line ≡ false → is_busy (without_workers old) name ≡ false
-idle_wait old new name said line is gives must =
+waits_in : (old new : LiveState) (name said line : List ℕ) → said ≡ rest_of line → GivesItem (old.texts name) said (Some Wait) (new.texts name) → (is_outside (old.texts name) && is_wait (form_of line)) ≡ true
+waits_in old new name said line is gives =
     let P : List ℕ → Type 0 = λ s. (is_outside (old.texts name) && is_wait (line_form (without_cr s))) ≡ true in
-    not_busy (is_outside (old.texts name)) (is_wait (line_form (without_cr (rest_of line)))) (is_busy (without_workers old) name) (subst P is (item_waits (old.texts name) said (new.texts name) gives)) must
+    subst P is (item_waits (old.texts name) said (new.texts name) gives)
+
+-- if a name says `wait`, its job is at home
+abbrev WaitsAtHome : LiveState → Asked → List ℕ → Type 0
+WaitsAtHome live (Says name said) line = (is_outside (live.texts name) && is_wait (form_of line)) ≡ true → IsHome live name
+WaitsAtHome live asked line = ⊤
+
+idle_waits : (live : LiveState) (asked : Asked) (line : List ℕ) → NeedNotWait (without_workers live) asked line → WaitsAtHome live asked line
+idle_waits live Nothing line need = tt
+idle_waits live NoForm line need = tt
+idle_waits live (Operates operates) line need = tt
+idle_waits live (Says name said) line need =
+    λ waits. idle_home live.stage.service (last_id live.stage.names name) (not_busy (is_outside (live.texts name)) (is_wait (form_of line)) (is_busy (without_workers live) name) waits need)
 
 -- what a line asks
 abbrev answered_here : Stage → Act (List ℕ) → List Call → List ℕ → Stage → Type 0
@@ -92,28 +103,39 @@ operator_here old act line calls text new is hand answered =
     let Q : Act (List ℕ) → Type 0 = λ a. answered_here old a calls text new in
     subst Q (sym is) (served_here old line calls text new hand (subst P is answered))
 
-item_here : (old : Stage) (name : List ℕ) (item : Option SessionLine) (tellings : List Telling) (told : List Tagged) (new : Stage) → (item ≡ Some Wait → takeable_in (live_of (all_here old.service).histories (last_id old.names name)) ≡ false) → TellsItem old name item tellings told new → TellsItem (stage_here old) name item tellings told (stage_here new)
-item_here old name None tellings told new idle (none, nothing, same) = (none, nothing, ap stage_here same)
-item_here old name (Some item) tellings told new idle (t, act, answered, one, is) =
+item_here : (old : Stage) (name : List ℕ) (item : Option SessionLine) (tellings : List Telling) (told : List Tagged) (new : Stage) → (item ≡ Some Wait → IsAtHome old.service (last_id old.names name)) → TellsItem old name item tellings told new → (again : List Telling) × TellsItem (stage_here old) name item again told (stage_here new)
+item_here old name None tellings told new home (none, nothing, same) = (tellings, (none, nothing, ap stage_here same))
+item_here old name (Some item) tellings told new home (t, act, answered, one, is) =
     let P : Act (List ℕ) → Type 0 = λ a. IsAnswered old a t.calls t.text new in
-    let Q : Act (List ℕ) → Type 0 = λ a. answered_here old a t.calls t.text new in
-    (t, act, subst Q (sym act) (session_here old name item t.calls t.text new (λ waits. idle (ap Some waits)) (subst P act answered)), one, is)
+    let (calls, again) = session_here old name item t.calls t.text new (λ waits. home (ap Some waits)) (subst P act answered) in
+    let s : Telling = record { act = Session name item; calls = calls; text = t.text } in
+    (s ∷ [], (s, refl, again, refl, is))
 
-asked_here : (old new : LiveState) (number : ℕ) (line : List ℕ) (asked : Asked) (tellings : List Telling) (told : List Tagged) → IsSaidOf (rest_of line) asked → is_by_hand asked ≡ false → NeedNotWait (without_workers old) asked line → TakesAsked old number asked tellings told new → TakesAsked (without_workers old) number asked tellings told (without_workers new)
-asked_here old new number line Nothing tellings told said hand need (none, nothing, same) = (none, nothing, ap without_workers same)
-asked_here old new number line NoForm tellings told said hand need (none, nothing, same) = (none, nothing, ap without_workers same)
-asked_here old new number line (Operates operates) tellings told said hand need (t, act, answered, one, is, stay) = (t, act, operator_here old.stage t.act operates t.calls t.text new.stage act hand answered, one, is, stay)
-asked_here old new number line (Says name rest) tellings told said hand need (item, hears, tells) =
-    let idle : item ≡ Some Wait → is_busy (without_workers old) name ≡ false =
-    λ waits. let P : Option SessionLine → Type 0 = λ i. GivesItem (old.texts name) rest i (new.texts name) in idle_wait old new name rest line said (subst P waits hears.gives) need in
-    (item, hears, item_here old.stage name item tellings told new.stage idle tells)
+-- what a line asks is told, by these calls in the place of others
+abbrev AsksHere : LiveState → ℕ → Asked → List Tagged → LiveState → Type 0
+AsksHere old number asked told new = (tellings : List Telling) × TakesAsked (without_workers old) number asked tellings told (without_workers new)
+
+asked_here : (old new : LiveState) (number : ℕ) (line : List ℕ) (asked : Asked) (tellings : List Telling) (told : List Tagged) → IsSaidOf (rest_of line) asked → is_by_hand asked ≡ false → WaitsAtHome old asked line → TakesAsked old number asked tellings told new → AsksHere old number asked told new
+asked_here old new number line Nothing tellings told said hand home (none, nothing, same) = (tellings, (none, nothing, ap without_workers same))
+asked_here old new number line NoForm tellings told said hand home (none, nothing, same) = (tellings, (none, nothing, ap without_workers same))
+asked_here old new number line (Operates operates) tellings told said hand home (t, act, answered, one, is, stay) = (tellings, (t, act, operator_here old.stage t.act operates t.calls t.text new.stage act hand answered, one, is, stay))
+asked_here old new number line (Says name rest) tellings told said hand home (item, hears, tells) =
+    let waits : item ≡ Some Wait → IsHome old name =
+    λ is. let P : Option SessionLine → Type 0 = λ i. GivesItem (old.texts name) rest i (new.texts name) in home (waits_in old new name rest line said (subst P is hears.gives)) in
+    let (again, retells) = item_here old.stage name item tellings told new.stage waits tells in
+    (again, (item, hears, retells))
+
+answers_here : (old new : LiveState) (number : ℕ) (line reply : List ℕ) → is_by_hand (asked_of line) ≡ false → WaitsAtHome old (asked_of line) line → AnswersLine old number line reply new → AnswersLine (without_workers old) number line reply (without_workers new)
+answers_here old new number line reply hand home answers =
+    let (tellings, takes) = asked_here old new number line (asked_of line) answers.tellings answers.told (said_of_line line) hand home answers.takes in
+    record { tellings = tellings; told = answers.told; takes = takes; reply_is = answers.reply_is }
 
 -- each reply but those to steps by hand
 pub line_here : (old new : LiveState) (number : ℕ) (line reply : List ℕ) → is_by_hand (asked_of line) ≡ false → NeedNotWait (without_workers old) (asked_of line) line → AnswersLine old number line reply new → AnswersLine (without_workers old) number line reply (without_workers new)
-line_here old new number line reply hand need answers =
-    record {
-      tellings = answers.tellings;
-      told = answers.told;
-      takes = asked_here old new number line (asked_of line) answers.tellings answers.told (said_of_line line) hand need answers.takes;
-      reply_is = answers.reply_is;
-    }
+line_here old new number line reply hand need answers = answers_here old new number line reply hand (idle_waits old (asked_of line) line need) answers
+
+-- each reply to a name whose job is at home
+pub said_here : (old new : LiveState) (number : ℕ) (line reply name said : List ℕ) → asked_of line ≡ Says name said → IsHome old name → AnswersLine old number line reply new → AnswersLine (without_workers old) number line reply (without_workers new)
+said_here old new number line reply name said asks home answers =
+    let P : Asked → Type 0 = λ a. WaitsAtHome old a line in
+    answers_here old new number line reply (ap is_by_hand asks) (subst P (sym asks) (λ waits. home)) answers

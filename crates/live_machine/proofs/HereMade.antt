@@ -1,6 +1,6 @@
 -- What a step by hand leaves, whatever workers have.
 use Rattle.std.proofs.Common.{◌≡◌, ◌≢◌, ℕ, ◌+◌, ◌<◌, List, [], ◌∷◌, length, Bool, true, false, ◌&&◌, eqb, Option, Some, None, Result, Ok, Err, inl, inr, refl, sym, ap, subst, ◌∙◌, arith}
-use Rattle.std.specs.Prelude.{IfSome, IsSomeAnd, ⊤, is_some, nat_lt}
+use Rattle.std.specs.Prelude.{IsSomeAnd, ⊤, is_some, nat_lt}
 use Rattle.std.specs.declared.alloc.AllocError.{AllocError}
 use Rattle.std.proofs.lemmas.Bool.{eqb-true, false≢true}
 use Rattle.std.proofs.lemmas.Bool.Decides.{nat_tests}
@@ -24,7 +24,8 @@ use Rattle.sessions.specs.declared.steps.StepOutcome.{StepOutcome}
 use Rattle.sessions.specs.declared.steps.StepOutcome.TheVariants.{Recorded, Full, Gone, NoMemory, Nothing, Unfit}
 use Rattle.sessions.specs.Steps.{MakesStep}
 use Rattle.live_machine.specs.Workers.{all_here}
-use Rattle.live_machine.proofs.Here.{given, taken}
+use Rattle.live_machine.proofs.Here.{given, none_taken, taken}
+use Rattle.live_machine.proofs.HereHome.{IsAtHome, none_home}
 use Rattle.live_machine.proofs.HereSteps.{Taken, gives_here, mid_here, put_here, takes_here, unmade, what_taken}
 
 -- a journal with space has as many entries as the state counts
@@ -59,7 +60,7 @@ not_full h takeable full =
     omega (arith, room, count, entries, full)
 
 -- a step whose calls are known
-runs_as : (old : ServiceState) (calls same : List Call) (new : ServiceState) → calls ≡ same → Run old calls new → Run old same new
+pub runs_as : (old : ServiceState) (calls same : List Call) (new : ServiceState) → calls ≡ same → Run old calls new → Run old same new
 runs_as old calls same new is runs = let P : List Call → Type 0 = λ cs. Run old cs new in subst P is runs
 
 -- a step that was put, but not recorded, changes nothing but where it is
@@ -98,7 +99,7 @@ unrecorded old id calls Nothing new un makes runs =
 abbrev pub Remade : ServiceState → ℕ → StepOutcome → ServiceState → Type 0
 Remade old id outcome new = (calls : List Call) × MakesStep id calls outcome × Run (all_here old) calls (all_here new)
 
-first_taken : (old : ServiceState) (id : ℕ) (job : JobState) (calls more : List Call) (new : ServiceState) → calls ≡ Take id (Some job) ∷ more → Run old calls new → (mid : ServiceState) × Taken old id job mid × Run mid more new
+pub first_taken : (old : ServiceState) (id : ℕ) (job : JobState) (calls more : List Call) (new : ServiceState) → calls ≡ Take id (Some job) ∷ more → Run old calls new → (mid : ServiceState) × Taken old id job mid × Run mid more new
 first_taken old id job calls more new is runs =
     let run : Run old (Take id (Some job) ∷ more) new = runs_as old calls (Take id (Some job) ∷ more) new is runs in
     (run.0, what_taken old id job run.0 run.1, run.2)
@@ -113,41 +114,37 @@ remade_put old id job mid new more foreign reply t is runs =
     let P : ServiceState → Type 0 = λ s. Happens mid (Put job.step foreign (Ok (PutRecorded reply))) s in
     (mid_here old id, takes_here old id job mid t, (all_here new, put_here old id job mid new foreign reply t (subst P (sym run.2) run.1), refl))
 
-own_live : (old : ServiceState) (id : ℕ) (job : JobState) (mid : ServiceState) → (t : Taken old id job mid) → live_of mid.histories job.step.id ≡ Some (with_here None t.history)
+pub own_live : (old : ServiceState) (id : ℕ) (job : JobState) (mid : ServiceState) → (t : Taken old id job mid) → live_of mid.histories job.step.id ≡ Some (with_here None t.history)
 own_live old id job mid t = ap (live_of mid.histories) t.own ∙ t.after
 
-never_full : (old : ServiceState) (id : ℕ) (job : JobState) (mid last : ServiceState) (foreign : Bool) → Taken old id job mid → Happens mid (Put job.step foreign (Ok PutFull)) last → ⊥
-never_full old id job mid last foreign t puts =
-    let P : Option History → Type 0 = λ o. IsSomeAnd o (λ h. length h.entries ≡ 65536) in
-    not_full t.history t.next.1 (subst P (own_live old id job mid t) puts.0)
-
-never_gone : (old : ServiceState) (id : ℕ) (job : JobState) (mid last : ServiceState) (foreign : Bool) → Taken old id job mid → Happens mid (Put job.step foreign (Ok PutGone)) last → ⊥
-never_gone old id job mid last foreign t puts =
-    let none : Some (with_here None t.history) ≡ None = sym (own_live old id job mid t) ∙ puts.0 in
-    absurd (cc)
-
-never_none : (o : Option History) → takeable_in o ≡ true → IfSome o (λ h. is_takeable (slot_of h) ≡ false) → ⊥
-never_none None is none = false≢true is
-never_none (Some h) is none = false≢true (sym none ∙ is)
-
-pub remade : (old : ServiceState) (id : ℕ) (calls : List Call) (outcome : StepOutcome) (new : ServiceState) → takeable_in (live_of old.histories id) ≡ true → MakesStep id calls outcome → Run old calls new → Remade old id outcome new
-remade old id calls (Recorded reply) new busy (job, more, (foreign, puts), is) runs =
-    let (mid, t, rest) = first_taken old id job calls more new is runs in
-    (Take id (Some (unmade job)) ∷ Put job.step foreign (Ok (PutRecorded reply)) ∷ [], (unmade job, Put job.step foreign (Ok (PutRecorded reply)) ∷ [], (foreign, refl), refl), remade_put old id job mid new more foreign reply t puts rest)
-remade old id calls Full new busy (job, more, (foreign, puts), is) runs =
+-- a job that was taken is put: its journal has space, and its tenancy is live
+pub never_full : (old : ServiceState) (id : ℕ) (calls : List Call) (new : ServiceState) → MakesStep id calls Full → Run old calls new → ⊥
+never_full old id calls new (job, more, (foreign, puts), is) runs =
     let (mid, t, rest) = first_taken old id job calls more new is runs in
     let run : Run mid (Put job.step foreign (Ok PutFull) ∷ []) new = runs_as mid more (Put job.step foreign (Ok PutFull) ∷ []) new puts rest in
-    absurd (never_full old id job mid run.0 foreign t run.1)
-remade old id calls Gone new busy (job, more, (foreign, puts), is) runs =
+    let P : Option History → Type 0 = λ o. IsSomeAnd o (λ h. length h.entries ≡ 65536) in
+    not_full t.history t.next.1 (subst P (own_live old id job mid t) run.1.0)
+
+pub never_gone : (old : ServiceState) (id : ℕ) (calls : List Call) (new : ServiceState) → MakesStep id calls Gone → Run old calls new → ⊥
+never_gone old id calls new (job, more, (foreign, puts), is) runs =
     let (mid, t, rest) = first_taken old id job calls more new is runs in
     let run : Run mid (Put job.step foreign (Ok PutGone) ∷ []) new = runs_as mid more (Put job.step foreign (Ok PutGone) ∷ []) new puts rest in
-    absurd (never_gone old id job mid run.0 foreign t run.1)
-remade old id calls NoMemory new busy makes runs =
+    let none : Some (with_here None t.history) ≡ None = sym (own_live old id job mid t) ∙ run.1.0 in
+    absurd (cc)
+
+pub remade : (old : ServiceState) (id : ℕ) (calls : List Call) (outcome : StepOutcome) (new : ServiceState) → IsAtHome old id → MakesStep id calls outcome → Run old calls new → Remade old id outcome new
+remade old id calls (Recorded reply) new home (job, more, (foreign, puts), is) runs =
+    let (mid, t, rest) = first_taken old id job calls more new is runs in
+    (Take id (Some (unmade job)) ∷ Put job.step foreign (Ok (PutRecorded reply)) ∷ [], (unmade job, Put job.step foreign (Ok (PutRecorded reply)) ∷ [], (foreign, refl), refl), remade_put old id job mid new more foreign reply t puts rest)
+remade old id calls Full new home makes runs = absurd (never_full old id calls new makes runs)
+remade old id calls Gone new home makes runs = absurd (never_gone old id calls new makes runs)
+remade old id calls NoMemory new home makes runs =
     let (mid, t, rest) = first_taken old id makes.0 calls makes.1 new makes.3 runs in
     (Take id (Some (unmade makes.0)) ∷ GiveBack (unmade makes.0) ∷ [], (unmade makes.0, GiveBack (unmade makes.0) ∷ [], inl refl, refl), remade_back old id makes.0 mid new t (unrecorded old id calls NoMemory new tt makes runs))
-remade old id calls Unfit new busy makes runs =
+remade old id calls Unfit new home makes runs =
     let (mid, t, rest) = first_taken old id makes.0 calls makes.1 new makes.3 runs in
     (Take id (Some (unmade makes.0)) ∷ GiveBack (unmade makes.0) ∷ [], (unmade makes.0, GiveBack (unmade makes.0) ∷ [], refl, refl), remade_back old id makes.0 mid new t (unrecorded old id calls Unfit new tt makes runs))
-remade old id calls Nothing new busy makes runs =
+remade old id calls Nothing new home makes runs =
     let run : Run old (Take id None ∷ []) new = runs_as old calls (Take id None ∷ []) new makes runs in
-    absurd (never_none (live_of old.histories id) busy run.1.0)
+    let none : takeable_in (live_of (all_here old).histories id) ≡ false = none_home old id home run.1.0 in
+    (Take id None ∷ [], refl, (all_here old, (none_taken (live_of (all_here old).histories id) none, refl), unrecorded old id calls Nothing new tt makes runs))

@@ -1,6 +1,6 @@
 -- The replies to steps by hand, whatever workers have.
 use Rattle.std.proofs.Common.{◌≡◌, ◌≢◌, ℕ, List, [], ◌∷◌, ◌++◌, codes, decimal, get_or, true, refl, sym, ap, subst, ◌∙◌, arith, append-nil}
-use Rattle.std.proofs.lemmas.List.Elements.{All-cons, All-head, All-nil}
+use Rattle.std.proofs.lemmas.List.Elements.{All-head}
 use Rattle.script_text.specs.declared.act.Act.{Act}
 use Rattle.script_text.specs.declared.act.Act.TheVariants.{Operator}
 use Rattle.script_text.specs.declared.operator_line.OperatorLine.TheVariants.{Step}
@@ -10,21 +10,89 @@ use Rattle.sessions.specs.declared.steps.StepOutcome.{StepOutcome}
 use Rattle.sessions.specs.declared.steps.StepOutcome.TheVariants.{Recorded, Full, Gone, NoMemory, Nothing, Unfit}
 use Rattle.sessions.specs.Steps.{MakesStep}
 use Rattle.operator.specs.OperatorText.{last_id, outcome_text}
-use Rattle.operator.specs.Serving.{HasOwnGraph, IsServed, Stage}
+use Rattle.operator.specs.Serving.{IsServed, Stage}
 use Rattle.tagged_lines.specs.Tags.{Tagged, output_of, tagged_text}
 use Rattle.live_lines.specs.Acts.{IsAnswered, Telling}
 use Rattle.live_lines.specs.Live.{Asked, LiveState, TakesAsked, asked_of, operator_told}
 use Rattle.live_lines.specs.Live.Asked.{Operates}
 use Rattle.live_input.specs.Serving.{AnswersLine}
 use Rattle.live_machine.specs.Machine.{is_busy}
-use Rattle.live_machine.specs.Workers.{all_here, nomemory_reply, without_workers}
-use Rattle.live_machine.proofs.HereMade.{IsUnrecorded, remade, unrecorded}
+use Rattle.live_machine.specs.Workers.{IsHome, all_here, nomemory_reply, without_workers}
+use Rattle.live_machine.proofs.HereHome.{IsAtHome, busy_home}
+use Rattle.live_machine.proofs.HereMade.{IsUnrecorded, unrecorded}
 use Rattle.live_machine.proofs.HereServed.{stage_here}
+use Rattle.live_machine.proofs.HereTried.{Retried, calls_in, retried, same_count, same_each, same_text}
 
+-- what a line that asks for steps is answered
+record TellsSteps (old : LiveState) (name : List ℕ) (count : ℕ) (reply : List ℕ) (new : LiveState) : Type 0 where
+  calls : List Call
+  text : List ℕ
+  served : IsServed old.stage (Step name count) calls text new.stage
+  reply_is : reply ≡ output_of (operator_told (Step name count) text)
+  texts : new.texts ≡ old.texts
+
+steps_told : (old new : LiveState) (number count : ℕ) (line reply name : List ℕ) → asked_of line ≡ Operates (Step name count) → AnswersLine old number line reply new → TellsSteps old name count reply new
+steps_told old new number count line reply name asks answers =
+    let P : Asked → Type 0 = λ a. TakesAsked old number a answers.tellings answers.told new in
+    let (t, act, answered, one, is, stay) = subst P asks answers.takes in
+    let Q : Act (List ℕ) → Type 0 = λ a. IsAnswered old.stage a t.calls t.text new.stage in
+    record {
+      calls = t.calls;
+      text = t.text;
+      served = subst Q act answered;
+      reply_is = answers.reply_is ∙ ap output_of is;
+      texts = stay;
+    }
+
+told_steps : (old new : LiveState) (number count : ℕ) (line reply name : List ℕ) → asked_of line ≡ Operates (Step name count) → TellsSteps old name count reply new → AnswersLine old number line reply new
+told_steps old new number count line reply name asks s =
+    let t : Telling = record { act = Operator (Step name count); calls = s.calls; text = s.text } in
+    let told : List Tagged = operator_told (Step name count) s.text in
+    let P : Asked → Type 0 = λ a. TakesAsked old number a (t ∷ []) told new in
+    record {
+      tellings = t ∷ [];
+      told = told;
+      takes = subst P (sym asks) (t, refl, s.served, refl, refl, s.texts);
+      reply_is = s.reply_is;
+    }
+
+served_steps : (old : Stage) (name : List ℕ) (count : ℕ) (calls : List Call) (text : List ℕ) (new : Stage) → IsAtHome old.service (last_id old.names name) → IsServed old (Step name count) calls text new →
+    (again : List Call) × IsServed (stage_here old) (Step name count) again text (stage_here new)
+served_steps old name count calls text new home (tried, counted, all, runs, names, jobs, calls_are, text_is, graph, fits) =
+    let id : ℕ = last_id old.names name in
+    let P : List Call → Type 0 = λ cs. Run old.service cs new.service in
+    let r : Retried StepOutcome (λ o. o) old.service id tried new.service = retried StepOutcome (λ o. o) old.service id tried new.service home all (subst P calls_are runs) in (
+      calls_in StepOutcome r.again,
+      (
+        r.again,
+        same_count StepOutcome r.again tried r.same ∙ counted,
+        r.made,
+        r.runs,
+        names,
+        jobs,
+        refl,
+        text_is ∙ sym (same_text StepOutcome outcome_text r.again tried r.same),
+        graph,
+        λ own. same_each StepOutcome (λ o. o ≢ Unfit) r.again tried r.same (fits own),
+      ),
+    )
+
+-- the reply to steps of a job that is at home
+pub steps_here : (old new : LiveState) (number count : ℕ) (line reply name : List ℕ) → asked_of line ≡ Operates (Step name count) → IsHome old name → AnswersLine old number line reply new → AnswersLine (without_workers old) number line reply (without_workers new)
+steps_here old new number count line reply name asks home answers =
+    let s = steps_told old new number count line reply name asks answers in
+    let (again, served) = served_steps old.stage name count s.calls s.text new.stage home s.served in
+    told_steps (without_workers old) (without_workers new) number count line reply name asks
+    (record { calls = again; text = s.text; served = served; reply_is = s.reply_is; texts = s.texts })
+
+-- the reply to a step that can be taken
+pub step_here : (old new : LiveState) (number : ℕ) (line reply name : List ℕ) → asked_of line ≡ Operates (Step name 1) → is_busy old name ≡ true → AnswersLine old number line reply new → AnswersLine (without_workers old) number line reply (without_workers new)
+step_here old new number line reply name asks busy answers = steps_here old new number 1 line reply name asks (busy_home old.stage.service (last_id old.stage.names name) busy) answers
+
+-- the one step that was tried
 abbrev StepTried : Type 0
 StepTried = List Call × StepOutcome
 
--- the one step that was tried
 record Tries (old : Stage) (name : List ℕ) (calls : List Call) (text : List ℕ) (new : Stage) : Type 0 where
   outcome : StepOutcome
   makes : MakesStep (last_id old.names name) calls outcome
@@ -33,7 +101,6 @@ record Tries (old : Stage) (name : List ℕ) (calls : List Call) (text : List �
   jobs : new.jobs ≡ old.jobs
   text_is : text ≡ outcome_text outcome
   graph : new.graph ≡ old.graph
-  fits : HasOwnGraph old → outcome ≢ Unfit
 
 one_tried : (old : Stage) (name : List ℕ) (calls : List Call) (text : List ℕ) (new : Stage) → IsServed old (Step name 1) calls text new → Tries old name calls text new
 one_tried old name calls text new ([], count, all, runs, names, jobs, calls_are, text_is, graph, fits) = absurd (omega (arith, count))
@@ -48,69 +115,8 @@ one_tried old name calls text new (m ∷ [], count, all, runs, names, jobs, call
       jobs = jobs;
       text_is = text_is ∙ append-nil (outcome_text m.1);
       graph = graph;
-      fits = λ own. All-head (λ (t : StepTried). t.1 ≢ Unfit) m [] (fits own);
     }
 one_tried old name calls text new (m ∷ n ∷ others, count, all, runs, names, jobs, calls_are, text_is, graph, fits) = absurd (omega (arith, count))
-
-tried_served : (old : Stage) (name : List ℕ) (calls : List Call) (text : List ℕ) (new : Stage) → Tries old name calls text new → IsServed old (Step name 1) calls text new
-tried_served old name calls text new t =
-    let id : ℕ = last_id old.names name in
-    let one : StepTried = (calls, t.outcome) in (
-      one ∷ [],
-      refl,
-      All-cons (λ (s : StepTried). MakesStep id s.0 s.1) one [] t.makes (All-nil (λ (s : StepTried). MakesStep id s.0 s.1)),
-      t.runs,
-      t.names,
-      t.jobs,
-      sym (append-nil calls),
-      t.text_is ∙ sym (append-nil (outcome_text t.outcome)),
-      t.graph,
-      λ own. All-cons (λ (s : StepTried). s.1 ≢ Unfit) one [] (t.fits own) (All-nil (λ (s : StepTried). s.1 ≢ Unfit)),
-    )
-
--- what a line that asks for one step is answered
-record TellsStep (old : LiveState) (name reply : List ℕ) (new : LiveState) : Type 0 where
-  calls : List Call
-  text : List ℕ
-  tries : Tries old.stage name calls text new.stage
-  reply_is : reply ≡ output_of (operator_told (Step name 1) text)
-  texts : new.texts ≡ old.texts
-
-step_told : (old new : LiveState) (number : ℕ) (line reply name : List ℕ) → asked_of line ≡ Operates (Step name 1) → AnswersLine old number line reply new → TellsStep old name reply new
-step_told old new number line reply name asks answers =
-    let P : Asked → Type 0 = λ a. TakesAsked old number a answers.tellings answers.told new in
-    let (t, act, answered, one, is, stay) = subst P asks answers.takes in
-    let Q : Act (List ℕ) → Type 0 = λ a. IsAnswered old.stage a t.calls t.text new.stage in
-    record {
-      calls = t.calls;
-      text = t.text;
-      tries = one_tried old.stage name t.calls t.text new.stage (subst Q act answered);
-      reply_is = answers.reply_is ∙ ap output_of is;
-      texts = stay;
-    }
-
-told_step : (old new : LiveState) (number : ℕ) (line reply name : List ℕ) → asked_of line ≡ Operates (Step name 1) → TellsStep old name reply new → AnswersLine old number line reply new
-told_step old new number line reply name asks s =
-    let t : Telling = record { act = Operator (Step name 1); calls = s.calls; text = s.text } in
-    let told : List Tagged = operator_told (Step name 1) s.text in
-    let P : Asked → Type 0 = λ a. TakesAsked old number a (t ∷ []) told new in
-    record {
-      tellings = t ∷ [];
-      told = told;
-      takes = subst P (sym asks) (t, refl, tried_served old.stage name s.calls s.text new.stage s.tries, refl, refl, s.texts);
-      reply_is = s.reply_is;
-    }
-
-tries_here : (old : Stage) (name : List ℕ) (calls : List Call) (text : List ℕ) (new : Stage) → (t : Tries old name calls text new) → (same : List Call) → MakesStep (last_id old.names name) same t.outcome → Run (all_here old.service) same (all_here new.service) → Tries (stage_here old) name same text (stage_here new)
-tries_here old name calls text new t same makes runs = record { outcome = t.outcome; makes = makes; runs = runs; names = t.names; jobs = t.jobs; text_is = t.text_is; graph = t.graph; fits = t.fits }
-
--- the reply to a step that can be taken
-pub step_here : (old new : LiveState) (number : ℕ) (line reply name : List ℕ) → asked_of line ≡ Operates (Step name 1) → is_busy old name ≡ true → AnswersLine old number line reply new → AnswersLine (without_workers old) number line reply (without_workers new)
-step_here old new number line reply name asks busy answers =
-    let s = step_told old new number line reply name asks answers in
-    let (same, makes, runs) = remade old.stage.service (last_id old.stage.names name) s.calls s.tries.outcome new.stage.service busy s.tries.makes s.tries.runs in
-    told_step (without_workers old) (without_workers new) number line reply name asks
-    (record { calls = same; text = s.text; tries = tries_here old.stage name s.calls s.text new.stage s.tries same makes runs; reply_is = s.reply_is; texts = s.texts })
 
 -- a step whose reply is that memory ran out was not recorded
 abbrev told_outcome : StepOutcome → List ℕ
@@ -153,8 +159,9 @@ same_state old new service names jobs graph texts =
 
 pub nomemory_here : (old new : LiveState) (number : ℕ) (line reply name : List ℕ) → asked_of line ≡ Operates (Step name 1) → reply ≡ nomemory_reply name → AnswersLine old number line reply new → without_workers new ≡ without_workers old
 nomemory_here old new number line reply name asks is answers =
-    let s = step_told old new number line reply name asks answers in
-    let told : told_outcome s.tries.outcome ≡ told_outcome NoMemory = sym (s.reply_is ∙ ap (λ text. output_of (operator_told (Step name 1) text)) s.tries.text_is) ∙ is in
+    let s = steps_told old new number 1 line reply name asks answers in
+    let t = one_tried old.stage name s.calls s.text new.stage s.served in
+    let told : told_outcome t.outcome ≡ told_outcome NoMemory = sym (s.reply_is ∙ ap (λ text. output_of (operator_told (Step name 1) text)) t.text_is) ∙ is in
     same_state old new
-    (unrecorded old.stage.service (last_id old.stage.names name) s.calls s.tries.outcome new.stage.service (no_memory_unrecorded s.tries.outcome told) s.tries.makes s.tries.runs)
-    s.tries.names s.tries.jobs s.tries.graph s.texts
+    (unrecorded old.stage.service (last_id old.stage.names name) s.calls t.outcome new.stage.service (no_memory_unrecorded t.outcome told) t.makes t.runs)
+    t.names t.jobs t.graph s.texts

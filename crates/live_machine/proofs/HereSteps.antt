@@ -122,7 +122,7 @@ changes_by slot done foreign here (Some kind) its flag is =
     ∙ (ap (λ b. option_map_or (λ (new : State). Some false) (goes b).0 here) next
     ∙ went_on state kind here)
 
-entry_here : (h : History) (done : JobStep) (foreign : Bool) (reply : StepReply) → next_job (slot_of h) ≡ Some done → IsStepOf h done foreign reply →
+pub entry_here : (h : History) (done : JobStep) (foreign : Bool) (reply : StepReply) → next_job (slot_of h) ≡ Some done → IsStepOf h done foreign reply →
     rested (with_entry (step_entry done foreign reply) (with_here None h)) ≡ with_entry (step_entry done foreign reply) (with_here None h)
 entry_here h done foreign reply next is =
     ap (λ here. record h { entries = h.entries ++ step_entry done foreign reply ∷ []; here = here }) (sym (changes_by (slot_of h) done foreign None (kind_that_runs (state_of h).name) refl is.flag next))

@@ -16,7 +16,7 @@ use Rattle.live_lines.specs.Live.Asked.{Says}
 use Rattle.live_machine.specs.Held.{HearsHeld, HearsIn, HearsForm, Held, HeldItem, HearsOf, IsSaidBy, TakesOf, begins_with_wait, form_of, has_items, held_of, is_lost_text, is_wait_item, text_of, with_held, without_name}
 use Rattle.live_machine.specs.declared.held.OpenText.{OpenText}
 use Rattle.live_machine.specs.declared.held.OpenText.TheVariants.{NoText, Begun, Lost}
-use Rattle.live_machine.specs.Machine.{is_busy, EndsHold, GivesUp, IsFree, ServesFirst, WaitsAfter, IsLine, Frees, MachineState, ServesAll, ServesItems, ServesSaid, TellsLost, must_wait}
+use Rattle.live_machine.specs.Machine.{is_busy, EndsHold, GivesUp, IsFree, ServesFirst, WaitsAfter, IsLine, Frees, MachineState, ServesAll, ServesSaid, TellsLost, must_wait}
 use Rattle.live_machine.specs.Parts.{AreServed, FreesDone, FreesHeld, HearsHolding, ServesOne, has_wait}
 use Rattle.live_machine.proofs.HeldLemmas.{changed_own, name_of_held, same_name}
 use Rattle.live_machine.proofs.LineLemmas.{said_of}
@@ -31,14 +31,14 @@ all_held name [] old new same = ap (λ (m : MachineState). m.held) same
 all_held name (line ∷ lines) old new (mid, one, rest) = all_held name lines mid new rest ∙ said_held (must_wait old.live name line) name line old mid one
 
 -- what is held of a name afterwards
-own_after : (held : List Held) (name : List ℕ) (h : Held) (items : List HeldItem) → held_of held name ≡ Some h → held_of (with_held held (record h { items = items })) name ≡ Some (record h { items = items })
+pub own_after : (held : List Held) (name : List ℕ) (h : Held) (items : List HeldItem) → held_of held name ≡ Some h → held_of (with_held held (record h { items = items })) name ≡ Some (record h { items = items })
 own_after held name h items is =
     let same : h.name ≡ name = name_of_held held name h is in
     let P : List ℕ → Type 0 = λ n. held_of held n ≡ Some h in
     ap (λ n. held_of (with_held held (record h { items = items })) n) (sym same) ∙ changed_own held h (record h { items = items }) (subst P (sym same) is)
 
 -- what is put back as it is
-same_held : (held : List Held) (name : List ℕ) (h : Held) → held_of held name ≡ Some h → with_held held h ≡ held
+pub same_held : (held : List Held) (name : List ℕ) (h : Held) → held_of held name ≡ Some h → with_held held h ≡ held
 same_held [] name h is = refl
 same_held (x ∷ held) name h is =
     elim (bytes_eq x.name name) as (λ b. bytes_eq x.name name ≡ b → cond b (Some x) (held_of held name) ≡ Some h → with_held (x ∷ held) h ≡ x ∷ held) [
@@ -99,21 +99,6 @@ one_lost (Some h) old new name held is (items, first, changed) tells =
       subst Q (sym (name_of_held old.held name h is)) (subst P changed tells),
       ap (λ hs. held_of hs name) (ap (λ (m : MachineState). m.held) tells ∙ changed) ∙ own_after old.held name h items is,
     )
-
--- all items, one after another
-pub item_before : (o : Option Held) (old mid new : MachineState) (name : List ℕ) → held_of old.held name ≡ o → ServesOne true o name old mid → AreServed (held_of mid.held name) name mid new → AreServed o name old new
-item_before None old mid new name is one rest = tt
-item_before (Some h) old mid new name is (item, items, first, serves, left) rest =
-    let P : Option Held → Type 0 = λ o. AreServed o name mid new in
-    let more = subst P left rest in
-    let Q : List HeldItem → Type 0 = λ its. ServesItems its h old new in
-    (subst Q (sym first) (mid, serves, more.0), more.1)
-
-pub no_item : (o : Option Held) (old new : MachineState) (name : List ℕ) → held_of old.held name ≡ o → ServesOne false o name old new → AreServed o name old new
-no_item None old new name is one = tt
-no_item (Some h) old new name is (none, same) =
-    let Q : List HeldItem → Type 0 = λ its. ServesItems its h old new in
-    (subst Q (sym none) same, ap (λ (m : MachineState). held_of m.held name) same ∙ (is ∙ ap (λ (its : List HeldItem). Some (record h { items = its })) none))
 
 -- a name is freed
 abbrev pub FreesAs : OpenText → List ℕ → MachineState → MachineState → Type 0

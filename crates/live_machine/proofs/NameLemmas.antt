@@ -8,7 +8,7 @@ use Rattle.std.proofs.lemmas.Bool.Decides.{nat_tests}
 use Rattle.std.proofs.lemmas.Option.{slice_get-get_or, slice_get_past}
 use Rattle.backlog.specs.declared.backlog.Turn.{Turn}
 use Rattle.backlog.specs.declared.backlog.Turn.TheVariants.{Item, Nothing, Lost as ItemIsLost}
-use Rattle.live_machine.specs.Held.{Held, HearsHeld, HearsOf, TakesFirst, TakesOf, held_of, with_held, without_name}
+use Rattle.live_machine.specs.Held.{Held, HearsHeld, HearsOf, TakesFirst, TakesLostItems, TakesLostOf, TakesOf, held_of, with_held, without_name}
 use Rattle.live_machine.proofs.HeldLemmas.{name_of_held, same_name}
 
 -- the name is that of what is held
@@ -80,6 +80,11 @@ pub takes_at : (held : List Held) (name : List ℕ) (place : ℕ) (old : Held) (
     TakesOf (held_of held name) held turn (set held place new)
 takes_at held name place old turn new at is takes =
     subst (λ o. TakesOf o held turn (set held place new)) (sym (at.found old is)) (new, takes, at.changed new (keeps_name old turn new takes ∙ named_at held name place old at is))
+
+pub takes_lost_at : (held : List Held) (name : List ℕ) (place : ℕ) (old : Held) (count : ℕ) (new : Held) → IsPlace held name place → old ≡ get_or held place old → TakesLostItems old count new →
+    TakesLostOf (held_of held name) held count (set held place new)
+takes_lost_at held name place old count new at is (lost, kept) =
+    subst (λ o. TakesLostOf o held count (set held place new)) (sym (at.found old is)) (new, (lost, kept), at.changed new (ap (λ (h : Held). h.name) kept ∙ named_at held name place old at is))
 
 -- a name is held no longer, whatever was held of it
 pub freed_changed : (held : List Held) (new : Held) → without_name (with_held held new) new.name ≡ without_name held new.name

@@ -5,6 +5,7 @@ use Rattle.std.specs.Str.{bytes_eq}
 use Rattle.std.specs.List.{AllByRecursion, list_all}
 use Rattle.backlog.specs.declared.backlog.Turn.{Turn}
 use Rattle.backlog.specs.declared.backlog.Turn.TheVariants.{Item, Nothing as NothingWaits, Lost as ItemIsLost}
+use Rattle.backlog.specs.Waiting.{TakesLost}
 use Rattle.line_feed.specs.Pieces.{is_one_line, kept_of}
 use Rattle.live_lines.specs.Live.{asked_of}
 use Rattle.live_lines.specs.Live.Asked.{Says}
@@ -132,6 +133,10 @@ TakesFirst old (Item lines) new = (old.items ≡ Some lines ∷ new.items) × (n
 TakesFirst old ItemIsLost new = (old.items ≡ None ∷ new.items) × (new ≡ record old { items = new.items })
 TakesFirst old NothingWaits new = (old.items ≡ []) × (new ≡ old)
 
+-- its items that were lost and come next are taken, that many
+abbrev pub TakesLostItems : Held → ℕ → Held → Type 0
+TakesLostItems old count new = TakesLost old.items count new.items × (new ≡ record old { items = new.items })
+
 -- a line of a name comes, of which that is held; without it nothing changes
 abbrev pub HearsOf : Option Held → List Held → List ℕ → List Held → Type 0
 HearsOf None old line new = new ≡ old
@@ -141,6 +146,11 @@ HearsOf (Some h) old line new = (after : Held) × HearsHeld h line after × (new
 abbrev pub TakesOf : Option Held → List Held → Turn (List (List ℕ)) → List Held → Type 0
 TakesOf None old turn new = (turn ≡ NothingWaits) × (new ≡ old)
 TakesOf (Some h) old turn new = (after : Held) × TakesFirst h turn after × (new ≡ with_held old after)
+
+-- the items of a name that were lost and come next are taken, that many, if that is held of it
+abbrev pub TakesLostOf : Option Held → List Held → ℕ → List Held → Type 0
+TakesLostOf None old count new = (count ≡ 0) × (new ≡ old)
+TakesLostOf (Some h) old count new = (after : Held) × TakesLostItems h count after × (new ≡ with_held old after)
 
 -- the text in which a name is, if it is held
 abbrev pub text_of : Option Held → OpenText

@@ -1,6 +1,6 @@
 -- private: the parts of the machine's code, and what they do.
 use Rattle.std.specs.Prelude.{ℕ, ◌≡◌, List, [], ◌∷◌, ◌++◌, Bool, true, false, nat_lt, Option, Some, None, IsSomeAnd, ⊤}
-use Rattle.std.specs.List.{AllByRecursion, flat_map}
+use Rattle.std.specs.List.{AllByRecursion, flat_map, repeat}
 use Rattle.script_text.specs.declared.operator_line.OperatorLine.TheVariants.{Step}
 use Rattle.job_state.specs.declared.step.JobStep.{JobStep}
 use Rattle.tenant_slot.specs.declared.slot.TheConstants.{MAX_ENTRIES}
@@ -48,6 +48,21 @@ has_wait (Some h) = begins_with_wait h.items
 abbrev pub items_in : Option Held → List HeldItem
 items_in None = []
 items_in (Some h) = h.items
+
+-- private: that many items of a name are answered that memory ran out
+abbrev pub TellsLostItems : ℕ → MachineState → List ℕ → MachineState → Type 0
+TellsLostItems count old name new = new ≡ record old { told = old.told ++ repeat count (output_of (for_name name no_memory_text ∷ [])) }
+
+-- private: these first items of a held name are served, and those are left
+abbrev pub ServesSome : List HeldItem → List HeldItem → Held → MachineState → MachineState → Type 0
+ServesSome [] left h old new = new ≡ old
+ServesSome (item ∷ items) left h old new = (mid : MachineState) × ServesItem item (record h { items = items ++ left }) old mid × ServesSome items left h mid new
+
+-- private: the first items of a held name are served, if it has any
+abbrev pub ServesNext : Bool → Option Held → List ℕ → MachineState → MachineState → Type 0
+ServesNext went None name old new = (went ≡ false) × (new ≡ old)
+ServesNext true (Some h) name old new = (item : HeldItem) × (items : List HeldItem) × (left : List HeldItem) × (h.items ≡ item ∷ (items ++ left)) × ServesSome (item ∷ items) left h old new × (held_of new.held name ≡ Some (record h { items = left }))
+ServesNext false (Some h) name old new = (h.items ≡ []) × (new ≡ old)
 
 -- private: the first item of a held name is served, if it has one
 abbrev pub ServesOne : Bool → Option Held → List ℕ → MachineState → MachineState → Type 0

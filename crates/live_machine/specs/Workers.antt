@@ -10,7 +10,7 @@ use Rattle.service_core.specs.Service.{ServiceState, journal_of, live_of}
 use Rattle.tagged_lines.specs.Tags.{output_of}
 use Rattle.live_lines.specs.Live.{Asked, LiveState, operator_told}
 use Rattle.live_lines.specs.Live.Asked.{Says}
-use Rattle.live_machine.specs.Machine.{must_wait}
+use Rattle.live_machine.specs.Machine.{is_busy, must_wait}
 
 -- the service with each step here, and not made: what workers have is no part of it
 abbrev pub all_here : ServiceState → ServiceState
@@ -18,6 +18,10 @@ all_here service = record service { histories = map (with_here (Some false)) ser
 
 abbrev pub without_workers : LiveState → LiveState
 without_workers live = record live { stage = record live.stage { service = all_here live.stage.service } }
+
+-- no worker has the next step of that name's job
+abbrev pub IsHome : LiveState → List ℕ → Type 0
+IsHome live name = is_busy (without_workers live) name ≡ is_busy live name
 
 -- private: a job of that tenancy runs, wherever its next step is, and its journal has room
 abbrev pub runs_in : Option History → Bool

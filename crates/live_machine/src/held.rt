@@ -4,7 +4,7 @@ ghost use Rattle.line_feed.specs.Pieces.{is_one_line};
 ghost use Rattle.sessions.specs.declared.line.SessionLine.TheVariants.{Blank};
 ghost use Rattle.sessions.specs.Items.{ends_text};
 ghost use Rattle.tagged_lines.specs.Tags.{rest_of};
-ghost use Rattle.live_machine.specs.Held.{HearsForm, HearsHeld, HearsIn, IsSaidBy, IsSaidText, PutsItem, TakesFirst, begins_with_wait, calls_off, gives_up, has_items, is_lost_text};
+ghost use Rattle.live_machine.specs.Held.{HearsForm, HearsHeld, HearsIn, IsSaidBy, IsSaidText, PutsItem, TakesFirst, TakesLostItems, begins_with_wait, calls_off, gives_up, has_items, is_lost_text};
 ghost use Rattle.live_machine.specs.declared.held.OpenText.TheVariants.{Begun, Lost, NoText};
 
 use crate::item_lines::{ItemLines, form_of};
@@ -147,6 +147,13 @@ impl Hold {
         ensures { TakesFirst self.old result self.new }
     {
         self.items.take()
+    }
+
+    /// Takes its items that were lost and come next. Returns their number.
+    pub(crate) fn take_lost(&mut self) -> u64
+        ensures { TakesLostItems self.old result self.new }
+    {
+        self.items.take_lost()
     }
 
     /// Takes the text in which it is.

@@ -1,7 +1,7 @@
 //! The names that are held.
 ghost use Rattle.std.specs.Prelude.{◌≡◌, ◌==◌, ◌++◌, ◌∷◌, [], Some, length, position, slice_get, IfErr, OnErr, OnOk, is_ok, option_copied, option_map, if◌then◌else◌};
 ghost use Rattle.std.specs.Str.{bytes_eq};
-ghost use Rattle.live_machine.specs.Held.{are_at_rest, HearsOf, IsSaidBy, IsSaidText, TakesOf, held_of, text_of, without_name};
+ghost use Rattle.live_machine.specs.Held.{are_at_rest, HearsOf, IsSaidBy, IsSaidText, TakesLostOf, TakesOf, held_of, text_of, without_name};
 ghost use Rattle.live_machine.specs.declared.held.OpenText.TheVariants.{NoText};
 
 use crate::held::{Hold, OpenText, TooManyItems};
@@ -139,6 +139,16 @@ impl HeldNames {
         match place_of(self.holds.as_slice(), name) {
             Some(place) => self.holds[place].take(),
             None => Turn::Nothing,
+        }
+    }
+
+    /// Takes the items of the name that were lost and come next. Returns their number.
+    pub(crate) fn take_lost(&mut self, name: &[u8]) -> u64
+        ensures { TakesLostOf (held_of self.old name.now) self.old result self.new }
+    {
+        match place_of(self.holds.as_slice(), name) {
+            Some(place) => self.holds[place].take_lost(),
+            None => 0,
         }
     }
 

@@ -14,7 +14,7 @@
 //! In `specs/`, `Held` says what is held of a name, `Machine` what each call does, `Turn` what is
 //! served, kept and told, and `Account` what all calls amount to. [`machine_law`] is the law.
 //! `Workers` says what the service is without its workers, and [`workers_law`] that others see no
-//! more of it.
+//! more of it. For a name whose job is at home ([`is_home`]) that holds of each line.
 #![tactic(auto)]
 
 mod agenda;
@@ -31,5 +31,7 @@ mod workers;
 
 pub use law::machine_law;
 pub use machine::{MOST_TOLD, Machine, StepEnd};
+pub use made_lines::says_wait;
+pub use running::is_home;
 pub use stop::Stop;
 pub use workers::workers_law;

@@ -20,7 +20,7 @@ use std::alloc::{AllocError, Global};
 use tagged_lines::{split_tag, write_at_once};
 
 /// Whether a line of a name says `wait`, outside of texts.
-pub(crate) fn says_wait(line: &[u8]) -> bool
+pub fn says_wait(line: &[u8]) -> bool
     ensures { result ≡ is_wait (form_of line.now) }
 {
     let (_, said) = split_tag(line);

@@ -1,8 +1,10 @@
-//! Whether a tenancy's job runs.
-ghost use Rattle.std.specs.Prelude.{◌≡◌};
+//! Whether a tenancy's job runs, and whether it is at home.
+ghost use Rattle.std.specs.Prelude.{◌≡◌, ◌↔◌, true};
 ghost use Rattle.service_core.specs.Service.{AreAlone, live_of};
-ghost use Rattle.live_machine.specs.Workers.{runs_in};
+ghost use Rattle.live_input.specs.Serving.{state_in};
+ghost use Rattle.live_machine.specs.Workers.{IsHome, runs_in};
 
+use live_input::LiveLines;
 use service_core::Service;
 use tenant_slot::{MAX_ENTRIES, StateName};
 
@@ -18,4 +20,14 @@ pub(crate) fn has_job(core: &Service, id: u32) -> bool
         }
         _ => false,
     }
+}
+
+/// Whether no worker has the next step of that name's job.
+pub fn is_home(lines: &LiveLines<'_>, name: &[u8]) -> bool
+    ensures { (result ≡ true) ↔ IsHome (state_in lines.now) name.now }
+{
+    let live = lines.live();
+    let core = live.service();
+    let id = live.names().last_id(name);
+    has_job(core, id) == core.has_step(id)
 }

@@ -1,6 +1,6 @@
 //! Serves lines, and gathers what is to be kept and what is to be told.
 ghost use Rattle.std.specs.Prelude.{◌≡◌, ◌<◌, ◌+◌, ◌^◌, ◌++◌, [], false, true, List, ℕ, length, IfOk, OnOk};
-ghost use Rattle.std.specs.List.{AllByRecursion};
+ghost use Rattle.std.specs.List.{AllByRecursion, repeat};
 ghost use Rattle.line_text.specs.Lines.{physical_lines};
 ghost use Rattle.script_text.specs.declared.operator_line.OperatorLine.TheVariants.{Step};
 ghost use Rattle.script_text.specs.Script.{is_name};
@@ -12,7 +12,7 @@ ghost use Rattle.live_lines.specs.Live.Asked.{Operates};
 ghost use Rattle.live_input.specs.Serving.{AnswersLine, ClosesTexts, is_ready, state_in};
 ghost use Rattle.live_machine.specs.Held.{Held, IsSaidBy};
 ghost use Rattle.live_machine.specs.Machine.{IsLine, Serves, ServesAll, ServesNobodys, ServesSaid, TellsLost, is_busy, is_by_hand, must_wait};
-ghost use Rattle.live_machine.specs.Parts.{PutsIf, state_with};
+ghost use Rattle.live_machine.specs.Parts.{PutsIf, TellsLostItems, state_with};
 ghost use Rattle.live_machine.specs.Workers.{NeedNotWait, without_workers};
 
 use crate::made_lines::{formless_line, is_nomemory, lost_text, says_wait, status_line, step_line};
@@ -192,8 +192,17 @@ impl<'g> LineServer<'g> {
         ensures tells { OnOk result ((held : List Held) →
             TellsLost (state_with self.old held) name.now (state_with self.new held)) }
     {
+        self.tell_lost_items(name, 1)
+    }
+
+    /// Answers that many items of a name: memory ran out for them.
+    pub(crate) fn tell_lost_items(&mut self, name: &[u8], count: u64) -> Result<(), Stop>
+        ensures lines { self.new.lines ≡ self.old.lines }
+        ensures tells { OnOk result ((held : List Held) →
+            TellsLostItems count (state_with self.old held) name.now (state_with self.new held)) }
+    {
         let text = lost_text(self.alloc, name)?;
-        self.told.extend_from_slice(text.as_slice())?;
+        push_times(&mut self.told, text.as_slice(), count)?;
         Ok(())
     }
 
@@ -327,5 +336,19 @@ fn push_line(text: &mut Vec<u8>, line: &[u8]) -> Result<(), AllocError>
 {
     text.extend_from_slice(line)?;
     text.push(b'\n')?;
+    Ok(())
+}
+
+/// Adds a text that many times.
+fn push_times(told: &mut Vec<u8>, text: &[u8], count: u64) -> Result<(), AllocError>
+    ensures { OnOk result (told.new.items ≡ told.old.items ++ repeat count text.now) }
+{
+    match text.len().checked_mul(count as usize) {
+        Some(len) => told.reserve(len)?,
+        None => return Err(AllocError),
+    }
+    for _ in 0..count {
+        told.extend_from_slice(text)?;
+    }
     Ok(())
 }

@@ -6,10 +6,10 @@ ghost use Rattle.service_core.specs.Run.{Happens};
 ghost use Rattle.service_core.specs.Run.Call.{GiveBack, Take};
 ghost use Rattle.service_core.specs.Service.{ServiceState};
 ghost use Rattle.live_lines.specs.Live.{LiveState, asked_of};
-ghost use Rattle.live_lines.specs.Live.Asked.{Operates};
+ghost use Rattle.live_lines.specs.Live.Asked.{Operates, Says};
 ghost use Rattle.live_input.specs.Serving.{AnswersLine};
 ghost use Rattle.live_machine.specs.Machine.{is_busy, is_by_hand};
-ghost use Rattle.live_machine.specs.Workers.{IsLeftAlone, NeedNotWait, all_here, nomemory_reply, without_workers};
+ghost use Rattle.live_machine.specs.Workers.{IsHome, IsLeftAlone, NeedNotWait, all_here, nomemory_reply, without_workers};
 
 /// What workers have is no part of the live service that others see.
 pub fn workers_law()
@@ -17,6 +17,16 @@ pub fn workers_law()
     // `wait` that couldn't be answered yet.
     ensures line { (old new : LiveState) (number : ℕ) (line reply : List ℕ) →
         is_by_hand (asked_of line) ≡ false → NeedNotWait (without_workers old) (asked_of line) line →
+        AnswersLine old number line reply new → AnswersLine (without_workers old) number line reply
+        (without_workers new) }
+    // So is each line of a name whose job's next step no worker has, a `wait` too.
+    ensures said { (old new : LiveState) (number : ℕ) (line reply name said : List ℕ) →
+        asked_of line ≡ Says name said → IsHome old name →
+        AnswersLine old number line reply new → AnswersLine (without_workers old) number line reply
+        (without_workers new) }
+    // So is a line that makes steps of such a job.
+    ensures steps { (old new : LiveState) (number count : ℕ) (line reply name : List ℕ) →
+        asked_of line ≡ Operates (Step name count) → IsHome old name →
         AnswersLine old number line reply new → AnswersLine (without_workers old) number line reply
         (without_workers new) }
     // So is a line that makes one step of a job whose step can be taken.

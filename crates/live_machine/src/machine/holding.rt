@@ -2,7 +2,7 @@
 ghost use Rattle.std.specs.Prelude.{◌≡◌, ◌&&◌, IfOk, IfSome, OnOk};
 ghost use Rattle.live_machine.specs.Held.{begins_with_wait, has_items, held_of, is_lost_text};
 ghost use Rattle.live_machine.specs.Machine.{EndsHold, is_busy};
-ghost use Rattle.live_machine.specs.Parts.{AreServed, FreesDone, FreesHeld, HasTurn, IsGivenUp, IsReady, ServesOne, has_wait, machine_of};
+ghost use Rattle.live_machine.specs.Parts.{AreServed, FreesDone, FreesHeld, HasTurn, IsGivenUp, IsReady, ServesNext, ServesOne, has_wait, machine_of};
 
 use crate::held::OpenText;
 use crate::machine::Machine;
@@ -31,6 +31,23 @@ impl Machine<'_> {
         }
     }
 
+    /// Serves all items of a name that were lost and come next, or else its first item. Returns
+    /// whether there was one.
+    fn serve_next(&mut self, name: &[u8]) -> Result<bool, Stop>
+        requires ready { IsReady self.old }
+        ensures ready { OnOk result (IsReady self.new) }
+        ensures serves { IfOk result (λ went. ServesNext went
+            (held_of (self.old.held) name.now) name.now
+            (machine_of self.old) (machine_of self.new)) }
+    {
+        let lost = self.held.take_lost(name);
+        if lost == 0 {
+            return self.serve_item(name);
+        }
+        self.server.tell_lost_items(name, lost)?;
+        Ok(true)
+    }
+
     /// Serves all items that are held of a name.
     fn serve_items(&mut self, name: &[u8]) -> Result<(), Stop>
         requires ready { IsReady self.old }
@@ -38,7 +55,7 @@ impl Machine<'_> {
         ensures serves { OnOk result (AreServed (held_of (self.old.held) name.now) name.now
             (machine_of self.old) (machine_of self.new)) }
     {
-        while self.serve_item(name)? {}
+        while self.serve_next(name)? {}
         Ok(())
     }
 

@@ -1,0 +1,41 @@
+-- Jobs whose next step no worker has.
+use Rattle.std.proofs.Common.{◌≡◌, ℕ, true, false, Option, Some, None, refl, sym, ap, subst, ◌∙◌}
+use Rattle.std.specs.Prelude.{IfSome, option_map}
+use Rattle.std.proofs.lemmas.Bool.{false≢true}
+use Rattle.tenant_slot.specs.Slot.{is_takeable}
+use Rattle.service_core.specs.Calls.{takeable_in}
+use Rattle.service_core.specs.History.{History, slot_of}
+use Rattle.service_core.specs.Service.{ServiceState, live_of}
+use Rattle.live_machine.specs.Workers.{all_here}
+use Rattle.live_machine.proofs.Here.{live_rested, none_before, rested, some_taken}
+
+-- no worker has the next step of that tenancy's job
+abbrev pub IsAtHome : ServiceState → ℕ → Type 0
+IsAtHome service id = takeable_in (live_of (all_here service).histories id) ≡ takeable_in (live_of service.histories id)
+
+pub same_home : (old new : ServiceState) (id : ℕ) → new ≡ old → IsAtHome old id → IsAtHome new id
+same_home old new id same home = let P : ServiceState → Type 0 = λ s. IsAtHome s id in subst P (sym same) home
+
+-- a step that can be taken
+some_busy : (o : Option History) → takeable_in o ≡ true → takeable_in (option_map rested o) ≡ true
+some_busy None busy = absurd (false≢true busy)
+some_busy (Some h) busy = some_taken h busy
+
+pub busy_home : (service : ServiceState) (id : ℕ) → takeable_in (live_of service.histories id) ≡ true → IsAtHome service id
+busy_home service id busy = ap takeable_in (live_rested service.histories id) ∙ (some_busy (live_of service.histories id) busy ∙ sym busy)
+
+-- a tenancy without a job that could make a step
+pub idle_home : (service : ServiceState) (id : ℕ) → takeable_in (live_of (all_here service).histories id) ≡ false → IsAtHome service id
+idle_home service id idle = idle ∙ sym (none_before (live_of service.histories id) (sym (ap takeable_in (live_rested service.histories id)) ∙ idle))
+
+-- a tenancy that is the same without workers
+pub rested_home : (service : ServiceState) (id : ℕ) (h : History) → live_of service.histories id ≡ Some h → rested h ≡ h → IsAtHome service id
+rested_home service id h is rests = ap takeable_in (live_rested service.histories id ∙ (ap (option_map rested) is ∙ (ap Some rests ∙ sym is)))
+
+-- a take that finds nothing there finds nothing without workers
+none_taken_in : (o : Option History) → IfSome o (λ h. is_takeable (slot_of h) ≡ false) → takeable_in o ≡ false
+none_taken_in None none = refl
+none_taken_in (Some h) none = none
+
+pub none_home : (service : ServiceState) (id : ℕ) → IsAtHome service id → IfSome (live_of service.histories id) (λ h. is_takeable (slot_of h) ≡ false) → takeable_in (live_of (all_here service).histories id) ≡ false
+none_home service id home none = home ∙ none_taken_in (live_of service.histories id) none

@@ -1,0 +1,22 @@
+use Rattle.std.proofs.Common.{◌≡◌, ◌∙◌, List, Some, None, refl, sym, ap, subst}
+use Rattle.std.specs.List.{position}
+use Rattle.std.proofs.Math.ListN.{set}
+use Rattle.live_machine.specs.Held.{Held, TakesLostOf, held_of}
+use Rattle.live_machine.proofs.NameLemmas.{at_none, at_place, is_of, takes_lost_at}
+use Rattle.live_machine.proofs.held_names.HeldNames.take_lost.Goals as goal
+
+pub returns-in-Some : goal.returns-in-Some
+returns-in-Some c =
+    let held = c.self.inside.holds.items in
+    let name = c.args.name.now in
+    let place = c.in-Some.place in
+    let is : position (is_of name) held ≡ Some place = ap (position (is_of name)) (sym c.as_slice.ensures.value) ∙ (sym c.place_of.ensures ∙ c.in-Some.is) in
+    subst (λ (all : List Held). TakesLostOf (held_of all name) all c.take_lost.result (set held place c.take_lost.new.self)) c.self.view_is
+    (takes_lost_at held name place c.index_mut.result.now c.take_lost.result c.take_lost.new.self (at_place held name place is) c.index_mut.ensures.value c.take_lost.ensures)
+
+pub returns-in-None : goal.returns-in-None
+returns-in-None c =
+    let held = c.self.inside.holds.items in
+    let name = c.args.name.now in
+    let is : position (is_of name) held ≡ None = ap (position (is_of name)) (sym c.as_slice.ensures.value) ∙ (sym c.place_of.ensures ∙ c.in-None.is) in
+    subst (λ (all : List Held). TakesLostOf (held_of all name) all 0 all) c.self.view_is (subst (λ h. TakesLostOf h held 0 held) (sym (at_none held name is)) (refl, refl))

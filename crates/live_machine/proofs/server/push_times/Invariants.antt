@@ -1,0 +1,6 @@
+use Rattle.std.proofs.Common.{◌≡◌, ◌++◌}
+use Rattle.std.specs.List.{repeat}
+use Rattle.live_machine.proofs.server.push_times.Given as goal
+
+abbrev pub invariant-loop : goal.invariant-loop
+invariant-loop l = l.told.items ≡ l.fn.told.items ++ repeat l.counter l.text
