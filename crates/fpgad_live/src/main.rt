@@ -3,7 +3,7 @@
 #![tactic(auto)]
 
 use line_text::{StdSink, StdSource};
-use live_threads::{ProgramEnd, run_program};
+use live_promises::{ProgramEnd, serve};
 use std::process::ExitCode;
 use std::{env, io};
 
@@ -14,7 +14,7 @@ fn main(rt: HostRuntime) -> ExitCode {
         status,
         connection,
         devices,
-    } = run_program(&rt, words(&rt), reader, writer);
+    } = serve(&rt, words(&rt), reader, writer);
     drop((connection, devices));
     status
 }

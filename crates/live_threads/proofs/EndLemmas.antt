@@ -1,28 +1,31 @@
 -- How a service with workers ends.
-use Rattle.std.proofs.Common.{◌≡◌, ◌≢◌, ◌⊎◌, inl, inr, ℕ, List, [], ◌∷◌, ◌++◌, Bool, true, false, Option, Some, None, refl, sym, ap, subst, ◌∙◌, append-nil}
-use Rattle.dialogue.specs.History.{Fails, View}
-use Rattle.dialogue.specs.History.Event.{Told}
+use Rattle.std.proofs.Common.{◌≡◌, ◌≢◌, ◌⊎◌, inl, inr, ℕ, List, [], ◌∷◌, ◌++◌, Bool, true, false, Option, Some, None, refl, sym, ap, subst, ◌∙◌, append-nil, append_assoc, arith, length, take, take_all}
+use Rattle.std.specs.List.{flat_map}
+use Rattle.std.proofs.lemmas.Grind.{flat_map-append}
+use Rattle.dialogue.specs.History.{Fails, Happens, View}
+use Rattle.dialogue.specs.History.Event.{Kept, Told}
 use Rattle.dialogue.specs.declared.dialogue.FailedDevice.{FailedDevice}
 use Rattle.dialogue.specs.declared.dialogue.FailedDevice.TheVariants.{Input}
-use Rattle.live_machine.specs.Machine.{MachineState}
-use Rattle.live_machine.specs.Parts.{EndsMachine}
+use Rattle.rr_graph.specs.Graph.{Basis}
+use Rattle.service_core.specs.Service.{ServiceState}
+use Rattle.live_machine.specs.declared.machine.Machine.{Machine}
+use Rattle.live_machine.specs.Machine.{MachineState, begins_with}
+use Rattle.live_machine.specs.Parts.{EndsMachine, machine_of}
 use Rattle.live_lines.specs.Live.{LiveState}
 use Rattle.live_run.specs.declared.outcome.Outcome.{Outcome}
 use Rattle.live_run.specs.declared.outcome.Outcome.TheVariants.{ArchRefused, ArchUnreadable, Done, LogDiffers, LogInUse, LogUnreadable, NoMemory, Stopped, TooManyLines}
-use Rattle.rr_graph.specs.Graph.{Basis}
-use Rattle.service_core.specs.Service.{ServiceState}
 use Rattle.live_machine.specs.Workers.{without_workers}
-use Rattle.live_input.specs.Serving.{begins_on}
-use Rattle.std.specs.Prelude.{IfErr, Result, Ok, Err}
-use Rattle.std.proofs.KnownBytes.{Appends-nil}
+use Rattle.live_input.specs.Serving.{begins_on, kept_lines}
+use Rattle.std.specs.Prelude.{IfErr, IfOk, Result, Ok, Err, ◌<◌}
 use Rattle.std.specs.declared.vec.Vec.{Vec}
 use Rattle.rtrb.specs.Ring.{received, sent}
 use Rattle.rtrb.specs.declared.consumer.Consumer.{Consumer}
 use Rattle.rtrb.specs.declared.producer.Producer.{Producer}
 use Rattle.live_threads.specs.declared.letters.InputEnd.{InputEnd}
-use Rattle.live_threads.specs.declared.letters.InputEnd.TheVariants.{Done as InputDone}
-use Rattle.live_threads.specs.Fed.{AreAllLines, PutsLines}
-use Rattle.live_threads.specs.Ends.{BeginsWith, IsResumed, IsWhole, RunsInput, RunsLive, RunsService, Serves, ServesInput, ServesLive, TellsNothing}
+use Rattle.live_threads.specs.declared.letters.InputEnd.TheVariants.{Done as InputDone, Failed, NoMemory as NoInputMemory}
+use Rattle.live_threads.specs.Fed.{AreFirst, AreReadLines, PutsLines}
+use Rattle.live_threads.specs.Ends.{IsResumed, IsWhole, Resumes, RunsInput, RunsService, ServesInput, StopsResuming, empty_on}
+use Rattle.live_threads.specs.Replays.{ArePuts, Replays, put_line}
 use Rattle.live_threads.specs.Serving.{HasStopped, IsServed}
 use Rattle.live_threads.specs.Taken.{ClosesAs, ClosesTexts, CutsClosing, EndsServing, StopsClosing, StopsServing, TakesLines, lines_of}
 use Rattle.live_threads.proofs.ServedLemmas.{served_stops, served_then}
@@ -30,6 +33,7 @@ use Rattle.live_threads.proofs.ServedLemmas.{served_stops, served_then}
 closed_cut : (last : MachineState) (before after : View) → ClosesTexts last before after → CutsClosing last before after
 closed_cut last before after c = record {
   live = c.live;
+  same = c.same;
   reply = c.reply;
   ends = c.ends;
   events = Told c.reply ∷ [];
@@ -42,9 +46,10 @@ closes_stops true last before after same = inl same
 closes_stops false last before after c = inr (closed_cut last before after c)
 
 -- the output failed as texts were refused
-pub cut_closing : (live : LiveState) (last : MachineState) (before after : View) (reply : List ℕ) (fault : FailedDevice) → EndsMachine live last.held reply → Fails before after fault Told reply → CutsClosing last before after
-cut_closing live last before after reply fault ends fails = record {
+pub cut_closing : (live : LiveState) (last : MachineState) (before after : View) (reply : List ℕ) (fault : FailedDevice) → without_workers live ≡ last.live → EndsMachine live last.held reply → Fails before after fault Told reply → CutsClosing last before after
+cut_closing live last before after reply fault same ends fails = record {
   live = live;
+  same = same;
   reply = reply;
   ends = ends;
   events = _;
@@ -80,11 +85,12 @@ stopped_not : (device : FailedDevice) → Stopped device ≢ Done
 stopped_not device is = absurd (cc)
 
 -- a service of which more lines were read is one that stopped
-pub service_stopped : (has_log : Bool) (service : ServiceState) (graph : Basis) (before after : View) (lines : List (List ℕ)) (outcome : Outcome) → RunsService has_log service graph before lines after outcome → RunsService has_log service graph before lines after (Stopped Input)
-service_stopped has_log service graph before after lines outcome (inl (bad, told)) = inl (stopped_not Input, told)
-service_stopped has_log service graph before after lines outcome (inr s) = inr (record {
+pub service_stopped : (log : Option (Option (List ℕ))) (empty : LiveState) (before after : View) (lines : List (List ℕ)) (outcome : Outcome) → RunsService log empty before lines after outcome → RunsService log empty before lines after (Stopped Input)
+service_stopped log empty before after lines outcome (inl (bad, told)) = inl (stopped_not Input, told)
+service_stopped log empty before after lines outcome (inr s) = inr (record {
   begun = s.begun;
   first = s.first;
+  put = s.put;
   begins = s.begins;
   mid = s.mid;
   resumed = s.resumed;
@@ -103,7 +109,7 @@ ends_later a b u v w lines outcome first e = later outcome e
     stops_later (inr (last, mid, served, closing)) = let P : List (List ℕ) → Type 0 = λ l. IsServed a u l last mid in inr (last, mid, subst P (append-nil lines) (served_then a b last u v mid lines [] first served), closing)
 
     later : (o : Outcome) → EndsServing b v [] w o → EndsServing a u lines w o
-    later Done e = let P : List (List ℕ) → Type 0 = λ l. IsServed a u l e.last e.mid in record { last = e.last; mid = e.mid; served = subst P (append-nil lines) (served_then a b e.last u v e.mid lines [] first e.served); drained = e.drained; closes = e.closes }
+    later Done e = let P : List (List ℕ) → Type 0 = λ l. IsServed a u l e.last e.mid in record { last = e.last; mid = e.mid; served = subst P (append-nil lines) (served_then a b e.last u v e.mid lines [] first e.served); rests = e.rests; drained = e.drained; closes = e.closes }
     later ArchUnreadable e = stops_later e
     later (ArchRefused fault) e = stops_later e
     later LogUnreadable e = stops_later e
@@ -113,64 +119,111 @@ ends_later a b u v w lines outcome first e = later outcome e
     later TooManyLines e = stops_later e
     later NoMemory e = stops_later e
 
-pub resumed_tells : (has_log : Bool) (before mid : View) → IsResumed has_log before mid → TellsNothing before mid
-resumed_tells false before mid same = let P : View → Type 0 = λ v. TellsNothing before v in subst P (sym same) (Appends-nil before.output)
-resumed_tells true before mid (inl same) = let P : View → Type 0 = λ v. TellsNothing before v in subst P (sym same) (Appends-nil before.output)
-resumed_tells true before mid (inr (more, happens)) = happens.told
+-- lines that put jobs were kept, and then the service stopped
+pub resumed_stops : (put : List ℕ) (before mid : View) → ArePuts put → IsResumed put before mid → StopsResuming true before mid
+resumed_stops [] before mid puts same = inl same
+resumed_stops (byte ∷ put) before mid (jobs, is) happens =
+    let all : List ℕ = flat_map put_line jobs in
+    let P : List ℕ → Type 0 = λ bytes. Happens before mid (Kept bytes ∷ []) in
+    inr (jobs, length all, subst P (is ∙ sym (take_all (length all) all (omega arith))) happens)
+
+-- they were kept
+pub puts_resumed : (put : List ℕ) (before mid : View) → 0 < length put → Happens before mid (Kept put ∷ []) → IsResumed put before mid
+puts_resumed [] before mid some happens = absurd (omega (arith, some))
+puts_resumed (byte ∷ put) before mid some happens = happens
+
+-- there were none
+pub none_resumed : (put : List ℕ) (before mid : View) → put ≡ [] → mid ≡ before → IsResumed put before mid
+none_resumed put before mid none same = let P : List ℕ → Type 0 = λ p. IsResumed p before mid in subst P (sym none) same
+
+-- or the log failed
+pub puts_stopped : (before mid : View) (put : List ℕ) (fault : FailedDevice) → ArePuts put → Fails before mid fault Kept put → StopsResuming true before mid
+puts_stopped before mid put fault (jobs, is) fails = let P : List ℕ → Type 0 = λ bytes. Happens before mid (Kept (take fails.count bytes) ∷ []) in inr (jobs, fails.count, subst P is fails.happens)
 
 -- of an error two things hold
 pub err_and : {T E : Type 0} (result : Result T E) (A : E → Type 0) (B : Type 0) → IfErr result A → B → IfErr result (λ e. A e × B)
 err_and (Ok x) A B a b = tt
 err_and (Err e) A B a b = (a, b)
 
--- a machine that goes on from a live service
-pub runs_live : (has_log : Bool) (live : LiveState) (machine : MachineState) (before mid after : View) (lines : List (List ℕ)) (outcome : Outcome) → BeginsWith has_log live machine → IsResumed has_log before mid → EndsServing machine mid lines after outcome → RunsLive has_log live before lines after outcome
-runs_live has_log live machine before mid after lines outcome begins resumed ends = inr (record { machine = machine; begins = begins; mid = mid; resumed = resumed; ends = ends })
+-- a machine over a live service that has served no line
+pub resumes_none : (empty : LiveState) (machine : MachineState) (view : View) → machine ≡ begins_with empty 1 → Resumes None empty machine view view
+resumes_none empty machine view is = record { begun = empty; first = 1; put = []; begins = (refl, refl, refl); machine_is = is; resumed = refl }
 
-serves : (has_log : Bool) (service : ServiceState) (graph : Basis) (live : LiveState) (before : View) (lines : List (List ℕ)) (after : View) (outcome : Outcome) → live ≡ begins_on service graph → (s : ServesLive has_log live before lines after outcome) → (begins : BeginsWith has_log live s.machine) → Serves has_log service graph before lines after outcome
-serves false service graph live before lines after outcome is s begins =
-    let P : MachineState → Type 0 = λ m. EndsServing m s.mid lines after outcome in
-    record { begun = without_workers live; first = 1; begins = (ap without_workers is, refl); mid = s.mid; resumed = s.resumed; ends = subst P begins s.ends }
-serves true service graph live before lines after outcome is s (begun, first, same) =
-    let P : MachineState → Type 0 = λ m. EndsServing m s.mid lines after outcome in
-    record { begun = begun; first = first; begins = tt; mid = s.mid; resumed = s.resumed; ends = subst P same s.ends }
+-- and one that goes on from a log
+pub resumes_log : (log : Option (List ℕ)) (empty begun : LiveState) (next first : ℕ) (put : List ℕ) (new machine : MachineState) (before mid : View) → Replays empty log begun next put → IsResumed put before mid → first ≡ next → new ≡ begins_with begun first → machine ≡ new → Resumes (Some log) empty machine before mid
+resumes_log log empty begun next first put new machine before mid replays resumed same is made = record { begun = begun; first = next; put = put; begins = replays; machine_is = made ∙ (is ∙ ap (begins_with begun) same); resumed = resumed }
 
--- over a service that has admitted no tenancy
-pub runs_service : (has_log : Bool) (service : ServiceState) (graph : Basis) (live : LiveState) (before : View) (lines : List (List ℕ)) (after : View) (outcome : Outcome) → live ≡ begins_on service graph → RunsLive has_log live before lines after outcome → RunsService has_log service graph before lines after outcome
-runs_service has_log service graph live before lines after outcome is (inl nothing) = inl nothing
-runs_service has_log service graph live before lines after outcome is (inr s) = inr (serves has_log service graph live before lines after outcome is s s.begins)
+-- what holds of a machine that was made
+pub ok_resumes : (log : Option (Option (List ℕ))) (empty : LiveState) (before mid : View) (result : Result Machine Outcome) (new : MachineState) → IfOk result (λ m. machine_of m ≡ new) → ((machine : MachineState) → machine ≡ new → Resumes log empty machine before mid) → IfOk result (λ m. Resumes log empty (machine_of m) before mid)
+ok_resumes log empty before mid (Ok m) new is makes = makes (machine_of m) is
+ok_resumes log empty before mid (Err outcome) new is makes = tt
+
+-- over a core that has admitted no tenancy
+pub runs_on : (log : Option (Option (List ℕ))) (service : ServiceState) (graph : Basis) (live : LiveState) (before : View) (lines : List (List ℕ)) (after : View) (outcome : Outcome) → live ≡ begins_on service graph → RunsService log (without_workers live) before lines after outcome → RunsService log (empty_on service graph) before lines after outcome
+runs_on log service graph live before lines after outcome is runs = let P : LiveState → Type 0 = λ l. RunsService log (without_workers l) before lines after outcome in subst P is runs
+
+-- a service that goes on from there
+pub runs_service : (log : Option (Option (List ℕ))) (empty : LiveState) (machine : MachineState) (before mid after : View) (lines : List (List ℕ)) (outcome : Outcome) → Resumes log empty machine before mid → EndsServing machine mid lines after outcome → RunsService log empty before lines after outcome
+runs_service log empty machine before mid after lines outcome r ends =
+    let P : MachineState → Type 0 = λ m. EndsServing m mid lines after outcome in
+    inr (record { begun = r.begun; first = r.first; put = r.put; begins = r.begins; mid = mid; resumed = r.resumed; ends = subst P r.machine_is ends })
+
+-- what was handed over is the beginning of the input
+all_first : (bytes : List ℕ) (end : Option InputEnd) (lines : List (List ℕ)) → AreReadLines (Some bytes) end lines → AreFirst (kept_lines bytes) lines
+all_first bytes (Some InputDone) lines is = ([], sym is ∙ sym (append-nil lines))
+all_first bytes (Some Failed) lines is = is
+all_first bytes (Some NoInputMemory) lines is = is
+all_first bytes None lines is = is
+
+-- and so is what was taken of it
+first_of_first : (all lines : List (List ℕ)) (taken : List (List ℕ)) → AreFirst all lines → AreFirst lines taken → AreFirst all taken
+first_of_first all lines taken (more, is) (left, has) = (left ++ more, is ∙ (ap (λ l. l ++ more) has ∙ append_assoc taken left more))
+
+taken_lines : {A : Type 0} (put taken : List (Vec ℕ A)) → AreFirst put taken → AreFirst (lines_of put) (lines_of taken)
+taken_lines put taken (left, is) = (lines_of left, ap lines_of is ∙ flat_map-append (λ b. kept_lines b.items) taken left)
 
 -- with `Done` all lines of the input are served
-serves_all : (input : Option (List ℕ)) (end : Option InputEnd) (lines : List (List ℕ)) (outcome : Outcome) → (outcome ≡ Done → (end ≡ Some InputDone) × AreAllLines input end lines) → ServesInput input lines outcome
-serves_all None end lines outcome all = tt
-serves_all (Some bytes) end lines Done all = let w = all refl in let P : Option InputEnd → Type 0 = λ e. AreAllLines (Some bytes) e lines in subst P w.0 w.1
-serves_all (Some bytes) end lines ArchUnreadable all = tt
-serves_all (Some bytes) end lines (ArchRefused fault) all = tt
-serves_all (Some bytes) end lines LogUnreadable all = tt
-serves_all (Some bytes) end lines LogDiffers all = tt
-serves_all (Some bytes) end lines LogInUse all = tt
-serves_all (Some bytes) end lines (Stopped device) all = tt
-serves_all (Some bytes) end lines TooManyLines all = tt
-serves_all (Some bytes) end lines NoMemory all = tt
+serves_first : (input : Option (List ℕ)) (end : Option InputEnd) (put taken : List (List ℕ)) (outcome : Outcome) → AreReadLines input end put → AreFirst put taken → (outcome ≡ Done → (end ≡ Some InputDone) × (taken ≡ put)) → ServesInput input taken outcome
+serves_first None end put taken outcome read first all = tt
+serves_first (Some bytes) end put taken Done read first all =
+    let w = all refl in
+    let P : Option InputEnd → Type 0 = λ e. AreReadLines (Some bytes) e put in
+    w.1 ∙ subst P w.0 read
+serves_first (Some bytes) end put taken ArchUnreadable read first all = first_of_first _ put taken (all_first bytes end put read) first
+serves_first (Some bytes) end put taken (ArchRefused fault) read first all = first_of_first _ put taken (all_first bytes end put read) first
+serves_first (Some bytes) end put taken LogUnreadable read first all = first_of_first _ put taken (all_first bytes end put read) first
+serves_first (Some bytes) end put taken LogDiffers read first all = first_of_first _ put taken (all_first bytes end put read) first
+serves_first (Some bytes) end put taken LogInUse read first all = first_of_first _ put taken (all_first bytes end put read) first
+serves_first (Some bytes) end put taken (Stopped device) read first all = first_of_first _ put taken (all_first bytes end put read) first
+serves_first (Some bytes) end put taken TooManyLines read first all = first_of_first _ put taken (all_first bytes end put read) first
+serves_first (Some bytes) end put taken NoMemory read first all = first_of_first _ put taken (all_first bytes end put read) first
 
-other_outcome : (has_log : Bool) (service : ServiceState) (graph : Basis) (before after : View) (lines : List (List ℕ)) (outcome result : Outcome) → (result ≡ outcome) ⊎ (result ≡ Stopped Input) → RunsService has_log service graph before lines after outcome → RunsService has_log service graph before lines after result
-other_outcome has_log service graph before after lines outcome result (inl same) runs = let P : Outcome → Type 0 = λ o. RunsService has_log service graph before lines after o in subst P (sym same) runs
-other_outcome has_log service graph before after lines outcome result (inr stopped) runs = let P : Outcome → Type 0 = λ o. RunsService has_log service graph before lines after o in subst P (sym stopped) (service_stopped has_log service graph before after lines outcome runs)
+other_outcome : (log : Option (Option (List ℕ))) (empty : LiveState) (before after : View) (lines : List (List ℕ)) (outcome result : Outcome) → (result ≡ outcome) ⊎ (result ≡ Stopped Input) → RunsService log empty before lines after outcome → RunsService log empty before lines after result
+other_outcome log empty before after lines outcome result (inl same) runs = let P : Outcome → Type 0 = λ o. RunsService log empty before lines after o in subst P (sym same) runs
+other_outcome log empty before after lines outcome result (inr stopped) runs = let P : Outcome → Type 0 = λ o. RunsService log empty before lines after o in subst P (sym stopped) (service_stopped log empty before after lines outcome runs)
 
 -- what was put into a ring and what was taken from it are the lines of one input
-pub runs_input : {A G M : Type 0} (has_log : Bool) (service : ServiceState) (graph : Basis) (before after : View) (input : Option (List ℕ)) (end : Option InputEnd) (outcome result : Outcome) (p q : Producer (Vec ℕ A) G M) (c d : Consumer (Vec ℕ A) G M) →
+pub runs_input : {A G M : Type 0} (log : Option (Option (List ℕ))) (empty : LiveState) (before after : View) (input : Option (List ℕ)) (end : Option InputEnd) (outcome result : Outcome) (p q : Producer (Vec ℕ A) G M) (c d : Consumer (Vec ℕ A) G M) →
     sent p ≡ [] → received c ≡ [] →
-    PutsLines p q (λ fed. AreAllLines input end fed) → TakesLines c d (λ heard. RunsService has_log service graph before heard after outcome) →
-    (result ≡ Done → IsWhole (sent q) (received d) end outcome) → (result ≡ outcome) ⊎ (result ≡ Stopped Input) →
-    RunsInput has_log service graph before input after result
-runs_input has_log service graph before after input end outcome result p q c d none nothing puts takes done other = record {
+    PutsLines p q (λ fed. AreReadLines input end fed) → TakesLines c d (λ heard. RunsService log empty before heard after outcome) →
+    AreFirst (sent q) (received d) → (result ≡ Done → IsWhole (sent q) (received d) end outcome) → (result ≡ outcome) ⊎ (result ≡ Stopped Input) →
+    RunsInput log empty before input after result
+runs_input log empty before after input end outcome result p q c d none nothing puts takes first done other = record {
   lines = lines_of takes.batches;
-  all = serves_all input end (lines_of takes.batches) result (λ is.
+  all = serves_first input end (lines_of puts.batches) (lines_of takes.batches) result puts.held (taken_lines puts.batches takes.batches own_first) (λ is.
       let w = done is in
-      let P : List (List ℕ) → Type 0 = λ l. AreAllLines input end l in
-      (w.1, subst P (ap (λ b. lines_of b) (sym (own w.0))) puts.held));
-  runs = other_outcome has_log service graph before after (lines_of takes.batches) outcome result other takes.held;
+      (w.1, ap lines_of (own w.0)));
+  runs = other_outcome log empty before after (lines_of takes.batches) outcome result other takes.held;
 }
   where
+    taken_is : received d ≡ takes.batches
+    taken_is = takes.taken ∙ ap (λ b. b ++ takes.batches) nothing
+
+    put_is : sent q ≡ puts.batches
+    put_is = puts.put ∙ ap (λ b. b ++ puts.batches) none
+
     own : received d ≡ sent q → takes.batches ≡ puts.batches
-    own same = sym (takes.taken ∙ ap (λ b. b ++ takes.batches) nothing) ∙ (same ∙ (puts.put ∙ ap (λ b. b ++ puts.batches) none))
+    own same = sym taken_is ∙ (same ∙ put_is)
+
+    own_first : AreFirst puts.batches takes.batches
+    own_first = (first.0, sym put_is ∙ (first.1 ∙ ap (λ b. b ++ first.0) taken_is))

@@ -1,5 +1,5 @@
 -- The lines of an input, one after another.
-use Rattle.std.proofs.Common.{◌≡◌, ℕ, zero, suc, ◌<◌, List, [], ◌∷◌, ◌++◌, length, take, map, true, false, not, Option, Some, None, refl, sym, ap, subst, ◌∙◌, arith, append-nil, append_assoc, take-take}
+use Rattle.std.proofs.Common.{◌≡◌, ◌⊎◌, inl, inr, ℕ, zero, suc, ◌<◌, List, [], ◌∷◌, ◌++◌, length, take, map, true, false, not, Option, Some, None, refl, sym, ap, subst, ◌∙◌, arith, append-nil, append_assoc, take-take}
 use Rattle.std.specs.Prelude.{◌==◌, IfSome}
 use Rattle.std.specs.List.{AllByRecursion, flat_map, list_all}
 use Rattle.std.specs.Io.KnownBytes.{Consumes, IsAtEnd}
@@ -21,7 +21,7 @@ use Rattle.dialogue.specs.declared.dialogue.FailedDevice.{FailedDevice}
 use Rattle.line_feed.specs.Feed.{ReadsAhead, Refills}
 use Rattle.live_threads.specs.declared.letters.InputEnd.{InputEnd}
 use Rattle.live_threads.specs.declared.letters.InputEnd.TheVariants.{Done, Failed, NoMemory}
-use Rattle.live_threads.specs.Fed.{AreAllLines, Fed, IsFed, PutsLast, TakesSome}
+use Rattle.live_threads.specs.Fed.{AreFirst, AreReadLines, EndsWith, Fed, IsFed, PutsLast, TakesSome}
 
 -- what is kept of a cut line is the line
 pub kept_twice : (line : List ℕ) → kept_of (kept_of line) ≡ kept_of line
@@ -190,14 +190,43 @@ last_line_of : (kept begun : List ℕ) → IsKept kept begun → is_one_line beg
 last_line_of kept begun is one =
     ap kept_lines (sym (append-nil (with_feed kept))) ∙ batch_lines (kept ∷ []) (cut_is_line begun kept is one, tt)
 
--- at the input's end
-pub last_fed : (input now : Option (List ℕ)) (ahead kept : List ℕ) (fed more : List (List ℕ)) (end : Option InputEnd) → ahead ≡ [] → IsAtEnd now → Fed input now ahead kept fed → PutsLast kept end more → AreAllLines input end (fed ++ more)
-last_fed input now ahead kept fed more None none at g put = tt
-last_fed input now ahead kept fed more (Some Failed) none at g put = tt
-last_fed input now ahead kept fed more (Some NoMemory) none at g put = tt
-last_fed input now ahead [] fed more (Some Done) none at g put =
+-- the lines that were handed over are the first ones of the input
+first_lines : (lines : List (List ℕ)) (rest : List ℕ) → list_all is_one_line lines ≡ true → AreFirst (kept_lines (flat_map with_feed lines ++ rest)) (map kept_of lines)
+first_lines lines rest all = (kept_lines rest, ap (map kept_of) (lines_then lines rest all) ∙ map-append kept_of lines (physical_lines rest))
+
+pub fed_first : (input now : Option (List ℕ)) (ahead kept : List ℕ) (fed : List (List ℕ)) → Fed input now ahead kept fed → IfSome input (λ bytes. AreFirst (kept_lines bytes) fed)
+fed_first None now ahead kept fed g = tt
+fed_first (Some all) None ahead kept fed g = absurd g.consumes
+fed_first (Some all) (Some left) ahead kept fed g =
+    let rest : List ℕ = (g.begun ++ ahead) ++ left in
+    let own : all ≡ flat_map with_feed g.lines ++ rest = g.consumes ∙ (ap (λ b. b ++ left) g.split ∙ append_assoc (flat_map with_feed g.lines) (g.begun ++ ahead) left) in
+    let B : List ℕ → Type 0 = λ b. AreFirst (kept_lines b) fed in
+    let F : List (List ℕ) → Type 0 = λ l. AreFirst (kept_lines (flat_map with_feed g.lines ++ rest)) l in
+    subst B (sym own) (subst F (sym g.fed_is) (first_lines g.lines rest g.are_lines))
+
+first_if : (input : Option (List ℕ)) (lines : List (List ℕ)) → IfSome input (λ bytes. lines ≡ kept_lines bytes) → IfSome input (λ bytes. AreFirst (kept_lines bytes) lines)
+first_if None lines is = tt
+first_if (Some bytes) lines is = ([], sym is ∙ sym (append-nil lines))
+
+-- with the last line
+ends_fed : (input now : Option (List ℕ)) (ahead kept : List ℕ) (fed more : List (List ℕ)) → ahead ≡ [] → IsAtEnd now → Fed input now ahead kept fed → EndsWith kept more → IfSome input (λ bytes. fed ++ more ≡ kept_lines bytes)
+ends_fed input now ahead [] fed more none at g put =
     let P : List (List ℕ) → Type 0 = λ l. IfSome input (λ bytes. l ≡ kept_lines bytes) in
     subst P (sym (ap (λ m. fed ++ m) put ∙ append-nil fed)) (fed_whole input now ahead [] fed none refl g at)
-last_fed input now ahead (x ∷ kept) fed more (Some Done) none at g put =
+ends_fed input now ahead (x ∷ kept) fed more none at g put =
     let P : List (List ℕ) → Type 0 = λ l. IfSome input (λ bytes. l ≡ kept_lines bytes) in
     subst P (sym (ap (λ m. fed ++ m) (put ∙ last_line_of (x ∷ kept) g.begun g.line g.is_begun))) (fed_last input now ahead (x ∷ kept) fed none (omega arith) g at)
+
+-- with the last line or without it
+some_fed_last : (input now : Option (List ℕ)) (ahead kept : List ℕ) (fed more : List (List ℕ)) → ahead ≡ [] → IsAtEnd now → Fed input now ahead kept fed → (more ≡ []) ⊎ EndsWith kept more → IfSome input (λ bytes. AreFirst (kept_lines bytes) (fed ++ more))
+some_fed_last input now ahead kept fed more none at g (inl nothing) =
+    let P : List (List ℕ) → Type 0 = λ l. IfSome input (λ bytes. AreFirst (kept_lines bytes) l) in
+    subst P (sym (ap (λ m. fed ++ m) nothing ∙ append-nil fed)) (fed_first input now ahead kept fed g)
+some_fed_last input now ahead kept fed more none at g (inr put) = first_if input (fed ++ more) (ends_fed input now ahead kept fed more none at g put)
+
+-- at the input's end
+pub last_fed : (input now : Option (List ℕ)) (ahead kept : List ℕ) (fed more : List (List ℕ)) (end : Option InputEnd) → ahead ≡ [] → IsAtEnd now → Fed input now ahead kept fed → PutsLast kept end more → AreReadLines input end (fed ++ more)
+last_fed input now ahead kept fed more None none at g put = some_fed_last input now ahead kept fed more none at g put
+last_fed input now ahead kept fed more (Some Failed) none at g put = some_fed_last input now ahead kept fed more none at g put
+last_fed input now ahead kept fed more (Some NoMemory) none at g put = some_fed_last input now ahead kept fed more none at g put
+last_fed input now ahead kept fed more (Some Done) none at g put = ends_fed input now ahead kept fed more none at g put

@@ -1,6 +1,7 @@
 mod EndLemmas
 mod FedLemmas
 mod LineLemmas
+mod ReplayLemmas
 mod RingLemmas
 mod RunEnds
 mod ServedLemmas

@@ -1,5 +1,5 @@
 -- The end of a ring into which texts are put.
-use Rattle.std.proofs.Common.{◌≡◌, ℕ, List, [], ◌∷◌, ◌++◌, refl, sym, ap, subst, ◌∙◌, append-nil, append_assoc}
+use Rattle.std.proofs.Common.{◌≡◌, ◌⊎◌, inl, inr, ℕ, List, [], ◌∷◌, ◌++◌, refl, sym, ap, subst, ◌∙◌, append-nil, append_assoc}
 use Rattle.std.proofs.lemmas.Grind.{flat_map-append}
 use Rattle.std.specs.declared.vec.Vec.{Vec}
 use Rattle.rtrb.specs.Ends.{SameRing}
@@ -33,6 +33,11 @@ puts_one a b c batch P Q t ring put holds = record {
       let own : lines_of (t.batches ++ batch ∷ []) ≡ lines_of t.batches ++ kept_lines batch.items = flat_map-append (λ b. kept_lines b.items) t.batches (batch ∷ []) ∙ ap (λ l. lines_of t.batches ++ l) (append-nil (kept_lines batch.items)) in
       subst Q (sym own) (holds (lines_of t.batches) t.held);
 }
+
+-- one more text, or none
+pub puts_maybe : {A G M : Type 0} (a b c : Producer (Vec ℕ A) G M) (batch : Vec ℕ A) (P Q : List (List ℕ) → Type 0) → PutsLines a b P → SameProducer b c → (sent c ≡ sent b ++ batch ∷ []) ⊎ (sent c ≡ sent b) → ((lines : List (List ℕ)) → P lines → Q (lines ++ kept_lines batch.items)) → ((lines : List (List ℕ)) → P lines → Q lines) → PutsLines a c Q
+puts_maybe a b c batch P Q t ring (inl put) with_it without_it = puts_one a b c batch P Q t ring put with_it
+puts_maybe a b c batch P Q t ring (inr same) with_it without_it = record { ring = same_producer a b c t.ring ring; batches = t.batches; put = same ∙ t.put; held = without_it (lines_of t.batches) t.held }
 
 -- the same of what was put
 pub puts_so : {A G M : Type 0} (a b : Producer (Vec ℕ A) G M) (P Q : List (List ℕ) → Type 0) → PutsLines a b P → ((lines : List (List ℕ)) → P lines → Q lines) → PutsLines a b Q

@@ -1,5 +1,5 @@
 -- How the program of a live service ends.
-use Rattle.std.specs.Prelude.{ℕ, ◌≡◌, ◌≢◌, ◌⊎◌, List, Bool, Option, Some, None, Result, Ok, Err, is_some, false}
+use Rattle.std.specs.Prelude.{ℕ, ◌≡◌, ◌≢◌, ◌⊎◌, List, Option, Some, None, Result, Ok, Err, is_some, false}
 use Rattle.arch_file.specs.declared.arch.Arch.{Arch}
 use Rattle.arch_file.specs.Arch.{arch_of}
 use Rattle.dialogue.specs.History.{View}
@@ -13,7 +13,7 @@ use Rattle.live_run.specs.declared.outcome.Outcome.TheVariants.{Done, NoMemory}
 use Rattle.live_run.specs.Commands.{RunsLine}
 use Rattle.live_run.specs.Limits.{device_of}
 use Rattle.live_run.specs.Outcomes.{status_of}
-use Rattle.live_threads.specs.Ends.{RunsInput, RunsOpened}
+use Rattle.live_threads.specs.Ends.{RunsInput, RunsOpened, empty_on}
 
 -- the status is 2 if the words are refused
 abbrev pub run_status : {E : Type 0} → Result Outcome E → ℕ
@@ -44,15 +44,17 @@ pub record RunsThreads (line : CommandLine) (input output : Option (List ℕ)) (
   pub begun : View
   pub written : begun.output ≡ output
   pub has_log : begun.has_log ≡ is_some line.log
-  pub runs : RunsInput (is_some line.log) (empty_service (device_of line.options arch)) (own_graph (device_of line.options arch)) begun input after outcome
+  pub log : Option (Option (List ℕ))
+  pub is_log : is_some log ≡ is_some line.log
+  pub runs : RunsInput log (empty_on (empty_service (device_of line.options arch)) (own_graph (device_of line.options arch))) begun input after outcome
 
 -- private: the device of that architecture
 abbrev pub IsDeviceOf : Options → List ℕ → Device → Type 0
 IsDeviceOf options architecture device = (arch : Arch) × (arch_of architecture options.tracks ≡ Ok arch) × (device ≡ device_of options arch)
 
 -- private: a service over that device, or one that does not begin
-abbrev pub RunsOver : Bool → Device → View → Option (List ℕ) → Option View → Outcome → Type 0
-RunsOver has_log device before input after outcome = RunsOpened has_log (empty_service device) (own_graph device) before input after outcome
+abbrev pub RunsOver : Option (Option (List ℕ)) → Device → View → Option (List ℕ) → Option View → Outcome → Type 0
+RunsOver log device before input after outcome = RunsOpened log (empty_on (empty_service device) (own_graph device)) before input after outcome
 
 -- or one that does not begin
 abbrev pub RunsThreaded : CommandLine → Option (List ℕ) → Option (List ℕ) → Option View → Outcome → Type 0

@@ -1,6 +1,6 @@
 -- How a service with workers begins and ends.
-use Rattle.std.specs.Prelude.{ℕ, ◌≡◌, ◌≢◌, ◌⊎◌, ⊤, List, [], ◌∷◌, Bool, true, false, Option, Some, None}
-use Rattle.std.specs.Io.KnownBytes.{Appends}
+use Rattle.std.specs.Prelude.{ℕ, ◌≡◌, ◌≢◌, ◌⊎◌, ⊤, List, [], ◌∷◌, take, Bool, true, false, Option, Some, None, is_some}
+use Rattle.std.specs.List.{flat_map}
 use Rattle.dialogue.specs.History.{Happens, View}
 use Rattle.dialogue.specs.History.Event.{Kept}
 use Rattle.rr_graph.specs.Graph.{Basis}
@@ -13,66 +13,68 @@ use Rattle.live_run.specs.declared.outcome.Outcome.{Outcome}
 use Rattle.live_run.specs.declared.outcome.Outcome.TheVariants.{Done}
 use Rattle.live_threads.specs.declared.letters.InputEnd.{InputEnd}
 use Rattle.live_threads.specs.declared.letters.InputEnd.TheVariants.{Done as InputDone}
+use Rattle.live_threads.specs.Fed.{AreFirst}
+use Rattle.live_threads.specs.Replays.{Replays, put_line}
 use Rattle.live_threads.specs.Taken.{EndsServing}
 
--- without a log a service begins with an empty device; with one it goes on from there
-abbrev pub BeginsAt : Bool → ServiceState → Basis → LiveState → ℕ → Type 0
-BeginsAt false service graph begun first = (begun ≡ without_workers (begins_on service graph)) × (first ≡ 1)
-BeginsAt true service graph begun first = ⊤
+-- a service begins without a line, or goes on where its log leads; those lines are to be kept
+abbrev pub BeginsAt : Option (Option (List ℕ)) → LiveState → LiveState → ℕ → List ℕ → Type 0
+BeginsAt None empty begun first put = (begun ≡ empty) × (first ≡ 1) × (put ≡ [])
+BeginsAt (Some log) empty begun first put = Replays empty log begun first put
 
--- private: a machine that goes on from a live service; after a log, from some
-abbrev pub BeginsWith : Bool → LiveState → MachineState → Type 0
-BeginsWith false live machine = machine ≡ begins_with (without_workers live) 1
-BeginsWith true live machine = (begun : LiveState) × (first : ℕ) × (machine ≡ begins_with begun first)
+-- before the first line that comes nothing else is kept, and nothing is told
+abbrev pub IsResumed : List ℕ → View → View → Type 0
+IsResumed [] before mid = mid ≡ before
+IsResumed (byte ∷ put) before mid = Happens before mid (Kept (byte ∷ put) ∷ [])
 
--- before the first line that comes nothing is kept but the lines that put the operator's jobs
-abbrev pub IsResumed : Bool → View → View → Type 0
-IsResumed false before mid = mid ≡ before
-IsResumed true before mid = (mid ≡ before) ⊎ ((more : List ℕ) × Happens before mid (Kept more ∷ []))
-
--- nothing was told
-abbrev pub TellsNothing : View → View → Type 0
-TellsNothing before after = Appends before.output after.output []
+-- if a service does not begin, its log may have taken a beginning of lines that put jobs
+abbrev pub StopsResuming : Bool → View → View → Type 0
+StopsResuming false before after = after ≡ before
+StopsResuming true before after = (after ≡ before) ⊎ ((jobs : List ℕ) × (count : ℕ) × Happens before after (Kept (take count (flat_map put_line jobs)) ∷ []))
 
 -- a service served those lines, and ended so
-pub record Serves (has_log : Bool) (service : ServiceState) (graph : Basis) (before : View) (lines : List (List ℕ)) (after : View) (outcome : Outcome) : Type 0 where
+pub record Serves (log : Option (Option (List ℕ))) (empty : LiveState) (before : View) (lines : List (List ℕ)) (after : View) (outcome : Outcome) : Type 0 where
   pub begun : LiveState
   pub first : ℕ
-  pub begins : BeginsAt has_log service graph begun first
+  pub put : List ℕ
+  pub begins : BeginsAt log empty begun first put
   pub mid : View
-  pub resumed : IsResumed has_log before mid
+  pub resumed : IsResumed put before mid
   pub ends : EndsServing (begins_with begun first) mid lines after outcome
 
--- or it did not begin, and told nothing
-abbrev pub RunsService : Bool → ServiceState → Basis → View → List (List ℕ) → View → Outcome → Type 0
-RunsService has_log service graph before lines after outcome = ((outcome ≢ Done) × TellsNothing before after) ⊎ Serves has_log service graph before lines after outcome
+-- or it did not begin
+abbrev pub RunsService : Option (Option (List ℕ)) → LiveState → View → List (List ℕ) → View → Outcome → Type 0
+RunsService log empty before lines after outcome = ((outcome ≢ Done) × StopsResuming (is_some log) before after) ⊎ Serves log empty before lines after outcome
 
--- private: a service that goes on from a live service
-pub record ServesLive (has_log : Bool) (live : LiveState) (before : View) (lines : List (List ℕ)) (after : View) (outcome : Outcome) : Type 0 where
-  pub machine : MachineState
-  pub begins : BeginsWith has_log live machine
-  pub mid : View
-  pub resumed : IsResumed has_log before mid
-  pub ends : EndsServing machine mid lines after outcome
+-- private: a machine that goes on where a log leads, and what was kept before
+pub record Resumes (log : Option (Option (List ℕ))) (empty : LiveState) (machine : MachineState) (before mid : View) : Type 0 where
+  pub begun : LiveState
+  pub first : ℕ
+  pub put : List ℕ
+  pub begins : BeginsAt log empty begun first put
+  pub machine_is : machine ≡ begins_with begun first
+  pub resumed : IsResumed put before mid
 
-abbrev pub RunsLive : Bool → LiveState → View → List (List ℕ) → View → Outcome → Type 0
-RunsLive has_log live before lines after outcome = ((outcome ≢ Done) × TellsNothing before after) ⊎ ServesLive has_log live before lines after outcome
-
--- with `Done` those are all lines of the input
+-- the lines are the first ones of the input, with `Done` all of them
 abbrev pub ServesInput : Option (List ℕ) → List (List ℕ) → Outcome → Type 0
+ServesInput None lines outcome = ⊤
 ServesInput (Some bytes) lines Done = lines ≡ kept_lines bytes
-ServesInput input lines outcome = ⊤
+ServesInput (Some bytes) lines outcome = AreFirst (kept_lines bytes) lines
 
 -- a service over an input
-pub record RunsInput (has_log : Bool) (service : ServiceState) (graph : Basis) (before : View) (input : Option (List ℕ)) (after : View) (outcome : Outcome) : Type 0 where
+pub record RunsInput (log : Option (Option (List ℕ))) (empty : LiveState) (before : View) (input : Option (List ℕ)) (after : View) (outcome : Outcome) : Type 0 where
   pub lines : List (List ℕ)
   pub all : ServesInput input lines outcome
-  pub runs : RunsService has_log service graph before lines after outcome
+  pub runs : RunsService log empty before lines after outcome
+
+-- private: the live service over a core that has admitted no tenancy
+abbrev pub empty_on : ServiceState → Basis → LiveState
+empty_on service graph = without_workers (begins_on service graph)
 
 -- private: a service over an input, or one that does not begin
-abbrev pub RunsOpened : Bool → ServiceState → Basis → View → Option (List ℕ) → Option View → Outcome → Type 0
-RunsOpened has_log service graph before input None outcome = outcome ≢ Done
-RunsOpened has_log service graph before input (Some after) outcome = RunsInput has_log service graph before input after outcome
+abbrev pub RunsOpened : Option (Option (List ℕ)) → LiveState → View → Option (List ℕ) → Option View → Outcome → Type 0
+RunsOpened log empty before input None outcome = outcome ≢ Done
+RunsOpened log empty before input (Some after) outcome = RunsInput log empty before input after outcome
 
 -- private: the service is done, the input was read to its end, and all that was put into the ring
 -- was taken

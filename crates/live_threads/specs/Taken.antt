@@ -8,8 +8,10 @@ use Rattle.dialogue.specs.History.{Event, Happens, View}
 use Rattle.dialogue.specs.History.Event.{Told}
 use Rattle.live_lines.specs.Live.{LiveState}
 use Rattle.live_input.specs.Serving.{kept_lines}
+use Rattle.live_machine.specs.Held.{are_at_rest}
 use Rattle.live_machine.specs.Machine.{MachineState}
 use Rattle.live_machine.specs.Parts.{EndsMachine}
+use Rattle.live_machine.specs.Workers.{without_workers}
 use Rattle.live_run.specs.declared.outcome.Outcome.{Outcome}
 use Rattle.live_run.specs.declared.outcome.Outcome.TheVariants.{Done}
 use Rattle.live_threads.specs.Serving.{HasStopped, IsCut, IsServed}
@@ -28,6 +30,7 @@ pub record TakesLines {A G P : Type 0} (old new : Consumer (Vec ℕ A) G P) (hol
 -- each text that is open is refused, and that is told
 pub record ClosesTexts (last : MachineState) (before after : View) : Type 0 where
   pub live : LiveState
+  pub same : without_workers live ≡ last.live
   pub reply : List ℕ
   pub ends : EndsMachine live last.held reply
   pub happens : Happens before after (Told reply ∷ [])
@@ -35,6 +38,7 @@ pub record ClosesTexts (last : MachineState) (before after : View) : Type 0 wher
 -- or a beginning of it is told, or nothing
 pub record CutsClosing (last : MachineState) (before after : View) : Type 0 where
   pub live : LiveState
+  pub same : without_workers live ≡ last.live
   pub reply : List ℕ
   pub ends : EndsMachine live last.held reply
   pub events : List Event
@@ -53,11 +57,12 @@ abbrev pub ClosesAs : Bool → MachineState → View → View → Type 0
 ClosesAs true last before after = after ≡ before
 ClosesAs false last before after = ClosesTexts last before after
 
--- all lines were served, and all is kept and told
+-- all lines were served, no name waits any more, and all is kept and told
 pub record IsServedToEnd (old : MachineState) (before : View) (lines : List (List ℕ)) (after : View) : Type 0 where
   pub last : MachineState
   pub mid : View
   pub served : IsServed old before lines last mid
+  pub rests : are_at_rest last.held ≡ true
   pub drained : IsDrained last
   pub closes : ClosesAs mid.has_log last mid after
 

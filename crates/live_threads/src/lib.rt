@@ -15,7 +15,6 @@
 mod crew;
 mod fault;
 mod letters;
-mod logged;
 mod mailbox;
 mod opened;
 mod orders;

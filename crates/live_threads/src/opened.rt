@@ -1,10 +1,12 @@
 //! The thread that serves, from the log to the end.
-ghost use Rattle.std.specs.Prelude.{◌≡◌, ◌≢◌, [], true, is_some, IfErr, IfOk, OnOk};
+ghost use Rattle.std.specs.Prelude.{◌≡◌, ◌≢◌, [], Some, true, is_some, option_map, IfErr, IfOk, OnOk};
 ghost use Rattle.live_input.specs.Serving.{is_ready, state_in};
 ghost use Rattle.live_machine.specs.Parts.{IsReady, machine_of};
+ghost use Rattle.live_machine.specs.Workers.{without_workers};
 ghost use Rattle.live_run.specs.declared.outcome.Outcome.TheVariants.{Done};
 ghost use Rattle.live_threads.specs.Outlet.{view_of};
-ghost use Rattle.live_threads.specs.Ends.{BeginsWith, IsResumed, RunsLive, RunsService, TellsNothing};
+ghost use Rattle.live_threads.specs.Ends.{IsResumed, Resumes, RunsService, StopsResuming, empty_on};
+ghost use Rattle.live_threads.specs.Replays.{ArePuts};
 ghost use Rattle.live_threads.specs.Taken.{TakesLines};
 
 use crate::crew::Site;
@@ -68,13 +70,14 @@ impl<P: Source + Drop, W: Sink + Drop, L: Log + Drop> ServesOpened<P, W, L> {
 
 impl<P: Source + Drop, W: Sink + Drop, L: Log + Drop> Promise<ServerEnd<W, L>>
     for ServesOpened<P, W, L> {
-    ghost use Rattle.std.specs.Prelude.{is_some};
-    ghost use Rattle.live_threads.specs.Ends.{RunsService};
+    ghost use Rattle.std.specs.Prelude.{option_map};
+    ghost use Rattle.live_threads.specs.Ends.{RunsService, empty_on};
     ghost use Rattle.live_threads.specs.Outlet.{view_of};
     ghost use Rattle.live_threads.specs.Taken.{TakesLines};
 
     ghost kept_by = { λ p r. TakesLines p.lines.value r.lines (λ heard.
-        RunsService (is_some p.opened.value.past) p.opened.value.service p.graph.value
+        RunsService (option_map P.remaining p.opened.value.past)
+        (empty_on p.opened.value.service p.graph.value)
         (view_of W.contents W.has_failed L.kept L.has_failed p.opened.value.devices) heard
         (view_of W.contents W.has_failed L.kept L.has_failed r.devices) r.outcome) };
 }
@@ -87,7 +90,7 @@ pub(crate) fn serve_opened<H: Wait + AllocGlobal, P: Source + Drop, W: Sink + Dr
 ) -> ServerEnd<W, L>
     requires { opened.service.histories ≡ [] }
     ensures { TakesLines lines result.lines (λ heard.
-        RunsService (is_some opened.past) opened.service site.entry.graph.now
+        RunsService (option_map P.remaining opened.past) (empty_on opened.service site.entry.graph.now)
         (view_of W.contents W.has_failed L.kept L.has_failed opened.devices) heard
         (view_of W.contents W.has_failed L.kept L.has_failed result.devices) result.outcome) }
 {
@@ -117,8 +120,9 @@ fn serve_resumed<H: Wait + AllocGlobal, P: Source + Drop, O: Outlet>(
     outlet: &mut O,
 ) -> Outcome
     requires { is_ready live }
-    ensures { TakesLines lines.old lines.new (λ heard. RunsLive (is_some past)
-        (state_in live.entry) (O.view outlet.old) heard (O.view outlet.new) result) }
+    ensures { TakesLines lines.old lines.new (λ heard. RunsService (option_map P.remaining past)
+        (without_workers (state_in live.entry)) (O.view outlet.old) heard (O.view outlet.new)
+        result) }
 {
     match resume(site, live, past, outlet) {
         Ok(machine) => serve_machine(site.rt, site.crew, lines, machine, outlet),
@@ -135,12 +139,12 @@ fn resume<'g, H: Wait + AllocGlobal, P: Source + Drop, O: Outlet>(
 ) -> Result<Machine<'g>, Outcome>
     requires { is_ready live }
     ensures ready { IfOk result IsReady }
-    ensures begins { IfOk result (λ machine. BeginsWith (is_some past)
-        (state_in live.entry) (machine_of machine)) }
-    ensures resumed { OnOk result (IsResumed (is_some past) (O.view outlet.old)
+    ensures resumes { IfOk result (λ machine. Resumes (option_map P.remaining past)
+        (without_workers (state_in live.entry)) (machine_of machine) (O.view outlet.old)
         (O.view outlet.new)) }
     ensures none { IfErr result (λ outcome. (outcome ≢ Done)
-        × TellsNothing (O.view outlet.old) (O.view outlet.new)) }
+        × StopsResuming (is_some (option_map P.remaining past)) (O.view outlet.old)
+        (O.view outlet.new)) }
 {
     match past {
         Some(past) => resume_log(site, live, past, outlet),
@@ -157,11 +161,11 @@ fn resume_log<'g, H: Wait + AllocGlobal, P: Source + Drop, O: Outlet>(
 ) -> Result<Machine<'g>, Outcome>
     requires { is_ready live }
     ensures ready { IfOk result IsReady }
-    ensures begins { IfOk result (λ machine. BeginsWith true (state_in live.entry)
-        (machine_of machine)) }
-    ensures resumed { OnOk result (IsResumed true (O.view outlet.old) (O.view outlet.new)) }
+    ensures resumes { IfOk result (λ machine. Resumes (Some (P.remaining past))
+        (without_workers (state_in live.entry)) (machine_of machine) (O.view outlet.old)
+        (O.view outlet.new)) }
     ensures none { IfErr result (λ outcome. (outcome ≢ Done)
-        × TellsNothing (O.view outlet.old) (O.view outlet.new)) }
+        × StopsResuming true (O.view outlet.old) (O.view outlet.new)) }
 {
     let (live, resumed) = replay(site, live, past)?;
     match keep_more(outlet, resumed) {
@@ -175,18 +179,18 @@ fn resume_log<'g, H: Wait + AllocGlobal, P: Source + Drop, O: Outlet>(
 
 /// Keeps the lines that were served after those of the log. Returns the next number.
 fn keep_more<O: Outlet>(outlet: &mut O, resumed: Resumed) -> Result<u64, Outcome>
-    ensures resumed { OnOk result (IsResumed true (O.view outlet.old) (O.view outlet.new)) }
+    requires { ArePuts resumed.more.items }
+    ensures next { IfOk result (λ next. next ≡ resumed.next) }
+    ensures resumed { OnOk result (IsResumed resumed.more.items (O.view outlet.old)
+        (O.view outlet.new)) }
     ensures none { IfErr result (λ outcome. (outcome ≢ Done)
-        × TellsNothing (O.view outlet.old) (O.view outlet.new)) }
+        × StopsResuming true (O.view outlet.old) (O.view outlet.new)) }
 {
     let Resumed { next, more } = resumed;
-    let kept = if more.is_empty() {
-        Ok(())
-    } else {
-        outlet.keep(more.as_slice())
-    };
-    drop(more);
-    match kept {
+    if more.is_empty() {
+        return Ok(next);
+    }
+    match outlet.keep(more.as_slice()) {
         Ok(()) => Ok(next),
         Err(device) => Err(Outcome::Stopped(device)),
     }

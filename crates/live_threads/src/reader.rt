@@ -4,7 +4,7 @@ ghost use Rattle.line_feed.specs.Feed.{ahead_of, line_of};
 ghost use Rattle.line_feed.specs.Pieces.{IsKept};
 ghost use Rattle.live_input.specs.Serving.{kept_lines};
 ghost use Rattle.tagged_lines.specs.Tags.{with_feed};
-ghost use Rattle.live_threads.specs.Fed.{AreAllLines, Fed, IsFed, PutsLast, PutsLines};
+ghost use Rattle.live_threads.specs.Fed.{AreReadLines, Fed, IsFed, PutsLast, PutsLines};
 ghost use Rattle.live_threads.specs.declared.letters.InputEnd.TheVariants.{Done};
 ghost use Rattle.rtrb.specs.Ring.{SameProducer, sent};
 
@@ -34,7 +34,7 @@ pub(crate) fn read_lines<S: Source + Drop, R: Wait + AllocGlobal>(
     reader: S,
 ) -> ReaderEnd
     ensures { PutsLines lines result.lines
-        (λ fed. AreAllLines (S.remaining reader) result.end fed) }
+        (λ fed. AreReadLines (S.remaining reader) result.end fed) }
 {
     let mut lines = lines;
     let mut source = Replay::new(reader);
@@ -60,7 +60,7 @@ fn feed_lines<D: Dialogue, R: Wait + AllocGlobal>(
     requires ahead { ahead_of feed.old ≡ [] }
     requires line { IsKept (line_of feed.old) [] }
     ensures { PutsLines lines.old lines.new
-        (λ fed. AreAllLines (D.view source.old).remaining result fed) }
+        (λ fed. AreReadLines (D.view source.old).remaining result fed) }
 {
     for _ in rt.forever() {
         if feed.refill(source).is_err() {

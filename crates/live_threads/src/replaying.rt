@@ -1,18 +1,25 @@
 //! The lines of a log, served again, while workers make its steps.
-ghost use Rattle.std.specs.Prelude.{◌≡◌, ◌≢◌, IfErr, IfOk, OnOk};
-ghost use Rattle.live_input.specs.Serving.{is_ready};
+ghost use Rattle.std.specs.Prelude.{◌≡◌, ◌≢◌, ◌+◌, ◌∷◌, [], ◌<◌, ◌^◌, false, IfErr, IfOk, OnOk};
+ghost use Rattle.live_input.specs.Serving.{is_ready, state_in};
+ghost use Rattle.live_lines.specs.Live.{asked_of as what_asks, asks};
+ghost use Rattle.live_machine.specs.Workers.{without_workers};
+ghost use Rattle.live_threads.specs.Replays.{EndsLog, IsServable, LeadsTo, PutsHeld, Replays, moves_job, put_line};
+ghost use Rattle.line_feed.specs.Feed.{ahead_of, line_of};
+ghost use Rattle.line_feed.specs.Pieces.{IsKept, kept_of};
+
+mod jobs;
 
 use crate::crew::Site;
-use crate::letters::{Order, StepLetter, StepOrder};
-use crate::logged::LoggedLine;
-use dialogue::Replay;
+use dialogue::{Dialogue, Replay};
 use itoa::Buffer;
 use line_feed::LineFeed;
 use line_service::Answers;
 use line_text::Source;
 use live_input::LiveLines;
-use live_lines::asked_of;
+use live_lines::{LineRequest, asked_of};
+use live_machine::{says_wait, workers_law};
 use live_run::Outcome;
+use script_text::OperatorLine;
 use std::alloc::{AllocError, AllocGlobal};
 use std::mem;
 use std::sync::Wait;
@@ -37,7 +44,8 @@ struct Replayed<'g, R> {
     taken: u32,
     /// The numbers of those that he holds.
     held: Vec<u32>,
-    resumed: Resumed,
+    /// The number of the next line.
+    next: u64,
 }
 
 /// Serves the lines of a log, and drops their replies. Jobs that the operator holds afterwards are
@@ -50,22 +58,28 @@ pub(crate) fn replay<'g, P: Source + Drop, R: Wait + AllocGlobal>(
 ) -> Result<(LiveLines<'g>, Resumed), Outcome>
     requires { is_ready lines }
     ensures ready { IfOk result (λ r. is_ready r.0) }
+    ensures leads { IfOk result (λ r. Replays (without_workers (state_in lines.entry))
+        (P.remaining past) (without_workers (state_in r.0)) r.1.next r.1.more.items) }
     ensures none { IfErr result (λ outcome. outcome ≢ Outcome.Done) }
 {
     let mut replayed = Replayed::new(site, lines);
-    let mut source = Replay::new(past);
-    let served = match LineFeed::new(site.rt.alloc()) {
-        Ok(mut feed) => replayed.serve_log(&mut feed, &mut source),
-        Err(_) => Err(Outcome::NoMemory),
-    };
-    drop(source);
-    replayed.end(served)
+    let served = replayed.serve_past(past);
+    let (lines, next) = replayed.into_parts();
+    match served {
+        Ok(more) => Ok((lines, Resumed { next, more })),
+        Err(outcome) => {
+            lines.close();
+            Err(outcome)
+        }
+    }
 }
 
 impl<'g, R: Wait + AllocGlobal> Replayed<'g, R> {
     /// A live service that has served no line of its log.
     fn new(site: Site<'g, R>, lines: LiveLines<'g>) -> Self
-        ensures { result.lines ≡ lines.entry }
+        ensures lines { result.lines ≡ lines.entry }
+        ensures held { result.held.items ≡ [] }
+        ensures next { result.next ≡ 1 }
     {
         let alloc = site.rt.alloc();
         Replayed {
@@ -74,19 +88,14 @@ impl<'g, R: Wait + AllocGlobal> Replayed<'g, R> {
             out: Vec::new(alloc),
             taken: 0,
             held: Vec::new(alloc),
-            resumed: Resumed {
-                next: 1,
-                more: Vec::new(alloc),
-            },
+            next: 1,
         }
     }
 
-    /// What the log led to, if it was served.
-    fn end(self, served: Result<(), Outcome>) -> Result<(LiveLines<'g>, Resumed), Outcome>
-        requires ready { OnOk served (is_ready self.lines) }
-        requires none { IfErr served (λ outcome. outcome ≢ Outcome.Done) }
-        ensures ready { IfOk result (λ r. is_ready r.0) }
-        ensures none { IfErr result (λ outcome. outcome ≢ Outcome.Done) }
+    /// The live service, and the number of the next line.
+    fn into_parts(self) -> (LiveLines<'g>, u64)
+        ensures lines { result.0 ≡ self.entry.lines }
+        ensures next { result.1 ≡ self.entry.next }
     {
         let Replayed {
             site: _,
@@ -94,32 +103,44 @@ impl<'g, R: Wait + AllocGlobal> Replayed<'g, R> {
             out,
             taken: _,
             held,
-            resumed,
+            next,
         } = self;
         drop((out, held));
-        match served {
-            Ok(()) => Ok((lines, resumed)),
-            Err(outcome) => {
-                drop(resumed);
-                lines.close();
-                Err(outcome)
-            }
+        (lines, next)
+    }
+
+    /// Serves the lines of a log. Returns lines that were served after them.
+    fn serve_past<P: Source + Drop>(&mut self, past: P) -> Result<Vec<u8>, Outcome>
+        requires ready { is_ready self.old.lines }
+        requires held { self.old.held.items ≡ [] }
+        requires first { self.old.next ≡ 1 }
+        ensures ready { OnOk result (is_ready self.new.lines) }
+        ensures leads { IfOk result (λ more. Replays (without_workers (state_in self.old.lines))
+            (P.remaining past) (without_workers (state_in self.new.lines)) self.new.next
+            more.items) }
+        ensures none { IfErr result (λ outcome. outcome ≢ Outcome.Done) }
+    {
+        let mut source = Replay::new(past);
+        match LineFeed::new(self.site.rt.alloc()) {
+            Ok(mut feed) => self.serve_log(&mut feed, &mut source),
+            Err(_) => Err(Outcome::NoMemory),
         }
     }
 
-    /// The last id that the name was given, or 0.
-    fn last_id(&self, name: &[u8]) -> u32 {
-        self.lines.live().names().last_id(name)
-    }
-
-    /// Serves the lines of the log up to its end.
-    fn serve_log<P: Source + Drop>(
+    /// Serves the lines of a dialogue up to its end. Returns lines that were served after them.
+    fn serve_log<D: Dialogue>(
         &mut self,
         feed: &mut LineFeed,
-        source: &mut Replay<P>,
-    ) -> Result<(), Outcome>
-        requires { is_ready self.old.lines }
+        source: &mut D,
+    ) -> Result<Vec<u8>, Outcome>
+        requires ready { is_ready self.old.lines }
+        requires ahead { ahead_of feed.old ≡ [] }
+        requires line { IsKept (line_of feed.old) [] }
+        requires held { self.old.held.items ≡ [] }
+        requires first { self.old.next ≡ 1 }
         ensures ready { OnOk result (is_ready self.new.lines) }
+        ensures leads { IfOk result (λ more. Replays (without_workers (state_in self.old.lines))
+            (D.view source.old).remaining (without_workers (state_in self.new.lines)) self.new.next more.items) }
         ensures none { IfErr result (λ outcome. outcome ≢ Outcome.Done) }
     {
         for _ in self.site.rt.forever() {
@@ -138,29 +159,52 @@ impl<'g, R: Wait + AllocGlobal> Replayed<'g, R> {
         unreachable!()
     }
 
-    /// Serves what the log has of a last line, and takes all jobs home.
-    fn end_log(&mut self, line: &[u8]) -> Result<(), Outcome>
-        requires { is_ready self.old.lines }
+    /// Serves what the log has of a last line, takes all jobs home, and puts those that the
+    /// operator holds. Returns the lines that put them.
+    fn end_log(&mut self, line: &[u8]) -> Result<Vec<u8>, Outcome>
+        requires ready { is_ready self.old.lines }
+        requires cut { kept_of line.now ≡ line.now }
         ensures ready { OnOk result (is_ready self.new.lines) }
+        ensures leads { IfOk result (λ more. EndsLog (without_workers (state_in self.old.lines))
+            self.old.next self.old.held.items line.now (without_workers (state_in self.new.lines))
+            self.new.next more.items) }
         ensures none { IfErr result (λ outcome. outcome ≢ Outcome.Done) }
     {
-        if !line.is_empty() {
-            self.serve(line)?;
+        if line.is_empty() {
+            return self.finish();
         }
+        self.serve(line)?;
+        self.finish()
+    }
+
+    /// Takes all jobs home, and puts those that the operator holds. Returns the lines that put
+    /// them.
+    fn finish(&mut self) -> Result<Vec<u8>, Outcome>
+        requires { is_ready self.old.lines }
+        ensures ready { OnOk result (is_ready self.new.lines) }
+        ensures puts { IfOk result (λ more. PutsHeld (without_workers (state_in self.old.lines))
+            self.old.next self.old.held.items (without_workers (state_in self.new.lines))
+            self.new.next more.items) }
+        ensures none { IfErr result (λ outcome. outcome ≢ Outcome.Done) }
+    {
         self.await_jobs();
         match self.put_held() {
-            Ok(()) => Ok(()),
+            Ok(more) => Ok(more),
             Err(_) => Err(Outcome::NoMemory),
         }
     }
 
-    /// Serves a line.
+    /// Serves a line, cut to the bytes that are kept of it.
     fn serve(&mut self, line: &[u8]) -> Result<(), Outcome>
-        requires { is_ready self.old.lines }
+        requires ready { is_ready self.old.lines }
+        requires cut { kept_of line.now ≡ line.now }
         ensures ready { OnOk result (is_ready self.new.lines) }
+        ensures leads { OnOk result (LeadsTo (without_workers (state_in self.old.lines))
+            self.old.next self.old.held.items (line.now ∷ [])
+            (without_workers (state_in self.new.lines)) self.new.next self.new.held.items) }
         ensures none { IfErr result (λ outcome. outcome ≢ Outcome.Done) }
     {
-        if self.resumed.next == u64::MAX {
+        if self.next == u64::MAX {
             return Err(Outcome::TooManyLines);
         }
         match self.answer(line) {
@@ -171,36 +215,78 @@ impl<'g, R: Wait + AllocGlobal> Replayed<'g, R> {
 
     /// Answers a line, after the job that it may need has come home.
     fn answer(&mut self, line: &[u8]) -> Result<(), AllocError>
-        requires { is_ready self.old.lines }
-        ensures { OnOk result (is_ready self.new.lines) }
+        requires ready { is_ready self.old.lines }
+        requires cut { kept_of line.now ≡ line.now }
+        requires next { self.old.next + 1 < 2 ^ 64 }
+        ensures ready { OnOk result (is_ready self.new.lines) }
+        ensures leads { OnOk result (LeadsTo (without_workers (state_in self.old.lines))
+            self.old.next self.old.held.items (line.now ∷ [])
+            (without_workers (state_in self.new.lines)) self.new.next self.new.held.items) }
     {
-        let logged = LoggedLine::of(asked_of(self.site.rt.alloc(), line)?);
-        if let Some(name) = logged.needs_job_of() {
-            let id = self.last_id(name);
-            self.await_job(id);
-        }
-        let reply = self.lines.answer(self.resumed.next, line)?;
-        let is_taken = reply.starts_with(b"op ok job ");
+        workers_law();
+        let asked = asked_of(self.site.rt.alloc(), line)?;
+        self.await_needed(&asked, line);
+        let reply = self.lines.answer(self.next, line)?;
+        self.next += 1;
+        let has_taken = reply.starts_with(b"op ok job ");
         drop(reply);
-        self.resumed.next = self.resumed.next.saturating_add(1);
-        match logged {
-            LoggedLine::Takes(_) => self.note_taken(is_taken),
-            LoggedLine::Puts(number) => {
+        self.note(asked, has_taken)
+    }
+
+    /// Waits until the job that a line may need is home.
+    fn await_needed(&mut self, asked: &LineRequest<'_>, line: &[u8])
+        requires ready { is_ready self.old.lines }
+        requires asks { asks asked.now ≡ what_asks line.now }
+        ensures ready { is_ready self.new.lines }
+        ensures servable { IsServable (state_in self.new.lines) (what_asks line.now) line.now }
+        ensures same { without_workers (state_in self.new.lines)
+            ≡ without_workers (state_in self.old.lines) }
+        ensures next { self.new.next ≡ self.old.next }
+        ensures held { self.new.held ≡ self.old.held }
+    {
+        match asked {
+            LineRequest::Says(_, name, _) => {
+                if says_wait(line) {
+                    self.await_home(name);
+                }
+            }
+            LineRequest::Operates(OperatorLine::Step(name, _) | OperatorLine::Take(name)) => {
+                self.await_home(name);
+            }
+            LineRequest::Operates(_) | LineRequest::Nothing | LineRequest::NoForm => {}
+        }
+    }
+
+    /// Notes which jobs the operator holds after a line, and has a worker make the next step of the
+    /// job that the line may have made ready.
+    fn note(&mut self, asked: LineRequest<'_>, has_taken: bool) -> Result<(), AllocError>
+        requires ready { is_ready self.old.lines }
+        ensures ready { OnOk result (is_ready self.new.lines) }
+        ensures same { OnOk result (without_workers (state_in self.new.lines)
+            ≡ without_workers (state_in self.old.lines)) }
+        ensures next { self.new.next ≡ self.old.next }
+        ensures held { moves_job (asks asked.entry) ≡ false →
+            OnOk result (self.new.held ≡ self.old.held) }
+    {
+        match asked {
+            LineRequest::Operates(OperatorLine::Take(_)) => self.note_taken(has_taken),
+            LineRequest::Operates(OperatorLine::Put(number)) => {
                 self.held.retain(|held| *held != number);
                 Ok(())
             }
-            LoggedLine::Steps(name) | LoggedLine::Waits(name) | LoggedLine::Says(name) => {
+            LineRequest::Says(_, name, _) | LineRequest::Operates(OperatorLine::Step(name, _)) => {
                 self.order_step(name)
             }
-            LoggedLine::Other => Ok(()),
+            LineRequest::Operates(_) | LineRequest::Nothing | LineRequest::NoForm => Ok(()),
         }
     }
 
     /// Notes that the operator took a job, if he did.
-    fn note_taken(&mut self, is_taken: bool) -> Result<(), AllocError>
-        ensures { self.new.lines ≡ self.old.lines }
+    fn note_taken(&mut self, has_taken: bool) -> Result<(), AllocError>
+        ensures lines { self.new.lines ≡ self.old.lines }
+        ensures next { self.new.next ≡ self.old.next }
     {
-        if !is_taken {
+        if !has_taken {
             return Ok(());
         }
         self.taken = self.taken.saturating_add(1);
@@ -208,104 +294,42 @@ impl<'g, R: Wait + AllocGlobal> Replayed<'g, R> {
         Ok(())
     }
 
-    /// Puts the jobs that the operator holds.
-    fn put_held(&mut self) -> Result<(), AllocError>
+    /// Puts the jobs that the operator holds. Returns the lines that do so, each with LF. They are
+    /// to be kept.
+    fn put_held(&mut self) -> Result<Vec<u8>, AllocError>
         requires { is_ready self.old.lines }
-        ensures { OnOk result (is_ready self.new.lines) }
+        ensures ready { OnOk result (is_ready self.new.lines) }
+        ensures puts { IfOk result (λ more. PutsHeld (without_workers (state_in self.old.lines))
+            self.old.next self.old.held.items (without_workers (state_in self.new.lines))
+            self.new.next more.items) }
     {
-        let held = mem::replace(&mut self.held, Vec::new(self.site.rt.alloc()));
-        for number in held {
-            self.put_job(number)?;
+        let alloc = self.site.rt.alloc();
+        let mut more = Vec::new(alloc);
+        if self.held.is_empty() {
+            return Ok(more);
         }
-        Ok(())
+        let held = mem::replace(&mut self.held, Vec::new(alloc));
+        for number in held {
+            let line = self.put_job(number)?;
+            more.extend_from_slice(line.as_slice())?;
+        }
+        Ok(more)
     }
 
-    /// Puts the job of that number, by a line that is to be kept.
-    fn put_job(&mut self, number: u32) -> Result<(), AllocError>
+    /// Puts the job of that number. Returns the line that does so, with LF.
+    fn put_job(&mut self, number: u32) -> Result<Vec<u8>, AllocError>
         requires { is_ready self.old.lines }
-        ensures { OnOk result (is_ready self.new.lines) }
+        ensures ready { OnOk result (is_ready self.new.lines) }
+        ensures line { IfOk result (λ line. line.items ≡ put_line number) }
     {
-        if self.resumed.next == u64::MAX {
+        if self.next == u64::MAX {
             return Err(AllocError);
         }
         let mut line = Vec::from_slice(self.site.rt.alloc(), b"op put ")?;
         line.extend_from_slice(Buffer::new().format(number).as_bytes())?;
-        drop(self.lines.answer(self.resumed.next, line.as_slice())?);
-        self.resumed.next += 1;
+        drop(self.lines.answer(self.next, line.as_slice())?);
+        self.next += 1;
         line.push(b'\n')?;
-        self.resumed.more.extend_from_slice(line.as_slice())?;
-        Ok(())
-    }
-
-    /// Has a worker make the next step of that name's job, if there is one to make.
-    fn order_step(&mut self, name: &[u8]) -> Result<(), AllocError>
-        requires { is_ready self.old.lines }
-        ensures { OnOk result (is_ready self.new.lines) }
-    {
-        let id = self.last_id(name);
-        let Some(job) = self.lines.take_job(id) else {
-            return Ok(());
-        };
-        let offset = self.lines.live().service().offset(id);
-        let order = StepOrder::new(job, offset);
-        self.out.push(id)?;
-        self.site.crew.order(self.site.rt, Order::Make(order))
-    }
-
-    /// Waits until that tenancy's job is home.
-    fn await_job(&mut self, id: u32)
-        requires { is_ready self.old.lines }
-        ensures { is_ready self.new.lines }
-    {
-        for _ in self.site.rt.forever() {
-            if !self.out.contains(&id) {
-                return;
-            }
-            let letters = self.site.crew.mailbox.take_steps(self.site.rt);
-            self.take_home(letters);
-        }
-        unreachable!()
-    }
-
-    /// Waits until all jobs are home.
-    fn await_jobs(&mut self)
-        requires { is_ready self.old.lines }
-        ensures { is_ready self.new.lines }
-    {
-        for _ in self.site.rt.forever() {
-            if self.out.is_empty() {
-                return;
-            }
-            let letters = self.site.crew.mailbox.take_steps(self.site.rt);
-            self.take_home(letters);
-        }
-        unreachable!()
-    }
-
-    /// Takes the jobs home whose steps were made.
-    fn take_home(&mut self, letters: Vec<StepLetter>)
-        requires { is_ready self.old.lines }
-        ensures { is_ready self.new.lines }
-    {
-        for letter in letters {
-            self.give_back(letter);
-        }
-    }
-
-    /// Gives a job back.
-    fn give_back(&mut self, letter: StepLetter)
-        requires { is_ready self.old.lines }
-        ensures { is_ready self.new.lines }
-    {
-        let back = match letter {
-            StepLetter::Made(made) => made.into_done().into_back(),
-            StepLetter::NoMemory(job) => job.into_back(),
-            StepLetter::Paused(_) => return,
-        };
-        let id = back.id();
-        self.lines.give_back(back);
-        if let Some(place) = self.out.iter().position(|out| *out == id) {
-            self.out.swap_remove(place);
-        }
+        Ok(line)
     }
 }

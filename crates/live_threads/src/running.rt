@@ -1,10 +1,11 @@
 //! A service with workers, from its log to its end.
-ghost use Rattle.std.specs.Prelude.{◌≡◌, ◌⊎◌, [], None, Some, true, is_some, option_map};
+ghost use Rattle.std.specs.Prelude.{◌≡◌, ◌⊎◌, [], None, Some, true, option_map};
 ghost use Rattle.dialogue.specs.declared.dialogue.FailedDevice.TheVariants.{Input};
 ghost use Rattle.live_run.specs.declared.outcome.Outcome.TheVariants.{Stopped};
 ghost use Rattle.rtrb.specs.Ring.{IsPair, received, sent};
 ghost use Rattle.live_threads.specs.Outlet.{view_of};
-ghost use Rattle.live_threads.specs.Ends.{IsWhole, RunsOpened, RunsService};
+ghost use Rattle.live_threads.specs.Ends.{IsWhole, RunsOpened, RunsService, empty_on};
+ghost use Rattle.live_threads.specs.Fed.{AreFirst};
 ghost use Rattle.live_threads.specs.Taken.{TakesLines};
 
 use crate::crew::{Crew, Site};
@@ -43,7 +44,7 @@ pub(crate) fn serve_with_workers<
     L: Log + Drop + Send,
 >(rt: &H, workers: u32, graph: &DeviceGraph, opened: Opened<P, W, L>, reader: S) -> RunEnd<W, L>
     requires { opened.service.histories ≡ [] }
-    ensures { RunsOpened (is_some opened.past) opened.service graph.now
+    ensures { RunsOpened (option_map P.remaining opened.past) (empty_on opened.service graph.now)
         (view_of W.contents W.has_failed L.kept L.has_failed opened.devices) (S.remaining reader)
         (option_map (view_of W.contents W.has_failed L.kept L.has_failed) result.devices) result.outcome }
 {
@@ -106,7 +107,7 @@ fn run_threads<
     requires pair { IsPair input.producer lines }
     requires sent { sent input.producer ≡ [] }
     requires received { received lines ≡ [] }
-    ensures { RunsOpened (is_some opened.past) opened.service site.entry.graph.now
+    ensures { RunsOpened (option_map P.remaining opened.past) (empty_on opened.service site.entry.graph.now)
         (view_of W.contents W.has_failed L.kept L.has_failed opened.devices) (S.remaining input.reader)
         (option_map (view_of W.contents W.has_failed L.kept L.has_failed) result.devices) result.outcome }
 {
@@ -118,8 +119,8 @@ fn run_threads<
             requires pair { IsPair input.producer lines }
             requires sent { sent input.producer ≡ [] }
             requires received { received lines ≡ [] }
-            ensures { RunsOpened (is_some opened.past) opened.service
-                site.entry.graph.now
+            ensures { RunsOpened (option_map P.remaining opened.past)
+                (empty_on opened.service site.entry.graph.now)
                 (view_of W.contents W.has_failed L.kept L.has_failed opened.devices)
                 (S.remaining input.reader)
                 (option_map (view_of W.contents W.has_failed L.kept L.has_failed) result.devices) result.outcome }
@@ -148,7 +149,7 @@ fn run_in<
     requires pair { IsPair input.producer lines }
     requires sent { sent input.producer ≡ [] }
     requires received { received lines ≡ [] }
-    ensures { RunsOpened (is_some opened.past) opened.service site.entry.graph.now
+    ensures { RunsOpened (option_map P.remaining opened.past) (empty_on opened.service site.entry.graph.now)
         (view_of W.contents W.has_failed L.kept L.has_failed opened.devices) (S.remaining input.reader)
         (option_map (view_of W.contents W.has_failed L.kept L.has_failed) result.devices) result.outcome }
 {
@@ -160,8 +161,8 @@ fn run_in<
     let promise = ServesOpened::of(&opened, &lines, site.graph);
     let serve = move || -> ServerEnd<W, L>
         requires { opened.service.histories ≡ [] }
-        ensures { TakesLines lines result.lines (λ heard. RunsService (is_some opened.past)
-            opened.service site.entry.graph.now
+        ensures { TakesLines lines result.lines (λ heard. RunsService (option_map P.remaining opened.past)
+            (empty_on opened.service site.entry.graph.now)
             (view_of W.contents W.has_failed L.kept L.has_failed opened.devices) heard
             (view_of W.contents W.has_failed L.kept L.has_failed result.devices)
             result.outcome) }
@@ -185,6 +186,7 @@ fn run_in<
 fn end_of<W: Sink + Drop, L: Log + Drop>(read: ReaderEnd, served: ServerEnd<W, L>) -> RunEnd<W, L>
     requires { IsPair read.lines served.lines }
     ensures devices { result.devices ≡ Some served.devices }
+    ensures taken { AreFirst (sent read.lines) (received served.lines) }
     ensures done { result.outcome ≡ Outcome.Done → IsWhole (sent read.lines)
         (received served.lines) read.end served.outcome }
     ensures other { (result.outcome ≡ served.outcome) ⊎ (result.outcome ≡ Stopped Input) }
@@ -213,7 +215,8 @@ fn end_of<W: Sink + Drop, L: Log + Drop>(read: ReaderEnd, served: ServerEnd<W, L
 /// Whether all texts that were put into a ring were taken.
 fn are_taken(consumer: Consumer<Vec<u8>>, producer: Producer<Vec<u8>>) -> bool
     requires { IsPair producer consumer }
-    ensures { result ≡ true → received consumer ≡ sent producer }
+    ensures first { AreFirst (sent producer) (received consumer) }
+    ensures all { result ≡ true → received consumer ≡ sent producer }
 {
     let mut consumer = consumer;
     let mut producer = producer;

@@ -1,7 +1,8 @@
 //! The thread that serves: it alone has the machine, the log and the output.
-ghost use Rattle.std.specs.Prelude.{◌≡◌, [], OnErr, OnOk};
+ghost use Rattle.std.specs.Prelude.{◌≡◌, [], true, IfOk, OnErr, OnOk};
 ghost use Rattle.line_feed.specs.Pieces.{kept_of};
 ghost use Rattle.live_input.specs.Serving.{kept_lines};
+ghost use Rattle.live_machine.specs.Held.{are_at_rest};
 ghost use Rattle.live_machine.specs.Parts.{IsReady, machine_of};
 ghost use Rattle.live_threads.specs.Serving.{HasStopped, IsServed};
 ghost use Rattle.live_threads.specs.Taken.{ClosesTexts, EndsServing, IsDrained, StopsClosing, TakesLines};
@@ -76,6 +77,7 @@ fn serve_rounds<R: Wait + AllocGlobal, O: Outlet>(
     ensures served { OnOk result (TakesLines lines.old lines.new (λ heard.
         IsServed (machine_of machine.old) (O.view outlet.old) heard
         (machine_of machine.new) (O.view outlet.new))) }
+    ensures rests { OnOk result (are_at_rest (machine_of machine.new).held ≡ true) }
     ensures stopped { OnErr result (TakesLines lines.old lines.new (λ heard.
         HasStopped (machine_of machine.old) (O.view outlet.old) heard (O.view outlet.new))) }
 {
@@ -107,7 +109,9 @@ fn note_end(has_ended: bool, end: Option<InputEnd>) -> Result<bool, Fault> {
 }
 
 /// Whether nothing is left to serve.
-fn is_over(has_ended: bool, next: Next) -> bool {
+fn is_over(has_ended: bool, next: Next) -> bool
+    ensures { result ≡ true → next ≡ Next.Rests }
+{
     has_ended && next == Next::Rests
 }
 
@@ -125,6 +129,8 @@ fn serve_round<R: Wait, O: Outlet>(
     ensures served { OnOk result (TakesLines lines.old lines.new (λ heard.
         IsServed (machine_of machine.old) (O.view outlet.old) heard
         (machine_of machine.new) (O.view outlet.new))) }
+    ensures rests { IfOk result (λ next. next ≡ Next.Rests →
+        are_at_rest (machine_of machine.new).held ≡ true) }
     ensures stopped { OnErr result (TakesLines lines.old lines.new (λ heard.
         HasStopped (machine_of machine.old) (O.view outlet.old) heard (O.view outlet.new))) }
 {
@@ -138,7 +144,9 @@ fn serve_round<R: Wait, O: Outlet>(
 }
 
 /// What a service does after a round, if more of a held name may be served, or not.
-fn next_of(machine: &Machine<'_>, has_more: bool) -> Next {
+fn next_of(machine: &Machine<'_>, has_more: bool) -> Next
+    ensures { result ≡ Next.Rests → are_at_rest (machine_of machine.now).held ≡ true }
+{
     if has_more {
         return Next::GoesOn;
     }
@@ -237,6 +245,7 @@ fn deliver<O: Outlet>(machine: &mut Machine<'_>, outlet: &mut O) -> Result<(), F
     ensures served { OnOk result (IsServed (machine_of machine.old) (O.view outlet.old) []
         (machine_of machine.new) (O.view outlet.new)) }
     ensures drained { OnOk result (IsDrained (machine_of machine.new)) }
+    ensures held { OnOk result ((machine_of machine.new).held ≡ (machine_of machine.old).held) }
     ensures stopped { OnErr result (HasStopped (machine_of machine.old) (O.view outlet.old) []
         (O.view outlet.new)) }
 {
@@ -249,7 +258,8 @@ fn deliver<O: Outlet>(machine: &mut Machine<'_>, outlet: &mut O) -> Result<(), F
 /// Ends a service whose input has ended. Without a log each text that is open is refused; with one
 /// it stays open, for a service that goes on from the log.
 fn end_service<O: Outlet>(machine: Machine<'_>, outlet: &mut O) -> Outcome
-    requires { IsReady machine }
+    requires ready { IsReady machine }
+    requires rests { are_at_rest (machine_of machine).held ≡ true }
     ensures { EndsServing (machine_of machine.entry) (O.view outlet.old) [] (O.view outlet.new)
         result }
 {

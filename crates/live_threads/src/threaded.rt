@@ -161,7 +161,7 @@ fn run_device<
 where
     H::File: LockLog + Send,
     requires { IsDevice device }
-    ensures { RunsOver (is_some streams.past) device
+    ensures { RunsOver (option_map (⟦<StdSource<Take<H::File>> as Source>⟧.remaining) streams.past) device
         (⟦<Devices<W, FileLog<H::File>> as Outlet>⟧.view streams.devices) (S.remaining reader)
         (option_map (⟦<Devices<W, FileLog<H::File>> as Outlet>⟧.view) result.devices)
         result.outcome }

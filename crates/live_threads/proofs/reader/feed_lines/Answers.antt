@@ -2,8 +2,8 @@ use Rattle.std.proofs.Common.{List, ℕ, refl, subst, sym}
 use Rattle.line_feed.specs.Feed.{ahead_of}
 use Rattle.live_threads.specs.Fed.{Fed, PutsLast}
 use Rattle.live_threads.specs.Taken.{lines_of}
-use Rattle.live_threads.proofs.FedLemmas.{fed_none, fed_read, last_fed, read_ok}
-use Rattle.live_threads.proofs.RingLemmas.{puts_none, puts_one, puts_then, same_self}
+use Rattle.live_threads.proofs.FedLemmas.{fed_first, fed_none, fed_read, last_fed, read_ok}
+use Rattle.live_threads.proofs.RingLemmas.{puts_maybe, puts_none, puts_one, puts_so, puts_then, same_self}
 use Rattle.live_threads.proofs.reader.feed_lines.Goals as goal
 
 pub loop-init : goal.loop-init
@@ -34,3 +34,18 @@ loop-preserved g c =
           let F : List ℕ → Type 0 = λ l. Fed (g.D.Dialogue.view c.args.source.now).remaining (g.D.Dialogue.view c.refill.new.dialogue).remaining (ahead_of c.refill.new.self) l fed in
           c.in-Ok.ensures.fed _ _ fed (subst F (sym c.refill.ensures.line) (fed_read _ _ _ _ _ _ fed c.loop.invariant.ahead f reads.consumes)));
     }
+
+pub returns-then-is_err : goal.returns-then-is_err
+returns-then-is_err g c = puts_so _ _ _ _ c.loop.invariant.fed (λ fed f. fed_first _ _ _ _ fed f)
+
+pub returns-in_default : goal.returns-in_default
+returns-in_default g c = puts_so _ _ _ _ c.loop.invariant.fed (λ fed f. fed_first _ _ _ _ fed f)
+
+pub returns-then-not-hand_over : goal.returns-then-not-hand_over
+returns-then-not-hand_over g c =
+    let reads = read_ok _ _ _ _ c.if-is_err.ensures.value c.refill.ensures.reads in
+    puts_maybe _ _ _ c.in-Ok.batch _ _ c.loop.invariant.fed c.if-not-hand_over.ensures.ring c.if-not-hand_over.ensures.put
+    (λ fed f.
+    let F : List ℕ → Type 0 = λ l. Fed (g.D.Dialogue.view c.args.source.now).remaining (g.D.Dialogue.view c.refill.new.dialogue).remaining (ahead_of c.refill.new.self) l fed in
+    fed_first _ _ _ _ _ (c.in-Ok.ensures.fed _ _ fed (subst F (sym c.refill.ensures.line) (fed_read _ _ _ _ _ _ fed c.loop.invariant.ahead f reads.consumes))))
+    (λ fed f. fed_first _ _ _ _ fed f)

@@ -1,4 +1,3 @@
-use Rattle.std.proofs.Common.{arith}
 use Rattle.live_threads.proofs.LineLemmas.{kept_part, kept_short}
 use Rattle.live_threads.proofs.serving.cut_line.Goals as goal
 

@@ -1,5 +1,13 @@
-use Rattle.live_input.specs.Serving.{is_ready}
+use Rattle.std.proofs.Common.{◌≡◌}
+use Rattle.live_input.specs.Serving.{is_ready, state_in}
+use Rattle.live_machine.specs.Workers.{without_workers}
 use Rattle.live_threads.proofs.replaying.Replayed.await_jobs.Given as goal
 
+-- others see no change
 abbrev pub invariant-loop : goal.invariant-loop
-invariant-loop g l = is_ready l.self.lines
+invariant-loop g l = record {
+  ready : is_ready l.self.lines;
+  same : without_workers (state_in l.self.lines) ≡ without_workers (state_in l.fn.self.lines);
+  next : l.self.next ≡ l.fn.self.next;
+  held : l.self.held ≡ l.fn.self.held;
+}

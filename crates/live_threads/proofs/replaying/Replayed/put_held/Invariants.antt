@@ -1,5 +1,10 @@
 use Rattle.live_input.specs.Serving.{is_ready}
+use Rattle.live_threads.specs.Replays.{ArePuts}
 use Rattle.live_threads.proofs.replaying.Replayed.put_held.Given as goal
 
+-- the lines so far put jobs
 abbrev pub invariant-loop-number : goal.invariant-loop-number
-invariant-loop-number g l = is_ready l.self.lines
+invariant-loop-number g l = record {
+  ready : is_ready l.self.lines;
+  puts : ArePuts l.more.items;
+}

@@ -1,5 +1,12 @@
-use Rattle.live_input.specs.Serving.{is_ready}
+use Rattle.live_input.specs.Serving.{is_ready, state_in}
+use Rattle.line_feed.specs.Feed.{ahead_of, line_of}
+use Rattle.live_machine.specs.Workers.{without_workers}
+use Rattle.live_threads.specs.Replays.{ReplaysSome}
 use Rattle.live_threads.proofs.replaying.Replayed.serve_log.Given as goal
 
+-- the lines so far were served
 abbrev pub invariant-loop : goal.invariant-loop
-invariant-loop g l = is_ready l.self.lines
+invariant-loop g l = record {
+  ready : is_ready l.self.lines;
+  some : ReplaysSome (without_workers (state_in l.fn.self.lines)) (g.D.Dialogue.view l.fn.source).remaining (g.D.Dialogue.view l.source).remaining (ahead_of l.feed) (line_of l.feed) (without_workers (state_in l.self.lines)) l.self.next l.self.held.items;
+}

@@ -1,0 +1,13 @@
+use Rattle.std.proofs.Common.{Option, subst, sym}
+use Rattle.std.specs.Prelude.{option_map}
+use Rattle.live_input.specs.Serving.{state_in}
+use Rattle.live_machine.specs.Parts.{machine_of}
+use Rattle.live_machine.specs.Workers.{without_workers}
+use Rattle.live_threads.specs.Ends.{Resumes}
+use Rattle.live_threads.proofs.EndLemmas.{resumes_none}
+use Rattle.live_threads.proofs.opened.resume.Goals as goal
+
+pub returns-in-None-clause-resumes : goal.returns-in-None-clause-resumes
+returns-in-None-clause-resumes g c =
+    let P : Option _ → Type 0 = λ p. Resumes (option_map g.P.Source.remaining p) (without_workers (state_in c.args.live)) (machine_of c.new.result) (g.O.Outlet.view c.args.outlet.now) (g.O.Outlet.view c.args.outlet.now) in
+    subst P (sym c.in-None.is) (resumes_none _ _ _ c.new.ensures.begins)

@@ -1,5 +1,0 @@
-use Rattle.live_input.specs.Serving.{is_ready}
-use Rattle.live_threads.proofs.replaying.Replayed.await_job.Given as goal
-
-abbrev pub invariant-loop : goal.invariant-loop
-invariant-loop g l = is_ready l.self.lines
