@@ -64,10 +64,6 @@ abbrev pub Reads : View → View → List ℕ → Result ℕ FailedDevice → Ty
 Reads old new buffer (Ok count) = ReadsBytes old new buffer count
 Reads old new buffer (Err fault) = Fails old new fault Kept buffer
 
-abbrev pub EndsLine : View → View → Result (Unit {0}) FailedDevice → Type 0
-EndsLine old new (Ok u) = Happens old new (Kept (10 ∷ []) ∷ [])
-EndsLine old new (Err fault) = Fails old new fault Kept (10 ∷ [])
-
 -- bytes are written; the input stays as it is
 abbrev pub Writes : View → View → List ℕ → Result (Unit {0}) FailedDevice → Type 0
 Writes old new bytes (Ok u) = Happens old new (Told bytes ∷ []) × Keeps old.remaining new.remaining

@@ -90,10 +90,6 @@ impl<R: Source + Drop, W: Sink + Drop, L: Log + Drop> Dialogue for Connection<R,
         Ok(count)
     }
 
-    fn end_line(&mut self) -> Result<(), FailedDevice> {
-        keep_bytes(&mut self.log, b"\n")
-    }
-
     fn write(&mut self, bytes: &[u8]) -> Result<(), FailedDevice> {
         match write_all(&mut self.writer, bytes) {
             Ok(()) => Ok(()),

@@ -1,5 +1,5 @@
 //! A dialogue.
-ghost use Rattle.dialogue.specs.History.{EndsLine, Reads, Writes};
+ghost use Rattle.dialogue.specs.History.{Reads, Writes};
 
 /// Which device of a dialogue failed.
 #[derive(Clone, Copy, PartialEq, Eq)]
@@ -24,13 +24,6 @@ pub trait Dialogue {
     /// bytes.
     fn read(&mut self, buffer: &mut [u8]) -> Result<usize, FailedDevice>
         ensures { Reads (view self.old) (view self.new) buffer.new result };
-
-    /// Keeps LF, which ends a last line without its end.
-    ///
-    /// # Errors
-    /// As for `read`.
-    fn end_line(&mut self) -> Result<(), FailedDevice>
-        ensures { EndsLine (view self.old) (view self.new) result };
 
     /// Writes all of the bytes to the output.
     ///

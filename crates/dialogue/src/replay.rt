@@ -39,10 +39,6 @@ impl<R: Source + Drop> Dialogue for Replay<R> {
         }
     }
 
-    fn end_line(&mut self) -> Result<(), FailedDevice> {
-        Ok(())
-    }
-
     fn write(&mut self, _bytes: &[u8]) -> Result<(), FailedDevice> {
         Ok(())
     }

@@ -4,11 +4,14 @@
 
 use line_text::{StdSink, StdSource};
 use live_promises::{ProgramEnd, serve};
+use live_run::WholeLines;
+use std::fs::File;
 use std::process::ExitCode;
 use std::{env, io};
 
 fn main(rt: HostRuntime) -> ExitCode {
-    let reader = StdSource::new(rt.reader());
+    let streams = fill_streams(&rt);
+    let reader = WholeLines::new(&rt, StdSource::new(rt.reader()));
     let writer = StdSink::new(io::writer(&rt));
     let ProgramEnd {
         status,
@@ -16,7 +19,19 @@ fn main(rt: HostRuntime) -> ExitCode {
         devices,
     } = serve(&rt, words(&rt), reader, writer);
     drop((connection, devices));
+    drop(streams);
     status
+}
+
+/// Takes the numbers of the standard streams that are closed: else the log's file would get one of
+/// them, and replies and messages would be written into it. A folder can be neither read nor
+/// written, so what was closed fails.
+fn fill_streams(rt: &HostRuntime) -> [io::Result<File>; 3] {
+    [
+        File::open(rt, "/"),
+        File::open(rt, "/"),
+        File::open(rt, "/"),
+    ]
 }
 
 /// The words that the program was called with, the first being its name.

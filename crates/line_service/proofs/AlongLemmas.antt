@@ -42,8 +42,10 @@ ends_along : {S T : Type 0} (f : S → T) (a : S → ℕ → List ℕ → List �
 ends_along f a b each old first before after events Done new next i = record {
   lines = i.lines;
   counted = i.counted;
+  begun = i.begun;
   kept = i.kept;
   are_lines = i.are_lines;
+  is_begun = i.is_begun;
   answered = answered_along f a b each old first i.lines _ new i.answered;
   all = i.all;
 }

@@ -3,7 +3,7 @@ use Rattle.std.proofs.Common.{◌≡◌, ℕ, List, [], ◌∷◌, ◌++◌, cod
 use Rattle.dialogue.specs.History.{kept_in, told_in}
 use Rattle.dialogue.specs.History.Event.{Kept, Told}
 use Rattle.line_feed.specs.Pieces.{kept_of}
-use Rattle.line_service.specs.Conversation.{AreAnswered}
+use Rattle.line_service.specs.Conversation.{AreAnswered, ended_lines}
 
 -- the line again, and LF
 abbrev echoes : ℕ → ℕ → List ℕ → List ℕ → ℕ → Type 0
@@ -18,3 +18,7 @@ kept = refl
 
 told : told_in (Kept (codes "a\nb") ∷ Told (codes "a\n") ∷ Kept (codes "\n") ∷ Told (codes "b\n") ∷ []) ≡ codes "a\nb\n"
 told = refl
+
+-- what stands after the last LF is no line
+ended : ended_lines (codes "a\n\nplace 1 10") ≡ codes "a" ∷ [] ∷ []
+ended = refl

@@ -1,13 +1,21 @@
 -- What is kept, answered and written in a conversation, at each moment.
-use Rattle.std.specs.Prelude.{ℕ, ◌≡◌, ◌+◌, ◌^◌, List, [], ◌∷◌, ◌++◌, length, take, true, Option, Some, IfSome, ⊤}
+use Rattle.std.specs.Prelude.{ℕ, ◌≡◌, ◌+◌, ◌^◌, ◌==◌, List, [], ◌∷◌, ◌++◌, length, take, true, Option, Some, IfSome, ⊤, if◌then◌else◌}
 use Rattle.std.specs.List.{flat_map, list_all, slice_get}
-use Rattle.line_text.specs.Lines.{physical_lines}
 use Rattle.tagged_lines.specs.Tags.{with_feed}
 use Rattle.dialogue.specs.History.{Event, Happens, View, kept_in, told_in}
 use Rattle.dialogue.specs.History.Event.{Kept}
 use Rattle.line_feed.specs.Pieces.{is_one_line, kept_of}
 use Rattle.line_service.specs.declared.conversation.ConversationEnd.{ConversationEnd}
 use Rattle.line_service.specs.declared.conversation.ConversationEnd.TheVariants.{Done, Stopped, TooManyLines, NoMemory}
+
+-- the lines of a text that LF ends: what stands after its last LF is no line
+abbrev pub onto_line : ℕ → List (List ℕ) → List (List ℕ)
+onto_line byte [] = []
+onto_line byte (line ∷ lines) = (byte ∷ line) ∷ lines
+
+abbrev pub ended_lines : List ℕ → List (List ℕ)
+ended_lines [] = []
+ended_lines (byte ∷ bytes) = if byte == 10 then [] ∷ ended_lines bytes else onto_line byte (ended_lines bytes)
 
 -- Lines are answered one after another, the first of them having that number: this text is all
 -- replies, and the service becomes `new`. `answers old number line reply new` says it of one line;
@@ -47,14 +55,17 @@ AtEachMoment answers old first events = (n : ℕ) → IsBacked answers old first
 abbrev pub AtEachRead : {S : Type 0} → (S → ℕ → List ℕ → List ℕ → S → Type 0) → S → ℕ → List Event → Type 0
 AtEachRead answers old first events = (n : ℕ) (bytes : List ℕ) → slice_get events n ≡ Some (Kept bytes) → IsCaughtUp answers old first (take n events)
 
--- all lines of the input were kept and answered, and their replies were written
+-- all lines of the input were kept and answered, and their replies were written; of a last line
+-- without its end the bytes were kept, and nothing else was done
 pub record IsServed {S : Type 0} (answers : S → ℕ → List ℕ → List ℕ → S → Type 0) (old : S) (first : ℕ) (input : Option (List ℕ)) (events : List Event) (new : S) (next : ℕ) : Type 0 where
   pub lines : List (List ℕ)
   pub counted : next ≡ first + length lines
-  pub kept : kept_in events ≡ flat_map with_feed lines
+  pub begun : List ℕ
+  pub kept : kept_in events ≡ flat_map with_feed lines ++ begun
   pub are_lines : list_all is_one_line lines ≡ true
+  pub is_begun : is_one_line begun ≡ true
   pub answered : AreAnswered answers old first lines (told_in events) new
-  pub all : IfSome input (λ bytes. lines ≡ physical_lines bytes)
+  pub all : IfSome input (λ bytes. lines ≡ ended_lines bytes)
 
 -- the numbers have run out: all lines before number 2^64 - 1 were answered, and their replies were
 -- written

@@ -5,7 +5,7 @@ ghost use Rattle.line_feed.specs.Pieces.{IsKept};
 ghost use Rattle.line_service.specs.Conversation.{IsConversation};
 
 use crate::answers::Answers;
-use crate::turn::{take_last_turn, take_turn};
+use crate::turn::take_turn;
 use dialogue::{Dialogue, FailedDevice};
 use line_feed::LineFeed;
 use std::sync::Wait;
@@ -13,7 +13,7 @@ use std::sync::Wait;
 /// How a conversation ended.
 #[derive(Clone, Copy, PartialEq, Eq)]
 pub enum ConversationEnd {
-    /// The input ended, and all its lines are answered.
+    /// The input ended, and all its lines are answered. A last line without its end is none.
     Done,
     /// That device failed.
     Stopped(FailedDevice),
@@ -58,7 +58,7 @@ pub fn converse<H: Wait, A: Answers, D: Dialogue>(
             Err(fault) => return ConversationEnd::Stopped(fault),
         }
         if feed.is_empty() {
-            return take_last_turn(service, feed, dialogue, number);
+            return ConversationEnd::Done;
         }
     }
     unreachable!()

@@ -4,11 +4,11 @@ use Rattle.line_feed.specs.Pieces.{kept_of}
 use Rattle.tagged_lines.specs.Tags.{told_to}
 use Rattle.live_input.specs.Serving.{kept_input, kept_lines}
 
--- the last line needs no LF
-lines : kept_lines (codes "@a x\nop list") ≡ codes "@a x" ∷ codes "op list" ∷ []
+-- a last line without LF is none
+lines : kept_lines (codes "@a x\n\nop lis") ≡ codes "@a x" ∷ [] ∷ []
 unfolding kept_of
 lines = refl
 
-mixed : told_to (codes "@a") (kept_input (codes "@a x\n@b y\n@a z")) ≡ codes "x\nz\n"
+mixed : told_to (codes "@a") (kept_input (codes "@a x\n@b y\n@a z\n@a w")) ≡ codes "x\nz\n"
 unfolding kept_of
 mixed = refl

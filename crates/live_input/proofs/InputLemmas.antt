@@ -4,10 +4,11 @@ use Rattle.std.specs.List.{flat_map, list_all, onto_first, position_or_len}
 use Rattle.std.specs.Str.{bytes_eq}
 use Rattle.line_text.specs.Lines.{physical_lines}
 use Rattle.line_feed.specs.Pieces.{is_one_line, kept_of}
+use Rattle.line_service.specs.Conversation.{ended_lines, onto_line}
 use Rattle.sessions.specs.Items.{items_from, items_of}
 use Rattle.sessions.specs.Reading.{items_to_come}
 use Rattle.tagged_lines.specs.Tags.{with_feed, rest_of, tag_of, told_to}
-use Rattle.tagged_lines.proofs.TagLemmas.{are_lines, both, is_line, line_then}
+use Rattle.tagged_lines.proofs.TagLemmas.{both, is_line, line_then}
 use Rattle.live_lines.specs.Laws.{said_by}
 use Rattle.live_input.specs.Serving.{kept_input, kept_lines}
 
@@ -18,6 +19,19 @@ lines_back (line ∷ lines) are =
     let parts = both (is_line line) (list_all is_line lines) are in
     ap physical_lines (append_assoc line (10 ∷ []) (flat_map with_feed lines))
     ∙ (line_then line (flat_map with_feed lines) parts.0 ∙ ap (λ ls. line ∷ ls) (lines_back lines parts.1))
+
+-- the lines of a text are lines
+onto_ended : (x : ℕ) (lines : List (List ℕ)) → eqb x 10 ≡ false → list_all is_line lines ≡ true → list_all is_line (onto_line x lines) ≡ true
+onto_ended x [] other are = refl
+onto_ended x (line ∷ lines) other are = ap (λ b. (not b && is_line line) && list_all is_line lines) other ∙ are
+
+are_ended : (text : List ℕ) → list_all is_line (ended_lines text) ≡ true
+are_ended [] = refl
+are_ended (x ∷ rest) =
+    elim (eqb x 10) as (λ b. eqb x 10 ≡ b → list_all is_line (cond b ([] ∷ ended_lines rest) (onto_line x (ended_lines rest))) ≡ true) [
+      | true ↦ λ e. are_ended rest
+      | false ↦ λ e. onto_ended x (ended_lines rest) e (are_ended rest)
+    ] refl
 
 -- a part of a line is a line
 take_line : (n : ℕ) (line : List ℕ) → is_line line ≡ true → is_line (take n line) ≡ true
@@ -63,7 +77,7 @@ said_lines name (line ∷ lines) are =
 pub items_said : (name input : List ℕ) → items_of (told_to (64 ∷ name) (kept_input input)) ≡ items_to_come None (said_by name (kept_lines input))
 items_said name input =
     let lines = kept_lines input in
-    let are = are_kept (physical_lines input) (are_lines input) in
+    let are = are_kept (ended_lines input) (are_ended input) in
     ap (λ ls. items_of (flat_map (λ line. cond (bytes_eq (tag_of line) (64 ∷ name)) (with_feed (rest_of line)) []) ls)) (lines_back lines are)
     ∙ (ap items_of (told_lines (64 ∷ name) lines)
     ∙ ap (items_from false) (lines_back (said_by name lines) (said_lines name lines are)))

@@ -1,8 +1,8 @@
 -- What a line is answered, and what lines are served.
 use Rattle.std.specs.Prelude.{ℕ, ◌≡◌, List, [], Option, map}
 use Rattle.std.specs.List.{flat_map}
-use Rattle.line_text.specs.Lines.{physical_lines}
 use Rattle.line_feed.specs.Pieces.{kept_of}
+use Rattle.line_service.specs.Conversation.{ended_lines}
 use Rattle.rr_graph.specs.Graph.{Basis}
 use Rattle.service_core.specs.declared.device.Device.{Device}
 use Rattle.service_core.specs.Service.{ServiceState, empty_service}
@@ -14,9 +14,10 @@ use Rattle.live_lines.specs.Said.{no_texts}
 use Rattle.tagged_lines.specs.Tags.{Tagged, with_feed, output_of}
 use Rattle.live_input.specs.declared.lines.LiveLines.{LiveLines}
 
--- the lines of an input, each cut to the bytes that are kept of it
+-- the lines of an input, each cut to the bytes that are kept of it; a last line without its end is
+-- none
 abbrev pub kept_lines : List ℕ → List (List ℕ)
-kept_lines input = map kept_of (physical_lines input)
+kept_lines input = map kept_of (ended_lines input)
 
 -- the input with its lines cut so, each ended by LF
 abbrev pub kept_input : List ℕ → List ℕ

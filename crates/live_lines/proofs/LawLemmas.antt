@@ -19,7 +19,7 @@ use Rattle.tagged_lines.specs.Tags.{Tagged, with_last_feed, have_tags, is_tag, i
 use Rattle.tagged_lines.proofs.TagLemmas.{apart, both, same, same_tag}
 use Rattle.live_lines.specs.Acts.{IsAnswered, Telling, Tells}
 use Rattle.live_lines.specs.Laws.{item_for, items_for, replies_for, reply_for, said_by}
-use Rattle.live_lines.specs.Live.{Asked, LiveState, Takes, TakesAsked, TellsItem, asked_by, asked_of, is_open, is_passed, operator_asks, told_by}
+use Rattle.live_lines.specs.Live.{Asked, LiveState, Takes, TakesAsked, TellsItem, asked_by, asked_of, is_open, is_passed, is_short, operator_asks, told_by}
 use Rattle.live_lines.specs.Live.Asked.{NoForm, Nothing, Operates, Says}
 use Rattle.live_lines.proofs.AnswerLemmas.{answer_whole}
 
@@ -46,9 +46,9 @@ operated_named (Err fault) = tt
 named_by : (tag line rest : List ℕ) → IsNamed (asked_by tag line rest)
 named_by [] line rest = tt
 named_by (b ∷ name) line rest =
-    either_named (eqb b 64) (cond (is_name name) (Says name rest) NoForm) (cond (bytes_eq (b ∷ name) (codes "op")) (operator_asks (script_of 1 line)) NoForm)
+    either_named (eqb b 64) (cond (is_name name) (Says name rest) NoForm) (cond (bytes_eq (b ∷ name) (codes "op") && is_short line) (operator_asks (script_of 1 line)) NoForm)
     (says_named name rest (is_name name) refl)
-    (either_named (bytes_eq (b ∷ name) (codes "op")) (operator_asks (script_of 1 line)) NoForm (operated_named (script_of 1 line)) tt)
+    (either_named (bytes_eq (b ∷ name) (codes "op") && is_short line) (operator_asks (script_of 1 line)) NoForm (operated_named (script_of 1 line)) tt)
 
 pub named : (line : List ℕ) → IsNamed (asked_of line)
 named line = either_named (is_passed line) Nothing (asked_by (tag_of line) line (rest_of line)) tt (named_by (tag_of line) line (rest_of line))
@@ -83,9 +83,9 @@ other_name b other name is apart =
 not_of_by : (name tag line rest : List ℕ) → bytes_eq tag (64 ∷ name) ≡ false → IsNotOf name (asked_by tag line rest)
 not_of_by name [] line rest apart = tt
 not_of_by name (b ∷ other) line rest apart =
-    either_not_of name (eqb b 64) (cond (is_name other) (Says other rest) NoForm) (cond (bytes_eq (b ∷ other) (codes "op")) (operator_asks (script_of 1 line)) NoForm)
+    either_not_of name (eqb b 64) (cond (is_name other) (Says other rest) NoForm) (cond (bytes_eq (b ∷ other) (codes "op") && is_short line) (operator_asks (script_of 1 line)) NoForm)
     (λ at. either_not_of name (is_name other) (Says other rest) NoForm (λ n. other_name b other name at apart) tt)
-    (either_not_of name (bytes_eq (b ∷ other) (codes "op")) (operator_asks (script_of 1 line)) NoForm (λ e. operated_not_of name (script_of 1 line)) tt)
+    (either_not_of name (bytes_eq (b ∷ other) (codes "op") && is_short line) (operator_asks (script_of 1 line)) NoForm (λ e. operated_not_of name (script_of 1 line)) tt)
 
 pub not_of : (name line : List ℕ) → bytes_eq (tag_of line) (64 ∷ name) ≡ false → IsNotOf name (asked_of line)
 not_of name line apart = either_not_of name (is_passed line) Nothing (asked_by (tag_of line) line (rest_of line)) (λ e. tt) (not_of_by name (tag_of line) line (rest_of line) apart)

@@ -1,5 +1,5 @@
 -- What each line of a live service asks, and what is done and written for it.
-use Rattle.std.specs.Prelude.{ℕ, ◌≡◌, ◌+◌, List, [], ◌∷◌, ◌++◌, codes, decimal, length, Bool, true, false, ◌==◌, ◌||◌, Option, Some, None, Ok, ⊤, if◌then◌else◌}
+use Rattle.std.specs.Prelude.{ℕ, ◌≡◌, ◌+◌, List, [], ◌∷◌, ◌++◌, codes, decimal, length, nat_le, Bool, true, false, ◌==◌, ◌||◌, ◌&&◌, Option, Some, None, Ok, ⊤, if◌then◌else◌}
 use Rattle.std.specs.List.{list_all}
 use Rattle.std.specs.Str.{bytes_eq}
 use Rattle.line_text.specs.Lines.{physical_lines}
@@ -15,6 +15,7 @@ use Rattle.live_lines.specs.Acts.{IsAnswered, Telling}
 use Rattle.std.specs.Io.KnownBytes.{Appends}
 use Rattle.tagged_lines.specs.Tags.{Tagged, output_of, rest_of, tag_of}
 use Rattle.live_lines.specs.declared.live.Live.{Live}
+use Rattle.live_lines.specs.declared.asked.TheConstants.{MAX_OPERATOR_LINE}
 use Rattle.live_lines.specs.declared.asked.LineRequest.{LineRequest as AskedIn}
 use Rattle.live_lines.specs.declared.asked.LineRequest.TheVariants.{Nothing as NothingIn, NoForm as NoFormIn, Operates as OperatesIn, Says as SaysIn}
 use Rattle.live_lines.specs.Said.{HearsLine, IsEven, Texts, texts_of}
@@ -40,12 +41,16 @@ abbrev pub operator_asks : Acts → Asked
 operator_asks (Ok (Operator line ∷ [])) = Operates line
 operator_asks acts = NoForm
 
+-- a line of the operator may not be longer than 1,048,576 bytes
+abbrev pub is_short : List ℕ → Bool
+is_short line = nat_le (length line) MAX_OPERATOR_LINE
+
 -- what a line asks, from its tag, the line, and what it says
 abbrev pub asked_by : List ℕ → List ℕ → List ℕ → Asked
 asked_by [] line rest = NoForm
 asked_by (b ∷ name) line rest =
     if b == 64 then (if is_name name then Says name rest else NoForm) else
-    if bytes_eq (b ∷ name) (codes "op") then operator_asks (script_of 1 line) else NoForm
+    if bytes_eq (b ∷ name) (codes "op") && is_short line then operator_asks (script_of 1 line) else NoForm
 
 abbrev pub asked_of : List ℕ → Asked
 asked_of line = if is_passed line then Nothing else asked_by (tag_of line) line (rest_of line)

@@ -3,12 +3,16 @@ ghost use Rattle.std.specs.Prelude.{◌≡◌, ◌<◌, ◌^◌, Ok, length, map
 ghost use Rattle.std.specs.List.{list_all};
 ghost use Rattle.line_text.specs.Words.{is_blank as is_blank_byte};
 ghost use Rattle.script_text.specs.Script.{named_act, script_of};
-ghost use Rattle.live_lines.specs.Live.{HasTag, asked_of, asks, begins_comment, is_passed, operator_asks};
+ghost use Rattle.live_lines.specs.Live.{HasTag, asked_of, asks, begins_comment, is_passed, is_short, operator_asks};
 
 use line_text::{is_blank, is_word};
 use script_text::{Act, OperatorLine, ScriptError, is_name, read_script};
 use std::alloc::{AllocError, Global};
 use tagged_lines::split_tag;
+
+/// The most bytes that a line of the operator may have; a longer one has no form. More than that
+/// are kept of a line, so no line is taken for another one because its end was cut off.
+pub const MAX_OPERATOR_LINE: usize = 1_048_576;
 
 /// What a line asks.
 #[derive(Clone, Copy)]
@@ -40,7 +44,7 @@ pub fn asked_of(alloc: Global, line: &[u8]) -> Result<LineRequest<'_>, AllocErro
             }
         }
         _ => {
-            if is_word(tag, "op") {
+            if is_word(tag, "op") && is_short(line) {
                 operator_asks(alloc, line)
             } else {
                 Ok(LineRequest::NoForm)
@@ -69,6 +73,13 @@ fn has_no_word(line: &[u8]) -> bool
     ensures { result ≡ list_all is_blank_byte line.now }
 {
     line.iter().all(|byte| is_blank(*byte))
+}
+
+/// Whether a line isn't too long for one of the operator.
+fn is_short(line: &[u8]) -> bool
+    ensures { result ≡ is_short line.now }
+{
+    line.len() <= MAX_OPERATOR_LINE
 }
 
 /// What a line of the operator asks.

@@ -19,7 +19,7 @@ use Rattle.operator.specs.OperatorText.{last_id}
 use Rattle.operator.specs.Serving.{Stage}
 use Rattle.tagged_lines.specs.Tags.{Tagged, rest_of, tag_of}
 use Rattle.live_lines.specs.Acts.{IsAnswered, Telling}
-use Rattle.live_lines.specs.Live.{Asked, LiveState, TakesAsked, TellsItem, asked_by, asked_of, is_passed, operator_asks}
+use Rattle.live_lines.specs.Live.{Asked, LiveState, TakesAsked, TellsItem, asked_by, asked_of, is_passed, is_short, operator_asks}
 use Rattle.live_lines.specs.Live.Asked.{NoForm, Nothing, Operates, Says}
 use Rattle.live_input.specs.Serving.{AnswersLine}
 use Rattle.live_machine.specs.Held.{form_of, is_wait}
@@ -48,9 +48,9 @@ operated_said rest (Err fault) = tt
 said_by_tag : (tag line rest : List ℕ) → IsSaidOf rest (asked_by tag line rest)
 said_by_tag [] line rest = tt
 said_by_tag (b ∷ name) line rest =
-    either_said rest (eqb b 64) (cond (is_name name) (Says name rest) NoForm) (cond (bytes_eq (b ∷ name) (codes "op")) (operator_asks (script_of 1 line)) NoForm)
+    either_said rest (eqb b 64) (cond (is_name name) (Says name rest) NoForm) (cond (bytes_eq (b ∷ name) (codes "op") && is_short line) (operator_asks (script_of 1 line)) NoForm)
     (either_said rest (is_name name) (Says name rest) NoForm refl tt)
-    (either_said rest (bytes_eq (b ∷ name) (codes "op")) (operator_asks (script_of 1 line)) NoForm (operated_said rest (script_of 1 line)) tt)
+    (either_said rest (bytes_eq (b ∷ name) (codes "op") && is_short line) (operator_asks (script_of 1 line)) NoForm (operated_said rest (script_of 1 line)) tt)
 
 said_of_line : (line : List ℕ) → IsSaidOf (rest_of line) (asked_of line)
 said_of_line line = either_said (rest_of line) (is_passed line) Nothing (asked_by (tag_of line) line (rest_of line)) tt (said_by_tag (tag_of line) line (rest_of line))

@@ -1,17 +1,16 @@
 -- A service that goes on from a log, or from nothing.
 use Rattle.std.proofs.Common.{◌≡◌, ℕ, ◌+◌, ◌⊎◌, inl, inr, List, [], ◌∷◌, length, Bool, true, false, Option, Some, None, Result, Ok, Err, refl, sym, ap, subst, ◌∙◌}
 use Rattle.std.specs.Prelude.{IfSome}
-use Rattle.line_text.specs.Lines.{physical_lines}
 use Rattle.dialogue.specs.History.{Event, View, told_in}
 use Rattle.line_feed.proofs.CutLemmas.{kept_none}
 use Rattle.line_service.specs.declared.conversation.ConversationEnd.{ConversationEnd}
 use Rattle.line_service.specs.declared.conversation.ConversationEnd.TheVariants.{Done as DoneEnd, Stopped as StoppedEnd, TooManyLines as TooManyEnd, NoMemory as NoMemoryEnd}
-use Rattle.line_service.specs.Conversation.{AreAnswered, IsConversation}
+use Rattle.line_service.specs.Conversation.{AreAnswered, IsConversation, ended_lines}
 use Rattle.line_service.proofs.TalkLemmas.{progress_none}
 use Rattle.live_lines.specs.Live.{LiveState}
 use Rattle.live_input.specs.Serving.{AnswersLine}
 use Rattle.live_run.specs.declared.outcome.Outcome.{Outcome}
-use Rattle.live_run.specs.declared.outcome.Outcome.TheVariants.{Done, ArchUnreadable, ArchRefused, LogUnreadable, LogDiffers, LogInUse, Stopped, TooManyLines, NoMemory}
+use Rattle.live_run.specs.declared.outcome.Outcome.TheVariants.{Done, ArchUnreadable, ArchRefused, LogUnreadable, LogDiffers, LogIsStream, LogInUse, Stopped, TooManyLines, NoMemory}
 use Rattle.live_run.specs.Outcomes.{outcome_of}
 use Rattle.live_run.specs.Runs.{ClosesAs, Replays, Resumes, RunsFrom, Talks}
 
@@ -23,7 +22,7 @@ nothing_said old new first next view =
 
 pub replayed : (past : Option (List ℕ)) (start mid : LiveState) (first next : ℕ) (before after : View) → before.remaining ≡ past → IsConversation AnswersLine start first before after DoneEnd mid next → Replays past start first (Ok tt) mid next
 replayed past start mid first next before after same c =
-    let P : Option (List ℕ) → Type 0 = λ input. IfSome input (λ bytes. c.ends.lines ≡ physical_lines bytes) in
+    let P : Option (List ℕ) → Type 0 = λ input. IfSome input (λ bytes. c.ends.lines ≡ ended_lines bytes) in
     (c.ends.lines, told_in c.events, subst P same c.ends.all, c.ends.answered, c.ends.counted)
 
 talks_after : (past : Option (List ℕ)) (start mid last : LiveState) (number next : ℕ) (before after : View) (end : ConversationEnd) (r : Replays past start 1 (Ok tt) mid number) → IsConversation AnswersLine mid number before after end last next → Talks start true past before after (outcome_of end)
@@ -52,6 +51,7 @@ replay_fails past start mid next view ArchUnreadable r = absurd r
 replay_fails past start mid next view (ArchRefused fault) r = absurd r
 replay_fails past start mid next view LogUnreadable r = (refl, refl)
 replay_fails past start mid next view LogDiffers r = absurd r
+replay_fails past start mid next view LogIsStream r = absurd r
 replay_fails past start mid next view LogInUse r = absurd r
 replay_fails past start mid next view (Stopped fault) r = absurd r
 replay_fails past start mid next view TooManyLines r = absurd r
@@ -76,6 +76,7 @@ closes start last next before talked after ArchUnreadable c e = absurd (let n = 
 closes start last next before talked after (ArchRefused fault) c e = absurd (let n = e.0 in cc)
 closes start last next before talked after LogUnreadable c e = absurd (let n = e.0 in cc)
 closes start last next before talked after LogDiffers c e = absurd (let n = e.0 in cc)
+closes start last next before talked after LogIsStream c e = absurd (let n = e.0 in cc)
 closes start last next before talked after LogInUse c e = absurd (let n = e.0 in cc)
 closes start last next before talked after (Stopped fault) c e = record { mid = start; resumes = no_log start; end = DoneEnd; last = last; next = next; talked = talked; talks = c; ends = e }
 closes start last next before talked after TooManyLines c e = absurd (let n = e.0 in cc)

@@ -5,7 +5,7 @@ use Rattle.line_service.specs.declared.conversation.ConversationEnd.TheVariants.
 use Rattle.line_text.specs.declared.source.ReadError.{ReadError}
 use Rattle.line_text.specs.declared.source.ReadError.TheVariants.{Failed, NoMemory as NoReadMemory}
 use Rattle.live_run.specs.declared.outcome.Outcome.{Outcome}
-use Rattle.live_run.specs.declared.outcome.Outcome.TheVariants.{Done, ArchUnreadable, ArchRefused, LogUnreadable, LogDiffers, LogInUse, Stopped, TooManyLines, NoMemory}
+use Rattle.live_run.specs.declared.outcome.Outcome.TheVariants.{Done, ArchUnreadable, ArchRefused, LogUnreadable, LogDiffers, LogIsStream, LogInUse, Stopped, TooManyLines, NoMemory}
 
 abbrev pub status_of : Outcome → ℕ
 status_of Done = 0
@@ -14,6 +14,7 @@ status_of (ArchRefused fault) = 1
 status_of LogUnreadable = 1
 status_of LogInUse = 1
 status_of LogDiffers = 2
+status_of LogIsStream = 2
 status_of (Stopped fault) = 1
 status_of TooManyLines = 1
 status_of NoMemory = 4

@@ -1,18 +1,17 @@
 -- What a live service writes and keeps, from its architecture to its end.
 use Rattle.std.specs.Prelude.{ℕ, ◌≡◌, ◌+◌, ⊤, ◌⊎◌, Bool, true, false, List, [], ◌∷◌, length, Option, Some, None, Result, Ok, Err, IfSome}
-use Rattle.line_text.specs.Lines.{physical_lines}
 use Rattle.arch_file.specs.declared.arch.Arch.{Arch}
 use Rattle.arch_file.specs.Arch.{arch_of}
 use Rattle.dialogue.specs.History.{Fails, Happens, View}
 use Rattle.dialogue.specs.History.Event.{Told}
 use Rattle.line_service.specs.declared.conversation.ConversationEnd.{ConversationEnd}
 use Rattle.line_service.specs.declared.conversation.ConversationEnd.TheVariants.{Done as DoneEnd}
-use Rattle.line_service.specs.Conversation.{AreAnswered, IsConversation}
+use Rattle.line_service.specs.Conversation.{AreAnswered, IsConversation, ended_lines}
 use Rattle.live_lines.specs.Live.{LiveState}
 use Rattle.live_input.specs.Serving.{AnswersLine, ClosesTexts, begins}
 use Rattle.live_run.specs.declared.options.Options.{Options}
 use Rattle.live_run.specs.declared.outcome.Outcome.{Outcome}
-use Rattle.live_run.specs.declared.outcome.Outcome.TheVariants.{Done, ArchUnreadable, ArchRefused, LogUnreadable, LogDiffers, LogInUse, Stopped, TooManyLines, NoMemory}
+use Rattle.live_run.specs.declared.outcome.Outcome.TheVariants.{Done, ArchUnreadable, ArchRefused, LogUnreadable, LogDiffers, LogIsStream, LogInUse, Stopped, TooManyLines, NoMemory}
 use Rattle.live_run.specs.Limits.{device_of}
 use Rattle.live_run.specs.Outcomes.{outcome_of}
 
@@ -25,7 +24,7 @@ past_of remaining (Some past) = remaining past
 pub record Resumes (start : LiveState) (past : Option (List ℕ)) (mid : LiveState) : Type 0 where
   pub lines : List (List ℕ)
   pub text : List ℕ
-  pub all : IfSome past (λ bytes. lines ≡ physical_lines bytes)
+  pub all : IfSome past (λ bytes. lines ≡ ended_lines bytes)
   pub answered : AreAnswered AnswersLine start 1 lines text mid
 
 -- the input has ended: each text that is open is refused, and that is written
@@ -56,6 +55,7 @@ abbrev pub RunsFrom : LiveState → Bool → Option (List ℕ) → View → View
 RunsFrom start has_log past before after ArchUnreadable = ⊥
 RunsFrom start has_log past before after (ArchRefused fault) = ⊥
 RunsFrom start has_log past before after LogDiffers = ⊥
+RunsFrom start has_log past before after LogIsStream = ⊥
 RunsFrom start has_log past before after LogInUse = ⊥
 RunsFrom start has_log past before after LogUnreadable = (has_log ≡ true) × (after ≡ before)
 RunsFrom start has_log past before after NoMemory = (after ≡ before) ⊎ Talks start has_log past before after NoMemory
@@ -69,7 +69,7 @@ Runs options architecture has_log past before after outcome =
 
 -- private: the log's lines are answered
 abbrev pub Replays : Option (List ℕ) → LiveState → ℕ → Result (Unit {0}) Outcome → LiveState → ℕ → Type 0
-Replays past start first (Ok u) mid next = (lines : List (List ℕ)) × (text : List ℕ) × IfSome past (λ bytes. lines ≡ physical_lines bytes) × AreAnswered AnswersLine start first lines text mid × (next ≡ first + length lines)
+Replays past start first (Ok u) mid next = (lines : List (List ℕ)) × (text : List ℕ) × IfSome past (λ bytes. lines ≡ ended_lines bytes) × AreAnswered AnswersLine start first lines text mid × (next ≡ first + length lines)
 Replays past start first (Err LogUnreadable) mid next = ⊤
 Replays past start first (Err NoMemory) mid next = ⊤
 Replays past start first (Err outcome) mid next = ⊥

@@ -3,6 +3,7 @@ ghost use Rattle.std.specs.Prelude.{◌≢◌, IfErr};
 
 use crate::log_lock::LockLog;
 use crate::outcome::Outcome;
+use crate::streams::is_stream;
 use dialogue::{FailedDevice, FileLog, Log};
 use line_text::{ReadError, Source, StdSource, read_all};
 use std::alloc::Global;
@@ -46,7 +47,8 @@ where
     }
 }
 
-/// Opens a file for reading and appending, locks it, and returns its length too.
+/// Opens a file for reading and appending that is no standard stream, locks it, and returns its
+/// length too.
 fn open_locked<H: Files>(rt: &H, path: &str) -> Result<(H::File, u64), Outcome>
 where
     H::File: LockLog,
@@ -57,6 +59,7 @@ where
     };
     file.lock_log()?;
     match file.metadata() {
+        Ok(metadata) if is_stream(rt, &metadata) => Err(Outcome::LogIsStream),
         Ok(metadata) => Ok((file, metadata.len())),
         Err(_) => Err(Outcome::LogUnreadable),
     }

@@ -5,6 +5,7 @@
 //! - [`run_line`] serves as a command line says. [`Outcome`] says how a service ended.
 //! - [`log_at`] opens a log, as what it kept and what comes ([`KeptLog`]).
 //! - [`LockLog`] keeps a log to one service at a time.
+//! - [`WholeLines`] is an input that tells of a last line without its end.
 #![tactic(auto)]
 
 mod beginning;
@@ -14,6 +15,8 @@ mod options;
 mod outcome;
 mod program;
 mod serving;
+mod streams;
+mod whole_lines;
 
 pub use beginning::first_line;
 pub use kept_log::KeptLog;
@@ -22,3 +25,4 @@ pub use options::{CommandLine, Options, read_options};
 pub use outcome::Outcome;
 pub use program::{log_at, read_architecture, run_line};
 pub use serving::serve;
+pub use whole_lines::{NO_END, WholeLines};

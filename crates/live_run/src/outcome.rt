@@ -20,6 +20,8 @@ pub enum Outcome {
     LogUnreadable,
     /// The log does not begin with the line that names the options of this run.
     LogDiffers,
+    /// The log's file is the standard input, output or error, too.
+    LogIsStream,
     /// That device failed.
     Stopped(FailedDevice),
     /// The log and the input have 2^64 lines or more.
@@ -37,7 +39,7 @@ impl Outcome {
     {
         match self {
             Outcome::Done => 0,
-            Outcome::LogDiffers => 2,
+            Outcome::LogDiffers | Outcome::LogIsStream => 2,
             Outcome::NoMemory => 4,
             Outcome::ArchUnreadable
             | Outcome::ArchRefused(_)
@@ -71,6 +73,7 @@ impl fmt::Display for Outcome {
             Outcome::LogUnreadable => write!(f, "log: unreadable"),
             Outcome::LogInUse => write!(f, "log: another service uses it"),
             Outcome::LogDiffers => write!(f, "log: its first line names other options"),
+            Outcome::LogIsStream => write!(f, "log: it is standard input, output or error too"),
             Outcome::Stopped(FailedDevice::Input) => write!(f, "input: failed"),
             Outcome::Stopped(FailedDevice::Log) => write!(f, "log: failed"),
             Outcome::Stopped(FailedDevice::Output) => write!(f, "output: failed"),

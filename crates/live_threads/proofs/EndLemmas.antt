@@ -13,7 +13,7 @@ use Rattle.live_machine.specs.Machine.{MachineState, begins_with}
 use Rattle.live_machine.specs.Parts.{EndsMachine, machine_of}
 use Rattle.live_lines.specs.Live.{LiveState}
 use Rattle.live_run.specs.declared.outcome.Outcome.{Outcome}
-use Rattle.live_run.specs.declared.outcome.Outcome.TheVariants.{ArchRefused, ArchUnreadable, Done, LogDiffers, LogInUse, LogUnreadable, NoMemory, Stopped, TooManyLines}
+use Rattle.live_run.specs.declared.outcome.Outcome.TheVariants.{ArchRefused, ArchUnreadable, Done, LogDiffers, LogIsStream, LogInUse, LogUnreadable, NoMemory, Stopped, TooManyLines}
 use Rattle.live_machine.specs.Workers.{without_workers}
 use Rattle.live_input.specs.Serving.{begins_on, kept_lines}
 use Rattle.std.specs.Prelude.{IfErr, IfOk, Result, Ok, Err, ◌<◌}
@@ -27,7 +27,7 @@ use Rattle.live_threads.specs.Fed.{AreFirst, AreReadLines, PutsLines}
 use Rattle.live_threads.specs.Ends.{IsResumed, IsWhole, Resumes, RunsInput, RunsService, ServesInput, StopsResuming, empty_on}
 use Rattle.live_threads.specs.Replays.{ArePuts, Replays, put_line}
 use Rattle.live_threads.specs.Serving.{HasStopped, IsServed}
-use Rattle.live_threads.specs.Taken.{ClosesAs, ClosesTexts, CutsClosing, EndsServing, StopsClosing, StopsServing, TakesLines, lines_of}
+use Rattle.live_threads.specs.Taken.{ClosesAs, ClosesTexts, CutsClosing, EndsServing, StopsClosing, StopsServing, TakesLines, cut_lines, lines_of}
 use Rattle.live_threads.proofs.ServedLemmas.{served_stops, served_then}
 
 closed_cut : (last : MachineState) (before after : View) → ClosesTexts last before after → CutsClosing last before after
@@ -64,6 +64,7 @@ stops_of a u v lines ArchUnreadable e = e
 stops_of a u v lines (ArchRefused fault) e = e
 stops_of a u v lines LogUnreadable e = e
 stops_of a u v lines LogDiffers e = e
+stops_of a u v lines LogIsStream e = e
 stops_of a u v lines LogInUse e = e
 stops_of a u v lines (Stopped device) e = e
 stops_of a u v lines TooManyLines e = e
@@ -76,6 +77,7 @@ ends_of a u v lines ArchUnreadable bad s = s
 ends_of a u v lines (ArchRefused fault) bad s = s
 ends_of a u v lines LogUnreadable bad s = s
 ends_of a u v lines LogDiffers bad s = s
+ends_of a u v lines LogIsStream bad s = s
 ends_of a u v lines LogInUse bad s = s
 ends_of a u v lines (Stopped device) bad s = s
 ends_of a u v lines TooManyLines bad s = s
@@ -114,6 +116,7 @@ ends_later a b u v w lines outcome first e = later outcome e
     later (ArchRefused fault) e = stops_later e
     later LogUnreadable e = stops_later e
     later LogDiffers e = stops_later e
+    later LogIsStream e = stops_later e
     later LogInUse e = stops_later e
     later (Stopped device) e = stops_later e
     later TooManyLines e = stops_later e
@@ -180,7 +183,7 @@ first_of_first : (all lines : List (List ℕ)) (taken : List (List ℕ)) → Are
 first_of_first all lines taken (more, is) (left, has) = (left ++ more, is ∙ (ap (λ l. l ++ more) has ∙ append_assoc taken left more))
 
 taken_lines : {A : Type 0} (put taken : List (Vec ℕ A)) → AreFirst put taken → AreFirst (lines_of put) (lines_of taken)
-taken_lines put taken (left, is) = (lines_of left, ap lines_of is ∙ flat_map-append (λ b. kept_lines b.items) taken left)
+taken_lines put taken (left, is) = (lines_of left, ap lines_of is ∙ flat_map-append (λ b. cut_lines b.items) taken left)
 
 -- with `Done` all lines of the input are served
 serves_first : (input : Option (List ℕ)) (end : Option InputEnd) (put taken : List (List ℕ)) (outcome : Outcome) → AreReadLines input end put → AreFirst put taken → (outcome ≡ Done → (end ≡ Some InputDone) × (taken ≡ put)) → ServesInput input taken outcome
@@ -193,6 +196,7 @@ serves_first (Some bytes) end put taken ArchUnreadable read first all = first_of
 serves_first (Some bytes) end put taken (ArchRefused fault) read first all = first_of_first _ put taken (all_first bytes end put read) first
 serves_first (Some bytes) end put taken LogUnreadable read first all = first_of_first _ put taken (all_first bytes end put read) first
 serves_first (Some bytes) end put taken LogDiffers read first all = first_of_first _ put taken (all_first bytes end put read) first
+serves_first (Some bytes) end put taken LogIsStream read first all = first_of_first _ put taken (all_first bytes end put read) first
 serves_first (Some bytes) end put taken LogInUse read first all = first_of_first _ put taken (all_first bytes end put read) first
 serves_first (Some bytes) end put taken (Stopped device) read first all = first_of_first _ put taken (all_first bytes end put read) first
 serves_first (Some bytes) end put taken TooManyLines read first all = first_of_first _ put taken (all_first bytes end put read) first

@@ -1,5 +1,5 @@
 -- The lines of an input, one after another.
-use Rattle.std.proofs.Common.{◌≡◌, ◌⊎◌, inl, inr, ℕ, zero, suc, ◌<◌, List, [], ◌∷◌, ◌++◌, length, take, map, true, false, not, Option, Some, None, refl, sym, ap, subst, ◌∙◌, arith, append-nil, append_assoc, take-take}
+use Rattle.std.proofs.Common.{◌≡◌, ℕ, zero, suc, List, [], ◌∷◌, ◌++◌, take, map, true, false, not, Option, Some, None, refl, sym, ap, subst, ◌∙◌, arith, append-nil, append_assoc, take-take}
 use Rattle.std.specs.Prelude.{◌==◌, IfSome}
 use Rattle.std.specs.List.{AllByRecursion, flat_map, list_all}
 use Rattle.std.specs.Io.KnownBytes.{Consumes, IsAtEnd}
@@ -9,9 +9,10 @@ use Rattle.std.proofs.lemmas.Grind.{flat_map-append}
 use Rattle.std.proofs.lemmas.List.{map-append}
 use Rattle.line_text.specs.Lines.{physical_lines}
 use Rattle.tagged_lines.specs.Tags.{with_feed}
+use Rattle.tagged_lines.proofs.TagLemmas.{is_line, line_then}
+use Rattle.line_service.specs.Conversation.{ended_lines}
 use Rattle.line_feed.specs.Pieces.{IsKept, TakesPiece, is_one_line, kept_of}
-use Rattle.line_feed.proofs.CutLemmas.{kept_none}
-use Rattle.line_service.proofs.LineLemmas.{both_lines, last_line, lines_push, lines_then}
+use Rattle.line_service.proofs.LineLemmas.{both_lines, ended_then, lines_push, none_ended}
 use Rattle.line_service.proofs.TalkLemmas.{split_line}
 use Rattle.live_input.specs.Serving.{kept_lines}
 use Rattle.live_machine.specs.Machine.{IsLine}
@@ -19,9 +20,8 @@ use Rattle.std.specs.Prelude.{Result, Ok, Err, is_err}
 use Rattle.dialogue.specs.History.{View}
 use Rattle.dialogue.specs.declared.dialogue.FailedDevice.{FailedDevice}
 use Rattle.line_feed.specs.Feed.{ReadsAhead, Refills}
-use Rattle.live_threads.specs.declared.letters.InputEnd.{InputEnd}
-use Rattle.live_threads.specs.declared.letters.InputEnd.TheVariants.{Done, Failed, NoMemory}
-use Rattle.live_threads.specs.Fed.{AreFirst, AreReadLines, EndsWith, Fed, IsFed, PutsLast, TakesSome}
+use Rattle.live_threads.specs.Fed.{AreFirst, Fed, IsFed, TakesSome}
+use Rattle.live_threads.specs.Taken.{cut_lines}
 
 -- what is kept of a cut line is the line
 pub kept_twice : (line : List ℕ) → kept_of (kept_of line) ≡ kept_of line
@@ -89,37 +89,15 @@ fed_read input now next ahead kept bytes fed none g reads = record {
   fed_is = g.fed_is;
 }
 
-take_some : (n x : ℕ) (line : List ℕ) → take (suc n) (x ∷ line) ≡ [] → ⊥
-take_some n x line is = absurd (cc)
-
-begins_so : (x : ℕ) (begun kept : List ℕ) → kept ≡ kept_of (x ∷ begun) → kept ≡ [] → ⊥
-unfolding kept_of
-begins_so x begun kept is none = take_some 1048639 x begun (sym is ∙ none)
-
-nothing_begun : (begun kept : List ℕ) → IsKept kept begun → kept ≡ [] → begun ≡ []
-nothing_begun [] kept is none = refl
-nothing_begun (x ∷ begun) kept is none = absurd (begins_so x begun kept is none)
-
 -- the bytes that were read, with nothing ahead
 all_bytes : (input now : Option (List ℕ)) (ahead kept : List ℕ) (fed : List (List ℕ)) → ahead ≡ [] → (g : Fed input now ahead kept fed) → g.bytes ≡ flat_map with_feed g.lines ++ g.begun
 all_bytes input now ahead kept fed none g = g.split ∙ ap (λ l. flat_map with_feed g.lines ++ l) (ap (λ a. g.begun ++ a) none ∙ append-nil g.begun)
 
 -- at the input's end all its lines were handed over
-pub fed_whole : (input now : Option (List ℕ)) (ahead kept : List ℕ) (fed : List (List ℕ)) → ahead ≡ [] → kept ≡ [] → Fed input now ahead kept fed → IsAtEnd now → IfSome input (λ bytes. fed ≡ kept_lines bytes)
-fed_whole input now ahead kept fed none no_line g end =
-    let own : g.lines ≡ physical_lines g.bytes = sym (ap physical_lines (all_bytes input now ahead kept fed none g) ∙ (lines_then g.lines g.begun g.are_lines ∙ (ap (λ b. g.lines ++ physical_lines b) (nothing_begun g.begun kept g.line no_line) ∙ append-nil g.lines))) in
+pub fed_whole : (input now : Option (List ℕ)) (ahead kept : List ℕ) (fed : List (List ℕ)) → ahead ≡ [] → Fed input now ahead kept fed → IsAtEnd now → IfSome input (λ bytes. fed ≡ kept_lines bytes)
+fed_whole input now ahead kept fed none g end =
+    let own : g.lines ≡ ended_lines g.bytes = sym (ap ended_lines (all_bytes input now ahead kept fed none g) ∙ (ended_then g.lines g.begun g.are_lines ∙ (ap (λ ls. g.lines ++ ls) (none_ended g.begun g.is_begun) ∙ append-nil g.lines))) in
     known_all input now g.bytes (λ bytes. fed ≡ kept_lines bytes) g.consumes end (g.fed_is ∙ ap (map kept_of) own)
-
-last_of : (begun kept : List ℕ) → IsKept kept begun → 0 < length kept → is_one_line begun ≡ true → physical_lines begun ≡ begun ∷ []
-last_of [] kept is some one = absurd (let n : length kept ≡ 0 = ap length (is ∙ kept_none) in omega (arith, n))
-last_of (x ∷ begun) kept is some one = last_line x begun one
-
--- and the beginning of the last one too
-pub fed_last : (input now : Option (List ℕ)) (ahead kept : List ℕ) (fed : List (List ℕ)) → ahead ≡ [] → 0 < length kept → Fed input now ahead kept fed → IsAtEnd now → IfSome input (λ bytes. fed ++ kept ∷ [] ≡ kept_lines bytes)
-fed_last input now ahead kept fed none some g end =
-    let own : g.lines ++ g.begun ∷ [] ≡ physical_lines g.bytes = sym (ap physical_lines (all_bytes input now ahead kept fed none g) ∙ (lines_then g.lines g.begun g.are_lines ∙ ap (λ ls. g.lines ++ ls) (last_of g.begun kept g.line some g.is_begun))) in
-    known_all input now g.bytes (λ bytes. fed ++ kept ∷ [] ≡ kept_lines bytes) g.consumes end
-    (ap (λ l. l ++ kept ∷ []) g.fed_is ∙ (ap (λ l. map kept_of g.lines ++ l ∷ []) g.line ∙ (sym (map-append kept_of g.lines (g.begun ∷ [])) ∙ ap (map kept_of) own)))
 
 one_take : (n : ℕ) (line : List ℕ) → is_one_line line ≡ true → is_one_line (take n line) ≡ true
 one_take zero line one = refl
@@ -146,10 +124,22 @@ all_one : (lines : List (List ℕ)) → AllByRecursion IsLine lines → list_all
 all_one [] all = refl
 all_one (line ∷ lines) (one, all) = and_from _ _ one.one (all_one lines all)
 
+to_line : (line : List ℕ) → is_one_line line ≡ true → is_line line ≡ true
+to_line [] one = refl
+to_line (x ∷ line) one = let parts = and_parts (not (x == 10)) (is_one_line line) one in and_from _ _ parts.0 (to_line line parts.1)
+
+-- lines with their ends are those lines
+lines_then : (lines : List (List ℕ)) (more : List ℕ) → list_all is_one_line lines ≡ true → physical_lines (flat_map with_feed lines ++ more) ≡ lines ++ physical_lines more
+lines_then [] more are = refl
+lines_then (line ∷ lines) more are =
+    let parts = and_parts (is_one_line line) (list_all is_one_line lines) are in
+    ap physical_lines (append_assoc (line ++ 10 ∷ []) (flat_map with_feed lines) more ∙ append_assoc line (10 ∷ []) (flat_map with_feed lines ++ more))
+    ∙ (line_then line (flat_map with_feed lines ++ more) (to_line line parts.0) ∙ ap (λ ls. line ∷ ls) (lines_then lines more parts.1))
+
 -- the lines of a text that is put together of cut lines
-pub batch_lines : (lines : List (List ℕ)) → AllByRecursion IsLine lines → kept_lines (flat_map with_feed lines) ≡ lines
+batch_lines : (lines : List (List ℕ)) → AllByRecursion IsLine lines → cut_lines (flat_map with_feed lines) ≡ lines
 batch_lines lines all =
-    ap (λ t. kept_lines t) (sym (append-nil (flat_map with_feed lines))) ∙ (ap (map kept_of) (lines_then lines [] (all_one lines all) ∙ append-nil lines) ∙ same_lines lines all)
+    ap cut_lines (sym (append-nil (flat_map with_feed lines))) ∙ (ap (map kept_of) (lines_then lines [] (all_one lines all) ∙ append-nil lines) ∙ same_lines lines all)
 
 -- a line is taken from what is ahead
 pub fed_more : (ahead kept rest after cleared : List ℕ) → IsFed ahead kept → TakesPiece ahead kept true rest after → IsKept cleared [] → IsFed rest cleared
@@ -176,23 +166,19 @@ pub some_none : (ahead kept : List ℕ) → TakesSome [] ahead kept ahead kept
 some_none ahead kept = record { lines = []; batch_is = refl; all = tt; fed = λ input now fed g. let P : List (List ℕ) → Type 0 = λ l. Fed input now ahead kept l in subst P (sym (append-nil fed)) g }
 
 -- what was taken is put together
-pub some_fed : (batch a0 k0 ahead kept rest after : List ℕ) → TakesSome batch a0 k0 ahead kept → TakesPiece ahead kept false rest after → (input now : Option (List ℕ)) (fed : List (List ℕ)) → Fed input now a0 k0 fed → Fed input now rest after (fed ++ kept_lines batch)
+pub some_fed : (batch a0 k0 ahead kept rest after : List ℕ) → TakesSome batch a0 k0 ahead kept → TakesPiece ahead kept false rest after → (input now : Option (List ℕ)) (fed : List (List ℕ)) → Fed input now a0 k0 fed → Fed input now rest after (fed ++ cut_lines batch)
 some_fed batch a0 k0 ahead kept rest after s p input now fed g =
     let P : List (List ℕ) → Type 0 = λ l. Fed input now rest after (fed ++ l) in
-    subst P (sym (ap kept_lines s.batch_is ∙ batch_lines s.lines s.all)) (fed_piece input now ahead kept rest after (fed ++ s.lines) (s.fed input now fed g) p)
+    subst P (sym (ap cut_lines s.batch_is ∙ batch_lines s.lines s.all)) (fed_piece input now ahead kept rest after (fed ++ s.lines) (s.fed input now fed g) p)
 
 -- a read that was made
 pub read_ok : (old new : View) (ahead : List ℕ) (result : Result (Unit {0}) FailedDevice) → false ≡ is_err result → Refills old new ahead result → ReadsAhead old new ahead
 read_ok old new ahead (Ok u) ok reads = reads
 read_ok old new ahead (Err fault) ok reads = absurd (cc)
 
-last_line_of : (kept begun : List ℕ) → IsKept kept begun → is_one_line begun ≡ true → kept_lines (with_feed kept) ≡ kept ∷ []
-last_line_of kept begun is one =
-    ap kept_lines (sym (append-nil (with_feed kept))) ∙ batch_lines (kept ∷ []) (cut_is_line begun kept is one, tt)
-
 -- the lines that were handed over are the first ones of the input
 first_lines : (lines : List (List ℕ)) (rest : List ℕ) → list_all is_one_line lines ≡ true → AreFirst (kept_lines (flat_map with_feed lines ++ rest)) (map kept_of lines)
-first_lines lines rest all = (kept_lines rest, ap (map kept_of) (lines_then lines rest all) ∙ map-append kept_of lines (physical_lines rest))
+first_lines lines rest all = (kept_lines rest, ap (map kept_of) (ended_then lines rest all) ∙ map-append kept_of lines (ended_lines rest))
 
 pub fed_first : (input now : Option (List ℕ)) (ahead kept : List ℕ) (fed : List (List ℕ)) → Fed input now ahead kept fed → IfSome input (λ bytes. AreFirst (kept_lines bytes) fed)
 fed_first None now ahead kept fed g = tt
@@ -203,30 +189,3 @@ fed_first (Some all) (Some left) ahead kept fed g =
     let B : List ℕ → Type 0 = λ b. AreFirst (kept_lines b) fed in
     let F : List (List ℕ) → Type 0 = λ l. AreFirst (kept_lines (flat_map with_feed g.lines ++ rest)) l in
     subst B (sym own) (subst F (sym g.fed_is) (first_lines g.lines rest g.are_lines))
-
-first_if : (input : Option (List ℕ)) (lines : List (List ℕ)) → IfSome input (λ bytes. lines ≡ kept_lines bytes) → IfSome input (λ bytes. AreFirst (kept_lines bytes) lines)
-first_if None lines is = tt
-first_if (Some bytes) lines is = ([], sym is ∙ sym (append-nil lines))
-
--- with the last line
-ends_fed : (input now : Option (List ℕ)) (ahead kept : List ℕ) (fed more : List (List ℕ)) → ahead ≡ [] → IsAtEnd now → Fed input now ahead kept fed → EndsWith kept more → IfSome input (λ bytes. fed ++ more ≡ kept_lines bytes)
-ends_fed input now ahead [] fed more none at g put =
-    let P : List (List ℕ) → Type 0 = λ l. IfSome input (λ bytes. l ≡ kept_lines bytes) in
-    subst P (sym (ap (λ m. fed ++ m) put ∙ append-nil fed)) (fed_whole input now ahead [] fed none refl g at)
-ends_fed input now ahead (x ∷ kept) fed more none at g put =
-    let P : List (List ℕ) → Type 0 = λ l. IfSome input (λ bytes. l ≡ kept_lines bytes) in
-    subst P (sym (ap (λ m. fed ++ m) (put ∙ last_line_of (x ∷ kept) g.begun g.line g.is_begun))) (fed_last input now ahead (x ∷ kept) fed none (omega arith) g at)
-
--- with the last line or without it
-some_fed_last : (input now : Option (List ℕ)) (ahead kept : List ℕ) (fed more : List (List ℕ)) → ahead ≡ [] → IsAtEnd now → Fed input now ahead kept fed → (more ≡ []) ⊎ EndsWith kept more → IfSome input (λ bytes. AreFirst (kept_lines bytes) (fed ++ more))
-some_fed_last input now ahead kept fed more none at g (inl nothing) =
-    let P : List (List ℕ) → Type 0 = λ l. IfSome input (λ bytes. AreFirst (kept_lines bytes) l) in
-    subst P (sym (ap (λ m. fed ++ m) nothing ∙ append-nil fed)) (fed_first input now ahead kept fed g)
-some_fed_last input now ahead kept fed more none at g (inr put) = first_if input (fed ++ more) (ends_fed input now ahead kept fed more none at g put)
-
--- at the input's end
-pub last_fed : (input now : Option (List ℕ)) (ahead kept : List ℕ) (fed more : List (List ℕ)) (end : Option InputEnd) → ahead ≡ [] → IsAtEnd now → Fed input now ahead kept fed → PutsLast kept end more → AreReadLines input end (fed ++ more)
-last_fed input now ahead kept fed more None none at g put = some_fed_last input now ahead kept fed more none at g put
-last_fed input now ahead kept fed more (Some Failed) none at g put = some_fed_last input now ahead kept fed more none at g put
-last_fed input now ahead kept fed more (Some NoMemory) none at g put = some_fed_last input now ahead kept fed more none at g put
-last_fed input now ahead kept fed more (Some Done) none at g put = ends_fed input now ahead kept fed more none at g put

@@ -5,7 +5,7 @@ use Rattle.std.specs.List.{list_all, onto_first}
 use Rattle.std.proofs.lemmas.Bool.{and_from, and_parts}
 use Rattle.line_text.specs.Lines.{physical_lines}
 use Rattle.line_feed.specs.Pieces.{is_one_line, kept_of}
-use Rattle.live_input.specs.Serving.{kept_lines}
+use Rattle.live_threads.specs.Taken.{cut_lines}
 use Rattle.live_machine.specs.Machine.{IsLine}
 use Rattle.live_threads.proofs.FedLemmas.{cut_is_line}
 
@@ -32,8 +32,8 @@ unfolding kept_of
 kept_part line part is = is
 
 -- the first line of what is left
-pub line_left : (text first after kept : List ℕ) → physical_lines text ≡ first ∷ physical_lines after → kept ≡ kept_of first → kept_lines text ≡ kept ∷ kept_lines after
-line_left text first after kept cut is = ap (map kept_of) cut ∙ ap (λ k. k ∷ kept_lines after) (sym is)
+pub line_left : (text first after kept : List ℕ) → physical_lines text ≡ first ∷ physical_lines after → kept ≡ kept_of first → cut_lines text ≡ kept ∷ cut_lines after
+line_left text first after kept cut is = ap (map kept_of) cut ∙ ap (λ k. k ∷ cut_lines after) (sym is)
 
 pub first_is_line : (text first after kept : List ℕ) → physical_lines text ≡ first ∷ physical_lines after → kept ≡ kept_of first → IsLine kept
 first_is_line text first after kept cut is =

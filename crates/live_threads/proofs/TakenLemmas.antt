@@ -6,8 +6,7 @@ use Rattle.rtrb.specs.Ends.{SameRing}
 use Rattle.rtrb.specs.Ring.{SameConsumer, received}
 use Rattle.rtrb.specs.declared.end.End.{End}
 use Rattle.rtrb.specs.declared.consumer.Consumer.{Consumer}
-use Rattle.live_input.specs.Serving.{kept_lines}
-use Rattle.live_threads.specs.Taken.{TakesLines, lines_of}
+use Rattle.live_threads.specs.Taken.{TakesLines, cut_lines, lines_of}
 
 same_ring : {T A P : Type 0} (a b c : End T A P) → SameRing a b → SameRing b c → SameRing a c
 same_ring a b c (w, s, n, h) (x, t, m, i) = (x ∙ w, t ∙ s, m ∙ n, i ∙ h)
@@ -20,13 +19,13 @@ pub takes_none : {A G M : Type 0} (lines : Consumer (Vec ℕ A) G M) (holds : Li
 takes_none lines holds is = record { ring = ((refl, refl, refl, refl), refl); batches = []; taken = sym (append-nil (received lines)); held = is }
 
 -- one more text
-pub takes_one : {A G M : Type 0} (a b c : Consumer (Vec ℕ A) G M) (batch : Vec ℕ A) (P Q : List (List ℕ) → Type 0) → TakesLines a b P → SameConsumer b c → received c ≡ received b ++ batch ∷ [] → ((lines : List (List ℕ)) → P lines → Q (lines ++ kept_lines batch.items)) → TakesLines a c Q
+pub takes_one : {A G M : Type 0} (a b c : Consumer (Vec ℕ A) G M) (batch : Vec ℕ A) (P Q : List (List ℕ) → Type 0) → TakesLines a b P → SameConsumer b c → received c ≡ received b ++ batch ∷ [] → ((lines : List (List ℕ)) → P lines → Q (lines ++ cut_lines batch.items)) → TakesLines a c Q
 takes_one a b c batch P Q t ring taken holds = record {
   ring = same_consumer a b c t.ring ring;
   batches = t.batches ++ batch ∷ [];
   taken = taken ∙ (ap (λ l. l ++ batch ∷ []) t.taken ∙ append_assoc (received a) t.batches (batch ∷ []));
   held =
-      let own : lines_of (t.batches ++ batch ∷ []) ≡ lines_of t.batches ++ kept_lines batch.items = flat_map-append (λ b. kept_lines b.items) t.batches (batch ∷ []) ∙ ap (λ l. lines_of t.batches ++ l) (append-nil (kept_lines batch.items)) in
+      let own : lines_of (t.batches ++ batch ∷ []) ≡ lines_of t.batches ++ cut_lines batch.items = flat_map-append (λ b. cut_lines b.items) t.batches (batch ∷ []) ∙ ap (λ l. lines_of t.batches ++ l) (append-nil (cut_lines batch.items)) in
       subst Q (sym own) (holds (lines_of t.batches) t.held);
 }
 
@@ -36,7 +35,7 @@ takes_then a b c P Q R t u holds = record {
   ring = same_consumer a b c t.ring u.ring;
   batches = t.batches ++ u.batches;
   taken = u.taken ∙ (ap (λ l. l ++ u.batches) t.taken ∙ append_assoc (received a) t.batches u.batches);
-  held = subst R (sym (flat_map-append (λ b. kept_lines b.items) t.batches u.batches)) (holds (lines_of t.batches) (lines_of u.batches) t.held u.held);
+  held = subst R (sym (flat_map-append (λ b. cut_lines b.items) t.batches u.batches)) (holds (lines_of t.batches) (lines_of u.batches) t.held u.held);
 }
 
 -- the same of what was taken

@@ -1,5 +1,5 @@
 -- The lines of an input, as a reader hands them over.
-use Rattle.std.specs.Prelude.{ℕ, ◌≡◌, ◌⊎◌, List, [], ◌∷◌, ◌++◌, map, true, Option, Some, IfSome}
+use Rattle.std.specs.Prelude.{ℕ, ◌≡◌, List, ◌++◌, map, true, Option, Some, IfSome}
 use Rattle.std.specs.List.{AllByRecursion, flat_map, list_all}
 use Rattle.std.specs.Io.KnownBytes.{Consumes}
 use Rattle.std.specs.declared.vec.Vec.{Vec}
@@ -41,16 +41,6 @@ AreFirst {T = T} all first = (more : List T) × (all ≡ first ++ more)
 abbrev pub AreReadLines : Option (List ℕ) → Option InputEnd → List (List ℕ) → Type 0
 AreReadLines input (Some Done) lines = IfSome input (λ bytes. lines ≡ kept_lines bytes)
 AreReadLines input end lines = IfSome input (λ bytes. AreFirst (kept_lines bytes) lines)
-
--- private: the beginning of a last line is handed over, if it has a byte
-abbrev pub EndsWith : List ℕ → List (List ℕ) → Type 0
-EndsWith [] fed = fed ≡ []
-EndsWith (byte ∷ line) fed = fed ≡ kept_lines (with_feed (byte ∷ line))
-
--- private: or nothing is, if the service is over or memory runs out
-abbrev pub PutsLast : List ℕ → Option InputEnd → List (List ℕ) → Type 0
-PutsLast line (Some Done) fed = EndsWith line fed
-PutsLast line end fed = (fed ≡ []) ⊎ EndsWith line fed
 
 -- private: so it is of some input
 abbrev pub IsFed : List ℕ → List ℕ → Type 0

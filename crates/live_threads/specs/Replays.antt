@@ -1,5 +1,5 @@
 -- What a log leads to, when its lines are served again while workers make its steps.
-use Rattle.std.specs.Prelude.{ℕ, ◌≡◌, ◌⊎◌, ◌+◌, ⊤, List, [], ◌∷◌, ◌++◌, codes, decimal, length, Bool, true, false, not, Option, IfSome}
+use Rattle.std.specs.Prelude.{ℕ, ◌≡◌, ◌⊎◌, ◌+◌, ⊤, List, [], ◌++◌, codes, decimal, length, Bool, true, false, not, Option, IfSome}
 use Rattle.std.specs.List.{flat_map, list_all}
 use Rattle.script_text.specs.declared.operator_line.OperatorLine.TheVariants.{Step, Take, Put}
 use Rattle.tagged_lines.specs.Tags.{with_feed}
@@ -36,11 +36,11 @@ pub record Replays (begun : LiveState) (log : Option (List ℕ)) (new : LiveStat
   pub text : List ℕ
   pub leads : move_no_job lines ≡ true → AreAnswered AnswersLine begun 1 lines text new × (next ≡ 1 + length lines) × (put ≡ [])
 
--- private: lines lead from a live service to another one, if they move no job; `held` and `holds`
--- are the numbers of the jobs that the operator holds
-pub record LeadsTo (old : LiveState) (number : ℕ) (held : List ℕ) (lines : List (List ℕ)) (new : LiveState) (next : ℕ) (holds : List ℕ) : Type 0 where
+-- private: lines lead from a live service to another one, if they move no job and the operator had
+-- taken none before; `taken` and `took` are how many he had taken
+pub record LeadsTo (old : LiveState) (number taken : ℕ) (lines : List (List ℕ)) (new : LiveState) (next took : ℕ) : Type 0 where
   pub text : List ℕ
-  pub leads : move_no_job lines ≡ true → AreAnswered AnswersLine old number lines text new × (next ≡ number + length lines) × (holds ≡ held)
+  pub leads : move_no_job lines ≡ true → taken ≡ 0 → AreAnswered AnswersLine old number lines text new × (next ≡ number + length lines) × (took ≡ 0)
 
 -- private: no worker has what a line needs
 abbrev pub IsServable : LiveState → Asked → List ℕ → Type 0
@@ -48,31 +48,17 @@ IsServable live (Says name said) line = (is_wait (form_of line) ≡ false) ⊎ I
 IsServable live (Operates (Step name count)) line = IsHome live name
 IsServable live asked line = ⊤
 
--- private: what a log has of a last line without its end
-abbrev pub last_of : List ℕ → List (List ℕ)
-last_of [] = []
-last_of (byte ∷ line) = (byte ∷ line) ∷ []
-
 -- private: these lines put jobs
 abbrev pub ArePuts : List ℕ → Type 0
 ArePuts text = (jobs : List ℕ) × (text ≡ flat_map put_line jobs)
 
--- private: jobs that the operator held were put, by these lines; if he held none, nothing changes
-pub record PutsHeld (old : LiveState) (number : ℕ) (held : List ℕ) (new : LiveState) (next : ℕ) (put : List ℕ) : Type 0 where
+-- private: jobs that the operator held were put, by these lines; if he took none, nothing changes
+pub record PutsHeld (old : LiveState) (number taken : ℕ) (new : LiveState) (next : ℕ) (put : List ℕ) : Type 0 where
   pub puts : ArePuts put
-  pub none : held ≡ [] → (new ≡ old) × (next ≡ number) × (put ≡ [])
-
--- private: what a log has of a last line was served, and the jobs that the operator held were put
-pub record EndsLog (old : LiveState) (number : ℕ) (held line : List ℕ) (new : LiveState) (next : ℕ) (put : List ℕ) : Type 0 where
-  pub puts : ArePuts put
-  pub mid : LiveState
-  pub middle : ℕ
-  pub holds : List ℕ
-  pub leads : LeadsTo old number held (last_of line) mid middle holds
-  pub none : holds ≡ [] → (new ≡ mid) × (next ≡ middle) × (put ≡ [])
+  pub none : taken ≡ 0 → (new ≡ old) × (next ≡ number) × (put ≡ [])
 
 -- private: the first lines of a log were served
-pub record ReplaysSome (begun : LiveState) (input now : Option (List ℕ)) (ahead kept : List ℕ) (new : LiveState) (next : ℕ) (held : List ℕ) : Type 0 where
+pub record ReplaysSome (begun : LiveState) (input now : Option (List ℕ)) (ahead kept : List ℕ) (new : LiveState) (next taken : ℕ) : Type 0 where
   pub fed : List (List ℕ)
   pub is_fed : Fed input now ahead kept fed
-  pub leads : LeadsTo begun 1 [] fed new next held
+  pub leads : LeadsTo begun 1 0 fed new next taken

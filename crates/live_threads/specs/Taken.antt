@@ -1,13 +1,14 @@
 -- What is taken from the ring of lines, and how a service ends.
-use Rattle.std.specs.Prelude.{ℕ, ◌≡◌, ◌⊎◌, List, [], ◌∷◌, ◌++◌, Bool, true, false}
+use Rattle.std.specs.Prelude.{ℕ, ◌≡◌, ◌⊎◌, List, [], ◌∷◌, ◌++◌, map, Bool, true, false}
 use Rattle.std.specs.List.{flat_map}
 use Rattle.std.specs.declared.vec.Vec.{Vec}
 use Rattle.rtrb.specs.Ring.{SameConsumer, received}
 use Rattle.rtrb.specs.declared.consumer.Consumer.{Consumer}
+use Rattle.line_text.specs.Lines.{physical_lines}
+use Rattle.line_feed.specs.Pieces.{kept_of}
 use Rattle.dialogue.specs.History.{Event, Happens, View}
 use Rattle.dialogue.specs.History.Event.{Told}
 use Rattle.live_lines.specs.Live.{LiveState}
-use Rattle.live_input.specs.Serving.{kept_lines}
 use Rattle.live_machine.specs.Held.{are_at_rest}
 use Rattle.live_machine.specs.Machine.{MachineState}
 use Rattle.live_machine.specs.Parts.{EndsMachine}
@@ -16,9 +17,13 @@ use Rattle.live_run.specs.declared.outcome.Outcome.{Outcome}
 use Rattle.live_run.specs.declared.outcome.Outcome.TheVariants.{Done}
 use Rattle.live_threads.specs.Serving.{HasStopped, IsCut, IsServed}
 
--- the lines of texts, each cut to the bytes that are kept of it
+-- the lines of a text, each cut to the bytes that are kept of it
+abbrev pub cut_lines : List ℕ → List (List ℕ)
+cut_lines text = map kept_of (physical_lines text)
+
+-- those of texts
 abbrev pub lines_of : {A : Type 0} → List (Vec ℕ A) → List (List ℕ)
-lines_of batches = flat_map (λ batch. kept_lines batch.items) batches
+lines_of batches = flat_map (λ batch. cut_lines batch.items) batches
 
 -- texts were taken from a ring, and this holds of their lines
 pub record TakesLines {A G P : Type 0} (old new : Consumer (Vec ℕ A) G P) (holds : List (List ℕ) → Type 0) : Type 0 where

@@ -2,9 +2,9 @@
 ghost use Rattle.std.specs.Prelude.{◌≡◌, ◌++◌, ◌∷◌, [], List, ℕ, Option, Some, IfOk, OnOk, MatchBool, ◌⊎◌};
 ghost use Rattle.line_feed.specs.Feed.{ahead_of, line_of};
 ghost use Rattle.line_feed.specs.Pieces.{IsKept};
-ghost use Rattle.live_input.specs.Serving.{kept_lines};
 ghost use Rattle.tagged_lines.specs.Tags.{with_feed};
-ghost use Rattle.live_threads.specs.Fed.{AreReadLines, Fed, IsFed, PutsLast, PutsLines};
+ghost use Rattle.live_threads.specs.Fed.{AreReadLines, Fed, IsFed, PutsLines};
+ghost use Rattle.live_threads.specs.Taken.{cut_lines};
 ghost use Rattle.live_threads.specs.declared.letters.InputEnd.TheVariants.{Done};
 ghost use Rattle.rtrb.specs.Ring.{SameProducer, sent};
 
@@ -49,7 +49,8 @@ pub(crate) fn read_lines<S: Source + Drop, R: Wait + AllocGlobal>(
     ReaderEnd { lines, end }
 }
 
-/// Hands over all lines of an input. Returns how it ended. None if the service is over before.
+/// Hands over all lines of an input; a last line without its end is none. Returns how the input
+/// ended. None if the service is over before.
 fn feed_lines<D: Dialogue, R: Wait + AllocGlobal>(
     rt: &R,
     crew: &Crew,
@@ -67,7 +68,7 @@ fn feed_lines<D: Dialogue, R: Wait + AllocGlobal>(
             return Some(InputEnd::Failed);
         }
         if feed.is_empty() {
-            return feed_last(rt, crew, lines, feed.line());
+            return Some(InputEnd::Done);
         }
         let Ok(batch) = take_lines(rt.alloc(), feed) else {
             return Some(InputEnd::NoMemory);
@@ -79,29 +80,6 @@ fn feed_lines<D: Dialogue, R: Wait + AllocGlobal>(
     unreachable!()
 }
 
-/// Hands over the beginning of a line at the input's end, if there is one.
-fn feed_last<R: Wait + AllocGlobal>(
-    rt: &R,
-    crew: &Crew,
-    lines: &mut Producer<Vec<u8>>,
-    line: &[u8],
-) -> Option<InputEnd>
-    ensures { PutsLines lines.old lines.new (λ fed. PutsLast line.now result fed) }
-{
-    if line.is_empty() {
-        return Some(InputEnd::Done);
-    }
-    let mut batch = Vec::new(rt.alloc());
-    if push_line(&mut batch, line).is_err() {
-        drop(batch);
-        return Some(InputEnd::NoMemory);
-    }
-    if hand_over(rt, crew, lines, batch) {
-        return Some(InputEnd::Done);
-    }
-    None
-}
-
 /// The lines that have come.
 fn take_lines(alloc: Global, feed: &mut LineFeed) -> Result<Vec<u8>, AllocError>
     requires { IsFed (ahead_of feed.old) (line_of feed.old) }
@@ -109,7 +87,7 @@ fn take_lines(alloc: Global, feed: &mut LineFeed) -> Result<Vec<u8>, AllocError>
     ensures fed { IfOk result (λ batch. (input now : Option (List ℕ)) (fed : List (List ℕ)) →
         Fed input now (ahead_of feed.old) (line_of feed.old) fed →
         Fed input now (ahead_of feed.new) (line_of feed.new)
-        (fed ++ kept_lines batch.items)) }
+        (fed ++ cut_lines batch.items)) }
 {
     let mut batch = Vec::new(alloc);
     while feed.take_piece() {

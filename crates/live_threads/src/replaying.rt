@@ -3,7 +3,7 @@ ghost use Rattle.std.specs.Prelude.{◌≡◌, ◌≢◌, ◌+◌, ◌∷◌, []
 ghost use Rattle.live_input.specs.Serving.{is_ready, state_in};
 ghost use Rattle.live_lines.specs.Live.{asked_of as what_asks, asks};
 ghost use Rattle.live_machine.specs.Workers.{without_workers};
-ghost use Rattle.live_threads.specs.Replays.{EndsLog, IsServable, LeadsTo, PutsHeld, Replays, moves_job, put_line};
+ghost use Rattle.live_threads.specs.Replays.{IsServable, LeadsTo, PutsHeld, Replays, moves_job, put_line};
 ghost use Rattle.line_feed.specs.Feed.{ahead_of, line_of};
 ghost use Rattle.line_feed.specs.Pieces.{IsKept, kept_of};
 
@@ -78,7 +78,7 @@ impl<'g, R: Wait + AllocGlobal> Replayed<'g, R> {
     /// A live service that has served no line of its log.
     fn new(site: Site<'g, R>, lines: LiveLines<'g>) -> Self
         ensures lines { result.lines ≡ lines.entry }
-        ensures held { result.held.items ≡ [] }
+        ensures taken { result.taken ≡ 0 }
         ensures next { result.next ≡ 1 }
     {
         let alloc = site.rt.alloc();
@@ -112,7 +112,7 @@ impl<'g, R: Wait + AllocGlobal> Replayed<'g, R> {
     /// Serves the lines of a log. Returns lines that were served after them.
     fn serve_past<P: Source + Drop>(&mut self, past: P) -> Result<Vec<u8>, Outcome>
         requires ready { is_ready self.old.lines }
-        requires held { self.old.held.items ≡ [] }
+        requires none { self.old.taken ≡ 0 }
         requires first { self.old.next ≡ 1 }
         ensures ready { OnOk result (is_ready self.new.lines) }
         ensures leads { IfOk result (λ more. Replays (without_workers (state_in self.old.lines))
@@ -127,7 +127,8 @@ impl<'g, R: Wait + AllocGlobal> Replayed<'g, R> {
         }
     }
 
-    /// Serves the lines of a dialogue up to its end. Returns lines that were served after them.
+    /// Serves the lines of a dialogue up to its end, takes all jobs home, and puts those that the
+    /// operator holds. Returns the lines that put them.
     fn serve_log<D: Dialogue>(
         &mut self,
         feed: &mut LineFeed,
@@ -136,7 +137,7 @@ impl<'g, R: Wait + AllocGlobal> Replayed<'g, R> {
         requires ready { is_ready self.old.lines }
         requires ahead { ahead_of feed.old ≡ [] }
         requires line { IsKept (line_of feed.old) [] }
-        requires held { self.old.held.items ≡ [] }
+        requires none { self.old.taken ≡ 0 }
         requires first { self.old.next ≡ 1 }
         ensures ready { OnOk result (is_ready self.new.lines) }
         ensures leads { IfOk result (λ more. Replays (without_workers (state_in self.old.lines))
@@ -153,28 +154,10 @@ impl<'g, R: Wait + AllocGlobal> Replayed<'g, R> {
                 return Err(Outcome::LogUnreadable);
             }
             if feed.is_empty() {
-                return self.end_log(feed.line());
+                return self.finish();
             }
         }
         unreachable!()
-    }
-
-    /// Serves what the log has of a last line, takes all jobs home, and puts those that the
-    /// operator holds. Returns the lines that put them.
-    fn end_log(&mut self, line: &[u8]) -> Result<Vec<u8>, Outcome>
-        requires ready { is_ready self.old.lines }
-        requires cut { kept_of line.now ≡ line.now }
-        ensures ready { OnOk result (is_ready self.new.lines) }
-        ensures leads { IfOk result (λ more. EndsLog (without_workers (state_in self.old.lines))
-            self.old.next self.old.held.items line.now (without_workers (state_in self.new.lines))
-            self.new.next more.items) }
-        ensures none { IfErr result (λ outcome. outcome ≢ Outcome.Done) }
-    {
-        if line.is_empty() {
-            return self.finish();
-        }
-        self.serve(line)?;
-        self.finish()
     }
 
     /// Takes all jobs home, and puts those that the operator holds. Returns the lines that put
@@ -183,7 +166,7 @@ impl<'g, R: Wait + AllocGlobal> Replayed<'g, R> {
         requires { is_ready self.old.lines }
         ensures ready { OnOk result (is_ready self.new.lines) }
         ensures puts { IfOk result (λ more. PutsHeld (without_workers (state_in self.old.lines))
-            self.old.next self.old.held.items (without_workers (state_in self.new.lines))
+            self.old.next self.old.taken (without_workers (state_in self.new.lines))
             self.new.next more.items) }
         ensures none { IfErr result (λ outcome. outcome ≢ Outcome.Done) }
     {
@@ -200,8 +183,8 @@ impl<'g, R: Wait + AllocGlobal> Replayed<'g, R> {
         requires cut { kept_of line.now ≡ line.now }
         ensures ready { OnOk result (is_ready self.new.lines) }
         ensures leads { OnOk result (LeadsTo (without_workers (state_in self.old.lines))
-            self.old.next self.old.held.items (line.now ∷ [])
-            (without_workers (state_in self.new.lines)) self.new.next self.new.held.items) }
+            self.old.next self.old.taken (line.now ∷ [])
+            (without_workers (state_in self.new.lines)) self.new.next self.new.taken) }
         ensures none { IfErr result (λ outcome. outcome ≢ Outcome.Done) }
     {
         if self.next == u64::MAX {
@@ -220,8 +203,8 @@ impl<'g, R: Wait + AllocGlobal> Replayed<'g, R> {
         requires next { self.old.next + 1 < 2 ^ 64 }
         ensures ready { OnOk result (is_ready self.new.lines) }
         ensures leads { OnOk result (LeadsTo (without_workers (state_in self.old.lines))
-            self.old.next self.old.held.items (line.now ∷ [])
-            (without_workers (state_in self.new.lines)) self.new.next self.new.held.items) }
+            self.old.next self.old.taken (line.now ∷ [])
+            (without_workers (state_in self.new.lines)) self.new.next self.new.taken) }
     {
         workers_law();
         let asked = asked_of(self.site.rt.alloc(), line)?;
@@ -238,11 +221,12 @@ impl<'g, R: Wait + AllocGlobal> Replayed<'g, R> {
         requires ready { is_ready self.old.lines }
         requires asks { asks asked.now ≡ what_asks line.now }
         ensures ready { is_ready self.new.lines }
-        ensures servable { IsServable (state_in self.new.lines) (what_asks line.now) line.now }
+        ensures servable { self.old.taken ≡ 0 →
+            IsServable (state_in self.new.lines) (what_asks line.now) line.now }
         ensures same { without_workers (state_in self.new.lines)
             ≡ without_workers (state_in self.old.lines) }
         ensures next { self.new.next ≡ self.old.next }
-        ensures held { self.new.held ≡ self.old.held }
+        ensures taken { self.new.taken ≡ self.old.taken }
     {
         match asked {
             LineRequest::Says(_, name, _) => {
@@ -265,8 +249,8 @@ impl<'g, R: Wait + AllocGlobal> Replayed<'g, R> {
         ensures same { OnOk result (without_workers (state_in self.new.lines)
             ≡ without_workers (state_in self.old.lines)) }
         ensures next { self.new.next ≡ self.old.next }
-        ensures held { moves_job (asks asked.entry) ≡ false →
-            OnOk result (self.new.held ≡ self.old.held) }
+        ensures taken { moves_job (asks asked.entry) ≡ false →
+            OnOk result (self.new.taken ≡ self.old.taken) }
     {
         match asked {
             LineRequest::Operates(OperatorLine::Take(_)) => self.note_taken(has_taken),
@@ -300,12 +284,12 @@ impl<'g, R: Wait + AllocGlobal> Replayed<'g, R> {
         requires { is_ready self.old.lines }
         ensures ready { OnOk result (is_ready self.new.lines) }
         ensures puts { IfOk result (λ more. PutsHeld (without_workers (state_in self.old.lines))
-            self.old.next self.old.held.items (without_workers (state_in self.new.lines))
+            self.old.next self.old.taken (without_workers (state_in self.new.lines))
             self.new.next more.items) }
     {
         let alloc = self.site.rt.alloc();
         let mut more = Vec::new(alloc);
-        if self.held.is_empty() {
+        if self.taken == 0 {
             return Ok(more);
         }
         let held = mem::replace(&mut self.held, Vec::new(alloc));

@@ -1,11 +1,10 @@
 //! The thread that serves: it alone has the machine, the log and the output.
 ghost use Rattle.std.specs.Prelude.{◌≡◌, [], true, IfOk, OnErr, OnOk};
 ghost use Rattle.line_feed.specs.Pieces.{kept_of};
-ghost use Rattle.live_input.specs.Serving.{kept_lines};
 ghost use Rattle.live_machine.specs.Held.{are_at_rest};
 ghost use Rattle.live_machine.specs.Parts.{IsReady, machine_of};
 ghost use Rattle.live_threads.specs.Serving.{HasStopped, IsServed};
-ghost use Rattle.live_threads.specs.Taken.{ClosesTexts, EndsServing, IsDrained, StopsClosing, TakesLines};
+ghost use Rattle.live_threads.specs.Taken.{ClosesTexts, EndsServing, IsDrained, StopsClosing, TakesLines, cut_lines};
 
 use crate::crew::Crew;
 use crate::fault::Fault;
@@ -212,9 +211,9 @@ fn serve_batch<O: Outlet>(
     requires ready { IsReady machine.old }
     ensures ready { OnOk result (IsReady machine.new) }
     ensures served { OnOk result (IsServed (machine_of machine.old) (O.view outlet.old)
-        (kept_lines batch.now) (machine_of machine.new) (O.view outlet.new)) }
+        (cut_lines batch.now) (machine_of machine.new) (O.view outlet.new)) }
     ensures stopped { OnErr result (HasStopped (machine_of machine.old) (O.view outlet.old)
-        (kept_lines batch.now) (O.view outlet.new)) }
+        (cut_lines batch.now) (O.view outlet.new)) }
 {
     let mut rest = batch;
     while !rest.is_empty() {

@@ -5,8 +5,8 @@ use crate::ended::{Ended, ended_by};
 use crate::row::Row;
 use crate::verdict::Verdict;
 use desk::Streams;
-use line_text::{MemorySink, MemorySource, ReadError, StdSource, read_all};
-use live_run::LockLog;
+use line_text::{MemorySink, MemorySource, ReadError, StdSource, read_all, write_slices};
+use live_run::{LockLog, NO_END};
 use live_threads::ProgramRun;
 use std::alloc::{AllocError, AllocGlobal, Global};
 use std::fs::File;
@@ -116,10 +116,21 @@ where
         Ok(outcome) => outcome.status(),
         Err(_) => 2,
     };
-    let teller = MemorySink::new(rt.alloc());
+    let mut teller = MemorySink::new(rt.alloc());
+    tell_of_end(&mut teller, lines);
     let mut ended = ended_by(rt.alloc(), bytes, teller, status, outcome)?;
     ended.is_whole = is_whole;
     Ok(ended)
+}
+
+/// Writes what the program tells of a last line without its end, if its input has one.
+fn tell_of_end(teller: &mut MemorySink, input: &[u8]) {
+    match input.last() {
+        Some(byte) if *byte != b'\n' => {
+            let _ = write_slices(teller, &[NO_END.as_bytes(), b"\n"]);
+        }
+        _ => {}
+    }
 }
 
 /// Runs the desk with these words.

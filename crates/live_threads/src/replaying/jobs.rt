@@ -1,5 +1,5 @@
 //! The jobs that workers have while a log is served again.
-ghost use Rattle.std.specs.Prelude.{◌≡◌, OnOk};
+ghost use Rattle.std.specs.Prelude.{◌≡◌, true, OnOk};
 ghost use Rattle.live_input.specs.Serving.{is_ready, state_in};
 ghost use Rattle.live_machine.specs.Workers.{IsHome, without_workers};
 
@@ -17,7 +17,7 @@ impl<R: Wait + AllocGlobal> Replayed<'_, R> {
         ensures same { OnOk result (without_workers (state_in self.new.lines)
             ≡ without_workers (state_in self.old.lines)) }
         ensures next { self.new.next ≡ self.old.next }
-        ensures held { self.new.held ≡ self.old.held }
+        ensures taken { self.new.taken ≡ self.old.taken }
     {
         workers_law();
         let id = self.lines.live().names().last_id(name);
@@ -30,24 +30,36 @@ impl<R: Wait + AllocGlobal> Replayed<'_, R> {
         self.site.crew.order(self.site.rt, Order::Make(order))
     }
 
-    /// Waits until no worker has the next step of that name's job.
+    /// Waits until no worker has the next step of that name's job. A job that the operator holds is
+    /// not waited for.
     pub(super) fn await_home(&mut self, name: &[u8])
         requires ready { is_ready self.old.lines }
         ensures ready { is_ready self.new.lines }
-        ensures home { IsHome (state_in self.new.lines) name.now }
+        ensures home { self.old.taken ≡ 0 → IsHome (state_in self.new.lines) name.now }
         ensures same { without_workers (state_in self.new.lines)
             ≡ without_workers (state_in self.old.lines) }
         ensures next { self.new.next ≡ self.old.next }
-        ensures held { self.new.held ≡ self.old.held }
+        ensures taken { self.new.taken ≡ self.old.taken }
     {
         for _ in self.site.rt.forever() {
-            if is_home(&self.lines, name) {
+            if self.is_job_home(name) {
                 return;
             }
             let letters = self.site.crew.mailbox.take_steps(self.site.rt);
             self.take_home(letters);
         }
         unreachable!()
+    }
+
+    /// No worker has the next step of that name's job. The live service knows it while the operator
+    /// has taken no job: he has one as workers have it.
+    fn is_job_home(&self, name: &[u8]) -> bool
+        ensures { self.now.taken ≡ 0 → result ≡ true → IsHome (state_in self.now.lines) name.now }
+    {
+        if self.taken > 0 {
+            return !self.out.contains(&self.lines.live().names().last_id(name));
+        }
+        is_home(&self.lines, name)
     }
 
     /// Waits until all jobs are home.
@@ -57,7 +69,7 @@ impl<R: Wait + AllocGlobal> Replayed<'_, R> {
         ensures same { without_workers (state_in self.new.lines)
             ≡ without_workers (state_in self.old.lines) }
         ensures next { self.new.next ≡ self.old.next }
-        ensures held { self.new.held ≡ self.old.held }
+        ensures taken { self.new.taken ≡ self.old.taken }
     {
         for _ in self.site.rt.forever() {
             if self.out.is_empty() {
@@ -76,7 +88,7 @@ impl<R: Wait + AllocGlobal> Replayed<'_, R> {
         ensures same { without_workers (state_in self.new.lines)
             ≡ without_workers (state_in self.old.lines) }
         ensures next { self.new.next ≡ self.old.next }
-        ensures held { self.new.held ≡ self.old.held }
+        ensures taken { self.new.taken ≡ self.old.taken }
     {
         for letter in letters {
             self.give_back(letter);
@@ -90,7 +102,7 @@ impl<R: Wait + AllocGlobal> Replayed<'_, R> {
         ensures same { without_workers (state_in self.new.lines)
             ≡ without_workers (state_in self.old.lines) }
         ensures next { self.new.next ≡ self.old.next }
-        ensures held { self.new.held ≡ self.old.held }
+        ensures taken { self.new.taken ≡ self.old.taken }
     {
         workers_law();
         let back = match letter {

@@ -57,4 +57,4 @@ returns-then-is_empty-clause-conversation g c =
     let L : List ℕ → Type 0 = λ line. Progress g.A.Answers.answers c.args.service.now c.args.number.now (g.D.Dialogue.view c.args.dialogue.now) c.loop.number (g.D.Dialogue.view c.refill.new.dialogue) c.loop.service (ahead_of c.refill.new.self) line in
     let filled = subst L (sym c.in-Ok-refill.ensures.line) (refilled g.A.Answers.answers _ _ _ c.loop.number (g.D.Dialogue.view c.loop.dialogue) (g.D.Dialogue.view c.refill.new.dialogue) c.loop.service (ahead_of c.take_piece.new.self) (line_of c.take_piece.new.self) (ahead_of c.refill.new.self) piece.rest.1 went c.in-Ok-refill.ensures.reads) in
     let none : ahead_of c.refill.new.self ≡ [] = search rules in
-    input_ends _ g.A.Answers.answers _ _ _ c.loop.number (g.D.Dialogue.view c.refill.new.dialogue) (g.D.Dialogue.view c.take_last_turn.new.dialogue) c.loop.service c.take_last_turn.new.service (ahead_of c.refill.new.self) (line_of c.refill.new.self) c.take_last_turn.result none (c.in-Ok-refill.ensures.reads.end none) filled c.take_last_turn.ensures.turn
+    input_ends g.A.Answers.answers _ _ _ c.loop.number (g.D.Dialogue.view c.refill.new.dialogue) c.loop.service (ahead_of c.refill.new.self) (line_of c.refill.new.self) none (c.in-Ok-refill.ensures.reads.end none) filled

@@ -1,9 +1,9 @@
 use Rattle.std.proofs.Common.{List, ℕ, refl, subst, sym}
 use Rattle.line_feed.specs.Feed.{ahead_of}
-use Rattle.live_threads.specs.Fed.{Fed, PutsLast}
+use Rattle.live_threads.specs.Fed.{Fed}
 use Rattle.live_threads.specs.Taken.{lines_of}
-use Rattle.live_threads.proofs.FedLemmas.{fed_first, fed_none, fed_read, last_fed, read_ok}
-use Rattle.live_threads.proofs.RingLemmas.{puts_maybe, puts_none, puts_one, puts_so, puts_then, same_self}
+use Rattle.live_threads.proofs.FedLemmas.{fed_first, fed_none, fed_read, fed_whole, read_ok}
+use Rattle.live_threads.proofs.RingLemmas.{puts_maybe, puts_none, puts_one, puts_so, same_self}
 use Rattle.live_threads.proofs.reader.feed_lines.Goals as goal
 
 pub loop-init : goal.loop-init
@@ -12,11 +12,10 @@ loop-init g c = record { ahead = c.requires.ahead; fed = puts_none _ _ _ (same_s
 pub returns-then-is_empty : goal.returns-then-is_empty
 returns-then-is_empty g c =
     let reads = read_ok _ _ _ _ c.if-is_err.ensures.value c.refill.ensures.reads in
-    puts_then _ _ _ _ _ _ c.loop.invariant.fed c.feed_last.ensures
-    (λ fed more f p.
+    puts_so _ _ _ _ c.loop.invariant.fed
+    (λ fed f.
     let F : List ℕ → Type 0 = λ l. Fed (g.D.Dialogue.view c.args.source.now).remaining (g.D.Dialogue.view c.refill.new.dialogue).remaining (ahead_of c.refill.new.self) l fed in
-    let P : List ℕ → Type 0 = λ l. PutsLast l c.feed_last.result more in
-    last_fed _ _ _ _ fed more _ c.if-is_empty.ensures (reads.end c.if-is_empty.ensures) (subst F (sym c.refill.ensures.line) (fed_read _ _ _ _ _ _ fed c.loop.invariant.ahead f reads.consumes)) (subst P c.line.ensures p))
+    fed_whole _ _ _ _ fed c.if-is_empty.ensures (subst F (sym c.refill.ensures.line) (fed_read _ _ _ _ _ _ fed c.loop.invariant.ahead f reads.consumes)) (reads.end c.if-is_empty.ensures))
 
 pub take_lines-requires : goal.take_lines-requires
 take_lines-requires g c =

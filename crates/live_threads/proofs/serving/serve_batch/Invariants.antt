@@ -1,5 +1,5 @@
 use Rattle.std.proofs.Common.{length}
-use Rattle.live_input.specs.Serving.{kept_lines}
+use Rattle.live_threads.specs.Taken.{cut_lines}
 use Rattle.live_machine.specs.Parts.{IsReady, machine_of}
 use Rattle.live_threads.specs.Serving.{ServesSome}
 use Rattle.live_threads.proofs.serving.serve_batch.Given as goal
@@ -8,7 +8,7 @@ use Rattle.live_threads.proofs.serving.serve_batch.Given as goal
 abbrev pub invariant-loop-rest : goal.invariant-loop-rest
 invariant-loop-rest g l = record {
   ready : IsReady l.machine;
-  served : ServesSome (kept_lines l.batch) (kept_lines l.rest) (machine_of l.fn.machine) (g.O.Outlet.view l.fn.outlet) (machine_of l.machine) (g.O.Outlet.view l.outlet);
+  served : ServesSome (cut_lines l.batch) (cut_lines l.rest) (machine_of l.fn.machine) (g.O.Outlet.view l.fn.outlet) (machine_of l.machine) (g.O.Outlet.view l.outlet);
 }
 
 abbrev pub decreases-loop-rest : goal.decreases-loop-rest

@@ -9,5 +9,5 @@ invariant-loop g l = record {
   ready : is_ready l.self.lines;
   same : without_workers (state_in l.self.lines) ≡ without_workers (state_in l.fn.self.lines);
   next : l.self.next ≡ l.fn.self.next;
-  held : l.self.held ≡ l.fn.self.held;
+  taken : l.self.taken ≡ l.fn.self.taken;
 }

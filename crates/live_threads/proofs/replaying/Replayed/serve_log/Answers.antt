@@ -3,13 +3,13 @@ use Rattle.line_feed.specs.Feed.{line_of}
 use Rattle.line_feed.specs.Pieces.{kept_of}
 use Rattle.live_input.specs.Serving.{state_in}
 use Rattle.live_machine.specs.Workers.{without_workers}
-use Rattle.live_threads.specs.Replays.{EndsLog, LeadsTo, ReplaysSome}
+use Rattle.live_threads.specs.Replays.{LeadsTo, ReplaysSome}
 use Rattle.live_threads.proofs.FedLemmas.{read_ok}
-use Rattle.live_threads.proofs.ReplayLemmas.{if_ok_so, replayed, some_cut, some_kept, some_line, some_none, some_read}
+use Rattle.live_threads.proofs.ReplayLemmas.{if_ok_so, replayed, some_cut, some_line, some_none, some_read}
 use Rattle.live_threads.proofs.replaying.Replayed.serve_log.Goals as goal
 
 pub loop-init : goal.loop-init
-loop-init g c = record { ready = c.requires.ready; some = some_none _ _ _ _ _ _ c.requires.ahead c.requires.line c.requires.first c.requires.held }
+loop-init g c = record { ready = c.requires.ready; some = some_none _ _ _ _ _ _ c.requires.ahead c.requires.line c.requires.first c.requires.none }
 
 pub serve-requires-clause-cut : goal.serve-requires-clause-cut
 serve-requires-clause-cut g c =
@@ -18,27 +18,19 @@ serve-requires-clause-cut g c =
 
 pub loop-preserved-then-take_piece : goal.loop-preserved-then-take_piece
 loop-preserved-then-take_piece g c =
-    let L : List ℕ → Type 0 = λ l. LeadsTo (without_workers (state_in c.loop.self.lines)) c.loop.self.next c.loop.self.held.items (l ∷ []) (without_workers (state_in c.serve.new.self.lines)) c.serve.new.self.next c.serve.new.self.held.items in
-    let S : List ℕ → Type 0 = λ a. ReplaysSome (without_workers (state_in c.args.self.now.lines)) (g.D.Dialogue.view c.args.source.now).remaining (g.D.Dialogue.view c.loop.source).remaining a (line_of c.begin_line.new.self) (without_workers (state_in c.serve.new.self.lines)) c.serve.new.self.next c.serve.new.self.held.items in
+    let L : List ℕ → Type 0 = λ l. LeadsTo (without_workers (state_in c.loop.self.lines)) c.loop.self.next c.loop.self.taken (l ∷ []) (without_workers (state_in c.serve.new.self.lines)) c.serve.new.self.next c.serve.new.self.taken in
+    let S : List ℕ → Type 0 = λ a. ReplaysSome (without_workers (state_in c.args.self.now.lines)) (g.D.Dialogue.view c.args.source.now).remaining (g.D.Dialogue.view c.loop.source).remaining a (line_of c.begin_line.new.self) (without_workers (state_in c.serve.new.self.lines)) c.serve.new.self.next c.serve.new.self.taken in
     record {
       ready = c.in_ok-serve.ensures.ready;
       some = subst S (sym c.begin_line.ensures.ahead) (some_line _ _ _ _ _ _ _ _ _ _ _ _ _ _ c.loop.invariant.some c.if-take_piece.ensures c.begin_line.ensures.line (subst L c.line.ensures c.in_ok-serve.ensures.leads));
     }
 
-pub end_log-requires-clause-cut : goal.end_log-requires-clause-cut
-end_log-requires-clause-cut g c =
-    let reads = read_ok _ _ _ _ c.if-is_err.ensures.value c.refill.ensures.reads in
-    let P : List ℕ → Type 0 = λ l. kept_of l ≡ l in
-    subst P (sym c.line-then-is_empty.ensures) (some_kept _ _ _ _ _ _ _ _ (some_read _ _ _ _ _ _ _ _ _ _ _ _ _ c.loop.invariant.some c.if-take_piece.ensures reads.consumes c.refill.ensures.line))
-
 pub returns-then-is_empty-clause-leads : goal.returns-then-is_empty-clause-leads
 returns-then-is_empty-clause-leads g c =
     let reads = read_ok _ _ _ _ c.if-is_err.ensures.value c.refill.ensures.reads in
-    if_ok_so c.end_log.result _ _
-    (λ more e.
-    let E : List ℕ → Type 0 = λ l. EndsLog (without_workers (state_in c.loop.self.lines)) c.loop.self.next c.loop.self.held.items l (without_workers (state_in c.end_log.new.self.lines)) c.end_log.new.self.next more.items in
-    replayed _ _ _ _ _ _ _ _ _ _ more.items c.if-is_empty.ensures (reads.end c.if-is_empty.ensures) (some_read _ _ _ _ _ _ _ _ _ _ _ _ _ c.loop.invariant.some c.if-take_piece.ensures reads.consumes c.refill.ensures.line) (subst E c.line-then-is_empty.ensures e))
-    c.end_log.ensures.leads
+    if_ok_so c.finish.result _ _
+    (λ more puts. replayed _ _ _ _ _ _ _ _ _ _ more.items c.if-is_empty.ensures (reads.end c.if-is_empty.ensures) (some_read _ _ _ _ _ _ _ _ _ _ _ _ _ c.loop.invariant.some c.if-take_piece.ensures reads.consumes c.refill.ensures.line) puts)
+    c.finish.ensures.puts
 
 pub loop-preserved : goal.loop-preserved
 loop-preserved g c =
