@@ -3,7 +3,10 @@ use crate::errand::{Errand, read_errand};
 use clap::Error;
 use clap::error::ErrorKind;
 use desk_circuits::warn_of_latches;
-use desk_common::{FileRole, Outcome, device_path, read_file, with_device};
+use desk_common::{
+    DeviceOption, FileRole, MAX_DEVICE_READ, Outcome, device_options, device_path, read_file,
+    with_device,
+};
 use desk_layouts::{check, configure, strip};
 use desk_netlists::{random, route, script};
 use desk_replies::{files, page_tool, picture, report};
@@ -25,9 +28,6 @@ pub struct Streams<'a, R: Source, W: Sink, E: Sink> {
     /// What the program was built from, for its version; empty if that is not known.
     pub built_from: &'a str,
 }
-
-/// The most bytes of a device file that are read.
-const MAX_DEVICE: u64 = 65_536;
 
 /// The beginning of what `--version` prints.
 const VERSION: &str = "fpgad_desk 1.0";
@@ -52,9 +52,9 @@ fn run_on_device<H: Files + AllocGlobal, S: AsStr, R: Source, W: Sink, E: Sink>(
     path: &str,
     streams: Streams<'_, R, W, E>,
 ) -> Result<Outcome, Error> {
-    match read_file(rt, FileRole::Device, path, MAX_DEVICE, streams.teller) {
+    match read_file(rt, FileRole::Device, path, MAX_DEVICE_READ, streams.teller) {
         Ok(text) => {
-            let done = run_with_text(rt, words, text.as_slice(), streams);
+            let done = run_with_text(rt, words, path, text.as_slice(), streams);
             drop(text);
             done
         }
@@ -62,17 +62,32 @@ fn run_on_device<H: Files + AllocGlobal, S: AsStr, R: Source, W: Sink, E: Sink>(
     }
 }
 
-/// Does what the words ask, with the options in that text of a device file.
+/// Does what the words ask, with the options in that text of the device file of that path.
 fn run_with_text<H: Files + AllocGlobal, S: AsStr, R: Source, W: Sink, E: Sink>(
     rt: &H,
     words: &[S],
+    path: &str,
     text: &[u8],
     streams: Streams<'_, R, W, E>,
 ) -> Result<Outcome, Error> {
-    let Ok(text) = str::from_utf8(text) else {
-        return Ok(Outcome::FileFailed(FileRole::Device));
-    };
-    match with_device(rt.alloc(), words, text) {
+    match device_options(rt.alloc(), path, text, streams.teller) {
+        Ok(options) => {
+            let done = run_with_options(rt, words, options.as_slice(), streams);
+            drop(options);
+            done
+        }
+        Err(outcome) => Ok(outcome),
+    }
+}
+
+/// Does what the words ask, with those options of a device file.
+fn run_with_options<H: Files + AllocGlobal, S: AsStr, R: Source, W: Sink, E: Sink>(
+    rt: &H,
+    words: &[S],
+    options: &[DeviceOption<'_>],
+    streams: Streams<'_, R, W, E>,
+) -> Result<Outcome, Error> {
+    match with_device(rt.alloc(), words, options) {
         Ok(all) => {
             let done = run_plain(rt, all.as_slice(), streams);
             drop(all);

@@ -2,7 +2,7 @@
 use Rattle.std.specs.Prelude.{ℕ, Result, Ok, Err}
 use Rattle.line_text.specs.declared.source.Failed.{Failed}
 use Rattle.desk_common.specs.declared.outcome.Outcome.{Outcome}
-use Rattle.desk_common.specs.declared.outcome.Outcome.TheVariants.{Done, InputFailed, OutputFailed, FileFailed, LayoutRefused, LinesRefused, NoMemory, OtherCircuit}
+use Rattle.desk_common.specs.declared.outcome.Outcome.TheVariants.{DeviceRefused, Done, InputFailed, OutputFailed, FileFailed, LayoutRefused, LinesRefused, NoMemory, OtherCircuit}
 
 -- the status that the program ends with
 abbrev pub status_of : Outcome → ℕ
@@ -13,6 +13,7 @@ status_of (FileFailed role) = 1
 status_of (LinesRefused lines) = 1
 status_of (LayoutRefused fault) = 1
 status_of OtherCircuit = 1
+status_of DeviceRefused = 2
 status_of NoMemory = 4
 status_of refused = 3
 

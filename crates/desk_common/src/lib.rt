@@ -5,15 +5,19 @@
 #![tactic(auto)]
 
 mod arch_words;
-mod device_file;
+mod options_file;
 mod outcome;
 mod paths;
 mod reply_words;
 mod words;
 
 pub use arch_words::write_arch_fault;
-pub use device_file::{DEVICE, device_path, with_device};
+pub use options_file::{
+    DEVICE, DeviceOption, MAX_DEVICE_READ, device_options, device_path, with_device,
+};
 pub use outcome::Outcome;
-pub use paths::{FileRole, ResultFile, make_folder, read_file, tell_stale, write_file};
+pub use paths::{
+    FileRole, NewFile, ResultFile, make_folder, read_file, tell_stale, write_file, write_files,
+};
 pub use reply_words::{tell_reply, told_refused};
 pub use words::{COLUMNS, EFFORT, FOLDER, NO_DEVICE, ROWS, SEED};

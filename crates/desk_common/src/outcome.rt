@@ -31,6 +31,8 @@ pub enum Outcome {
     /// That line of what the service printed isn't a reply to the script.
     RepliesRefused(usize),
     ArchRefused(ArchFault),
+    /// The device file has a fault. The cause is written to standard error.
+    DeviceRefused,
     /// The netlist has a fault, or doesn't fit a cluster or the device. The cause is written to
     /// standard error.
     NetlistRefused,
@@ -59,6 +61,7 @@ impl Outcome {
             Outcome::Done => 0,
             Outcome::InputFailed | Outcome::OutputFailed | Outcome::FileFailed(_) => 1,
             Outcome::LinesRefused(_) | Outcome::LayoutRefused(_) | Outcome::OtherCircuit => 1,
+            Outcome::DeviceRefused => 2,
             Outcome::NoMemory => 4,
             _ => 3,
         }
@@ -106,6 +109,7 @@ impl fmt::Display for Outcome {
             Outcome::ScriptRefused(line) => write!(f, "script: line {line}"),
             Outcome::RepliesRefused(line) => write!(f, "line {line}: does not match the script"),
             Outcome::ArchRefused(fault) => write!(f, "arch: {fault}"),
+            Outcome::DeviceRefused => write!(f, "device file: refused"),
             Outcome::NetlistRefused => write!(f, "netlist: refused"),
             Outcome::Unrouted => write!(f, "netlist: not routed"),
             Outcome::StripRefused(fault) => write!(f, "{fault}"),

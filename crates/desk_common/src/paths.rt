@@ -107,21 +107,112 @@ pub struct ResultFile<'a> {
     pub kind: &'static str,
 }
 
+/// A file to write, and its bytes.
+#[derive(Clone, Copy)]
+pub struct NewFile<'a> {
+    pub file: ResultFile<'a>,
+    pub bytes: &'a [u8],
+}
+
 /// Writes a file, in place of one that is there. If it can't be written, the path and the reason
-/// are written to the teller.
+/// are written to the teller, and what was there stays.
 pub fn write_file<H: Files + AllocGlobal, E: Sink>(
     rt: &H,
     file: ResultFile<'_>,
     bytes: &[u8],
     teller: &mut E,
 ) -> Result<(), Outcome> {
-    let path = path_of(rt.alloc(), file)?;
-    let written = match fs::write(rt, path.as_str(), bytes) {
-        Ok(()) => Ok(()),
-        Err(error) => Err(told_failed(rt.alloc(), FileRole::Folder, path.as_str(), error, teller)),
-    };
-    drop(path);
+    write_files(rt, &[NewFile { file, bytes }], teller)
+}
+
+/// Writes files, in place of those that are there. Each is written as `NAME.KIND.part`, and when
+/// all are, they take their names. If one of them can't be written, its path and the reason are
+/// written to the teller, what was there stays, and no part is left.
+pub fn write_files<H: Files + AllocGlobal, E: Sink>(
+    rt: &H,
+    files: &[NewFile<'_>],
+    teller: &mut E,
+) -> Result<(), Outcome> {
+    let mut written = write_all_parts(rt, files, teller);
+    if written.is_ok() {
+        written = name_all_parts(rt, files, teller);
+    }
+    if written.is_err() {
+        remove_parts(rt, files);
+    }
     written
+}
+
+/// Writes the parts of the files.
+fn write_all_parts<H: Files + AllocGlobal, E: Sink>(
+    rt: &H,
+    files: &[NewFile<'_>],
+    teller: &mut E,
+) -> Result<(), Outcome> {
+    for new in files {
+        let part = part_of(rt.alloc(), new.file)?;
+        let written = fs::write(rt, part.as_str(), new.bytes);
+        drop(part);
+        told_unless_done(rt, new.file, written, teller)?;
+    }
+    Ok(())
+}
+
+/// Gives the parts of the files their names.
+fn name_all_parts<H: Files + AllocGlobal, E: Sink>(
+    rt: &H,
+    files: &[NewFile<'_>],
+    teller: &mut E,
+) -> Result<(), Outcome> {
+    for new in files {
+        let renamed = name_part(rt, new.file)?;
+        told_unless_done(rt, new.file, renamed, teller)?;
+    }
+    Ok(())
+}
+
+/// Gives the part of a file its name. The outer error is that memory ran out.
+fn name_part<H: Files + AllocGlobal>(
+    rt: &H,
+    file: ResultFile<'_>,
+) -> Result<Result<(), Error>, Outcome> {
+    let part = part_of(rt.alloc(), file)?;
+    let renamed = match path_of(rt.alloc(), file) {
+        Ok(path) => {
+            let renamed = fs::rename(rt, part.as_str(), path.as_str());
+            drop(path);
+            Ok(renamed)
+        }
+        Err(outcome) => Err(outcome),
+    };
+    drop(part);
+    renamed
+}
+
+/// Removes the parts that are there.
+fn remove_parts<H: Files + AllocGlobal>(rt: &H, files: &[NewFile<'_>]) {
+    for new in files {
+        if let Ok(part) = part_of(rt.alloc(), new.file) {
+            let _ = fs::remove_file(rt, part.as_str());
+            drop(part);
+        }
+    }
+}
+
+/// If a file could not be written, writes its path and the reason, and returns how the errand ends.
+fn told_unless_done<H: Files + AllocGlobal, E: Sink>(
+    rt: &H,
+    file: ResultFile<'_>,
+    done: Result<(), Error>,
+    teller: &mut E,
+) -> Result<(), Outcome> {
+    let Err(error) = done else {
+        return Ok(());
+    };
+    let path = path_of(rt.alloc(), file)?;
+    let outcome = told_failed(rt.alloc(), FileRole::Folder, path.as_str(), error, teller);
+    drop(path);
+    Err(outcome)
 }
 
 /// Writes to the teller that a file is left from an earlier run, if it is there.
@@ -133,6 +224,12 @@ pub fn tell_stale<H: Files + AllocGlobal, E: Sink>(rt: &H, file: ResultFile<'_>,
         }
         drop(path);
     }
+}
+
+/// The path of a file's part. An error if memory runs out.
+fn part_of(alloc: Global, file: ResultFile<'_>) -> Result<String, Outcome> {
+    let ResultFile { folder, name, kind } = file;
+    format!(in alloc; "{folder}/{name}.{kind}.part").or(Err(Outcome::NoMemory))
 }
 
 /// The path of a file. An error if memory runs out.

@@ -10,8 +10,8 @@ use crate::silence::Silence;
 use arch_file::ArchError;
 use desk_circuits::warn_of_latches;
 use desk_common::{
-    FileRole, Outcome, ResultFile, make_folder, read_file, tell_reply, tell_stale, told_refused,
-    write_arch_fault, write_file,
+    FileRole, NewFile, Outcome, ResultFile, make_folder, read_file, tell_reply, tell_stale,
+    told_refused, write_arch_fault, write_files,
 };
 use line_text::{MAX_TEXT, Sink, Text, TextError};
 use one_user::{
@@ -259,35 +259,42 @@ fn print_known<W: Sink>(
 }
 
 /// Writes the three files.
-fn save_files<H: Files + AllocGlobal, E: Sink>(
+fn save_files<'x, H: Files + AllocGlobal, E: Sink>(
     rt: &H,
-    wishes: RouteWishes<'_>,
-    files: &Results,
+    wishes: RouteWishes<'x>,
+    files: &'x Results,
     teller: &mut E,
 ) -> Result<(), Outcome> {
     make_folder(rt, wishes.folder, teller)?;
-    let (net, places) = (files.net.as_bytes(), files.places.as_bytes());
-    write_file(rt, result_file(wishes, "net"), net, teller)?;
-    write_file(rt, result_file(wishes, "place"), places, teller)?;
-    let routes = files.routes.as_bytes();
-    write_file(rt, result_file(wishes, "route"), routes, teller)
+    let new = [
+        new_file(wishes, "net", files.net.as_bytes()),
+        new_file(wishes, "place", files.places.as_bytes()),
+        new_file(wishes, "route", files.routes.as_bytes()),
+    ];
+    write_files(rt, new.as_slice(), teller)
 }
 
 /// Writes the two files of a netlist that was left without routes.
-fn saved_left<H: Files + AllocGlobal, E: Sink>(
+fn saved_left<'x, H: Files + AllocGlobal, E: Sink>(
     rt: &H,
-    wishes: RouteWishes<'_>,
-    left: &Unrouted,
+    wishes: RouteWishes<'x>,
+    left: &'x Unrouted,
     teller: &mut E,
 ) -> Result<(), Outcome> {
     make_folder(rt, wishes.folder, teller)?;
-    write_file(rt, result_file(wishes, "net"), left.net.as_bytes(), teller)?;
-    write_file(
-        rt,
-        result_file(wishes, "place"),
-        left.places.as_bytes(),
-        teller,
-    )
+    let new = [
+        new_file(wishes, "net", left.net.as_bytes()),
+        new_file(wishes, "place", left.places.as_bytes()),
+    ];
+    write_files(rt, new.as_slice(), teller)
+}
+
+/// The file of that kind, with its bytes.
+fn new_file<'x>(wishes: RouteWishes<'x>, kind: &'static str, bytes: &'x [u8]) -> NewFile<'x> {
+    NewFile {
+        file: result_file(wishes, kind),
+        bytes,
+    }
 }
 
 /// The name of a file without its folders and the ending `.blif`.

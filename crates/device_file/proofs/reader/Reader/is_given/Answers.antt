@@ -1,0 +1,12 @@
+use Rattle.std.proofs.Common.{sym, ◌∙◌, rules, tests}
+use Rattle.std.specs.Str.{bytes_eq}
+use Rattle.std.proofs.lemmas.Iterator.{YieldsList-from_slice}
+use Rattle.std.proofs.lemmas.Iterator.Search.{any_from_yields_List}
+use Rattle.device_file.specs.Reading.{given_of}
+use Rattle.device_file.proofs.Steps.{any-map}
+use Rattle.device_file.proofs.reader.Reader.is_given.Goals as goal
+
+pub returns : goal.returns
+returns c =
+    any_from_yields_List (λ value. bytes_eq value.name.now c.args.name.now) _ _ c.any.result c.any.ensures.ran (YieldsList-from_slice c.args.self.now.values.items (c.iter.ensures.rest ∙ c.deref.ensures.value)) (λ x b q k. search (rules, tests))
+    ∙ sym (any-map (λ value. bytes_eq value.name c.args.name.now) given_of c.args.self.now.values.items)
