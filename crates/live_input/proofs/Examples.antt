@@ -9,6 +9,6 @@ lines : kept_lines (codes "@a x\n\nop lis") ≡ codes "@a x" ∷ [] ∷ []
 unfolding kept_of
 lines = refl
 
-mixed : told_to (codes "@a") (kept_input (codes "@a x\n@b y\n@a z\n@a w")) ≡ codes "x\nz\n"
+mixed : told_to (codes "@a") (kept_input (codes "@a x\n@b y\n@a/7 z\n@a w")) ≡ codes "x\nz\n"
 unfolding kept_of
 mixed = refl

@@ -1,13 +1,12 @@
 -- The lines of an input, as they are read and as they are cut.
 use Rattle.std.proofs.Common.{◌≡◌, ℕ, zero, suc, ◌+◌, List, [], ◌∷◌, ◌++◌, Bool, true, false, not, ◌&&◌, cond, eqb, map, take, drop, None, refl, sym, ap, ◌∙◌, append-nil, append_assoc}
 use Rattle.std.specs.List.{flat_map, list_all, onto_first, position_or_len}
-use Rattle.std.specs.Str.{bytes_eq}
 use Rattle.line_text.specs.Lines.{physical_lines}
 use Rattle.line_feed.specs.Pieces.{is_one_line, kept_of}
 use Rattle.line_service.specs.Conversation.{ended_lines, onto_line}
 use Rattle.sessions.specs.Items.{items_from, items_of}
 use Rattle.sessions.specs.Reading.{items_to_come}
-use Rattle.tagged_lines.specs.Tags.{with_feed, rest_of, tag_of, told_to}
+use Rattle.tagged_lines.specs.Tags.{with_feed, is_of, rest_of, tag_of, told_to}
 use Rattle.tagged_lines.proofs.TagLemmas.{both, is_line, line_then}
 use Rattle.live_lines.specs.Laws.{said_by}
 use Rattle.live_input.specs.Serving.{kept_input, kept_lines}
@@ -55,13 +54,13 @@ are_kept (line ∷ lines) are =
     ap (λ b. b && list_all is_line (map kept_of lines)) (kept_line line parts.0) ∙ are_kept lines parts.1
 
 -- what a name's lines say is those lines again
-told_lines : (tag : List ℕ) (lines : List (List ℕ)) → flat_map (λ line. cond (bytes_eq (tag_of line) tag) (with_feed (rest_of line)) []) lines ≡ flat_map with_feed (flat_map (λ line. cond (bytes_eq (tag_of line) tag) (rest_of line ∷ []) []) lines)
-told_lines tag [] = refl
-told_lines tag (line ∷ lines) =
-    elim (bytes_eq (tag_of line) tag) as (λ b. cond b (with_feed (rest_of line)) [] ++ flat_map (λ line. cond (bytes_eq (tag_of line) tag) (with_feed (rest_of line)) []) lines
-    ≡ flat_map with_feed (cond b (rest_of line ∷ []) [] ++ flat_map (λ line. cond (bytes_eq (tag_of line) tag) (rest_of line ∷ []) []) lines)) [
-      | true ↦ ap (λ bytes. with_feed (rest_of line) ++ bytes) (told_lines tag lines)
-      | false ↦ told_lines tag lines
+told_lines : (owner : List ℕ) (lines : List (List ℕ)) → flat_map (λ line. cond (is_of owner (tag_of line)) (with_feed (rest_of line)) []) lines ≡ flat_map with_feed (flat_map (λ line. cond (is_of owner (tag_of line)) (rest_of line ∷ []) []) lines)
+told_lines owner [] = refl
+told_lines owner (line ∷ lines) =
+    elim (is_of owner (tag_of line)) as (λ b. cond b (with_feed (rest_of line)) [] ++ flat_map (λ line. cond (is_of owner (tag_of line)) (with_feed (rest_of line)) []) lines
+    ≡ flat_map with_feed (cond b (rest_of line ∷ []) [] ++ flat_map (λ line. cond (is_of owner (tag_of line)) (rest_of line ∷ []) []) lines)) [
+      | true ↦ ap (λ bytes. with_feed (rest_of line) ++ bytes) (told_lines owner lines)
+      | false ↦ told_lines owner lines
     ]
 
 said_lines : (name : List ℕ) (lines : List (List ℕ)) → list_all is_line lines ≡ true → list_all is_line (said_by name lines) ≡ true
@@ -69,7 +68,7 @@ said_lines name [] are = refl
 said_lines name (line ∷ lines) are =
     let parts = both (is_line line) (list_all is_line lines) are in
     let rest : is_line (rest_of line) ≡ true = drop_line (position_or_len (λ byte. eqb byte 32) line + 1) line parts.0 in
-    elim (bytes_eq (tag_of line) (64 ∷ name)) as (λ b. list_all is_line (cond b (rest_of line ∷ []) [] ++ said_by name lines) ≡ true) [
+    elim (is_of (64 ∷ name) (tag_of line)) as (λ b. list_all is_line (cond b (rest_of line ∷ []) [] ++ said_by name lines) ≡ true) [
       | true ↦ ap (λ b. b && list_all is_line (said_by name lines)) rest ∙ said_lines name lines parts.1
       | false ↦ said_lines name lines parts.1
     ]
@@ -78,6 +77,6 @@ pub items_said : (name input : List ℕ) → items_of (told_to (64 ∷ name) (ke
 items_said name input =
     let lines = kept_lines input in
     let are = are_kept (ended_lines input) (are_ended input) in
-    ap (λ ls. items_of (flat_map (λ line. cond (bytes_eq (tag_of line) (64 ∷ name)) (with_feed (rest_of line)) []) ls)) (lines_back lines are)
+    ap (λ ls. items_of (flat_map (λ line. cond (is_of (64 ∷ name) (tag_of line)) (with_feed (rest_of line)) []) ls)) (lines_back lines are)
     ∙ (ap items_of (told_lines (64 ∷ name) lines)
     ∙ ap (items_from false) (lines_back (said_by name lines) (said_lines name lines are)))

@@ -11,7 +11,7 @@ use Rattle.live_lines.specs.Acts.{Telling}
 use Rattle.live_lines.specs.Ends.{EndsTexts}
 use Rattle.live_lines.specs.Live.{IsSteady, LiveState, Takes, TakesAsked, asked_of, state_of}
 use Rattle.live_lines.specs.Said.{no_texts}
-use Rattle.tagged_lines.specs.Tags.{Tagged, with_feed, output_of}
+use Rattle.tagged_lines.specs.Tags.{Tagged, with_feed, output_of, tag_of}
 use Rattle.live_input.specs.declared.lines.LiveLines.{LiveLines}
 
 -- the lines of an input, each cut to the bytes that are kept of it; a last line without its end is
@@ -27,7 +27,7 @@ kept_input input = flat_map with_feed (kept_lines input)
 pub record AnswersLine (old : LiveState) (number : ℕ) (line reply : List ℕ) (new : LiveState) : Type 0 where
   pub tellings : List Telling
   pub told : List Tagged
-  pub takes : TakesAsked old number (asked_of line) tellings told new
+  pub takes : TakesAsked old number (tag_of line) (asked_of line) tellings told new
   pub reply_is : reply ≡ output_of told
 
 -- lines, each cut, are taken one after another, and this text is all replies

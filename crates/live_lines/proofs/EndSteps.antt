@@ -18,7 +18,7 @@ use Rattle.sessions.specs.declared.told.Answer.TheVariants.{Refused as RefusedAn
 use Rattle.sessions.specs.Reading.{TextSoFar, items_to_come}
 use Rattle.sessions.specs.SessionText.{session_refusal_text}
 use Rattle.operator.specs.Serving.{Stage}
-use Rattle.tagged_lines.specs.Tags.{Tagged, have_tags, is_tag, output_of, tagged_text, told_in}
+use Rattle.tagged_lines.specs.Tags.{Tagged, with_last_feed, have_tags, is_tag, output_of, tagged_text, told_in}
 use Rattle.live_lines.specs.declared.said.LastName.{LastName}
 use Rattle.live_lines.specs.declared.said.LastName.TheVariants.{Missing, Finished}
 use Rattle.live_lines.specs.declared.said.Said.{Said}
@@ -30,7 +30,7 @@ use Rattle.live_lines.specs.Said.{text_in, texts_of}
 use Rattle.tagged_lines.proofs.TagLemmas.{same}
 use Rattle.live_lines.proofs.AnswerLemmas.{refusal_whole}
 use Rattle.live_lines.proofs.EndLemmas.{last_is, last_stays, no_text, others_stay}
-use Rattle.live_lines.proofs.LawLemmas.{Tells-append, name_tag, told_in-append, turned}
+use Rattle.live_lines.proofs.LawLemmas.{Tells-append, name_tag, of_itself, told_in-append, turned}
 
 abbrev Text : Type 0
 Text = Option TextSoFar
@@ -164,8 +164,9 @@ ending_refuses start before stage said next after then last n gives named e ends
       replies = λ name.
           told_in-append (64 ∷ name) e.told text
           ∙ (ap (λ r. r ++ told_in (64 ∷ name) text) (e.replies name)
+          ∙ (ap (λ b. replies_for name e.tellings ++ (cond b (with_last_feed (session_refusal_text UnfinishedUpload)) [] ++ [])) (of_itself name n named)
           ∙ (ap (λ r. replies_for name e.tellings ++ (cond (bytes_eq n name) r [] ++ [])) (same (session_refusal_text UnfinishedUpload) (refusal_whole UnfinishedUpload))
-          ∙ sym (flat_map-append (λ (t : Telling). reply_for name t.act t.text) e.tellings one)));
+          ∙ sym (flat_map-append (λ (t : Telling). reply_for name t.act t.text) e.tellings one))));
       tags = list_all-append (λ (t : Tagged). is_tag t.tag) e.told text ∙ (ap (λ b. b && have_tags text) e.tags ∙ ap (λ b. b && true) (name_tag n named));
       writes = subst W (sym (flat_map-append (λ (t : Tagged). tagged_text t.tag t.text) e.told text)) (Appends-trans before after then (output_of e.told) (output_of text) e.writes writes);
     }

@@ -1,5 +1,5 @@
 -- An item that is answered, and its reply with the tag.
-use Rattle.std.proofs.Common.{◌≡◌, ℕ, List, [], ◌∷◌, ◌++◌, length, true, Option, Some, Result, Ok, Err, refl, sym, ap, subst, ◌∙◌, append-nil}
+use Rattle.std.proofs.Common.{◌≡◌, ℕ, List, [], ◌++◌, length, true, Option, Some, Result, Ok, Err, refl, ap, subst, ◌∙◌}
 use Rattle.std.specs.Prelude.{is_ok}
 use Rattle.std.specs.Io.KnownBytes.{Appends}
 use Rattle.std.proofs.lemmas.Bool.{false≢true}
@@ -23,9 +23,8 @@ use Rattle.script_text.specs.declared.operator_line.OperatorLine.{OperatorLine}
 use Rattle.script_text.specs.Script.{named_operator}
 use Rattle.std.specs.Borrow.{Bor}
 use Rattle.operator.proofs.Stepping.{lengths-run, steady_asks}
-use Rattle.tagged_lines.specs.Tags.{output_of, tagged_text}
+use Rattle.tagged_lines.specs.Tags.{answer_told, output_of}
 use Rattle.live_lines.specs.Acts.{IsAnswered}
-use Rattle.live_lines.specs.Live.{for_name}
 
 -- what a sink holds that was empty
 pub is_told : (w : Result (Unit {0}) Failed) (old new : MemorySink) (text : List ℕ) → is_ok w ≡ true → sink_text old ≡ [] →
@@ -49,11 +48,10 @@ pub lengths_answered : (graph : Basis) (old new : ServiceState) (id : ℕ) (line
 lengths_answered graph old new id line answer is = lengths-run old new is.0 (steady_asks id line is.0 answer is.1) is.2
 
 -- what is written with the tag is the reply
-pub item_writes : (before after : Option (List ℕ)) (tag name bytes text : List ℕ) → tag ≡ 64 ∷ name → bytes ≡ text → Appends before after (tagged_text tag bytes) → Appends before after (output_of (for_name name text ∷ []))
-item_writes before after tag name bytes text t b h =
-    let P : List ℕ → Type 0 = λ out. Appends before after out in
-    let e : tagged_text tag bytes ≡ tagged_text (64 ∷ name) text ++ [] = ap (λ u. tagged_text u bytes) t ∙ (ap (tagged_text (64 ∷ name)) b ∙ sym (append-nil (tagged_text (64 ∷ name) text))) in
-    subst P e h
+pub item_writes : (before after : Option (List ℕ)) (tag bytes text : List ℕ) → bytes ≡ text → Appends before after (output_of (answer_told tag bytes)) → Appends before after (output_of (answer_told tag text))
+item_writes before after tag bytes text b h =
+    let P : List ℕ → Type 0 = λ text. Appends before after (output_of (answer_told tag text)) in
+    subst P b h
 
 -- a line of the operator is answered
 pub line_served : (graph : Basis) (names new_names : List (List ℕ)) (jobs new_jobs : HeldList) (service new_service : ServiceState) (kept : OperatorLine (Bor (List ℕ))) (line : OperatorLine (List ℕ)) (before after : List ℕ) →

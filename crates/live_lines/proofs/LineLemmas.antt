@@ -5,8 +5,11 @@ use Rattle.std.proofs.KnownBytes.{Appends-nil}
 use Rattle.script_text.specs.declared.operator_line.OperatorLine.{OperatorLine}
 use Rattle.sessions.specs.declared.line.SessionLine.{SessionLine}
 use Rattle.operator.specs.Serving.{Stage}
-use Rattle.tagged_lines.specs.Tags.{tagged_text}
-use Rattle.live_lines.specs.Live.{Asked, LiveState, TakesItem, TakesLine, TakesOperator, for_name, operator_told}
+use Rattle.tagged_lines.specs.Tags.{answer_told, tagged_text}
+use Rattle.live_lines.specs.Live.{Asked, HasTag, LiveState, TakesItem, TakesLine, TakesOperator, operator_told}
+use Rattle.std.specs.Borrow.{Bor}
+use Rattle.live_lines.specs.declared.asked.LineRequest.{LineRequest as AskedIn}
+use Rattle.live_lines.specs.declared.asked.LineRequest.TheVariants.{Says as SaysIn}
 use Rattle.live_lines.specs.Live.Asked.{NoForm, Nothing, Operates, Says}
 use Rattle.rr_graph.specs.Graph.{Basis}
 use Rattle.service_core.specs.Service.{ServiceState}
@@ -14,16 +17,16 @@ use Rattle.operator.specs.HeldJobs.{HeldList}
 use Rattle.live_lines.specs.Said.{HearsLine, Texts, no_texts}
 
 -- what it asks may be named by another term
-pub takes_as : (old : LiveState) (number : ℕ) (what asked : Asked) (before after : Option (List ℕ)) (new : LiveState) → what ≡ asked → TakesLine old number asked before after new → TakesLine old number what before after new
-takes_as old number what asked before after new same takes =
-    let P : Asked → Type 0 = λ a. TakesLine old number a before after new in
+pub takes_as : (old : LiveState) (number : ℕ) (tag : List ℕ) (what asked : Asked) (before after : Option (List ℕ)) (new : LiveState) → what ≡ asked → TakesLine old number tag asked before after new → TakesLine old number tag what before after new
+takes_as old number tag what asked before after new same takes =
+    let P : Asked → Type 0 = λ a. TakesLine old number tag a before after new in
     subst P (sym same) takes
 
-pub takes_nothing : (old : LiveState) (number : ℕ) (known : Option (List ℕ)) → TakesLine old number Nothing known known old
-takes_nothing old number known = record { tellings = []; told = []; takes = (refl, refl, refl); writes = Appends-nil known }
+pub takes_nothing : (old : LiveState) (number : ℕ) (tag : List ℕ) (known : Option (List ℕ)) → TakesLine old number tag Nothing known known old
+takes_nothing old number tag known = record { tellings = []; told = []; takes = (refl, refl, refl); writes = Appends-nil known }
 
-pub takes_no_form : (old : LiveState) (number : ℕ) (before after : Option (List ℕ)) → Appends before after (tagged_text (codes "?") (decimal number)) → TakesLine old number NoForm before after old
-takes_no_form old number before after writes =
+pub takes_no_form : (old : LiveState) (number : ℕ) (tag : List ℕ) (before after : Option (List ℕ)) → Appends before after (tagged_text (codes "?") (decimal number)) → TakesLine old number tag NoForm before after old
+takes_no_form old number tag before after writes =
     let P : List ℕ → Type 0 = λ out. Appends before after out in
     record {
       tellings = [];
@@ -32,9 +35,9 @@ takes_no_form old number before after writes =
       writes = subst P (sym (append-nil (tagged_text (codes "?") (decimal number)))) writes;
     }
 
-pub takes_operator : (old new : Stage) (texts new_texts : Texts) (number : ℕ) (line : OperatorLine (List ℕ)) (before after : Option (List ℕ)) → new_texts ≡ texts → TakesOperator old line before after new →
-    TakesLine (record { stage = old; texts = texts }) number (Operates line) before after (record { stage = new; texts = new_texts })
-takes_operator old new texts new_texts number line before after same t = record {
+pub takes_operator : (old new : Stage) (texts new_texts : Texts) (number : ℕ) (tag : List ℕ) (line : OperatorLine (List ℕ)) (before after : Option (List ℕ)) → new_texts ≡ texts → TakesOperator old line before after new →
+    TakesLine (record { stage = old; texts = texts }) number tag (Operates line) before after (record { stage = new; texts = new_texts })
+takes_operator old new texts new_texts number tag line before after same t = record {
   tellings = t.telling ∷ [];
   told = operator_told line (t.telling).text;
   takes = (t.telling, t.act, t.answered, refl, refl, same);
@@ -47,23 +50,27 @@ hears_as old new next name line item other same texts hears =
     let Q : Texts → Type 0 = λ t. HearsLine old name line other t in
     subst Q (sym texts) (subst P same hears)
 
-pub takes_item : (old new : Stage) (texts heard new_texts : Texts) (number : ℕ) (name line : List ℕ) (found : Option SessionLine) (item : SessionLine) (before after : Option (List ℕ)) → found ≡ Some item → new_texts ≡ heard → HearsLine texts name line found heard →
-    TakesItem old name item before after new → TakesLine (record { stage = old; texts = texts }) number (Says name line) before after (record { stage = new; texts = new_texts })
-takes_item old new texts heard new_texts number name line found item before after is same hears t = record {
+pub takes_item : (old new : Stage) (texts heard new_texts : Texts) (number : ℕ) (tag name line : List ℕ) (found : Option SessionLine) (item : SessionLine) (before after : Option (List ℕ)) → found ≡ Some item → new_texts ≡ heard → HearsLine texts name line found heard →
+    TakesItem old tag name item before after new → TakesLine (record { stage = old; texts = texts }) number tag (Says name line) before after (record { stage = new; texts = new_texts })
+takes_item old new texts heard new_texts number tag name line found item before after is same hears t = record {
   tellings = t.telling ∷ [];
-  told = for_name name (t.telling).text ∷ [];
+  told = answer_told tag (t.telling).text;
   takes = (Some item, hears_as texts heard new_texts name line found (Some item) is same hears, (t.telling, t.act, t.answered, refl, refl));
   writes = t.writes;
 }
 
-pub takes_none : (old : Stage) (texts heard : Texts) (number : ℕ) (name line : List ℕ) (found : Option SessionLine) (known : Option (List ℕ)) → found ≡ None → HearsLine texts name line found heard →
-    TakesLine (record { stage = old; texts = texts }) number (Says name line) known known (record { stage = old; texts = heard })
-takes_none old texts heard number name line found known is hears = record {
+pub takes_none : (old : Stage) (texts heard : Texts) (number : ℕ) (tag name line : List ℕ) (found : Option SessionLine) (known : Option (List ℕ)) → found ≡ None → HearsLine texts name line found heard →
+    TakesLine (record { stage = old; texts = texts }) number tag (Says name line) known known (record { stage = old; texts = heard })
+takes_none old texts heard number tag name line found known is hears = record {
   tellings = [];
   told = [];
   takes = (None, hears_as texts heard heard name line found None is refl hears, (refl, refl, refl));
   writes = Appends-nil known;
 }
+
+-- what a name says has its line's tag
+pub own_tag : {request : AskedIn} {tag name rest : Bor (List ℕ)} {line : List ℕ} → request ≡ SaysIn tag name rest → HasTag line request → tag.now ≡ line
+own_tag {line = line} is has = let P : AskedIn → Type 0 = λ a. HasTag line a in subst P is has
 
 -- a service that begins
 pub starts_as : (names : List (List ℕ)) (jobs : HeldList) (service : ServiceState) (graph : Basis) (texts : Texts) → names ≡ [] → jobs ≡ [] → texts ≡ no_texts →

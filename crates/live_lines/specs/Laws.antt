@@ -5,13 +5,13 @@ use Rattle.std.specs.Str.{bytes_eq}
 use Rattle.script_text.specs.declared.act.Act.{Act}
 use Rattle.script_text.specs.declared.act.Act.TheVariants.{Operator, Session}
 use Rattle.sessions.specs.declared.line.SessionLine.{SessionLine}
-use Rattle.tagged_lines.specs.Tags.{with_last_feed, with_feed, rest_of, tag_of}
+use Rattle.tagged_lines.specs.Tags.{with_last_feed, with_feed, is_of, rest_of, tag_of}
 use Rattle.live_lines.specs.Acts.{Telling}
 use Rattle.live_lines.specs.Live.{count_text, is_open}
 
--- what the lines with that name's tag say
+-- what the lines with that name's tag say, with an id or without
 abbrev pub said_by : List ℕ → List (List ℕ) → List (List ℕ)
-said_by name lines = flat_map (λ line. if bytes_eq (tag_of line) (64 ∷ name) then rest_of line ∷ [] else []) lines
+said_by name lines = flat_map (λ line. if is_of (64 ∷ name) (tag_of line) then rest_of line ∷ [] else []) lines
 
 -- the act's item, if it is of that name's session
 abbrev pub item_for : List ℕ → Act (List ℕ) → List SessionLine

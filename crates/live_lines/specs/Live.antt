@@ -13,7 +13,7 @@ use Rattle.sessions.specs.declared.line.SessionLine.{SessionLine}
 use Rattle.operator.specs.Serving.{Stage}
 use Rattle.live_lines.specs.Acts.{IsAnswered, Telling}
 use Rattle.std.specs.Io.KnownBytes.{Appends}
-use Rattle.tagged_lines.specs.Tags.{Tagged, output_of, rest_of, tag_of}
+use Rattle.tagged_lines.specs.Tags.{Tagged, answer_told, id_of, is_good_id, output_of, owner_of, rest_of, tag_of}
 use Rattle.live_lines.specs.declared.live.Live.{Live}
 use Rattle.live_lines.specs.declared.asked.TheConstants.{MAX_OPERATOR_LINE}
 use Rattle.live_lines.specs.declared.asked.LineRequest.{LineRequest as AskedIn}
@@ -45,15 +45,18 @@ operator_asks acts = NoForm
 abbrev pub is_short : List ℕ → Bool
 is_short line = nat_le (length line) MAX_OPERATOR_LINE
 
--- what a line asks, from its tag, the line, and what it says
+-- what a line asks, from its tag's owner, the line, and what it says
 abbrev pub asked_by : List ℕ → List ℕ → List ℕ → Asked
 asked_by [] line rest = NoForm
 asked_by (b ∷ name) line rest =
     if b == 64 then (if is_name name then Says name rest else NoForm) else
     if bytes_eq (b ∷ name) (codes "op") && is_short line then operator_asks (script_of 1 line) else NoForm
 
+-- the tag may have an id
 abbrev pub asked_of : List ℕ → Asked
-asked_of line = if is_passed line then Nothing else asked_by (tag_of line) line (rest_of line)
+asked_of line =
+    if is_passed line then Nothing else
+    if is_good_id (id_of (tag_of line)) then asked_by (owner_of (tag_of line)) line (rest_of line) else NoForm
 
 -- private: what a value of the program asks
 abbrev pub asks : AskedIn → Asked
@@ -62,10 +65,10 @@ asks NoFormIn = NoForm
 asks (OperatesIn line) = Operates (named_operator line)
 asks (SaysIn tag name rest) = Says name.now rest.now
 
--- private: the tag is that of the name
-abbrev pub HasTag : AskedIn → Type 0
-HasTag (SaysIn tag name rest) = tag.now ≡ 64 ∷ name.now
-HasTag asked = ⊤
+-- private: what a name says has that tag
+abbrev pub HasTag : List ℕ → AskedIn → Type 0
+HasTag tag (SaysIn own name rest) = own.now ≡ tag
+HasTag tag asked = ⊤
 
 -- the state of the service, and the text that each name is in
 pub record LiveState : Type 0 where
@@ -99,27 +102,27 @@ told_by false text = for_operator text ∷ []
 abbrev pub operator_told : OperatorLine (List ℕ) → List ℕ → List Tagged
 operator_told line text = told_by (is_open line) text
 
--- an item is answered, if there is one
-abbrev pub TellsItem : Stage → List ℕ → Option SessionLine → List Telling → List Tagged → Stage → Type 0
-TellsItem old name None tellings told new = (tellings ≡ []) × (told ≡ []) × (new ≡ old)
-TellsItem old name (Some item) tellings told new = (t : Telling)
-    × (t.act ≡ Session name item) × IsAnswered old t.act t.calls t.text new × (tellings ≡ t ∷ []) × (told ≡ for_name name t.text ∷ [])
+-- an item is answered, if there is one, with that tag
+abbrev pub TellsItem : Stage → List ℕ → List ℕ → Option SessionLine → List Telling → List Tagged → Stage → Type 0
+TellsItem old tag name None tellings told new = (tellings ≡ []) × (told ≡ []) × (new ≡ old)
+TellsItem old tag name (Some item) tellings told new = (t : Telling)
+    × (t.act ≡ Session name item) × IsAnswered old t.act t.calls t.text new × (tellings ≡ t ∷ []) × (told ≡ answer_told tag t.text)
 
--- a line of that number that asks this leads to these answered acts, to what is written, and to the
--- new state
-abbrev pub TakesAsked : LiveState → ℕ → Asked → List Telling → List Tagged → LiveState → Type 0
-TakesAsked old number Nothing tellings told new = (tellings ≡ []) × (told ≡ []) × (new ≡ old)
-TakesAsked old number NoForm tellings told new = (tellings ≡ []) × (told ≡ record { tag = codes "?"; text = decimal number } ∷ []) × (new ≡ old)
-TakesAsked old number (Operates line) tellings told new = (t : Telling)
+-- a line of that number and tag that asks this leads to these answered acts, to what is written,
+-- and to the new state
+abbrev pub TakesAsked : LiveState → ℕ → List ℕ → Asked → List Telling → List Tagged → LiveState → Type 0
+TakesAsked old number tag Nothing tellings told new = (tellings ≡ []) × (told ≡ []) × (new ≡ old)
+TakesAsked old number tag NoForm tellings told new = (tellings ≡ []) × (told ≡ record { tag = codes "?"; text = decimal number } ∷ []) × (new ≡ old)
+TakesAsked old number tag (Operates line) tellings told new = (t : Telling)
     × (t.act ≡ Operator line) × IsAnswered old.stage t.act t.calls t.text new.stage × (tellings ≡ t ∷ []) × (told ≡ operator_told line t.text) × (new.texts ≡ old.texts)
-TakesAsked old number (Says name line) tellings told new = (item : Option SessionLine)
-    × HearsLine old.texts name line item new.texts × TellsItem old.stage name item tellings told new.stage
+TakesAsked old number tag (Says name line) tellings told new = (item : Option SessionLine)
+    × HearsLine old.texts name line item new.texts × TellsItem old.stage tag name item tellings told new.stage
 
 -- the lines, one after another, the first of them having that number
 abbrev pub Takes : LiveState → ℕ → List (List ℕ) → List Telling → List Tagged → LiveState → Type 0
 Takes old number [] tellings told new = (tellings ≡ []) × (told ≡ []) × (new ≡ old)
 Takes old number (line ∷ lines) tellings told new = (first : List Telling) × (first_told : List Tagged) × (mid : LiveState) × (others : List Telling) × (others_told : List Tagged)
-    × TakesAsked old number (asked_of line) first first_told mid × Takes mid (number + 1) lines others others_told new
+    × TakesAsked old number (tag_of line) (asked_of line) first first_told mid × Takes mid (number + 1) lines others others_told new
     × (tellings ≡ first ++ others) × (told ≡ first_told ++ others_told)
 
 -- private: the state of a live service
@@ -135,18 +138,18 @@ pub record IsSteady (live : Live) : Type 0 where
   pub said : IsEven live.said
 
 -- private: a line was taken, and this was written
-pub record TakesLine (old : LiveState) (number : ℕ) (asked : Asked) (before after : Option (List ℕ)) (new : LiveState) : Type 0 where
+pub record TakesLine (old : LiveState) (number : ℕ) (tag : List ℕ) (asked : Asked) (before after : Option (List ℕ)) (new : LiveState) : Type 0 where
   pub tellings : List Telling
   pub told : List Tagged
-  pub takes : TakesAsked old number asked tellings told new
+  pub takes : TakesAsked old number tag asked tellings told new
   pub writes : Appends before after (output_of told)
 
 -- private: an item was taken, and this was written
-pub record TakesItem (old : Stage) (name : List ℕ) (item : SessionLine) (before after : Option (List ℕ)) (new : Stage) : Type 0 where
+pub record TakesItem (old : Stage) (tag name : List ℕ) (item : SessionLine) (before after : Option (List ℕ)) (new : Stage) : Type 0 where
   pub telling : Telling
   pub act : telling.act ≡ Session name item
   pub answered : IsAnswered old telling.act telling.calls telling.text new
-  pub writes : Appends before after (output_of (for_name name telling.text ∷ []))
+  pub writes : Appends before after (output_of (answer_told tag telling.text))
 
 -- private: a line of the operator was taken, and this was written
 pub record TakesOperator (old : Stage) (line : OperatorLine (List ℕ)) (before after : Option (List ℕ)) (new : Stage) : Type 0 where

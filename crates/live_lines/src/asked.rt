@@ -3,12 +3,13 @@ ghost use Rattle.std.specs.Prelude.{◌≡◌, ◌<◌, ◌^◌, Ok, length, map
 ghost use Rattle.std.specs.List.{list_all};
 ghost use Rattle.line_text.specs.Words.{is_blank as is_blank_byte};
 ghost use Rattle.script_text.specs.Script.{named_act, script_of};
-ghost use Rattle.live_lines.specs.Live.{HasTag, asked_of, asks, begins_comment, is_passed, is_short, operator_asks};
+ghost use Rattle.tagged_lines.specs.Tags.{tag_of};
+ghost use Rattle.live_lines.specs.Live.{HasTag, asked_by, asked_of, asks, begins_comment, is_passed, is_short, operator_asks};
 
 use line_text::{is_blank, is_word};
 use script_text::{Act, OperatorLine, ScriptError, is_name, read_script};
 use std::alloc::{AllocError, Global};
-use tagged_lines::split_tag;
+use tagged_lines::{owner_of, split_tag};
 
 /// The most bytes that a line of the operator may have; a longer one has no form. More than that
 /// are kept of a line, so no line is taken for another one because its end was cut off.
@@ -29,13 +30,31 @@ pub enum LineRequest<'l> {
 pub fn asked_of(alloc: Global, line: &[u8]) -> Result<LineRequest<'_>, AllocError>
     requires { length line.now < 2 ^ 63 }
     ensures asks { IfOk result (λ asked. asks asked ≡ asked_of line.now) }
-    ensures tag { IfOk result HasTag }
+    ensures tag { IfOk result (HasTag (tag_of line.now)) }
 {
     if is_passed(line) {
         return Ok(LineRequest::Nothing);
     }
     let (tag, rest) = split_tag(line);
-    match tag {
+    match owner_of(tag) {
+        Some(owner) => asked_by(alloc, owner, line, tag, rest),
+        None => Ok(LineRequest::NoForm),
+    }
+}
+
+/// What a line asks, from its tag's owner, the line, its tag, and what it says.
+fn asked_by<'l>(
+    alloc: Global,
+    owner: &'l [u8],
+    line: &'l [u8],
+    tag: &'l [u8],
+    rest: &'l [u8],
+) -> Result<LineRequest<'l>, AllocError>
+    requires { length line.now < 2 ^ 63 }
+    ensures asks { IfOk result (λ asked. asks asked ≡ asked_by owner.now line.now rest.now) }
+    ensures tag { IfOk result (HasTag tag.now) }
+{
+    match owner {
         [b'@', name @ ..] => {
             if is_name(name) {
                 Ok(LineRequest::Says(tag, name, rest))
@@ -44,7 +63,7 @@ pub fn asked_of(alloc: Global, line: &[u8]) -> Result<LineRequest<'_>, AllocErro
             }
         }
         _ => {
-            if is_word(tag, "op") && is_short(line) {
+            if is_word(owner, "op") && is_short(line) {
                 operator_asks(alloc, line)
             } else {
                 Ok(LineRequest::NoForm)

@@ -2,7 +2,7 @@
 ghost use Rattle.std.specs.Prelude.{◌≡◌, ◌<◌, ◌^◌, ◌∷◌, ◌++◌, [], length, codes, decimal, OnOk, is_ok};
 ghost use Rattle.std.specs.Io.KnownBytes.{Appends};
 ghost use Rattle.script_text.specs.Script.{named_operator};
-ghost use Rattle.tagged_lines.specs.Tags.{output_of, tagged_text};
+ghost use Rattle.tagged_lines.specs.Tags.{answer_told, output_of, tag_of, tagged_text};
 ghost use Rattle.sessions.specs.SessionText.{session_refusal_text};
 ghost use Rattle.sessions.specs.declared.refusal.SessionRefusal.TheVariants.{UnfinishedUpload};
 ghost use Rattle.service_core.specs.Run.{Run};
@@ -24,7 +24,7 @@ use service_core::Service;
 use sessions::{Answer, SessionLine, SessionRefusal, answer, write_session_refusal};
 use std::alloc::{AllocError, Global};
 use strips::DeviceGraph;
-use tagged_lines::write_at_once;
+use tagged_lines::{write_answer, write_at_once};
 
 /// A live service: the core, the operator's names and jobs, and the text that each name's session
 /// is in.
@@ -64,8 +64,10 @@ impl<'g> Live<'g> {
     }
 
     /// Takes a line, and writes its reply, each line of it with its tag. The tag of the operator's
-    /// lines is `op`, that of a name's session `@NAME`. A comment or a line without a word has no
-    /// reply. A line without a form changes nothing, and its reply is its number with the tag `?`.
+    /// lines is `op`, that of a name's session `@NAME` or `@NAME/ID`. If the tag of an item's last
+    /// line has an id, a line `done @NAME/ID` follows the reply. A comment or a line without a word
+    /// has no reply. A line without a form changes nothing, and its reply is its number with the
+    /// tag `?`.
     ///
     /// # Errors
     /// `NoMemory` if it runs out of memory, and `Failed` if the writer fails. The service takes no
@@ -79,8 +81,9 @@ impl<'g> Live<'g> {
         requires short { length line.now < 2 ^ 63 }
         requires steady { IsSteady self.old }
         ensures steady { OnOk result (IsSteady self.new) }
-        ensures takes { OnOk result (TakesLine (state_of self.old) number (what_asks line.now)
-            (W.contents writer.old) (W.contents writer.new) (state_of self.new)) }
+        ensures takes { OnOk result (TakesLine (state_of self.old) number (tag_of line.now)
+            (what_asks line.now) (W.contents writer.old) (W.contents writer.new)
+            (state_of self.new)) }
     {
         match asked_of(self.alloc, line)? {
             LineRequest::Nothing => Ok(()),
@@ -161,17 +164,16 @@ impl<'g> Live<'g> {
         name: &[u8],
         item: SessionLine,
     ) -> Result<(), Trouble>
-        requires tag { tag.now ≡ 64 ∷ name.now }
         requires steady { IsSteady self.old }
         ensures steady { OnOk result (IsSteady self.new) }
         ensures said { self.new.said ≡ self.old.said }
-        ensures takes { OnOk result (TakesItem (stage_of self.old) name.now item
+        ensures takes { OnOk result (TakesItem (stage_of self.old) tag.now name.now item
             (W.contents writer.old) (W.contents writer.new) (stage_of self.new)) }
     {
         let id = self.operator.last_id(name);
         let mut reply = MemorySink::new(self.alloc);
         match check_written(answer(&mut self.core, self.graph, id, item, &mut reply)) {
-            Ok(()) => Ok(write_at_once(self.alloc, writer, tag, reply.as_bytes())?),
+            Ok(()) => Ok(write_answer(self.alloc, writer, tag, reply.as_bytes())?),
             Err(error) => Err(Trouble::from(error)),
         }
     }

@@ -9,7 +9,7 @@ use crate::replies::{
 };
 use line_text::is_word;
 use std::alloc::{AllocError, Global};
-use tagged_lines::split_tag;
+use tagged_lines::{owner_of, split_tag};
 
 /// Notes the lines of a log with their replies, and decides which of them are kept:
 ///
@@ -46,8 +46,23 @@ impl<'l> Keeper<'l> {
             return self.marks.add_line(DROPPED);
         }
         let (tag, said) = split_tag(line);
+        match owner_of(tag) {
+            Some([b'@', name @ ..]) => self.note_session(name, said, reply),
+            _ => self.note_other(tag, said, reply),
+        }
+    }
+
+    /// Notes a line that is of no name's session.
+    fn note_other(
+        &mut self,
+        tag: &[u8],
+        said: &'l [u8],
+        reply: &[u8],
+    ) -> Result<(), AllocError>
+        ensures { OnOk result (length self.new.marks.lines.items
+            ≡ length self.old.marks.lines.items + 1) }
+    {
         match tag {
-            [b'@', name @ ..] => self.note_session(name, said, reply),
             [b'#', ..] if self.marks.is_empty() => self.marks.add_line(KEPT),
             _ if is_word(tag, "op") => self.note_operator(said, reply),
             _ => self.marks.add_line(DROPPED),

@@ -8,7 +8,7 @@ use Rattle.sessions.specs.declared.line.SessionLine.{SessionLine}
 use Rattle.sessions.specs.declared.line.SessionLine.TheVariants.{Blank, Command, Wait, Refused}
 use Rattle.sessions.specs.Items.{ends_text, text_item, with_item, without_cr}
 use Rattle.sessions.specs.Reading.{TextSoFar, items_to_come}
-use Rattle.tagged_lines.specs.Tags.{rest_of, tag_of}
+use Rattle.tagged_lines.specs.Tags.{is_of, rest_of, tag_of}
 use Rattle.live_machine.specs.Account.{AreItems, IsText}
 use Rattle.live_machine.specs.Held.{Held, HeldItem, HearsForm, HearsHeld, HearsIn, PutsItem, form_of, is_wait}
 use Rattle.live_machine.specs.declared.held.OpenText.{OpenText}
@@ -17,7 +17,7 @@ use Rattle.live_machine.proofs.ReadLemmas.{IsWhole, Reads, outside_still, reads_
 
 -- the line has the name's tag
 abbrev pub IsOf : List ℕ → List ℕ → Type 0
-IsOf name line = bytes_eq (tag_of line) (64 ∷ name) ≡ true
+IsOf name line = is_of (64 ∷ name) (tag_of line) ≡ true
 
 abbrev pub AreOf : List ℕ → List (List ℕ) → Type 0
 AreOf name lines = AllByRecursion (IsOf name) lines

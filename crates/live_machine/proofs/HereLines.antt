@@ -17,7 +17,7 @@ use Rattle.sessions.specs.Reading.{GivesItem, TextSoFar}
 use Rattle.sessions.specs.SessionLines.{line_form}
 use Rattle.operator.specs.OperatorText.{last_id}
 use Rattle.operator.specs.Serving.{Stage}
-use Rattle.tagged_lines.specs.Tags.{Tagged, rest_of, tag_of}
+use Rattle.tagged_lines.specs.Tags.{Tagged, id_of, is_good_id, owner_of, rest_of, tag_of}
 use Rattle.live_lines.specs.Acts.{IsAnswered, Telling}
 use Rattle.live_lines.specs.Live.{Asked, LiveState, TakesAsked, TellsItem, asked_by, asked_of, is_passed, is_short, operator_asks}
 use Rattle.live_lines.specs.Live.Asked.{NoForm, Nothing, Operates, Says}
@@ -45,7 +45,7 @@ operated_said rest (Ok (Operator line ∷ act ∷ acts)) = tt
 operated_said rest (Ok (Session name item ∷ acts)) = tt
 operated_said rest (Err fault) = tt
 
-said_by_tag : (tag line rest : List ℕ) → IsSaidOf rest (asked_by tag line rest)
+said_by_tag : (owner line rest : List ℕ) → IsSaidOf rest (asked_by owner line rest)
 said_by_tag [] line rest = tt
 said_by_tag (b ∷ name) line rest =
     either_said rest (eqb b 64) (cond (is_name name) (Says name rest) NoForm) (cond (bytes_eq (b ∷ name) (codes "op") && is_short line) (operator_asks (script_of 1 line)) NoForm)
@@ -53,7 +53,11 @@ said_by_tag (b ∷ name) line rest =
     (either_said rest (bytes_eq (b ∷ name) (codes "op") && is_short line) (operator_asks (script_of 1 line)) NoForm (operated_said rest (script_of 1 line)) tt)
 
 said_of_line : (line : List ℕ) → IsSaidOf (rest_of line) (asked_of line)
-said_of_line line = either_said (rest_of line) (is_passed line) Nothing (asked_by (tag_of line) line (rest_of line)) tt (said_by_tag (tag_of line) line (rest_of line))
+said_of_line line =
+    let rest = rest_of line in
+    let asked = asked_by (owner_of (tag_of line)) line rest in
+    either_said rest (is_passed line) Nothing (cond (is_good_id (id_of (tag_of line))) asked NoForm) tt
+    (either_said rest (is_good_id (id_of (tag_of line))) asked NoForm (said_by_tag (owner_of (tag_of line)) line rest) tt)
 
 -- a line whose item is a `wait` is one, outside of texts
 text_no_wait : (kind : TextKind) (text : Option (List ℕ)) (items more : List SessionLine) → text_item kind text ∷ items ≡ Wait ∷ more → ⊥
@@ -103,31 +107,31 @@ operator_here old act line calls text new is hand answered =
     let Q : Act (List ℕ) → Type 0 = λ a. answered_here old a calls text new in
     subst Q (sym is) (served_here old line calls text new hand (subst P is answered))
 
-item_here : (old : Stage) (name : List ℕ) (item : Option SessionLine) (tellings : List Telling) (told : List Tagged) (new : Stage) → (item ≡ Some Wait → IsAtHome old.service (last_id old.names name)) → TellsItem old name item tellings told new → (again : List Telling) × TellsItem (stage_here old) name item again told (stage_here new)
-item_here old name None tellings told new home (none, nothing, same) = (tellings, (none, nothing, ap stage_here same))
-item_here old name (Some item) tellings told new home (t, act, answered, one, is) =
+item_here : (old : Stage) (tag name : List ℕ) (item : Option SessionLine) (tellings : List Telling) (told : List Tagged) (new : Stage) → (item ≡ Some Wait → IsAtHome old.service (last_id old.names name)) → TellsItem old tag name item tellings told new → (again : List Telling) × TellsItem (stage_here old) tag name item again told (stage_here new)
+item_here old tag name None tellings told new home (none, nothing, same) = (tellings, (none, nothing, ap stage_here same))
+item_here old tag name (Some item) tellings told new home (t, act, answered, one, is) =
     let P : Act (List ℕ) → Type 0 = λ a. IsAnswered old a t.calls t.text new in
     let (calls, again) = session_here old name item t.calls t.text new (λ waits. home (ap Some waits)) (subst P act answered) in
     let s : Telling = record { act = Session name item; calls = calls; text = t.text } in
     (s ∷ [], (s, refl, again, refl, is))
 
 -- what a line asks is told, by these calls in the place of others
-abbrev AsksHere : LiveState → ℕ → Asked → List Tagged → LiveState → Type 0
-AsksHere old number asked told new = (tellings : List Telling) × TakesAsked (without_workers old) number asked tellings told (without_workers new)
+abbrev AsksHere : LiveState → ℕ → List ℕ → Asked → List Tagged → LiveState → Type 0
+AsksHere old number tag asked told new = (tellings : List Telling) × TakesAsked (without_workers old) number tag asked tellings told (without_workers new)
 
-asked_here : (old new : LiveState) (number : ℕ) (line : List ℕ) (asked : Asked) (tellings : List Telling) (told : List Tagged) → IsSaidOf (rest_of line) asked → is_by_hand asked ≡ false → WaitsAtHome old asked line → TakesAsked old number asked tellings told new → AsksHere old number asked told new
-asked_here old new number line Nothing tellings told said hand home (none, nothing, same) = (tellings, (none, nothing, ap without_workers same))
-asked_here old new number line NoForm tellings told said hand home (none, nothing, same) = (tellings, (none, nothing, ap without_workers same))
-asked_here old new number line (Operates operates) tellings told said hand home (t, act, answered, one, is, stay) = (tellings, (t, act, operator_here old.stage t.act operates t.calls t.text new.stage act hand answered, one, is, stay))
-asked_here old new number line (Says name rest) tellings told said hand home (item, hears, tells) =
+asked_here : (old new : LiveState) (number : ℕ) (tag line : List ℕ) (asked : Asked) (tellings : List Telling) (told : List Tagged) → IsSaidOf (rest_of line) asked → is_by_hand asked ≡ false → WaitsAtHome old asked line → TakesAsked old number tag asked tellings told new → AsksHere old number tag asked told new
+asked_here old new number tag line Nothing tellings told said hand home (none, nothing, same) = (tellings, (none, nothing, ap without_workers same))
+asked_here old new number tag line NoForm tellings told said hand home (none, nothing, same) = (tellings, (none, nothing, ap without_workers same))
+asked_here old new number tag line (Operates operates) tellings told said hand home (t, act, answered, one, is, stay) = (tellings, (t, act, operator_here old.stage t.act operates t.calls t.text new.stage act hand answered, one, is, stay))
+asked_here old new number tag line (Says name rest) tellings told said hand home (item, hears, tells) =
     let waits : item ≡ Some Wait → IsHome old name =
     λ is. let P : Option SessionLine → Type 0 = λ i. GivesItem (old.texts name) rest i (new.texts name) in home (waits_in old new name rest line said (subst P is hears.gives)) in
-    let (again, retells) = item_here old.stage name item tellings told new.stage waits tells in
+    let (again, retells) = item_here old.stage tag name item tellings told new.stage waits tells in
     (again, (item, hears, retells))
 
 answers_here : (old new : LiveState) (number : ℕ) (line reply : List ℕ) → is_by_hand (asked_of line) ≡ false → WaitsAtHome old (asked_of line) line → AnswersLine old number line reply new → AnswersLine (without_workers old) number line reply (without_workers new)
 answers_here old new number line reply hand home answers =
-    let (tellings, takes) = asked_here old new number line (asked_of line) answers.tellings answers.told (said_of_line line) hand home answers.takes in
+    let (tellings, takes) = asked_here old new number (tag_of line) line (asked_of line) answers.tellings answers.told (said_of_line line) hand home answers.takes in
     record { tellings = tellings; told = answers.told; takes = takes; reply_is = answers.reply_is }
 
 -- each reply but those to steps by hand

@@ -11,7 +11,7 @@ use Rattle.sessions.specs.declared.steps.StepOutcome.TheVariants.{Recorded, Full
 use Rattle.sessions.specs.Steps.{MakesStep}
 use Rattle.operator.specs.OperatorText.{last_id, outcome_text}
 use Rattle.operator.specs.Serving.{IsServed, Stage}
-use Rattle.tagged_lines.specs.Tags.{Tagged, output_of, tagged_text}
+use Rattle.tagged_lines.specs.Tags.{Tagged, output_of, tag_of, tagged_text}
 use Rattle.live_lines.specs.Acts.{IsAnswered, Telling}
 use Rattle.live_lines.specs.Live.{Asked, LiveState, TakesAsked, asked_of, operator_told}
 use Rattle.live_lines.specs.Live.Asked.{Operates}
@@ -33,7 +33,7 @@ record TellsSteps (old : LiveState) (name : List ℕ) (count : ℕ) (reply : Lis
 
 steps_told : (old new : LiveState) (number count : ℕ) (line reply name : List ℕ) → asked_of line ≡ Operates (Step name count) → AnswersLine old number line reply new → TellsSteps old name count reply new
 steps_told old new number count line reply name asks answers =
-    let P : Asked → Type 0 = λ a. TakesAsked old number a answers.tellings answers.told new in
+    let P : Asked → Type 0 = λ a. TakesAsked old number (tag_of line) a answers.tellings answers.told new in
     let (t, act, answered, one, is, stay) = subst P asks answers.takes in
     let Q : Act (List ℕ) → Type 0 = λ a. IsAnswered old.stage a t.calls t.text new.stage in
     record {
@@ -48,7 +48,7 @@ told_steps : (old new : LiveState) (number count : ℕ) (line reply name : List 
 told_steps old new number count line reply name asks s =
     let t : Telling = record { act = Operator (Step name count); calls = s.calls; text = s.text } in
     let told : List Tagged = operator_told (Step name count) s.text in
-    let P : Asked → Type 0 = λ a. TakesAsked old number a (t ∷ []) told new in
+    let P : Asked → Type 0 = λ a. TakesAsked old number (tag_of line) a (t ∷ []) told new in
     record {
       tellings = t ∷ [];
       told = told;

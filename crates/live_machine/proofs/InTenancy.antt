@@ -102,7 +102,7 @@ says_no_eviction name said line is other = let P : Asked → Type 0 = IsNoEvicti
 
 said_stays : (name : List ℕ) → is_name name ≡ true → (line : List ℕ) (waits : Bool) (old new : MachineState) → IsOf name line → ServesSaid waits name line old new → Stays old new
 said_stays name ok line false old new of serves = line_stays old new line (says_no_eviction name (rest_of line) line (says name line ok of)) serves
-said_stays name ok line true old new of (made, asks, serves) = line_stays old new made (says_no_eviction name (codes "status") made asks) serves
+said_stays name ok line true old new of (made, asks, serves) = line_stays old new made (says_no_eviction name (codes "status") made asks.0) serves
 
 all_stay : (name : List ℕ) → is_name name ≡ true → (lines : List (List ℕ)) (old new : MachineState) → AreOf name lines → ServesAll name lines old new → Stays old new
 all_stay name ok [] old new of same = stays_same old new same

@@ -33,6 +33,7 @@ mod ReadLemmas
 mod RunningLemmas
 mod ServerLemmas
 mod TakeLemmas
+mod TagLengths
 mod TenancyLemmas
 mod TurnLemmas
 mod WorkLemmas

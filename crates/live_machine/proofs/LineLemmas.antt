@@ -5,7 +5,7 @@ use Rattle.std.proofs.lemmas.Bool.{false≢true}
 use Rattle.script_text.specs.Script.{is_name}
 use Rattle.sessions.specs.declared.line.SessionLine.{SessionLine}
 use Rattle.sessions.specs.Reading.{TextSoFar, items_to_come}
-use Rattle.tagged_lines.specs.Tags.{rest_of, tag_of}
+use Rattle.tagged_lines.specs.Tags.{is_of, rest_of, tag_of}
 use Rattle.live_lines.specs.Laws.{items_for, said_by}
 use Rattle.live_lines.specs.Live.{Asked, LiveState, asked_of}
 use Rattle.live_lines.specs.Live.Asked.{Says}
@@ -37,22 +37,22 @@ must_wait_so live name line waits = waits_as (live.texts name) (is_wait (form_of
 -- a line that a name says has its tag
 has_tag : (name said line : List ℕ) → asked_of line ≡ Says name said → IsOf name line
 has_tag name said line is =
-    elim (bytes_eq (tag_of line) (64 ∷ name)) as (λ b. bytes_eq (tag_of line) (64 ∷ name) ≡ b → b ≡ true) [
+    elim (is_of (64 ∷ name) (tag_of line)) as (λ b. is_of (64 ∷ name) (tag_of line) ≡ b → b ≡ true) [
       | true ↦ λ e. refl
       | false ↦ λ e. let P : Asked → Type 0 = IsNotOf name in absurd (false≢true (sym (subst P is (not_of name line e)) ∙ same_name name))
     ] refl
 
 pub said_of : (name said line : List ℕ) → asked_of line ≡ Says name said → IsOf name line × (is_name name ≡ true) × (rest_of line ≡ said)
 said_of name said line is =
-    let P : Asked → Type 0 = IsNamed in
-    let ok : is_name name ≡ true = subst P is (named line) in
+    let P : Asked → Type 0 = IsNamed (tag_of line) in
+    let (ok, own, good) = subst P is (named line) in
     let of = has_tag name said line is in
     let both : Says name (rest_of line) ≡ Says name said = sym (says name line ok of) ∙ is in
     (of, ok, cc)
 
 pub said_nobody : (name line : List ℕ) → is_name name ≡ true → is_nobodys (asked_of line) ≡ true → said_by name (line ∷ []) ≡ []
 said_nobody name line ok is =
-    elim (bytes_eq (tag_of line) (64 ∷ name)) as (λ b. bytes_eq (tag_of line) (64 ∷ name) ≡ b → cond b (rest_of line ∷ []) [] ++ [] ≡ []) [
+    elim (is_of (64 ∷ name) (tag_of line)) as (λ b. is_of (64 ∷ name) (tag_of line) ≡ b → cond b (rest_of line ∷ []) [] ++ [] ≡ []) [
       | true ↦ λ e. absurd (false≢true (sym (ap is_nobodys (says name line ok e)) ∙ is))
       | false ↦ λ e. refl
     ] refl

@@ -1,7 +1,7 @@
 -- The lines that the machine makes itself.
-use Rattle.std.proofs.Common.{◌≡◌, ℕ, ◌+◌, ◌≤◌, List, [], ◌∷◌, ◌++◌, codes, length, Bool, true, false, not, ◌&&◌, refl, sym, ap, subst, ◌∙◌, lit<, arith, append-nil, length-append}
+use Rattle.std.proofs.Common.{◌≡◌, ℕ, zero, suc, ◌+◌, ◌≤◌, eqb, take, List, [], ◌∷◌, ◌++◌, codes, length, Bool, true, false, not, ◌&&◌, refl, sym, ap, subst, ◌∙◌, lit<, arith, append-nil, length-append}
 use Rattle.std.specs.Prelude.{IfOk, Result, Ok, Err, nat_lt, nat_le}
-use Rattle.std.specs.List.{list_all}
+use Rattle.std.specs.List.{list_all, position_or_len}
 use Rattle.std.proofs.lemmas.Fmt.{decimal_digit}
 use Rattle.std.specs.Str.{bytes_eq}
 use Rattle.std.proofs.lemmas.Bool.Decides.{nat_tests}
@@ -11,14 +11,15 @@ use Rattle.script_text.specs.Script.{is_name, is_name_byte}
 use Rattle.sessions.specs.Items.{without_cr}
 use Rattle.sessions.specs.SessionLines.{line_form}
 use Rattle.line_feed.specs.Pieces.{is_one_line, kept_of}
-use Rattle.tagged_lines.specs.Tags.{rest_of, tag_of, tagged_text}
+use Rattle.tagged_lines.specs.Tags.{id_of, is_good_id, is_of, is_tag, owner_of, rest_of, tag_of, tagged_text}
+use Rattle.live_machine.proofs.TagLengths.{is_short}
 use Rattle.tagged_lines.proofs.TagLemmas.{both, rest_is, tag_is}
 use Rattle.line_service.proofs.LineLemmas.{both_lines}
 use Rattle.live_lines.specs.Live.{Asked, LiveState, asked_of}
 use Rattle.live_lines.specs.Live.Asked.{NoForm, Says}
-use Rattle.live_lines.proofs.LawLemmas.{name_tag, not_10, says}
-use Rattle.live_machine.specs.Held.{form_of, is_wait}
-use Rattle.live_machine.specs.Machine.{IsLine, is_busy, is_outside}
+use Rattle.live_lines.proofs.LawLemmas.{IsNamed, named, named_of, not_10, of_name_tag, says}
+use Rattle.live_machine.specs.Held.{IsSaidBy, form_of, is_wait}
+use Rattle.live_machine.specs.Machine.{IsLine, IsStatusFor, is_busy, is_by_hand, is_outside}
 use Rattle.live_machine.specs.Workers.{NeedNotWait, nomemory_reply}
 
 -- a name is short, and no byte of it ends a line
@@ -65,26 +66,61 @@ mark_alone = line_of (63 ∷ []) refl (omega arith)
 pub no_form : (line : List ℕ) → asked_of (63 ∷ 32 ∷ line) ≡ NoForm
 no_form line = refl
 
--- `status`
+-- `status` with a tag
 abbrev pub status_text : List ℕ → List ℕ
-status_text name = 64 ∷ (name ++ codes " status")
+status_text tag = tag ++ codes " status"
 
-status_tag : (name : List ℕ) → is_name name ≡ true → tag_of (status_text name) ≡ 64 ∷ name
-status_tag name ok = tag_is (64 ∷ name) (codes "status") (name_tag name ok)
+one_start : (n : ℕ) (line : List ℕ) → is_one_line line ≡ true → is_one_line (take n line) ≡ true
+one_start zero line one = refl
+one_start (suc n) [] one = refl
+one_start (suc n) (b ∷ line) one =
+    let parts = both (not (eqb b 10)) (is_one_line line) one in
+    ap (λ v. v && is_one_line (take n line)) parts.0 ∙ one_start n line parts.1
 
-status_rest : (name : List ℕ) → is_name name ≡ true → rest_of (status_text name) ≡ codes "status"
-status_rest name ok = rest_is (64 ∷ name) (codes "status") (name_tag name ok)
+-- what a line of a name asks says of its tag
+record HasTagOf (name line : List ℕ) : Type 0 where
+  named : is_name name ≡ true
+  owner : owner_of (tag_of line) ≡ 64 ∷ name
+  good : is_good_id (id_of (tag_of line)) ≡ true
+  tag : is_tag (tag_of line) ≡ true
+  one : is_one_line (tag_of line) ≡ true
 
-pub status_asks : (name : List ℕ) → is_name name ≡ true → asked_of (status_text name) ≡ Says name (codes "status")
-status_asks name ok =
-    says name (status_text name) ok (ap (λ t. bytes_eq t (64 ∷ name)) (status_tag name ok) ∙ (bytes_eq-Decides (64 ∷ name) (64 ∷ name)).1 refl)
-    ∙ ap (λ r. Says name r) (status_rest name ok)
+has_tag_of : (name line : List ℕ) → IsSaidBy name line → HasTagOf name line
+has_tag_of name line said =
+    let P : Asked → Type 0 = IsNamed (tag_of line) in
+    let (ok, own, good) = subst P said.says (named line) in
+    record { named = ok; owner = own; good = good; tag = of_name_tag (tag_of line) name ok own good; one = one_start (position_or_len (λ byte. eqb byte 32) line) line said.one }
 
-pub status_line : (name : List ℕ) → is_name name ≡ true → IsLine (status_text name)
-status_line name ok = name_in_line (64 ∷ []) name (codes " status") ok refl refl (omega arith)
+status_tag : (name line : List ℕ) → HasTagOf name line → tag_of (status_text (tag_of line)) ≡ tag_of line
+status_tag name line has = tag_is (tag_of line) (codes "status") has.tag
 
-pub status_is_no_wait : (name : List ℕ) → is_name name ≡ true → is_wait (form_of (status_text name)) ≡ false
-status_is_no_wait name ok = ap (λ r. is_wait (line_form (without_cr r))) (status_rest name ok)
+status_rest : (name line : List ℕ) → HasTagOf name line → rest_of (status_text (tag_of line)) ≡ codes "status"
+status_rest name line has = rest_is (tag_of line) (codes "status") has.tag
+
+status_asks : (name line : List ℕ) → HasTagOf name line → asked_of (status_text (tag_of line)) ≡ Says name (codes "status")
+status_asks name line has =
+    let tag = tag_of line in
+    says name (status_text tag) has.named (ap (is_of (64 ∷ name)) (status_tag name line has) ∙ named_of tag name [] (has.named, has.owner, has.good))
+    ∙ ap (λ r. Says name r) (status_rest name line has)
+
+pub status_for : (name line : List ℕ) → IsSaidBy name line → IsStatusFor name line (status_text (tag_of line))
+status_for name line said = let has = has_tag_of name line said in (status_asks name line has, status_tag name line has)
+
+pub status_by_hand : (name line : List ℕ) → IsSaidBy name line → is_by_hand (asked_of (status_text (tag_of line))) ≡ false
+status_by_hand name line said = ap is_by_hand (status_asks name line (has_tag_of name line said))
+
+pub status_line : (name line : List ℕ) → IsSaidBy name line → IsLine (status_text (tag_of line))
+status_line name line said =
+    let has = has_tag_of name line said in
+    let tag = tag_of line in
+    let short = name_short name has.named in
+    let own : length (owner_of tag) ≡ length (64 ∷ name) = ap length has.owner in
+    let tag_short = is_short tag has.good in
+    let all : length (status_text tag) ≡ length tag + 7 = length-append tag (codes " status") in
+    line_of (status_text tag) (both_lines tag (codes " status") has.one refl) (omega (arith, short, own, tag_short, all))
+
+status_is_no_wait : (name line : List ℕ) → HasTagOf name line → is_wait (form_of (status_text (tag_of line))) ≡ false
+status_is_no_wait name line has = ap (λ r. is_wait (line_form (without_cr r))) (status_rest name line has)
 
 and_none : (a b c : Bool) → b ≡ false → a && (b && c) ≡ false
 and_none a b c none = ap (λ x. a && (x && c)) none ∙ and_false a
@@ -93,10 +129,12 @@ and_none a b c none = ap (λ x. a && (x && c)) none ∙ and_false a
     and_false true = refl
     and_false false = refl
 
-pub status_need_not : (live : LiveState) (name : List ℕ) → is_name name ≡ true → NeedNotWait live (asked_of (status_text name)) (status_text name)
-status_need_not live name ok =
-    let P : Asked → Type 0 = λ a. NeedNotWait live a (status_text name) in
-    subst P (sym (status_asks name ok)) (and_none (is_outside (live.texts name)) (is_wait (form_of (status_text name))) (is_busy live name) (status_is_no_wait name ok))
+pub status_need_not : (live : LiveState) (name line : List ℕ) → IsSaidBy name line → NeedNotWait live (asked_of (status_text (tag_of line))) (status_text (tag_of line))
+status_need_not live name line said =
+    let has = has_tag_of name line said in
+    let text = status_text (tag_of line) in
+    let P : Asked → Type 0 = λ a. NeedNotWait live a text in
+    subst P (sym (status_asks name line has)) (and_none (is_outside (live.texts name)) (is_wait (form_of text)) (is_busy live name) (status_is_no_wait name line has))
 
 -- the reply that memory ran out
 pub nomemory_is : (name : List ℕ) → nomemory_reply name ≡ codes "op lines 1" ++ 10 ∷ (codes "op nomemory" ++ 10 ∷ [])

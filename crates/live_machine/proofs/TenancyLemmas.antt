@@ -26,7 +26,7 @@ use Rattle.sessions.specs.Steps.{MakesStep, StepsAndPuts}
 use Rattle.operator.specs.HeldJobs.{Holds, PutsHeld, job_at}
 use Rattle.operator.specs.OperatorText.{last_id, names_after}
 use Rattle.operator.specs.Serving.{IsAdmission, IsServed, Stage}
-use Rattle.tagged_lines.specs.Tags.{Tagged}
+use Rattle.tagged_lines.specs.Tags.{Tagged, tag_of}
 use Rattle.live_lines.specs.Acts.{IsAnswered, Telling}
 use Rattle.live_lines.specs.Live.{Asked, LiveState, TakesAsked, TellsItem, asked_of}
 use Rattle.live_lines.specs.Live.Asked.{NoForm, Nothing, Operates, Says}
@@ -161,19 +161,19 @@ IsNoEviction name asked = ⊤
 session_keeps : (name said_name : List ℕ) (old : Stage) (item : SessionLine) (calls : List Call) (text : List ℕ) (new : Stage) → is_live old name ≡ true → IsAnswered old (Session said_name item) calls text new → Keeps name old new
 session_keeps name said_name old item calls text new live (answer, asks, run, names, jobs, told, graph, leaves) = keeps_run name old new calls live names (command_quiet (last_id old.names said_name) item calls answer asks) run
 
-item_keeps : (name said_name : List ℕ) (old : Stage) (item : Option SessionLine) (tellings : List Telling) (told : List Tagged) (new : Stage) → is_live old name ≡ true → TellsItem old said_name item tellings told new → Keeps name old new
-item_keeps name said_name old None tellings told new live (none, nothing, same) = keeps_same name old new live same
-item_keeps name said_name old (Some item) tellings told new live (t, act, answered, one, is) =
+item_keeps : (tag name said_name : List ℕ) (old : Stage) (item : Option SessionLine) (tellings : List Telling) (told : List Tagged) (new : Stage) → is_live old name ≡ true → TellsItem old tag said_name item tellings told new → Keeps name old new
+item_keeps tag name said_name old None tellings told new live (none, nothing, same) = keeps_same name old new live same
+item_keeps tag name said_name old (Some item) tellings told new live (t, act, answered, one, is) =
     let P : Act (List ℕ) → Type 0 = λ a. IsAnswered old a t.calls t.text new in
     session_keeps name said_name old item t.calls t.text new live (subst P act answered)
 
-asked_keeps : (name : List ℕ) (old : LiveState) (number : ℕ) (asked : Asked) (tellings : List Telling) (told : List Tagged) (new : LiveState) → IsNoEviction name asked → is_live old.stage name ≡ true → TakesAsked old number asked tellings told new → Keeps name old.stage new.stage
-asked_keeps name old number Nothing tellings told new stays live (none, nothing, same) = keeps_same name old.stage new.stage live (ap (λ (s : LiveState). s.stage) same)
-asked_keeps name old number NoForm tellings told new stays live (none, nothing, same) = keeps_same name old.stage new.stage live (ap (λ (s : LiveState). s.stage) same)
-asked_keeps name old number (Operates line) tellings told new stays live (t, act, answered, one, is, texts) =
+asked_keeps : (tag name : List ℕ) (old : LiveState) (number : ℕ) (asked : Asked) (tellings : List Telling) (told : List Tagged) (new : LiveState) → IsNoEviction name asked → is_live old.stage name ≡ true → TakesAsked old number tag asked tellings told new → Keeps name old.stage new.stage
+asked_keeps tag name old number Nothing tellings told new stays live (none, nothing, same) = keeps_same name old.stage new.stage live (ap (λ (s : LiveState). s.stage) same)
+asked_keeps tag name old number NoForm tellings told new stays live (none, nothing, same) = keeps_same name old.stage new.stage live (ap (λ (s : LiveState). s.stage) same)
+asked_keeps tag name old number (Operates line) tellings told new stays live (t, act, answered, one, is, texts) =
     let P : Act (List ℕ) → Type 0 = λ a. IsAnswered old.stage a t.calls t.text new.stage in
     served_keeps name old.stage line t.calls t.text new.stage stays live (subst P act answered)
-asked_keeps name old number (Says said_name said) tellings told new stays live (item, hears, tells) = item_keeps name said_name old.stage item tellings told new.stage live tells
+asked_keeps tag name old number (Says said_name said) tellings told new stays live (item, hears, tells) = item_keeps tag name said_name old.stage item tellings told new.stage live tells
 
 pub line_keeps : (name : List ℕ) (old : LiveState) (number : ℕ) (line reply : List ℕ) (new : LiveState) → IsNoEviction name (asked_of line) → is_live old.stage name ≡ true → AnswersLine old number line reply new → Keeps name old.stage new.stage
-line_keeps name old number line reply new stays live answers = asked_keeps name old number (asked_of line) answers.tellings answers.told new stays live answers.takes
+line_keeps name old number line reply new stays live answers = asked_keeps (tag_of line) name old number (asked_of line) answers.tellings answers.told new stays live answers.takes

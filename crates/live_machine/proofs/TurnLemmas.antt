@@ -1,5 +1,5 @@
 -- The turns that calls make.
-use Rattle.std.proofs.Common.{◌≡◌, inl, inr, ℕ, ◌+◌, List, [], ◌∷◌, ◌++◌, codes, Bool, true, false, cond, Option, None, refl, sym, ap, subst, ◌∙◌, append_assoc, append-nil}
+use Rattle.std.proofs.Common.{◌&&◌, ◌≡◌, inl, inr, ℕ, ◌+◌, List, [], ◌∷◌, ◌++◌, codes, Bool, true, false, cond, Option, None, refl, sym, ap, subst, ◌∙◌, append_assoc, append-nil}
 use Rattle.std.specs.List.{AllByRecursion, flat_map}
 use Rattle.std.specs.Str.{bytes_eq}
 use Rattle.std.proofs.lemmas.Grind.{flat_map-append}
@@ -10,7 +10,8 @@ use Rattle.sessions.specs.declared.line.SessionLine.TheVariants.{Command}
 use Rattle.sessions.specs.Reading.{TextSoFar}
 use Rattle.sessions.specs.SessionText.{no_memory_text}
 use Rattle.tenant_slot.specs.declared.command.Command.TheVariants.{Status}
-use Rattle.tagged_lines.specs.Tags.{output_of, rest_of, tag_of, with_feed}
+use Rattle.tagged_lines.specs.Tags.{id_of, is_good_id, is_of, output_of, owner_of, rest_of, tag_of, with_feed}
+use Rattle.tagged_lines.proofs.TagLemmas.{both}
 use Rattle.live_lines.specs.Laws.{said_by}
 use Rattle.live_lines.specs.Live.{Asked, LiveState, asked_of, for_name}
 use Rattle.live_lines.specs.Live.Asked.{Operates, Says}
@@ -18,7 +19,7 @@ use Rattle.live_lines.proofs.LawLemmas.{says}
 use Rattle.line_service.specs.Conversation.{AreAnswered}
 use Rattle.live_input.specs.Serving.{AnswersLine}
 use Rattle.live_machine.specs.Held.{form_of, is_wait}
-use Rattle.live_machine.specs.Machine.{IsMade, MachineState, Serves, ServesAll, ServesSaid, TellsLost, Works, must_wait}
+use Rattle.live_machine.specs.Machine.{IsMade, IsStatusFor, MachineState, Serves, ServesAll, ServesSaid, TellsLost, Works, must_wait}
 use Rattle.live_machine.specs.Turn.{IsDay, IsServedAs, IsServedTurn, Turn, heard_in, heard_lines, log_of, replies_of, served_in, served_lines, told_in, told_of}
 use Rattle.live_machine.specs.Turn.Turn.{Answers, Loses, Works as WorksLine}
 use Rattle.live_machine.proofs.FollowLemmas.{AreOf, IsOf, wait_whole}
@@ -37,7 +38,7 @@ pub log_both : (first more : List Turn) → log_of (first ++ more) ≡ log_of fi
 log_both first more = ap (flat_map with_feed) (flat_map-append served_in first more) ∙ flat_map-append with_feed (served_lines first) (served_lines more)
 
 pub said_both : (name : List ℕ) (first more : List (List ℕ)) → said_by name (first ++ more) ≡ said_by name first ++ said_by name more
-said_both name first more = flat_map-append (λ l. cond (bytes_eq (tag_of l) (64 ∷ name)) (rest_of l ∷ []) []) first more
+said_both name first more = flat_map-append (λ l. cond (is_of (64 ∷ name) (tag_of l)) (rest_of l ∷ []) []) first more
 
 pub day_both : (first more : List Turn) (old mid new : LiveState) (number middle next : ℕ) → IsDay old number first mid middle → IsDay mid middle more new next → IsDay old number (first ++ more) new next
 day_both [] more old mid new number middle next (same, counted) day =
@@ -112,8 +113,12 @@ own_lines name [] of = refl
 own_lines name (line ∷ lines) of =
     ap (λ b. cond b (rest_of line ∷ []) [] ++ said_by name lines) of.0 ∙ ap (λ x. rest_of line ∷ x) (own_lines name lines of.1)
 
-apart_tag : (name other line : List ℕ) → IsOf name line → bytes_eq name other ≡ false → bytes_eq (tag_of line) (64 ∷ other) ≡ false
-apart_tag name other line of apart = ap (λ t. bytes_eq t (64 ∷ other)) (one_name (tag_of line) (64 ∷ name) of) ∙ apart
+apart_tag : (name other line : List ℕ) → IsOf name line → bytes_eq name other ≡ false → is_of (64 ∷ other) (tag_of line) ≡ false
+apart_tag name other line of apart =
+    let tag = tag_of line in
+    let parts = both (bytes_eq (owner_of tag) (64 ∷ name)) (is_good_id (id_of tag)) of in
+    ap (λ o. bytes_eq o (64 ∷ other) && is_good_id (id_of tag)) (one_name (owner_of tag) (64 ∷ name) parts.0)
+    ∙ ap (λ b. b && is_good_id (id_of tag)) apart
 
 pub other_lines : (name other : List ℕ) (lines : List (List ℕ)) → AreOf name lines → bytes_eq name other ≡ false → said_by other lines ≡ []
 other_lines name other [] of apart = refl
@@ -127,11 +132,11 @@ serves_read name ok old new line lines is s =
     subst P is (line_read name ok old.live old.next line s.reply new.live s.answers)
 
 -- `status` is read as the `wait` in whose place it is served: the name is in no text after both
-status_read : (name : List ℕ) → is_name name ≡ true → (old new : MachineState) (line made : List ℕ) → IsOf name line → old.live.texts name ≡ None → is_wait (form_of line) ≡ true → IsMade (Says name (codes "status")) made → Serves old made new →
+status_read : (name : List ℕ) → is_name name ≡ true → (old new : MachineState) (line made : List ℕ) → IsOf name line → old.live.texts name ≡ None → is_wait (form_of line) ≡ true → IsStatusFor name line made → Serves old made new →
     (other : List ℕ) → is_name other ≡ true → (items : List SessionLine) × Reads (old.live.texts other) (said_by other (line ∷ [])) items (new.live.texts other)
 status_read name ok old new line made of outside waits asks s other other_ok =
     let F : List ℕ → Type 0 = λ n. (items : List SessionLine) × Reads (old.live.texts n) (said_by n (line ∷ [])) items (new.live.texts n) in
-    let (of_made, named, status) = said_of name (codes "status") made asks in
+    let (of_made, named, status) = said_of name (codes "status") made asks.0 in
     let made_says : said_by name (made ∷ []) ≡ codes "status" ∷ [] = own_lines name (made ∷ []) (of_made, tt) ∙ ap (λ said. said ∷ []) status in
     let (items, reads) = serves_read name ok old new made (codes "status" ∷ []) made_says s in
     let N : Option TextSoFar → Type 0 = λ t. Reads t (codes "status" ∷ []) items (new.live.texts name) in

@@ -7,7 +7,7 @@ use Rattle.sessions.specs.SessionText.{no_memory_text}
 use Rattle.operator.specs.OperatorText.{last_id}
 use Rattle.service_core.specs.Calls.{takeable_in}
 use Rattle.service_core.specs.Service.{live_of}
-use Rattle.tagged_lines.specs.Tags.{output_of, with_feed}
+use Rattle.tagged_lines.specs.Tags.{output_of, tag_of, with_feed}
 use Rattle.live_lines.specs.Live.{Asked, LiveState, asked_of, for_name}
 use Rattle.live_lines.specs.Live.Asked.{NoForm, Operates, Says}
 use Rattle.live_input.specs.Serving.{AnswersLine}
@@ -40,6 +40,10 @@ pub record IsLine (line : List ℕ) : Type 0 where
 -- a line that the machine makes itself asks that
 abbrev pub IsMade : Asked → List ℕ → Type 0
 IsMade asked line = asked_of line ≡ asked
+
+-- a line with which a name says `status`, with the tag of a line that it said
+abbrev pub IsStatusFor : List ℕ → List ℕ → List ℕ → Type 0
+IsStatusFor name heard line = IsMade (Says name (codes "status")) line × (tag_of line ≡ tag_of heard)
 
 -- the next step of that name's job can be taken
 abbrev pub is_busy : LiveState → List ℕ → Bool
@@ -85,7 +89,7 @@ ServesNobodys true line old new = (made : List ℕ) × IsMade NoForm made × Ser
 -- says `status`
 abbrev pub ServesSaid : Bool → List ℕ → List ℕ → MachineState → MachineState → Type 0
 ServesSaid false name line old new = Serves old line new
-ServesSaid true name line old new = (made : List ℕ) × IsMade (Says name (codes "status")) made × Serves old made new
+ServesSaid true name line old new = (made : List ℕ) × IsStatusFor name line made × Serves old made new
 
 -- lines of a name are served, one after another
 abbrev pub ServesAll : List ℕ → List (List ℕ) → MachineState → MachineState → Type 0

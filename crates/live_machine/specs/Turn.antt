@@ -1,5 +1,5 @@
 -- What was served, in order, and what of it is kept and told.
-use Rattle.std.specs.Prelude.{ℕ, ◌≡◌, ◌⊎◌, ◌+◌, List, [], ◌∷◌, codes, Bool, true, false, ⊤}
+use Rattle.std.specs.Prelude.{ℕ, ◌≡◌, ◌⊎◌, ◌+◌, List, [], ◌∷◌, Bool, true, false, ⊤}
 use Rattle.script_text.specs.declared.operator_line.OperatorLine.TheVariants.{Step}
 use Rattle.std.specs.List.{flat_map}
 use Rattle.sessions.specs.SessionText.{no_memory_text}
@@ -8,7 +8,7 @@ use Rattle.live_lines.specs.Live.{Asked, LiveState, asked_of, for_name}
 use Rattle.live_lines.specs.Live.Asked.{NoForm, Operates, Says}
 use Rattle.live_input.specs.Serving.{AnswersLine}
 use Rattle.live_machine.specs.Held.{form_of, is_wait}
-use Rattle.live_machine.specs.Machine.{IsLine, IsMade, is_by_hand}
+use Rattle.live_machine.specs.Machine.{IsLine, IsMade, IsStatusFor, is_by_hand}
 
 -- a turn: a line that came was served as that line, and had that reply; or a worker's line was
 -- served; or an item of a name, of these lines, was lost
@@ -70,7 +70,7 @@ IsNobodysLine false heard line = line ≡ heard
 IsNobodysLine true heard line = IsMade NoForm line
 
 abbrev pub IsServedAs : Asked → List ℕ → List ℕ → Type 0
-IsServedAs (Says name said) heard line = (line ≡ heard) ⊎ ((is_wait (form_of heard) ≡ true) × IsMade (Says name (codes "status")) line)
+IsServedAs (Says name said) heard line = (line ≡ heard) ⊎ ((is_wait (form_of heard) ≡ true) × IsStatusFor name heard line)
 IsServedAs asked heard line = IsNobodysLine (is_by_hand asked) heard line
 
 abbrev pub IsServedTurn : Turn → Type 0

@@ -30,11 +30,11 @@ pub fn says_wait(line: &[u8]) -> bool
     )
 }
 
-/// The line with which a name says `status`.
-pub(crate) fn status_line(alloc: Global, name: &[u8]) -> Result<Vec<u8>, AllocError>
-    ensures { IfOk result (λ line. line.items ≡ 64 ∷ (name.now ++ codes " status")) }
+/// The line that says `status` with that tag.
+pub(crate) fn status_line(alloc: Global, tag: &[u8]) -> Result<Vec<u8>, AllocError>
+    ensures { IfOk result (λ line. line.items ≡ tag.now ++ codes " status") }
 {
-    join(alloc, b"@", name, b" status")
+    join(alloc, tag, b" status", b"")
 }
 
 /// These three texts, one after another.

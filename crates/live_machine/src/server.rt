@@ -24,6 +24,7 @@ use line_text::split_line;
 use live_input::LiveLines;
 use std::alloc::{AllocError, Global};
 use std::mem;
+use tagged_lines::split_tag;
 
 /// Serves lines, and gathers what is to be kept and what is to be told.
 pub(crate) struct LineServer<'g> {
@@ -151,20 +152,21 @@ impl<'g> LineServer<'g> {
             name.now line.now (state_with self.old held) (state_with self.new held)) }
     {
         if self.must_wait(name, line) {
-            return self.serve_status(name);
+            return self.serve_status(name, line);
         }
         self.serve(line)
     }
 
-    /// Serves a line that says `status`, in the place of a line of that name.
-    fn serve_status(&mut self, name: &[u8]) -> Result<(), Stop>
-        requires name { is_name name.now ≡ true }
+    /// Serves a line that says `status`, in the place of a line of that name, with its tag.
+    fn serve_status(&mut self, name: &[u8], line: &[u8]) -> Result<(), Stop>
+        requires said { IsSaidBy name.now line.now }
         requires ready { is_ready self.old.lines }
         ensures ready { OnOk result (is_ready self.new.lines) }
-        ensures serves { OnOk result ((held : List Held) (line : List ℕ) →
-            ServesSaid true name.now line (state_with self.old held) (state_with self.new held)) }
+        ensures serves { OnOk result ((held : List Held) → ServesSaid true name.now line.now
+            (state_with self.old held) (state_with self.new held)) }
     {
-        let status = status_line(self.alloc, name)?;
+        let (tag, _) = split_tag(line);
+        let status = status_line(self.alloc, tag)?;
         self.serve(status.as_slice())
     }
 

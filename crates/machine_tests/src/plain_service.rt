@@ -8,7 +8,7 @@ use line_service::Answers;
 use line_text::split_line;
 use live_input::LiveLines;
 use std::alloc::Global;
-use tagged_lines::split_tag;
+use tagged_lines::{owner_of, split_tag};
 use tenant_slot::StateName;
 
 /// What a service without workers tells.
@@ -87,8 +87,9 @@ impl PlainTold {
 fn is_early(lines: &LiveLines<'_>, line: &[u8]) -> bool
     requires { is_ready lines.now }
 {
-    match split_tag(line) {
-        ([b'@', name @ ..], said) => {
+    let (tag, said) = split_tag(line);
+    match owner_of(tag) {
+        Some([b'@', name @ ..]) => {
             is_wait(said) && !lines.live().is_in_text(name) && is_running(lines, name)
         }
         _ => false,

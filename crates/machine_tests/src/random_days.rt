@@ -14,7 +14,7 @@ use live_input::LiveLines;
 use live_machine::Machine;
 use std::alloc::Global;
 use strips::DeviceGraph;
-use tagged_lines::split_tag;
+use tagged_lines::{owner_of, split_tag};
 
 /// The number of dialogues.
 const DAYS: u64 = 150;
@@ -99,8 +99,9 @@ fn is_at_once(machine: &Machine<'_>, day: &Day, before: usize, line: &[u8]) -> b
 
 /// Whether a line is a `wait` of a name whose job runs.
 fn must_wait(machine: &Machine<'_>, line: &[u8]) -> bool {
-    match split_tag(line) {
-        ([b'@', name @ ..], said) => is_wait(said) && is_running(machine.lines(), name),
+    let (tag, said) = split_tag(line);
+    match owner_of(tag) {
+        Some([b'@', name @ ..]) => is_wait(said) && is_running(machine.lines(), name),
         _ => false,
     }
 }

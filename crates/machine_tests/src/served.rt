@@ -3,7 +3,7 @@ use crate::day::{append_all, push_line};
 use crate::talk::{NAMES, is_blank_line};
 use line_text::{skip_blanks, split_line, split_word};
 use std::alloc::Global;
-use tagged_lines::split_tag;
+use tagged_lines::{owner_of, split_tag};
 
 /// What a name says, one line after another.
 #[derive(Clone, Copy)]
@@ -44,8 +44,8 @@ pub(crate) fn is_wait(said: &[u8]) -> bool {
 
 /// The place of the name whose line that is.
 pub(crate) fn name_of(line: &[u8]) -> Option<usize> {
-    match split_tag(line) {
-        ([b'@', name @ ..], _) => NAMES.iter().position(|it| it.as_bytes() == name),
+    match owner_of(split_tag(line).0) {
+        Some([b'@', name @ ..]) => NAMES.iter().position(|it| it.as_bytes() == name),
         _ => None,
     }
 }

@@ -1,3 +1,4 @@
 mod Examples
+pub mod IdLemmas
 pub mod TagLemmas
 mod WritingSteps

@@ -7,7 +7,7 @@ use Rattle.std.proofs.lemmas.Grind.{flat_map-append}
 use Rattle.std.proofs.lemmas.Slice.Eq.{bytes_eq-Decides}
 use Rattle.std.proofs.Math.Seq.{take-append_seam}
 use Rattle.line_text.specs.Lines.{physical_lines}
-use Rattle.tagged_lines.specs.Tags.{Tagged, are_of, with_last_feed, with_feed, have_tags, is_tag, is_whole, output_of, rest_of, tag_of, tagged_text, told_in, told_to}
+use Rattle.tagged_lines.specs.Tags.{Tagged, are_of, with_last_feed, with_feed, have_tags, is_of, is_tag, is_whole, output_of, rest_of, tag_of, tagged_text, told_in, told_to}
 
 abbrev is_blank : ℕ → Bool
 is_blank byte = eqb byte 32
@@ -108,47 +108,47 @@ lines_of_output (t ∷ all) ok =
     lines_with t.tag (physical_lines t.text) (output_of all) parts.0 (are_lines t.text)
     ∙ ap (λ ls. map (with_tag t.tag) (physical_lines t.text) ++ ls) (lines_of_output all parts.1)
 
--- what the lines of one text tell that tag
+-- what the lines of one text tell that owner
 abbrev tells : List ℕ → List ℕ → List ℕ
-tells tag line = cond (bytes_eq (tag_of line) tag) (with_feed (rest_of line)) []
+tells owner line = cond (is_of owner (tag_of line)) (with_feed (rest_of line)) []
 
-tells_one : (tag own line : List ℕ) → is_tag own ≡ true → tells tag (with_tag own line) ≡ cond (bytes_eq own tag) (with_feed line) []
-tells_one tag own line ok =
-    ap (λ o. cond (bytes_eq o tag) (with_feed (rest_of (with_tag own line))) []) (tag_is own line ok)
-    ∙ ap (λ r. cond (bytes_eq own tag) (with_feed r) []) (rest_is own line ok)
+tells_one : (owner own line : List ℕ) → is_tag own ≡ true → tells owner (with_tag own line) ≡ cond (is_of owner own) (with_feed line) []
+tells_one owner own line ok =
+    ap (λ o. cond (is_of owner o) (with_feed (rest_of (with_tag own line))) []) (tag_is own line ok)
+    ∙ ap (λ r. cond (is_of owner own) (with_feed r) []) (rest_is own line ok)
 
 no_text : (b : Bool) → ◌≡◌ {A = List ℕ} [] (cond b [] [])
 no_text true = refl
 no_text false = refl
 
-tells_lines : (tag own : List ℕ) (lines : List (List ℕ)) → is_tag own ≡ true →
-    flat_map (tells tag) (map (with_tag own) lines) ≡ cond (bytes_eq own tag) (flat_map with_feed lines) []
-tells_lines tag own [] ok = no_text (bytes_eq own tag)
-tells_lines tag own (line ∷ lines) ok =
-    ap (λ l. l ++ flat_map (tells tag) (map (with_tag own) lines)) (tells_one tag own line ok)
-    ∙ (ap (λ ls. cond (bytes_eq own tag) (with_feed line) [] ++ ls) (tells_lines tag own lines ok)
-    ∙ elim (bytes_eq own tag) as (λ b. cond b (with_feed line) [] ++ cond b (flat_map with_feed lines) [] ≡ cond b (with_feed line ++ flat_map with_feed lines) []) [ true ↦ refl | false ↦ refl ])
+tells_lines : (owner own : List ℕ) (lines : List (List ℕ)) → is_tag own ≡ true →
+    flat_map (tells owner) (map (with_tag own) lines) ≡ cond (is_of owner own) (flat_map with_feed lines) []
+tells_lines owner own [] ok = no_text (is_of owner own)
+tells_lines owner own (line ∷ lines) ok =
+    ap (λ l. l ++ flat_map (tells owner) (map (with_tag own) lines)) (tells_one owner own line ok)
+    ∙ (ap (λ ls. cond (is_of owner own) (with_feed line) [] ++ ls) (tells_lines owner own lines ok)
+    ∙ elim (is_of owner own) as (λ b. cond b (with_feed line) [] ++ cond b (flat_map with_feed lines) [] ≡ cond b (with_feed line ++ flat_map with_feed lines) []) [ true ↦ refl | false ↦ refl ])
 
-tells_all : (tag : List ℕ) (all : List Tagged) → have_tags all ≡ true → flat_map (tells tag) (lines_in all) ≡ told_in tag all
-tells_all tag [] ok = refl
-tells_all tag (t ∷ all) ok =
+tells_all : (owner : List ℕ) (all : List Tagged) → have_tags all ≡ true → flat_map (tells owner) (lines_in all) ≡ told_in owner all
+tells_all owner [] ok = refl
+tells_all owner (t ∷ all) ok =
     let parts = both (is_tag t.tag) (have_tags all) ok in
-    flat_map-append (tells tag) (map (with_tag t.tag) (physical_lines t.text)) (lines_in all)
-    ∙ (ap (λ l. l ++ flat_map (tells tag) (lines_in all)) (tells_lines tag t.tag (physical_lines t.text) parts.0)
-    ∙ ap (λ ls. cond (bytes_eq t.tag tag) (with_last_feed t.text) [] ++ ls) (tells_all tag all parts.1))
+    flat_map-append (tells owner) (map (with_tag t.tag) (physical_lines t.text)) (lines_in all)
+    ∙ (ap (λ l. l ++ flat_map (tells owner) (lines_in all)) (tells_lines owner t.tag (physical_lines t.text) parts.0)
+    ∙ ap (λ ls. cond (is_of owner t.tag) (with_last_feed t.text) [] ++ ls) (tells_all owner all parts.1))
 
 pub same_tag : (tag : List ℕ) → bytes_eq tag tag ≡ true
 same_tag tag = (bytes_eq-Decides tag tag).1 refl
 
-pub apart : (tag : List ℕ) (all : List Tagged) → have_tags all ≡ true → told_to tag (output_of all) ≡ told_in tag all
-apart tag all ok = ap (flat_map (tells tag)) (lines_of_output all ok) ∙ tells_all tag all ok
+pub apart : (owner : List ℕ) (all : List Tagged) → have_tags all ≡ true → told_to owner (output_of all) ≡ told_in owner all
+apart owner all ok = ap (flat_map (tells owner)) (lines_of_output all ok) ∙ tells_all owner all ok
 
-pub back : (tag text : List ℕ) → is_tag tag ≡ true → told_to tag (tagged_text tag text) ≡ with_last_feed text
-back tag text ok =
+pub back : (owner tag text : List ℕ) → is_tag tag ≡ true → is_of owner tag ≡ true → told_to owner (tagged_text tag text) ≡ with_last_feed text
+back owner tag text ok own =
     let one : have_tags (record { tag = tag; text = text } ∷ []) ≡ true = ap (λ b. b && true) ok in
-    ap (told_to tag) (sym (append-nil (tagged_text tag text)))
-    ∙ (apart tag (record { tag = tag; text = text } ∷ []) one
-    ∙ (ap (λ b. cond b (with_last_feed text) [] ++ []) (same_tag tag) ∙ append-nil (with_last_feed text)))
+    ap (told_to owner) (sym (append-nil (tagged_text tag text)))
+    ∙ (apart owner (record { tag = tag; text = text } ∷ []) one
+    ∙ (ap (λ b. cond b (with_last_feed text) [] ++ []) own ∙ append-nil (with_last_feed text)))
 
 -- a text of whole lines is as it was
 some_lines : (x : ℕ) (text : List ℕ) → 0 < length (physical_lines (x ∷ text))

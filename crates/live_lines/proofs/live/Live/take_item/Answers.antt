@@ -24,5 +24,5 @@ returns-in-Ok-clause-takes g c =
       telling = record { act = Session c.args.name.now c.args.item; calls = c.answer.ensures.answered.0; text = text };
       act = refl;
       answered = item_answers self.operator self.jobs self.graph.now self.core c.answer.new.core c.args.name.now c.last_id-id.result c.args.item c.answer.result.0 c.last_id-id.ensures c.answer.ensures.answered;
-      writes = item_writes _ _ c.args.tag.now c.args.name.now c.as_bytes.result.now text c.requires.tag bytes c.in_ok-write_at_once-in-Ok.ensures.bytes;
+      writes = item_writes _ _ c.args.tag.now c.as_bytes.result.now text bytes c.in_ok-write_answer-in-Ok.ensures.bytes;
     }

@@ -1,15 +1,10 @@
 use Rattle.std.proofs.Common.{◌≡◌, Bool, true, sym, subst, ◌∙◌}
-use Rattle.tagged_lines.specs.Tags.{rest_of}
 use Rattle.live_input.specs.Serving.{state_in}
 use Rattle.live_machine.specs.Machine.{ServesSaid, must_wait}
 use Rattle.live_machine.specs.Parts.{state_with}
 use Rattle.live_machine.specs.Workers.{without_workers}
-use Rattle.live_machine.proofs.LineLemmas.{said_of}
 use Rattle.live_machine.proofs.MachineLemmas.{on_ok}
 use Rattle.live_machine.proofs.server.LineServer.serve_said.Goals as goal
-
-pub serve_status-requires-clause-name : goal.serve_status-requires-clause-name
-serve_status-requires-clause-name c = (said_of c.args.name.now (rest_of c.args.line.now) c.args.line.now c.requires.said.says).1
 
 pub returns-then-must_wait-clause-serves : goal.returns-then-must_wait-clause-serves
 returns-then-must_wait-clause-serves c =
@@ -19,5 +14,5 @@ returns-then-must_wait-clause-serves c =
     on_ok c.serve_status.result
     (λ serves held.
     let P : Bool → Type 0 = λ b. ServesSaid b name line (state_with c.args.self.now held) (state_with c.serve_status.new.self held) in
-    subst P (sym waits) (serves held line))
+    subst P (sym waits) (serves held))
     c.serve_status.ensures.serves

@@ -1,0 +1,89 @@
+-- Tags with an id and without one.
+use Rattle.std.proofs.Common.{◌≡◌, ℕ, suc, ◌+◌, ◌<◌, ◌≤◌, Bool, true, false, not, ◌&&◌, cond, List, [], ◌∷◌, length, take, drop, eqb, get_or, nat_lt, nat_le, Some, None, refl, sym, ap, ◌∙◌, arith}
+use Rattle.std.specs.Prelude.{option_map, position}
+use Rattle.std.specs.List.{after_first, before_first, list_all, position_or_len}
+use Rattle.std.proofs.lemmas.Bool.{eqb-true, false≢true}
+use Rattle.std.proofs.lemmas.Bool.Decides.{nat_tests}
+use Rattle.std.proofs.lemmas.List.{take_all}
+use Rattle.std.proofs.lemmas.List.Folds.{list_all-append}
+use Rattle.std.proofs.lemmas.List.Quantifiers.{position-Some}
+use Rattle.std.proofs.lemmas.List.Sums.{split_at_first}
+use Rattle.tagged_lines.specs.Tags.{id_of, is_good_id, is_id_byte, is_tag, owner_of}
+use Rattle.tagged_lines.proofs.TagLemmas.{both}
+
+abbrev is_slash : ℕ → Bool
+is_slash byte = eqb byte 47
+
+abbrev slash_at : List ℕ → ℕ
+slash_at tag = position_or_len is_slash tag
+
+-- bytes of which none is a slash
+abbrev pub has_none : List ℕ → Bool
+has_none tag = list_all (λ byte. not (is_slash byte)) tag
+
+-- a tag without a slash is its own owner, and has no id
+no_place : (tag : List ℕ) → has_none tag ≡ true → slash_at tag ≡ length tag
+no_place [] ok = refl
+no_place (x ∷ tag) ok =
+    let parts = both (not (is_slash x)) (has_none tag) ok in
+    let one : 1 + length tag ≡ suc (length tag) = omega arith in
+    ap (λ b. cond b (1 + slash_at tag) 0) parts.0 ∙ (ap (λ n. 1 + n) (no_place tag parts.1) ∙ one)
+
+pub own_owner : (tag : List ℕ) → has_none tag ≡ true → owner_of tag ≡ tag
+own_owner tag ok = ap (λ n. take n tag) (no_place tag ok) ∙ take_all (length tag) tag (omega arith)
+
+pub own_id : (tag : List ℕ) → has_none tag ≡ true → id_of tag ≡ None
+own_id tag ok =
+    let none : nat_lt (slash_at tag) (length tag) ≡ false = grind (arith, nat_tests, no_place tag ok) in
+    ap (λ b. option_map (λ place. drop (place + 1) tag) (cond b (Some (slash_at tag)) None)) none
+
+-- the bytes of an id can be in a tag
+not_byte : (at byte : ℕ) → is_id_byte at ≡ false → is_id_byte byte ≡ true → eqb byte at ≡ false
+not_byte at byte none ok =
+    elim (eqb byte at) as (λ v. eqb byte at ≡ v → v ≡ false) [
+      | true ↦ λ e. absurd (false≢true (sym none ∙ (sym (ap is_id_byte (eqb-true byte at e)) ∙ ok)))
+      | false ↦ λ e. refl
+    ] refl
+
+id_bytes : (id : List ℕ) → list_all is_id_byte id ≡ true → is_tag id ≡ true
+id_bytes [] ok = refl
+id_bytes (b ∷ id) ok =
+    let parts = both (is_id_byte b) (list_all is_id_byte id) ok in
+    ap (λ v. (not v && not (eqb b 10)) && is_tag id) (not_byte 32 b refl parts.0)
+    ∙ (ap (λ v. not v && is_tag id) (not_byte 10 b refl parts.0) ∙ id_bytes id parts.1)
+
+slash_then : (byte : ℕ) (id : List ℕ) → is_slash byte ≡ true → is_tag id ≡ true → is_tag (byte ∷ id) ≡ true
+slash_then byte id at ok = ap (λ b. is_tag (b ∷ id)) (eqb-true byte 47 at) ∙ ok
+
+-- a tag whose owner and id are lawful is lawful
+pub is_lawful : (tag : List ℕ) → is_tag (owner_of tag) ≡ true → is_good_id (id_of tag) ≡ true → is_tag tag ≡ true
+is_lawful tag own good =
+    let at = slash_at tag in
+    elim (nat_lt at (length tag)) as (λ b. nat_lt at (length tag) ≡ b → is_good_id (option_map (λ place. drop (place + 1) tag) (cond b (Some at) None)) ≡ true → is_tag tag ≡ true) [
+      | true ↦ λ e g.
+          let within : at < length tag = grind (arith, nat_tests, e) in
+          let found : position is_slash tag ≡ Some at = ap (λ b. cond b (Some at) None) e in
+          let byte = get_or tag at 0 in
+          let id = after_first is_slash tag in
+          let middle : is_slash byte ≡ true = (position-Some is_slash tag at 0 found).1 in
+          let bytes : list_all is_id_byte id ≡ true = (both (nat_le 1 (length id) && nat_le (length id) 32) (list_all is_id_byte id) g).1 in
+          ap is_tag (split_at_first is_slash tag 0 within)
+          ∙ (list_all-append (λ b. not (eqb b 32) && not (eqb b 10)) (before_first is_slash tag) (byte ∷ id)
+          ∙ (ap (λ b. b && is_tag (byte ∷ id)) own ∙ slash_then byte id middle (id_bytes id bytes)))
+      | false ↦ λ e g.
+          let past : length tag ≤ at = grind (arith, nat_tests, e) in
+          sym (ap is_tag (take_all at tag past)) ∙ own
+    ] refl good
+
+-- the first byte of a tag is that of its owner
+pub first_of_owner : (tag owner : List ℕ) (byte : ℕ) → owner_of tag ≡ byte ∷ owner → (rest : List ℕ) × (tag ≡ byte ∷ rest)
+first_of_owner [] owner byte is = absurd (cc)
+first_of_owner (x ∷ tag) owner byte is =
+    let one : 1 + slash_at tag ≡ suc (slash_at tag) = omega arith in
+    elim (is_slash x) as (λ b. take (cond (not b) (1 + slash_at tag) 0) (x ∷ tag) ≡ byte ∷ owner → (rest : List ℕ) × (x ∷ tag ≡ byte ∷ rest)) [
+      | true ↦ λ e. absurd (cc)
+      | false ↦ λ e.
+          let f : x ∷ take (slash_at tag) tag ≡ byte ∷ owner = sym (ap (λ n. take n (x ∷ tag)) one) ∙ e in
+          let same : x ≡ byte = cc in
+          (tag, ap (λ y. y ∷ tag) same)
+    ] is
