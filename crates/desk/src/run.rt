@@ -2,7 +2,7 @@
 use crate::errand::{Errand, read_errand};
 use clap::Error;
 use clap::error::ErrorKind;
-use desk_circuits::warn_of_latches;
+use desk_circuits::warn_of_netlist;
 use desk_common::{
     DeviceOption, FileRole, MAX_DEVICE_READ, Outcome, device_options, device_path, read_file,
     with_device,
@@ -184,7 +184,7 @@ fn print_script<R: Source, W: Sink, E: Sink>(
         Ok(text) => {
             let outcome = script::print(wishes, text.as_slice(), writer);
             if let Outcome::Done = outcome {
-                warn_of_latches(alloc, text.as_slice(), teller);
+                warn_of_netlist(alloc, text.as_slice(), teller);
             }
             drop(text);
             outcome

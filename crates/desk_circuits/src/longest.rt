@@ -1,17 +1,24 @@
 //! The longest path of a netlist, in a line.
-use crate::latches::ANY_TABLE;
+ghost use Rattle.blif.specs.LawfulCircuits.{IsCircuit};
+
 use crate::path_hops::{name_of, wires_of};
+use crate::warnings::ANY_TABLE;
 use blif::{Circuit, read_blif};
 use line_text::{Failed, Sink};
-use longest_path::{Longest, LongestPath, longest_path};
+use longest_path::{Longest, LongestPath, find_loop, longest_path};
 use std::alloc::Global;
 use strip_files::StripTexts;
 use text_parts::{Part, write_parts};
+
+/// The most tables of a loop that are written.
+const MAX_SHOWN: usize = 20;
 
 /// A netlist's circuit and its longest path.
 pub struct MeasuredCircuit {
     circuit: Circuit,
     longest: Longest,
+    /// The tables of a loop, the last one first, if some tables form one.
+    looped: Option<Vec<usize>>,
     /// The wires of that path, if they are known.
     wires: Option<u64>,
 }
@@ -21,10 +28,12 @@ impl Drop for MeasuredCircuit {
         let MeasuredCircuit {
             circuit,
             longest,
+            looped,
             wires: _,
         } = self;
         drop(circuit);
         drop(longest);
+        drop(looped);
     }
 }
 
@@ -41,9 +50,11 @@ pub fn measure(
     match longest_path(alloc, &circuit) {
         Ok(longest) => {
             let wires = wires_with(alloc, &circuit, &longest, files);
+            let looped = loop_with(alloc, &circuit, &longest);
             Some(MeasuredCircuit {
                 circuit,
                 longest,
+                looped,
                 wires,
             })
         }
@@ -67,6 +78,19 @@ fn wires_with(
     }
 }
 
+/// The tables of a loop, if the circuit has no longest path because some tables form one.
+fn loop_with(alloc: Global, circuit: &Circuit, longest: &Longest) -> Option<Vec<usize>>
+    requires { IsCircuit circuit.now }
+{
+    match longest {
+        Longest::Loop => match find_loop(alloc, circuit) {
+            Ok(found) => found,
+            Err(_) => None,
+        },
+        Longest::Path(_) | Longest::NoPath => None,
+    }
+}
+
 impl MeasuredCircuit {
     /// The number of tables of the longest path.
     pub(crate) fn tables(&self) -> Option<u64> {
@@ -87,11 +111,61 @@ impl MeasuredCircuit {
         match &self.longest {
             Longest::Path(path) => write_path(&self.circuit, path, self.wires, writer),
             Longest::NoPath => write_parts(writer, &[Part::Text("longest path none\n")]),
-            Longest::Loop => write_parts(
-                writer,
-                &[Part::Text("longest path: some tables form a loop\n")],
-            ),
+            Longest::Loop => match &self.looped {
+                Some(numbers) => write_loop(&self.circuit, numbers, writer),
+                None => write_parts(
+                    writer,
+                    &[Part::Text("longest path: some tables form a loop\n")],
+                ),
+            },
         }
+    }
+}
+
+/// Writes the number of a loop's tables, and then each table by its net and its line in the
+/// netlist, from the first that drives the next. Of a long loop the last tables are left out.
+fn write_loop<W: Sink>(circuit: &Circuit, numbers: &[usize], writer: &mut W) -> Result<(), Failed> {
+    write_parts(writer, &[Part::Text("longest path: loop of ")])?;
+    let count = numbers.len();
+    write_count(writer, count as u64, " table", " tables")?;
+    write_parts(writer, &[Part::Text(": ")])?;
+    for shown in 0..count.min(MAX_SHOWN) {
+        write_table(circuit, numbers[count - 1 - shown], writer)?;
+    }
+    if count > MAX_SHOWN {
+        write_parts(writer, &[Part::Text(".. -> ")])?;
+    }
+    let first = match numbers.last() {
+        Some(number) => net_of_table(circuit, *number),
+        None => b"",
+    };
+    write_parts(writer, &[Part::Bytes(first), Part::Text("\n")])
+}
+
+/// Writes the net of a table, and the table's line.
+fn write_table<W: Sink>(circuit: &Circuit, number: usize, writer: &mut W) -> Result<(), Failed> {
+    let line = if number < circuit.tables.len() {
+        circuit.tables.table(number).line
+    } else {
+        0
+    };
+    write_parts(
+        writer,
+        &[
+            Part::Bytes(net_of_table(circuit, number)),
+            Part::Text(" (line "),
+            Part::Number(line),
+            Part::Text(") -> "),
+        ],
+    )
+}
+
+/// The name of the net that a table drives. Empty if there is no such table.
+fn net_of_table(circuit: &Circuit, number: usize) -> &[u8] {
+    if number < circuit.tables.len() {
+        name_of(circuit, circuit.tables.table(number).output)
+    } else {
+        b""
     }
 }
 

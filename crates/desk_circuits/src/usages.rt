@@ -1,11 +1,10 @@
 //! What each name used: a line for each, or a table.
 use crate::csv::write_numbers;
-use crate::last_files::last_files;
 use crate::longest::{MeasuredCircuit, measure};
-use line_text::{Failed, NameSet, Sink};
-use script_replies::{Replies, Usage, usage_of};
-use script_text::Act;
+use line_text::{Failed, Sink};
+use script_replies::{Account, NameFiles, Usage};
 use std::alloc::Global;
+use strip_files::StripTexts;
 use text_parts::{Part, write_parts};
 
 /// The headings of the table.
@@ -16,22 +15,18 @@ const HEADINGS: &str =
 pub fn print_usages<W: Sink>(
     alloc: Global,
     is_table: bool,
-    names: &NameSet<'_>,
-    acts: &[Act<&[u8]>],
-    replies: &Replies<'_, '_>,
+    accounts: &[Account<'_, '_>],
     writer: &mut W,
 ) -> Result<(), Failed> {
     if is_table {
         write_parts(writer, &[Part::Text(HEADINGS)])?;
     }
-    for number in 0..names.len() {
-        let name = names.name(number);
-        let usage = usage_of(acts, replies, name);
-        let circuit = last_circuit(alloc, acts, replies, name);
+    for account in accounts {
+        let circuit = present_circuit(alloc, account.files);
         let written = if is_table {
-            write_row(writer, name, usage, &circuit)
+            write_row(writer, account.name, account.usage, &circuit)
         } else {
-            write_lines(writer, name, usage, &circuit)
+            write_lines(writer, account.name, account.usage, &circuit)
         };
         drop(circuit);
         written?;
@@ -39,16 +34,19 @@ pub fn print_usages<W: Sink>(
     Ok(())
 }
 
-/// The circuit of a name's last netlist that was not refused, and its longest path, by the replies
-/// to a script. `None` if there is no netlist, or if memory runs out.
-pub fn last_circuit(
-    alloc: Global,
-    acts: &[Act<&[u8]>],
-    replies: &Replies<'_, '_>,
-    name: &[u8],
-) -> Option<MeasuredCircuit> {
-    let files = last_files(acts, replies, name);
-    measure(alloc, files.netlist?, files.texts())
+/// The circuit of the netlist that a name has, and its longest path. `None` if it has no netlist,
+/// or if memory runs out.
+pub fn present_circuit(alloc: Global, files: NameFiles<'_, '_>) -> Option<MeasuredCircuit> {
+    measure(alloc, files.netlist?, texts_of(files))
+}
+
+/// The three files, if all are present.
+fn texts_of<'p>(files: NameFiles<'_, 'p>) -> Option<StripTexts<'p>> {
+    Some(StripTexts {
+        net: files.net.text?,
+        place: files.place.text?,
+        route: files.route.text?,
+    })
 }
 
 /// Prints what a name used, and the longest path of its netlist.

@@ -19,5 +19,5 @@ pub use outcome::Outcome;
 pub use paths::{
     FileRole, NewFile, ResultFile, make_folder, read_file, tell_stale, write_file, write_files,
 };
-pub use reply_words::{tell_reply, told_refused};
+pub use reply_words::{NetlistSource, tell_reply, told_refused};
 pub use words::{COLUMNS, EFFORT, FOLDER, NO_DEVICE, ROWS, SEED};

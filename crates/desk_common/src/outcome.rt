@@ -99,7 +99,7 @@ impl fmt::Display for Outcome {
     fn fmt<W: fmt::Write>(&self, f: &mut fmt::Formatter<W>) -> fmt::Result {
         match self {
             Outcome::Done => write!(f, ""),
-            Outcome::InputFailed => write!(f, "input: failed"),
+            Outcome::InputFailed => write!(f, "input: cannot be read: is it a folder?"),
             Outcome::OutputFailed => write!(f, "output: failed"),
             Outcome::TextRefused(fault) => write!(f, "{fault}"),
             Outcome::ReplyRefused(fault) => write!(f, "{fault}"),
@@ -107,7 +107,10 @@ impl fmt::Display for Outcome {
             Outcome::LinesRefused(1) => write!(f, "1 line is refused"),
             Outcome::LinesRefused(lines) => write!(f, "{lines} lines are refused"),
             Outcome::ScriptRefused(line) => write!(f, "script: line {line}"),
-            Outcome::RepliesRefused(line) => write!(f, "line {line}: does not match the script"),
+            Outcome::RepliesRefused(line) => write!(
+                f,
+                "line {line}: does not match the script; if fpgad was given --arch, give it here too"
+            ),
             Outcome::ArchRefused(fault) => write!(f, "arch: {fault}"),
             Outcome::DeviceRefused => write!(f, "device file: refused"),
             Outcome::NetlistRefused => write!(f, "netlist: refused"),

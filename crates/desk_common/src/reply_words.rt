@@ -1,15 +1,106 @@
 //! What the service would reply, for standard error.
 use crate::outcome::Outcome;
-use line_text::{MemorySink, Sink, split_line, write_all, write_slices};
-use script_replies::advice_for;
+use arch_file::read_arch;
+use blif::{BlifFault, BlifFaultKind};
+use line_text::{Failed, MemorySink, Sink, split_line, write_all, write_slices};
+use script_replies::{Advice, advice_for};
 use sessions::write_reply;
 use std::alloc::Global;
 use tenant_slot::{Refusal, Reply};
+use text_parts::{Part, write_parts};
 
-/// Writes why the netlist is refused, as the service would reply, and returns how the errand ended.
-pub fn told_refused<E: Sink>(alloc: Global, refusal: Refusal, teller: &mut E) -> Outcome {
-    tell_reply(alloc, Reply::Refused(refusal), teller);
+/// The first bytes of a text in UTF-8 that has a byte order mark.
+const BYTE_ORDER_MARK: &[u8] = b"\xef\xbb\xbf";
+
+/// A netlist by its path and its text, and the text of the architecture that it is for.
+#[derive(Clone, Copy)]
+pub struct NetlistSource<'a> {
+    pub path: &'a str,
+    pub text: &'a [u8],
+    pub arch: &'a [u8],
+}
+
+/// Writes why the netlist is refused: what the service would reply, and then the path, the line if
+/// there is one, and what can be done. Returns how the errand ended.
+pub fn told_refused<E: Sink>(
+    alloc: Global,
+    source: NetlistSource<'_>,
+    refusal: Refusal,
+    teller: &mut E,
+) -> Outcome {
+    let more = more_of(alloc, source, &refusal);
+    let line = match &refusal {
+        Refusal::BadBlif(fault) => fault.line,
+        _ => 0,
+    };
+    let mut reply = MemorySink::new(alloc);
+    if write_reply(&mut reply, &Reply::Refused(refusal)).is_ok() {
+        let _ = write_all(teller, reply.as_bytes());
+        let (first, _) = split_line(reply.as_bytes());
+        if let Some(advice) = advice_for(false, first) {
+            let _ = write_advice(teller, source.path, line, advice, more);
+        }
+    }
+    drop(reply);
     Outcome::NetlistRefused
+}
+
+/// What an advice does not say.
+#[derive(Clone, Copy)]
+enum More {
+    Nothing,
+    /// The most inputs of a table.
+    Inputs(u32),
+    /// The text begins with a byte order mark.
+    Mark,
+}
+
+/// What an advice on a refusal does not say.
+fn more_of(alloc: Global, source: NetlistSource<'_>, refusal: &Refusal) -> More {
+    let Refusal::BadBlif(BlifFault { line, kind }) = refusal else {
+        return More::Nothing;
+    };
+    match kind {
+        BlifFaultKind::TooWide => match read_arch(alloc, source.arch, 1) {
+            Ok(arch) => {
+                let inputs = arch.lut_size;
+                drop(arch);
+                More::Inputs(inputs)
+            }
+            Err(_) => More::Nothing,
+        },
+        BlifFaultKind::NotAscii if *line == 1 && source.text.starts_with(BYTE_ORDER_MARK) => {
+            More::Mark
+        }
+        _ => More::Nothing,
+    }
+}
+
+/// Writes the path, the line if it isn't 0, an advice, and what it does not say.
+fn write_advice<E: Sink>(
+    teller: &mut E,
+    path: &str,
+    line: u32,
+    advice: Advice,
+    more: More,
+) -> Result<(), Failed> {
+    write_parts(teller, &[Part::Text(path), Part::Text(": ")])?;
+    if line > 0 {
+        let parts = [Part::Text("line "), Part::Number(line), Part::Text(": ")];
+        write_parts(teller, parts.as_slice())?;
+    }
+    write_parts(teller, &[Part::Text(advice.words())])?;
+    match more {
+        More::Nothing => write_parts(teller, &[Part::Text("\n")]),
+        More::Inputs(inputs) => {
+            let parts = [Part::Text(", "), Part::Number(inputs), Part::Text("\n")];
+            write_parts(teller, parts.as_slice())
+        }
+        More::Mark => {
+            let words = "; this file begins with a byte order mark: save it without one\n";
+            write_parts(teller, &[Part::Text(words)])
+        }
+    }
 }
 
 /// Writes a reply's line and what can be done about it, if that can be written.

@@ -1,5 +1,5 @@
 //! The tool that checks a layout against its netlist.
-use crate::layout_input::{LAYOUT_OPTIONS, LayoutPaths, laid_circuit, read_layout_files, texts_of};
+use crate::layout_input::{LAYOUT_OPTIONS, LayoutPaths, circuit_in, read_layout_files};
 use desk_common::Outcome;
 use line_text::{Sink, write_all};
 use option_words::Program;
@@ -8,7 +8,7 @@ use std::rt::Files;
 
 /// The beginning of its help.
 const ABOUT: &str =
-    "Says whether a .net, a .place and a .route file, whoever wrote them, implement a netlist on a strip of this size";
+    "Says whether a .net, a .place and a .route file, whoever wrote them, implement a netlist";
 
 /// The tool without its options, for the program's help.
 pub const NAMED: Program = Program {
@@ -29,7 +29,7 @@ if the net controls a latch. Each port has its pad, and each block a place of it
 that is wrong, with the file and the line, and the status is 1. The three files must have the form in which the service writes them,
 byte by byte. It says nothing about the bits of tables: they are not in the files.
 
-Example: fpgad_desk check --arch my.arch --tracks 8 --columns 10 --rows 10 t.blif t.net t.place t.route",
+Example: fpgad_desk check --arch my.arch --tracks 8 t.blif t.net t.place t.route",
     options: LAYOUT_OPTIONS,
 };
 
@@ -54,8 +54,7 @@ fn check<E: Sink>(
     texts: &[Vec<u8>],
     teller: &mut E,
 ) -> Result<(), Outcome> {
-    let texts = texts_of(paths, texts)?;
-    match laid_circuit(alloc, paths.arch, &texts, teller) {
+    match circuit_in(alloc, paths, texts, teller) {
         Ok(laid) => {
             drop(laid);
             Ok(())

@@ -4,7 +4,7 @@ ghost use Rattle.configuration.specs.ConfigurationText.{configuration_text};
 ghost use Rattle.line_text.specs.Lines.{JoinedLine, lines_of};
 ghost use Rattle.line_text.specs.Writing.{TakesAll};
 
-use crate::layout_input::{LAYOUT_OPTIONS, LayoutPaths, laid_circuit, read_layout_files, texts_of};
+use crate::layout_input::{LAYOUT_OPTIONS, LayoutPaths, circuit_in, read_layout_files};
 use configuration_text::{Design, Unwritten, write_configuration};
 use desk_common::Outcome;
 use layout_verdict::LaidCircuit;
@@ -33,7 +33,7 @@ pub const TOOL: Program = Program {
 It first checks the layout as `fpgad_desk check` does; if the files don't implement the netlist, it prints nothing, and standard error
 says what is wrong. docs/FORMATS.md says what the lines mean.
 
-Example: fpgad_desk configure --arch my.arch --tracks 8 --columns 10 --rows 10 t.blif t.net t.place t.route > t.configuration",
+Example: fpgad_desk configure --arch my.arch --tracks 8 t.blif t.net t.place t.route > t.configuration",
     options: LAYOUT_OPTIONS,
 };
 
@@ -62,8 +62,7 @@ fn print_checked<W: Sink, E: Sink>(
     let [_, netlist, ..] = texts else {
         return Err(Outcome::NoMemory);
     };
-    let layout_texts = texts_of(paths, texts)?;
-    match laid_circuit(alloc, paths.arch, &layout_texts, teller) {
+    match circuit_in(alloc, paths, texts, teller) {
         Ok(laid) => {
             let printed = print_laid(alloc, netlist.as_slice(), &laid, writer);
             drop(laid);

@@ -3,17 +3,18 @@ ghost use Rattle.std.specs.Prelude.{IfOk};
 ghost use Rattle.layout_verdict.specs.Texts.{IsReadFrom};
 ghost use Rattle.layout_verdict.specs.Verdicts.{IsImplemented};
 
+use crate::refused_file::tell_file;
 use desk_common::{
-    COLUMNS, DEVICE, FileRole, NO_DEVICE, Outcome, ROWS, read_file, told_refused, write_arch_fault,
+    DEVICE, FileRole, NO_DEVICE, NetlistSource, Outcome, read_file, told_refused, write_arch_fault,
 };
 use layout_check::Wrong;
 use layout_verdict::{LaidCircuit, LayoutTexts, StripShape, Verdict, verdict_of};
 use layout_words::{Subject, write_wrong};
-use line_text::{MAX_TEXT, Sink};
+use line_text::{MAX_TEXT, Sink, split_line};
 use option_words::{Given, OptionWord, Takes};
 use std::alloc::Global;
 use std::rt::Files;
-use strip_files::StripTexts;
+use strip_files::{StripSize, StripTexts, size_in};
 use tenant_slot::Refusal;
 
 const NO_FILE: &str = "give an architecture, a netlist and its .net, .place and .route files";
@@ -39,8 +40,20 @@ pub(crate) const LAYOUT_OPTIONS: &[OptionWord] = &[
         takes: Takes::Number(1, 64),
         default: None,
     },
-    COLUMNS,
-    ROWS,
+    OptionWord {
+        name: "columns",
+        value_name: "NX",
+        help: "Columns of the strip, 1 to 256; without it those in the .place file",
+        takes: Takes::Number(1, 256),
+        default: None,
+    },
+    OptionWord {
+        name: "rows",
+        value_name: "NY",
+        help: "Rows of the strip, 1 to 64; without it those in the .place file",
+        takes: Takes::Number(1, 64),
+        default: None,
+    },
     DEVICE,
     OptionWord {
         name: "netlist",
@@ -72,15 +85,19 @@ pub(crate) const LAYOUT_OPTIONS: &[OptionWord] = &[
     },
 ];
 
-/// The paths of a layout's files, and the shape of its strip.
+/// The paths of a layout's files, and what is said of its strip.
 #[derive(Clone, Copy)]
 pub struct LayoutPaths<'a> {
     pub(crate) arch: &'a str,
     netlist: &'a str,
-    net: &'a str,
-    place: &'a str,
-    route: &'a str,
-    shape: StripShape,
+    pub(crate) net: &'a str,
+    pub(crate) place: &'a str,
+    pub(crate) route: &'a str,
+    /// The columns of the strip, if they are given.
+    columns: Option<u32>,
+    /// The rows of the strip, if they are given.
+    rows: Option<u32>,
+    tracks: u32,
 }
 
 /// What the options ask for, or why they are refused.
@@ -88,17 +105,49 @@ pub fn paths_of<'a>(given: &Given<'a>) -> Result<LayoutPaths<'a>, &'static str> 
     if given.text("tracks").is_none() {
         return Err(NO_TRACKS);
     }
-    let columns = given.number("columns")?;
-    let rows = given.number("rows")?;
+    let columns = number_in(given, "columns")?;
+    let rows = number_in(given, "rows")?;
     let tracks = given.number("tracks")?;
+    if StripShape::new(columns.unwrap_or(1), rows.unwrap_or(1), tracks).is_none() {
+        return Err(NO_DEVICE);
+    }
     Ok(LayoutPaths {
         arch: given.text("arch").ok_or(NO_FILE)?,
         netlist: given.text("netlist").ok_or(NO_FILE)?,
         net: given.text("packing").ok_or(NO_FILE)?,
         place: given.text("places").ok_or(NO_FILE)?,
         route: given.text("routes").ok_or(NO_FILE)?,
-        shape: StripShape::new(columns, rows, tracks).ok_or(NO_DEVICE)?,
+        columns,
+        rows,
+        tracks,
     })
+}
+
+/// The value of an option with a number, if it is given.
+fn number_in(given: &Given<'_>, name: &str) -> Result<Option<u32>, &'static str> {
+    match given.text(name) {
+        Some(_) => Ok(Some(given.number(name)?)),
+        None => Ok(None),
+    }
+}
+
+/// The size in a `.place` file with this text, in its second line. `None` if it isn't there.
+pub(crate) fn size_in_places(place: &[u8]) -> Option<StripSize> {
+    let (_, rest) = split_line(place);
+    let (line, _) = split_line(rest);
+    size_in(line, " logic blocks")
+}
+
+/// The shape of the strip: a size that isn't given is the one in the `.place` file with this text,
+/// or 1 if that has none, which is a fault of the file.
+fn shape_of(paths: LayoutPaths<'_>, place: &[u8]) -> Option<StripShape> {
+    let (columns, rows) = match size_in_places(place) {
+        Some(size) => (size.columns, size.rows),
+        None => (1, 1),
+    };
+    let columns = paths.columns.unwrap_or(columns);
+    let rows = paths.rows.unwrap_or(rows);
+    StripShape::new(columns, rows, paths.tracks)
 }
 
 /// A file to read.
@@ -155,11 +204,41 @@ fn add_texts<H: Files + AllocGlobal, E: Sink>(
     Ok(())
 }
 
-/// The texts of the layout whose files have these bytes, for a strip of that shape.
-pub(crate) fn texts_of<'t>(
+/// The circuit and the layout that these files describe, as [`laid_circuit`] returns them. Of a
+/// file that is refused the path is written to the teller.
+pub(crate) fn circuit_in<E: Sink>(
+    alloc: Global,
     paths: LayoutPaths<'_>,
+    texts: &[Vec<u8>],
+    teller: &mut E,
+) -> Result<LaidCircuit, Outcome> {
+    let source = source_of(paths, texts)?;
+    let layout_texts = texts_of(paths, texts)?;
+    let laid = laid_circuit(alloc, paths.arch, source, &layout_texts, teller);
+    if let Err(Outcome::LayoutRefused(fault)) = &laid {
+        tell_file(paths, texts, *fault, teller);
+    }
+    laid
+}
+
+/// The netlist among the texts of a layout's files.
+fn source_of<'t>(
+    paths: LayoutPaths<'t>,
     texts: &'t [Vec<u8>],
-) -> Result<LayoutTexts<'t>, Outcome> {
+) -> Result<NetlistSource<'t>, Outcome> {
+    let [arch, netlist, ..] = texts else {
+        return Err(Outcome::NoMemory);
+    };
+    Ok(NetlistSource {
+        path: paths.netlist,
+        text: netlist.as_slice(),
+        arch: arch.as_slice(),
+    })
+}
+
+/// The texts of the layout whose files have these bytes, for a strip of the size that is given, or
+/// else of the one in the `.place` file.
+fn texts_of<'t>(paths: LayoutPaths<'_>, texts: &'t [Vec<u8>]) -> Result<LayoutTexts<'t>, Outcome> {
     let [arch, netlist, net, place, route] = texts else {
         return Err(Outcome::NoMemory);
     };
@@ -168,14 +247,19 @@ pub(crate) fn texts_of<'t>(
         place: place.as_slice(),
         route: route.as_slice(),
     };
-    Ok(LayoutTexts::new(paths.shape, arch.as_slice(), netlist.as_slice(), files))
+    let Some(shape) = shape_of(paths, files.place) else {
+        return Err(Outcome::NoMemory);
+    };
+    Ok(LayoutTexts::new(shape, arch.as_slice(), netlist.as_slice(), files))
 }
 
 /// The circuit and the layout that the texts describe, if the layout implements the circuit.
-/// Otherwise what is wrong is written to the teller; the architecture is named by its path.
+/// Otherwise what is wrong is written to the teller; the architecture and the netlist are named by
+/// their paths.
 pub(crate) fn laid_circuit<E: Sink>(
     alloc: Global,
     arch: &str,
+    source: NetlistSource<'_>,
     texts: &LayoutTexts<'_>,
     teller: &mut E,
 ) -> Result<LaidCircuit, Outcome>
@@ -189,7 +273,7 @@ pub(crate) fn laid_circuit<E: Sink>(
             Err(Outcome::ArchRefused(fault))
         }
         Verdict::NetlistRefused(fault) => {
-            Err(told_refused(alloc, Refusal::BadBlif(fault), teller))
+            Err(told_refused(alloc, source, Refusal::BadBlif(fault), teller))
         }
         Verdict::FilesRefused(fault) => Err(Outcome::LayoutRefused(fault)),
         Verdict::NoMemory => Err(Outcome::NoMemory),

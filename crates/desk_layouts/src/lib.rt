@@ -8,6 +8,7 @@
 pub mod check;
 pub mod configure;
 mod layout_input;
+mod refused_file;
 pub mod strip;
 mod strip_check;
 

@@ -1,13 +1,13 @@
 //! The check of a layout against its netlist, before it is drawn.
-use crate::layout_input::{MAX_READ, laid_circuit};
+use crate::layout_input::{MAX_READ, laid_circuit, size_in_places};
 use arch_file::MAX_TRACKS;
-use desk_common::{FileRole, NO_DEVICE, Outcome, read_file};
+use desk_common::{FileRole, NO_DEVICE, NetlistSource, Outcome, read_file};
 use layout_verdict::{LayoutTexts, StripShape};
-use line_text::{Sink, split_line};
+use line_text::Sink;
 use option_words::Given;
 use std::alloc::Global;
 use std::rt::Files;
-use strip_files::{StripTexts, size_in};
+use strip_files::StripTexts;
 
 /// Why a netlist is refused without its device.
 const NO_TRACKS: &str = "--netlist needs --arch and --tracks";
@@ -79,16 +79,19 @@ fn check_texts<E: Sink>(
     files: StripTexts<'_>,
     teller: &mut E,
 ) -> Result<(), Outcome> {
-    let (_, rest) = split_line(files.place);
-    let (line, _) = split_line(rest);
-    let Some(size) = size_in(line, " logic blocks") else {
+    let Some(size) = size_in_places(files.place) else {
         return Ok(());
     };
     let Some(shape) = StripShape::new(size.columns, size.rows, against.tracks) else {
         return Err(Outcome::NoMemory);
     };
     let texts = LayoutTexts::new(shape, arch, netlist, files);
-    match laid_circuit(alloc, against.arch, &texts, teller) {
+    let source = NetlistSource {
+        path: against.netlist,
+        text: netlist,
+        arch,
+    };
+    match laid_circuit(alloc, against.arch, source, &texts, teller) {
         Ok(laid) => {
             drop(laid);
             Ok(())

@@ -7,6 +7,7 @@
 
 mod overuse;
 pub mod random;
+mod refusals;
 pub mod route;
 mod route_size;
 pub mod route_wishes;

@@ -3,15 +3,16 @@ ghost use Rattle.std.specs.Prelude.{◌≤◌};
 ghost use Rattle.strip_place.specs.declared.placing.TheConstants.{MAX_EFFORT};
 
 use crate::overuse::tell_overuse;
+use crate::refusals::told_unfit;
 use crate::route_size::{Sized, size_for};
 use crate::route_wishes::{GivenSize, RouteWishes, Tracks};
 use crate::routed_table::{Routed, print_routed};
 use crate::silence::Silence;
 use arch_file::ArchError;
-use desk_circuits::warn_of_latches;
+use desk_circuits::warn_of_netlist;
 use desk_common::{
     FileRole, NewFile, Outcome, ResultFile, make_folder, read_file, tell_reply, tell_stale,
-    told_refused, write_arch_fault, write_files,
+    write_arch_fault, write_files,
 };
 use line_text::{MAX_TEXT, Sink, Text, TextError};
 use one_user::{
@@ -63,11 +64,13 @@ fn run_with_arch<H: Files + AllocGlobal, W: Sink, E: Sink>(
         seed: wishes.seed,
         effort: wishes.effort,
     };
-    let outcome = match size_for(rt.alloc(), wishes, arch, request) {
+    let outcome = match size_for(rt.alloc(), wishes.size, arch, request) {
         Ok(Sized::Size(size)) => {
             run_on_size(rt, wishes, arch, request, size, writer, teller, is_told)
         }
-        Ok(Sized::Refused(refusal)) => Err(told_refused(rt.alloc(), refusal, teller)),
+        Ok(Sized::Refused(refusal)) => {
+            Err(told_unfit(rt.alloc(), wishes, arch, request, refusal, teller))
+        }
         Err(error) => Err(told_arch(error, wishes, teller)),
     };
     drop(netlist);
@@ -97,7 +100,7 @@ fn run_on_size<H: Files + AllocGlobal, W: Sink, E: Sink>(
             if is_given_up(&run.outcome) {
                 tell_overuse(rt.alloc(), wishes, arch, request, size, teller);
             }
-            write_run(rt, wishes, size, request, run, writer, teller)
+            write_run(rt, wishes, arch, size, request, run, writer, teller)
         }
         Ok(Trial::NeverRouted) => Err(Outcome::Unrouted),
         Err(error) => Err(told_arch(error, wishes, teller)),
@@ -153,14 +156,14 @@ impl Trial {
     }
 }
 
-/// Reads the netlist that is to be routed, and warns of its latches without a clock.
+/// Reads the netlist that is to be routed, and writes warnings of it.
 fn netlist_of<H: Files + AllocGlobal, E: Sink>(
     rt: &H,
     wishes: RouteWishes<'_>,
     teller: &mut E,
 ) -> Result<SharedText, Outcome> {
     let netlist = read_file(rt, FileRole::Netlist, wishes.netlist, MAX_READ, teller)?;
-    warn_of_latches(rt.alloc(), netlist.as_slice(), teller);
+    warn_of_netlist(rt.alloc(), netlist.as_slice(), teller);
     match SharedText::new(rt.alloc(), Text::new(netlist)) {
         Ok(netlist) => Ok(netlist),
         Err(refused) => {
@@ -203,12 +206,15 @@ fn trial_with<E: Sink>(
 fn write_run<H: Files + AllocGlobal, W: Sink, E: Sink>(
     rt: &H,
     wishes: RouteWishes<'_>,
+    arch: &[u8],
     size: GivenSize,
     request: Request<'_>,
     run: Run,
     writer: &mut W,
     teller: &mut E,
-) -> Result<(), Outcome> {
+) -> Result<(), Outcome>
+    requires { request.effort ≤ MAX_EFFORT }
+{
     let Run { outcome, figures } = run;
     match outcome {
         End::Routed(files) => {
@@ -225,7 +231,9 @@ fn write_run<H: Files + AllocGlobal, W: Sink, E: Sink>(
             saved?;
             Err(outcome)
         }
-        End::Refused(refusal) => Err(told_refused(rt.alloc(), refusal, teller)),
+        End::Refused(refusal) => {
+            Err(told_unfit(rt.alloc(), wishes, arch, request, refusal, teller))
+        }
     }
 }
 

@@ -3,11 +3,11 @@ ghost use Rattle.std.specs.Prelude.{◌≤◌};
 ghost use Rattle.strip_place.specs.declared.placing.TheConstants.{MAX_EFFORT};
 ghost use Rattle.arch_file.specs.declared.arch.TheConstants.{MAX_IO_RAT};
 
-use crate::route_wishes::{GivenSize, RouteWishes, Size, device_size};
+use crate::route_wishes::{GivenSize, Size, device_size};
 use crate::silence::Silence;
 use arch_file::{ArchError, read_arch};
 use grid::{MAX_COLUMNS, MAX_ROWS};
-use one_user::{Counted, OwnDevice, PackedCounts, Request, least_columns, least_side};
+use one_user::{Counted, OwnDevice, PackedCounts, Request, least_columns, least_rows, least_side};
 use std::alloc::Global;
 use tenant_slot::{Misfit, Refusal};
 
@@ -22,13 +22,13 @@ pub(crate) enum Sized {
 /// architecture has a fault or memory runs out.
 pub(crate) fn size_for(
     alloc: Global,
-    wishes: RouteWishes<'_>,
+    asked: Size,
     arch: &[u8],
     request: Request<'_>,
 ) -> Result<Sized, ArchError>
     requires { request.effort ≤ MAX_EFFORT }
 {
-    if let Size::Given(size) = wishes.size {
+    if let Size::Given(size) = asked {
         return Ok(Sized::Size(size));
     }
     let arch = read_arch(alloc, arch, 1)?;
@@ -37,7 +37,7 @@ pub(crate) fn size_for(
     let counted = device.count(request, &mut Silence);
     drop(device);
     match counted? {
-        Counted::Counts(counts) => Ok(least_size(wishes.size, counts, io_rat)),
+        Counted::Counts(counts) => Ok(least_size(asked, counts, io_rat)),
         Counted::Refused(refusal) => Ok(Sized::Refused(refusal)),
     }
 }
@@ -56,6 +56,10 @@ fn least_size(size: Size, counts: PackedCounts, io_rat: u32) -> Sized
             Some(columns) => device_size(columns, rows),
             None => None,
         },
+        Size::LeastRows(columns) => match least_rows(counts, io_rat, columns.min(MAX_COLUMNS)) {
+            Some(rows) => device_size(columns, rows),
+            None => None,
+        },
     };
     match found {
         Some(size) => Sized::Size(size),
@@ -69,6 +73,7 @@ fn misfit_of(size: Size, counts: PackedCounts, io_rat: u32) -> Misfit
 {
     let (columns, rows) = match size {
         Size::LeastColumns(rows) => (MAX_COLUMNS, rows.min(MAX_ROWS)),
+        Size::LeastRows(columns) => (columns.min(MAX_COLUMNS), MAX_ROWS),
         _ => (MAX_ROWS, MAX_ROWS),
     };
     let blocks = (columns * rows) as usize;

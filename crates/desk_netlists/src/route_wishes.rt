@@ -48,14 +48,14 @@ Example: fpgad_desk route --arch my.arch --tracks 8 --columns 10 --rows 10 --eff
         OptionWord {
             name: "columns",
             value_name: "NX",
-            help: "Columns of the device, 1 to 256; without --columns and --rows it is the least square that fits",
+            help: "Columns of the device, 1 to 256; without it the least number that fits, and without --rows too the least square",
             takes: Takes::Number(1, 256),
             default: None,
         },
         OptionWord {
             name: "rows",
             value_name: "NY",
-            help: "Rows of the device, 1 to 64",
+            help: "Rows of the device, 1 to 64; without it the least number that fits",
             takes: Takes::Number(1, 64),
             default: None,
         },
@@ -127,6 +127,8 @@ pub(crate) enum Size {
     LeastSquare,
     /// The least number of columns with that number of rows.
     LeastColumns(u32),
+    /// The least number of rows with that number of columns.
+    LeastRows(u32),
 }
 
 /// The columns and rows of a device.
@@ -157,17 +159,17 @@ pub fn wishes_of<'a>(given: &Given<'a>) -> Result<RouteWishes<'a>, &'static str>
     })
 }
 
-/// The size of the device. With one of --columns and --rows the other one is 9 or 1, as for fpgad.
+/// The size of the device. Without one of --columns and --rows it is the least that fits with the
+/// other one.
 fn size_of(given: &Given<'_>) -> Result<Size, &'static str> {
-    let columns = number_or(given, "columns", 9)?;
-    let rows = number_or(given, "rows", 1)?;
-    let has_columns = given.text("columns").is_some();
-    let has_rows = given.text("rows").is_some();
-    match (given.is_given("least-columns"), has_columns, has_rows) {
-        (true, false, true) => Ok(Size::LeastColumns(rows)),
-        (true, _, _) => Err(NO_ROWS),
-        (false, false, false) => Ok(Size::LeastSquare),
-        (false, _, _) => match device_size(columns, rows) {
+    let columns = number_in(given, "columns")?;
+    let rows = number_in(given, "rows")?;
+    match (columns, rows) {
+        (None, Some(rows)) => Ok(Size::LeastColumns(rows)),
+        _ if given.is_given("least-columns") => Err(NO_ROWS),
+        (None, None) => Ok(Size::LeastSquare),
+        (Some(columns), None) => Ok(Size::LeastRows(columns)),
+        (Some(columns), Some(rows)) => match device_size(columns, rows) {
             Some(size) => Ok(Size::Given(size)),
             None => Err(NO_DEVICE),
         },
@@ -182,11 +184,11 @@ pub(crate) fn device_size(columns: u32, rows: u32) -> Option<GivenSize> {
     Some(GivenSize { columns, rows })
 }
 
-/// The value of an option with a number, or the other number if it isn't given.
-fn number_or(given: &Given<'_>, name: &str, other: u32) -> Result<u32, &'static str> {
+/// The value of an option with a number, if it is given.
+fn number_in(given: &Given<'_>, name: &str) -> Result<Option<u32>, &'static str> {
     match given.text(name) {
-        Some(_) => given.number(name),
-        None => Ok(other),
+        Some(_) => Ok(Some(given.number(name)?)),
+        None => Ok(None),
     }
 }
 

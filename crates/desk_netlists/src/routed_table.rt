@@ -1,5 +1,5 @@
 //! What a routed netlist uses, as lines or as a table.
-use crate::route_wishes::{GivenSize, RouteWishes, Size};
+use crate::route_wishes::{GivenSize, RouteWishes};
 use desk_circuits::{measure, write_numbers, write_path, write_quoted};
 use line_text::{Failed, Sink};
 use one_user::{Figures, write_figures};
@@ -33,9 +33,7 @@ pub(crate) fn print_routed<W: Sink>(
         write_quoted(writer, routed.name)?;
         return write_row(alloc, routed, writer);
     }
-    if !matches!(wishes.size, Size::Given(_)) {
-        write_size(routed.size, writer)?;
-    }
+    write_size(routed.size, writer)?;
     let tracks = Part::Number(routed.figures.tracks);
     write_parts(writer, &[Part::Text("tracks "), tracks, Part::Text("\n")])?;
     write_figures(writer, &routed.figures)?;
@@ -55,7 +53,7 @@ fn write_longest<W: Sink>(alloc: Global, routed: Routed<'_>, writer: &mut W) -> 
     }
 }
 
-/// Prints the size of the device that was taken.
+/// Prints the size of the device.
 fn write_size<W: Sink>(size: GivenSize, writer: &mut W) -> Result<(), Failed> {
     write_parts(
         writer,

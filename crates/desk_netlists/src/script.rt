@@ -16,7 +16,7 @@ pub const TOOL: Program = Program {
     after_help: "\
 A netlist with a line `.`, or of more than 1048576 bytes, is refused with that line and status 3. Any other text is safe:
 appended to a script, it adds one upload of this text and the commands above, and nothing else.
-Each latch without a clock gets a warning on standard error.
+Each latch without a clock gets a warning on standard error, as do an empty netlist, a net called `open`, and tables that drive nothing.
 
 Example: fpgad_desk script --name T --width 2 --seed 1 --effort 50 < t.blif >> my.script",
     options: &[

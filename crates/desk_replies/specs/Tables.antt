@@ -3,6 +3,7 @@ use Rattle.std.specs.Prelude.{ℕ, List, [], ◌∷◌, ◌++◌, codes, decimal
 use Rattle.std.specs.List.{concat}
 use Rattle.device_report.specs.declared.report.Report.{Report}
 use Rattle.device_report.specs.declared.tenancies.TenancyUse.{TenancyUse}
+use Rattle.device_report.specs.Text.{used_text}
 
 abbrev pub line_end : List ℕ
 line_end = codes "\n"
@@ -17,9 +18,9 @@ headings = heading_fields ++ line_end
 abbrev pub row_fields : TenancyUse → List ℕ
 row_fields uses = concat (
     decimal uses.tenancy.id ∷ codes "," ∷ uses.tenancy.name.now ∷ codes "," ∷ decimal uses.tenancy.offset ∷ codes "," ∷ decimal uses.tenancy.width
-    ∷ codes "," ∷ uses.tenancy.state.now ∷ codes "," ∷ decimal uses.blocks.used ∷ codes "," ∷ decimal uses.blocks.there
-    ∷ codes "," ∷ decimal uses.pads.used ∷ codes "," ∷ decimal uses.pads.there ∷ codes "," ∷ decimal uses.across.used ∷ codes "," ∷ decimal uses.across.there
-    ∷ codes "," ∷ decimal uses.up.used ∷ codes "," ∷ decimal uses.up.there ∷ [])
+    ∷ codes "," ∷ uses.tenancy.state.now ∷ codes "," ∷ used_text uses.tenancy uses.blocks ∷ codes "," ∷ decimal uses.blocks.there
+    ∷ codes "," ∷ used_text uses.tenancy uses.pads ∷ codes "," ∷ decimal uses.pads.there ∷ codes "," ∷ used_text uses.tenancy uses.across ∷ codes "," ∷ decimal uses.across.there
+    ∷ codes "," ∷ used_text uses.tenancy uses.up ∷ codes "," ∷ decimal uses.up.there ∷ [])
 
 abbrev pub row_text : TenancyUse → List ℕ
 row_text uses = row_fields uses ++ line_end

@@ -1,18 +1,19 @@
 //! The tool that saves the files which the service printed.
+use crate::outdated::tell_outdated;
 use crate::script_input::{Lines, acts_of, lines_of, replies_of};
 use crate::tenants::save_replies;
 use desk_circuits::print_usages;
 use desk_common::{
     DEVICE, FOLDER, FileRole, Outcome, ResultFile, make_folder, read_file, tell_stale, write_file,
 };
-use line_text::{Failed, NameSet, Sink, Source, read_all};
+use line_text::{Failed, Sink, Source, read_all};
 use option_words::{Given, OptionWord, Program, Takes};
 use printed_replies::Replies;
-use script_replies::{ToldLine, file_of, script_lines, session_names, told_lines, write_told};
+use script_replies::{
+    Account, PrintedFile, ToldLine, accounts_of, script_lines, told_lines, write_told,
+};
 use script_text::Act;
-use std::alloc::Global;
 use std::rt::Files;
-use tenant_slot::FileKind;
 use text_parts::{Part, write_parts};
 
 const NO_FILE: &str = "give a script and a folder";
@@ -22,13 +23,15 @@ pub const TOOL: Program = Program {
     name: "files",
     about: "Saves the result files from what fpgad printed for a script (read from standard input), and prints each line of the script with its reply",
     after_help: "\
-For each name, the last .net, .place and .route file that the service printed is written to the folder. The length in the reply
-says where a file ends, whatever it contains. Each refusal is explained, with advice. The last line counts the served lines, the
+For each name, the .net, .place and .route file that the service printed last for the netlist, the placement and the routing that
+the name has are written to the folder. Standard error names those that are left out because they are of an earlier one: the name
+was evicted or admitted again, or its netlist changed or was withdrawn, packed, placed or routed again. The length in the reply says
+where a file ends, whatever it contains. Each refusal is explained, with advice. The last line counts the served lines, the
 refused lines and the files. The status is 1 if a line was refused. A file left in the folder by an earlier run is named on standard error.
 
 A line for each name counts what the replies say of it: the columns of its last admission, its lines, the refused ones, the jobs that
-began, and the steps for which the operator asked by `op step`. A line after it tells the longest path of its last netlist that was not
-refused, in tables, and, if all three files were printed for it, in wires. With --csv only a table is printed, with a row for each name.
+began, and the steps for which the operator asked by `op step`. A line after it tells the longest path of the netlist that it has,
+in tables, and, if its three files are written, in wires. With --csv only a table is printed, with a row for each name.
 
 Example: fpgad --arch my.arch --tracks 8 --columns 10 < my.script | fpgad_desk files --arch my.arch my.script results",
     options: &[
@@ -114,6 +117,14 @@ fn run_on_lines<H: Files + AllocGlobal, R: Source, W: Sink, E: Sink>(
     }
 }
 
+/// A script's acts with their replies, and what these say of each name.
+#[derive(Clone, Copy)]
+struct Answers<'a, 'p> {
+    acts: &'a [Act<&'a [u8]>],
+    replies: &'a Replies<'a, 'p>,
+    accounts: &'a [Account<'a, 'p>],
+}
+
 /// Reads the replies from the printed text, writes the files and prints the lines.
 fn run_on_texts<H: Files + AllocGlobal, W: Sink, E: Sink>(
     rt: &H,
@@ -126,11 +137,7 @@ fn run_on_texts<H: Files + AllocGlobal, W: Sink, E: Sink>(
     let acts = acts_of(rt.alloc(), lines)?;
     let outcome = match replies_of(rt.alloc(), &acts, printed) {
         Ok(replies) => {
-            let saved = save_files(rt, wishes.folder, &acts, &replies, teller);
-            let outcome = match saved {
-                Ok(files) => print(rt, wishes, lines, &acts, &replies, files, writer, teller),
-                Err(outcome) => Err(outcome),
-            };
+            let outcome = run_on_replies(rt, wishes, lines, &acts, &replies, writer, teller);
             drop(replies);
             outcome
         }
@@ -140,90 +147,108 @@ fn run_on_texts<H: Files + AllocGlobal, W: Sink, E: Sink>(
     outcome
 }
 
-/// Writes the files of all names into the folder, and returns how many they are.
+/// Writes the files and prints the lines, by the acts with their replies.
+fn run_on_replies<H: Files + AllocGlobal, W: Sink, E: Sink>(
+    rt: &H,
+    wishes: FilesWishes<'_>,
+    lines: Lines<'_>,
+    acts: &[Act<&[u8]>],
+    replies: &Replies<'_, '_>,
+    writer: &mut W,
+    teller: &mut E,
+) -> Result<(), Outcome> {
+    let Ok(accounts) = accounts_of(rt.alloc(), acts, replies) else {
+        return Err(Outcome::NoMemory);
+    };
+    let answers = Answers {
+        acts,
+        replies,
+        accounts: &accounts,
+    };
+    let outcome = match save_files(rt, wishes.folder, &accounts, teller) {
+        Ok(files) => print(rt, wishes, lines, answers, files, writer, teller),
+        Err(outcome) => Err(outcome),
+    };
+    drop(accounts);
+    outcome
+}
+
+/// Writes the present files of all names into the folder, and returns how many they are.
 fn save_files<H: Files + AllocGlobal, E: Sink>(
     rt: &H,
     folder: &str,
-    acts: &[Act<&[u8]>],
-    replies: &Replies<'_, '_>,
+    accounts: &[Account<'_, '_>],
     teller: &mut E,
 ) -> Result<u32, Outcome> {
     make_folder(rt, folder, teller)?;
-    let Ok(names) = session_names(rt.alloc(), acts) else {
-        return Err(Outcome::NoMemory);
-    };
-    let saved = save_all(rt, folder, &names, replies, teller);
-    drop(names);
-    saved
-}
-
-/// Writes the files of all names, and returns how many they are.
-fn save_all<H: Files + AllocGlobal, E: Sink>(
-    rt: &H,
-    folder: &str,
-    names: &NameSet<'_>,
-    replies: &Replies<'_, '_>,
-    teller: &mut E,
-) -> Result<u32, Outcome> {
     let mut files = 0u32;
-    for number in 0..names.len() {
-        let saved = save_name(rt, folder, names.name(number), replies, teller)?;
+    for account in accounts {
+        let saved = save_name(rt, folder, *account, teller)?;
         files = files.saturating_add(saved);
     }
     Ok(files)
 }
 
-/// Writes the files of a name, and returns how many they are.
+/// Writes the present files of a name, and returns how many they are.
 fn save_name<H: Files + AllocGlobal, E: Sink>(
     rt: &H,
     folder: &str,
-    name: &[u8],
-    replies: &Replies<'_, '_>,
+    account: Account<'_, '_>,
     teller: &mut E,
 ) -> Result<u32, Outcome> {
-    let Ok(text) = str::from_utf8(name) else {
+    let Ok(name) = str::from_utf8(account.name) else {
         return Ok(0);
     };
-    let mut files = 0u32;
-    for kind in KINDS.iter() {
-        let file = ResultFile {
-            folder,
-            name: text,
-            kind: kind.name(),
-        };
-        match file_of(replies, name, *kind) {
-            Some(bytes) => {
-                write_file(rt, file, bytes, teller)?;
-                files = files.saturating_add(1);
-            }
-            None => tell_stale(rt, file, teller),
-        }
-    }
-    Ok(files)
+    let files = account.files;
+    let net = save_file(rt, file_of(folder, name, "net"), files.net, teller)?;
+    let place = save_file(rt, file_of(folder, name, "place"), files.place, teller)?;
+    let route = save_file(rt, file_of(folder, name, "route"), files.route, teller)?;
+    tell_outdated(account, "not written", teller);
+    Ok(u32::from(net) + u32::from(place) + u32::from(route))
 }
 
-/// The kinds of files that a name may have.
-pub(crate) const KINDS: [FileKind; 3] = [FileKind::Net, FileKind::Place, FileKind::Route];
+/// A file of that kind of a name.
+fn file_of<'a>(folder: &'a str, name: &'a str, kind: &'static str) -> ResultFile<'a> {
+    ResultFile { folder, name, kind }
+}
+
+/// Writes a file if it is present, and returns whether it is.
+fn save_file<H: Files + AllocGlobal, E: Sink>(
+    rt: &H,
+    file: ResultFile<'_>,
+    printed: PrintedFile<'_>,
+    teller: &mut E,
+) -> Result<bool, Outcome> {
+    match printed.text {
+        Some(text) => {
+            write_file(rt, file, text, teller)?;
+            Ok(true)
+        }
+        None => {
+            tell_stale(rt, file, teller);
+            Ok(false)
+        }
+    }
+}
 
 /// Prints the lines beside their replies, and their numbers.
 fn print<H: Files + AllocGlobal, W: Sink, E: Sink>(
     rt: &H,
     wishes: FilesWishes<'_>,
     lines: Lines<'_>,
-    acts: &[Act<&[u8]>],
-    replies: &Replies<'_, '_>,
+    answers: Answers<'_, '_>,
     files: u32,
     writer: &mut W,
     teller: &mut E,
 ) -> Result<(), Outcome> {
-    let Ok(asked) = script_lines(rt.alloc(), lines.text, lines.number, acts) else {
+    let Ok(asked) = script_lines(rt.alloc(), lines.text, lines.number, answers.acts) else {
         return Err(Outcome::NoMemory);
     };
-    let told = told_lines(rt.alloc(), &asked, replies);
+    let told = told_lines(rt.alloc(), &asked, answers.replies);
     drop(asked);
     match told {
         Ok(told) => {
-            let outcome = print_told(rt, wishes, acts, replies, &told, files, writer, teller);
+            let outcome = print_told(rt, wishes, answers, &told, files, writer, teller);
             drop(told);
             outcome
         }
@@ -236,8 +261,7 @@ fn print<H: Files + AllocGlobal, W: Sink, E: Sink>(
 fn print_told<H: Files + AllocGlobal, W: Sink, E: Sink>(
     rt: &H,
     wishes: FilesWishes<'_>,
-    acts: &[Act<&[u8]>],
-    replies: &Replies<'_, '_>,
+    answers: Answers<'_, '_>,
     told: &[ToldLine<'_>],
     files: u32,
     writer: &mut W,
@@ -248,7 +272,9 @@ fn print_told<H: Files + AllocGlobal, W: Sink, E: Sink>(
     if !wishes.is_table {
         write_told(writer, told).or(Err(Outcome::OutputFailed))?;
     }
-    save_told(rt, wishes, acts, replies, told, writer, teller)?;
+    save_replies(rt, wishes.folder, answers.replies, told, teller)?;
+    let printed = print_usages(rt.alloc(), wishes.is_table, answers.accounts, writer);
+    printed.or(Err(Outcome::OutputFailed))?;
     if !wishes.is_table {
         write_summary(writer, served, refused, files).or(Err(Outcome::OutputFailed))?;
     }
@@ -256,28 +282,6 @@ fn print_told<H: Files + AllocGlobal, W: Sink, E: Sink>(
         return Err(Outcome::LinesRefused(refused));
     }
     Ok(())
-}
-
-/// Writes the lines of each name into the folder, and prints what each used.
-fn save_told<H: Files + AllocGlobal, W: Sink, E: Sink>(
-    rt: &H,
-    wishes: FilesWishes<'_>,
-    acts: &[Act<&[u8]>],
-    replies: &Replies<'_, '_>,
-    told: &[ToldLine<'_>],
-    writer: &mut W,
-    teller: &mut E,
-) -> Result<(), Outcome> {
-    let Ok(names) = session_names(rt.alloc(), acts) else {
-        return Err(Outcome::NoMemory);
-    };
-    let mut saved = save_replies(rt, wishes.folder, &names, acts, told, teller);
-    if let Ok(()) = saved {
-        let printed = print_usages(rt.alloc(), wishes.is_table, &names, acts, replies, writer);
-        saved = printed.or(Err(Outcome::OutputFailed));
-    }
-    drop(names);
-    saved
 }
 
 /// Writes the numbers of lines that were served and refused, and of files.

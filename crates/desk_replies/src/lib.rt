@@ -9,12 +9,15 @@
 
 mod device_input;
 pub mod files;
+mod outdated;
+mod page_texts;
 pub mod page_tool;
 pub mod picture;
 pub mod report;
 mod report_paths;
 mod script_input;
 mod size;
+mod states;
 mod tenancy_table;
 mod tenants;
 

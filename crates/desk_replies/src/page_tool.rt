@@ -1,12 +1,13 @@
 //! The tool that prints a page for a browser.
-use crate::files::KINDS;
+use crate::outdated::tell_outdated;
+use crate::page_texts::PageTexts;
 use crate::script_input::{Lines, acts_of, lines_of, replies_of};
 use desk_common::{DEVICE, FileRole, Outcome, read_file};
-use line_text::{Failed, MemorySink, NameSet, Sink, Source, read_all, write_all};
+use line_text::{Failed, Sink, Source, read_all, write_all};
 use option_words::{Given, OptionWord, Program, Takes};
 use page::{PageItem, Viewer, viewer, write_page};
 use printed_replies::Replies;
-use script_replies::{file_of, script_lines, session_names, told_lines, write_told};
+use script_replies::{Account, PrintedFile, accounts_of};
 use script_text::Act;
 use std::alloc::Global;
 use std::rt::Files;
@@ -32,7 +33,8 @@ pub const TOOL: Program = Program {
     about: ABOUT,
     after_help: "\
 The page has the strips with their names, and of each tenancy its placement and routes: zoom with the wheel, drag, search for a net
-or a block, click one to see its driver, its readers and its wires, show the use of channels. It lists refused lines with advice.
+or a block, click one to see its driver, its readers and its wires, show the use of channels. It says the state of each tenancy, and
+the line whose reply tells it last. It lists the refused lines with their numbers, their replies and advice: the first 100 of them.
 The page needs nothing else. A name or a line of the script is never markup in it. NAME.html#TENANCY/NET opens with that net.
 
 Example: fpgad --arch my.arch --tracks 8 --columns 10 < my.script > my.out; fpgad_desk page --arch my.arch my.script < my.out > my.html",
@@ -101,7 +103,14 @@ pub fn run<H: Files + AllocGlobal, R: Source, W: Sink, E: Sink>(
     let lines = lines_of(script.as_slice(), wishes.has_architecture);
     let outcome = match read_all(rt.alloc(), reader) {
         Ok(printed) => {
-            let outcome = print(rt.alloc(), wishes, lines, printed.as_slice(), writer);
+            let outcome = print(
+                rt.alloc(),
+                wishes,
+                lines,
+                printed.as_slice(),
+                writer,
+                teller,
+            );
             drop(printed);
             outcome
         }
@@ -112,17 +121,18 @@ pub fn run<H: Files + AllocGlobal, R: Source, W: Sink, E: Sink>(
 }
 
 /// Prints the page of these lines and what was printed for them.
-fn print<W: Sink>(
+fn print<W: Sink, E: Sink>(
     alloc: Global,
     wishes: PageWishes<'_>,
     lines: Lines<'_>,
     printed: &[u8],
     writer: &mut W,
+    teller: &mut E,
 ) -> Result<(), Outcome> {
     let acts = acts_of(alloc, lines)?;
     let outcome = match replies_of(alloc, &acts, printed) {
         Ok(replies) => {
-            let outcome = print_acts(alloc, wishes, lines, &acts, &replies, writer);
+            let outcome = print_acts(alloc, wishes, lines, &acts, &replies, writer, teller);
             drop(replies);
             outcome
         }
@@ -133,32 +143,24 @@ fn print<W: Sink>(
 }
 
 /// Prints the page of these acts and their replies.
-fn print_acts<W: Sink>(
+fn print_acts<W: Sink, E: Sink>(
     alloc: Global,
     wishes: PageWishes<'_>,
     lines: Lines<'_>,
     acts: &[Act<&[u8]>],
     replies: &Replies<'_, '_>,
     writer: &mut W,
+    teller: &mut E,
 ) -> Result<(), Outcome> {
-    let mut told = MemorySink::new(alloc);
-    let mut device = MemorySink::new(alloc);
-    let outcome = match write_lines(alloc, lines, acts, replies, &mut told) {
+    let mut texts = PageTexts::new(alloc);
+    let outcome = match texts.fill(alloc, lines, acts, replies) {
         Ok(()) => {
-            write_device(wishes, &mut device);
-            print_texts(
-                alloc,
-                acts,
-                replies,
-                told.as_bytes(),
-                device.as_bytes(),
-                writer,
-            )
+            write_device(wishes, &mut texts.device);
+            print_texts(alloc, acts, replies, &texts, writer, teller)
         }
         Err(outcome) => Err(outcome),
     };
-    drop(told);
-    drop(device);
+    drop(texts);
     outcome
 }
 
@@ -182,76 +184,58 @@ fn write_device<W: Sink>(wishes: PageWishes<'_>, writer: &mut W) {
     }
 }
 
-/// Writes the lines of a script with their replies.
-fn write_lines<W: Sink>(
+/// Prints the page of these texts and the present files of all names.
+fn print_texts<W: Sink, E: Sink>(
     alloc: Global,
-    lines: Lines<'_>,
     acts: &[Act<&[u8]>],
     replies: &Replies<'_, '_>,
+    texts: &PageTexts,
     writer: &mut W,
+    teller: &mut E,
 ) -> Result<(), Outcome> {
-    let Ok(asked) = script_lines(alloc, lines.text, lines.number, acts) else {
+    let Ok(accounts) = accounts_of(alloc, acts, replies) else {
         return Err(Outcome::NoMemory);
     };
-    let told = told_lines(alloc, &asked, replies);
-    drop(asked);
-    match told {
-        Ok(told) => {
-            let written = write_told(writer, &told);
-            drop(told);
-            written.or(Err(Outcome::NoMemory))
-        }
-        Err(_) => Err(Outcome::NoMemory),
+    for account in &accounts {
+        tell_outdated(*account, "not shown", teller);
     }
-}
-
-/// Prints the page of these texts and the files of all names.
-fn print_texts<W: Sink>(
-    alloc: Global,
-    acts: &[Act<&[u8]>],
-    replies: &Replies<'_, '_>,
-    told: &[u8],
-    device: &[u8],
-    writer: &mut W,
-) -> Result<(), Outcome> {
-    let Ok(names) = session_names(alloc, acts) else {
-        return Err(Outcome::NoMemory);
-    };
-    let written = write_texts(&names, replies, told, device, writer);
-    drop(names);
+    let written = write_texts(&accounts, texts, writer);
+    drop(accounts);
     written.or(Err(Outcome::OutputFailed))
 }
 
-/// Writes the page: the viewer around the lines, the device's sizes and the files of these names.
+/// Writes the page: the viewer around these texts and the files of these names.
 fn write_texts<W: Sink>(
-    names: &NameSet<'_>,
-    replies: &Replies<'_, '_>,
-    told: &[u8],
-    device: &[u8],
+    accounts: &[Account<'_, '_>],
+    texts: &PageTexts,
     writer: &mut W,
 ) -> Result<(), Failed> {
     let viewer = viewer();
     write_all(writer, viewer.head.as_bytes())?;
-    write_text("lines", b"", told, writer)?;
-    write_text("device", b"", device, writer)?;
-    for number in 0..names.len() {
-        write_files(names.name(number), replies, writer)?;
+    write_text("lines", b"", texts.lines.as_bytes(), writer)?;
+    write_text("refused", b"", texts.refused.as_bytes(), writer)?;
+    write_text("states", b"", texts.states.as_bytes(), writer)?;
+    write_text("device", b"", texts.device.as_bytes(), writer)?;
+    for account in accounts {
+        let files = account.files;
+        write_file("net", account.name, files.net, writer)?;
+        write_file("place", account.name, files.place, writer)?;
+        write_file("route", account.name, files.route, writer)?;
     }
     write_all(writer, viewer.tail.as_bytes())
 }
 
-/// Writes the files of a name.
-fn write_files<W: Sink>(
+/// Writes a file of a name, if it is present.
+fn write_file<W: Sink>(
+    kind: &str,
     name: &[u8],
-    replies: &Replies<'_, '_>,
+    file: PrintedFile<'_>,
     writer: &mut W,
 ) -> Result<(), Failed> {
-    for kind in KINDS.iter() {
-        if let Some(text) = file_of(replies, name, *kind) {
-            write_text(kind.name(), name, text, writer)?;
-        }
+    match file.text {
+        Some(text) => write_text(kind, name, text, writer),
+        None => Ok(()),
     }
-    Ok(())
 }
 
 /// Writes one text of a name, without a viewer around it.

@@ -9,7 +9,7 @@ use device_lines::DeviceSize;
 use device_report::{Report, write_report};
 use line_text::{Sink, Source, read_all};
 use option_words::{Given, OptionWord, Program, Takes};
-use script_replies::Replies;
+use script_replies::{Account, Replies, accounts_of};
 use script_text::Act;
 use std::alloc::Global;
 use std::rt::Files;
@@ -31,10 +31,12 @@ pub const TOOL: Program = Program {
     name: "report",
     about: ABOUT,
     after_help: "\
-For each tenancy: how much of its strip it uses. For the device: its used, guard and free columns, the widest strip that
-`op admit` would accept now, and the fullest channels. With --csv only the tenancies are printed: a line of headings, and a line
-for each of them. With --script, which names the script whose output is read, also the longest path of the last netlist of each
-tenancy that was not refused: in tables, and, if all three files were printed for it, in wires; or that some tables form a loop.
+For each tenancy: how many of its strip's logic blocks, pads and wires it uses. The wires `across` are those of the channels above
+rows (CHANX), and `up` those of the channels beside columns (CHANY). A tenancy that is not Routed owns nothing, and has `-` there.
+For the device: its used, guard and free columns, the widest strip that `op admit` would accept now, and the fullest channels.
+With --csv only the tenancies are printed: a line of headings, and a line for each of them. With --script, which names the script
+whose output is read, also the longest path of the netlist that each tenancy has: in tables, and, if its three files were printed,
+in wires; or that some tables form a loop.
 
 Example: fpgad --tracks 8 --columns 10 --rows 8 < my.script | fpgad_desk report --tracks 8 --columns 10 --rows 8",
     options: OPTIONS,
@@ -187,7 +189,7 @@ fn print_plain<W: Sink>(
     written.or(Err(Outcome::OutputFailed))
 }
 
-/// Prints a report with the longest path of each tenancy's last netlist.
+/// Prints a report with the longest path of each tenancy's netlist.
 fn print_with_paths<W: Sink>(
     alloc: Global,
     is_table: bool,
@@ -196,10 +198,26 @@ fn print_with_paths<W: Sink>(
     replies: &Replies<'_, '_>,
     writer: &mut W,
 ) -> Result<(), Outcome> {
+    let Ok(accounts) = accounts_of(alloc, acts, replies) else {
+        return Err(Outcome::NoMemory);
+    };
+    let outcome = print_accounts(alloc, is_table, report, &accounts, writer);
+    drop(accounts);
+    outcome
+}
+
+/// Prints a report with the longest path of each tenancy's netlist, by these accounts.
+fn print_accounts<W: Sink>(
+    alloc: Global,
+    is_table: bool,
+    report: &Report<'_>,
+    accounts: &[Account<'_, '_>],
+    writer: &mut W,
+) -> Result<(), Outcome> {
     if is_table {
-        let written = write_path_table(alloc, report, acts, replies, writer);
+        let written = write_path_table(alloc, report, accounts, writer);
         return written.or(Err(Outcome::OutputFailed));
     }
     print_plain(false, report, writer)?;
-    write_paths(alloc, report, acts, replies, writer).or(Err(Outcome::OutputFailed))
+    write_paths(alloc, report, accounts, writer).or(Err(Outcome::OutputFailed))
 }

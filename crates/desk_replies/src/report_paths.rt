@@ -1,27 +1,25 @@
-//! The longest path of each tenancy's last netlist, for the report of a device.
+//! The longest path of each tenancy's netlist, for the report of a device.
 use crate::tenancy_table::{write_fields, write_heading_fields};
-use desk_circuits::{last_circuit, write_longest, write_path};
+use desk_circuits::{MeasuredCircuit, present_circuit, write_longest, write_path};
 use device_report::Report;
 use line_text::{Failed, Sink};
-use script_replies::Replies;
-use script_text::Act;
+use script_replies::Account;
 use std::alloc::Global;
 use text_parts::{Part, write_parts};
 
 /// The headings of the columns with the longest path.
 const PATH_HEADINGS: &str = ",longest_path,longest_path_wires\n";
 
-/// Writes a line for each tenancy of a report: the longest path of its last netlist, by the replies
-/// to a script. A tenancy without a netlist has no line.
+/// Writes a line for each tenancy of a report: the longest path of its netlist, by the accounts of
+/// a script. A tenancy without a netlist has no line.
 pub(crate) fn write_paths<W: Sink>(
     alloc: Global,
     report: &Report<'_>,
-    acts: &[Act<&[u8]>],
-    replies: &Replies<'_, '_>,
+    accounts: &[Account<'_, '_>],
     writer: &mut W,
 ) -> Result<(), Failed> {
     for uses in &report.tenancies {
-        let circuit = last_circuit(alloc, acts, replies, uses.tenancy.name);
+        let circuit = circuit_of(alloc, accounts, uses.tenancy.name);
         let written = write_longest(writer, uses.tenancy.name, &circuit);
         drop(circuit);
         written?;
@@ -29,23 +27,32 @@ pub(crate) fn write_paths<W: Sink>(
     Ok(())
 }
 
-/// Writes what the tenancies of a report use as a table, with the longest path of the last netlist
-/// of each.
+/// Writes what the tenancies of a report use as a table, with the longest path of the netlist of
+/// each.
 pub(crate) fn write_path_table<W: Sink>(
     alloc: Global,
     report: &Report<'_>,
-    acts: &[Act<&[u8]>],
-    replies: &Replies<'_, '_>,
+    accounts: &[Account<'_, '_>],
     writer: &mut W,
 ) -> Result<(), Failed> {
     write_heading_fields(writer)?;
     write_parts(writer, &[Part::Text(PATH_HEADINGS)])?;
     for uses in &report.tenancies {
         write_fields(writer, uses)?;
-        let circuit = last_circuit(alloc, acts, replies, uses.tenancy.name);
+        let circuit = circuit_of(alloc, accounts, uses.tenancy.name);
         let written = write_path(writer, &circuit);
         drop(circuit);
         written?;
     }
     Ok(())
+}
+
+/// The circuit of the netlist that a name has. `None` if it has no netlist, or if memory runs out.
+fn circuit_of(alloc: Global, accounts: &[Account<'_, '_>], name: &[u8]) -> Option<MeasuredCircuit> {
+    for account in accounts {
+        if account.name == name {
+            return present_circuit(alloc, account.files);
+        }
+    }
+    None
 }

@@ -3,7 +3,7 @@ ghost use Rattle.std.specs.Prelude.{◌≡◌, flat_map};
 ghost use Rattle.line_text.specs.Writing.{Writes};
 ghost use Rattle.desk_replies.specs.Tables.{heading_fields, headings, line_end, row_fields, row_text, table_text};
 
-use device_report::{Report, TenancyUse};
+use device_report::{Report, TenancyUse, used_part};
 use line_text::{Failed, Sink, write_all};
 use text_parts::{Part, write_parts};
 
@@ -63,7 +63,7 @@ fn write_row<K: Sink>(sink: &mut K, uses: &TenancyUse<'_>) -> Result<(), Failed>
     end_line(sink)
 }
 
-/// Writes the fields of a tenancy's row.
+/// Writes the fields of a tenancy's row; `-` for what a tenancy uses that isn't routed.
 pub(crate) fn write_fields<K: Sink>(sink: &mut K, uses: &TenancyUse<'_>) -> Result<(), Failed>
     ensures { Writes K.contents K.has_failed sink.old sink.new (row_fields uses.now) result }
 {
@@ -80,19 +80,19 @@ pub(crate) fn write_fields<K: Sink>(sink: &mut K, uses: &TenancyUse<'_>) -> Resu
             Part::Text(","),
             Part::Bytes(uses.tenancy.state),
             Part::Text(","),
-            Part::Long(uses.blocks.used as u64),
+            used_part(&uses.tenancy, uses.blocks),
             Part::Text(","),
             Part::Number(uses.blocks.there),
             Part::Text(","),
-            Part::Long(uses.pads.used as u64),
+            used_part(&uses.tenancy, uses.pads),
             Part::Text(","),
             Part::Number(uses.pads.there),
             Part::Text(","),
-            Part::Long(uses.across.used as u64),
+            used_part(&uses.tenancy, uses.across),
             Part::Text(","),
             Part::Number(uses.across.there),
             Part::Text(","),
-            Part::Long(uses.up.used as u64),
+            used_part(&uses.tenancy, uses.up),
             Part::Text(","),
             Part::Number(uses.up.there),
         ],

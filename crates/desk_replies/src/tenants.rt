@@ -1,8 +1,8 @@
 //! What each name asked for and was answered: a file of its lines.
 use desk_common::{Outcome, ResultFile, write_file};
-use line_text::{MemorySink, NameSet, Sink};
-use script_replies::{ToldLine, is_own, write_told};
-use script_text::Act;
+use line_text::{MemorySink, Sink};
+use printed_replies::Replies;
+use script_replies::{ToldLine, write_told};
 use std::alloc::{AllocError, Global};
 use std::rt::Files;
 
@@ -10,23 +10,24 @@ use std::rt::Files;
 pub(crate) fn save_replies<H: Files + AllocGlobal, E: Sink>(
     rt: &H,
     folder: &str,
-    names: &NameSet<'_>,
-    acts: &[Act<&[u8]>],
+    replies: &Replies<'_, '_>,
     told: &[ToldLine<'_>],
     teller: &mut E,
 ) -> Result<(), Outcome> {
+    let names = replies.names();
     for number in 0..names.len() {
-        save_name(rt, folder, names.name(number), acts, told, teller)?;
+        let places = replies.places_of(number);
+        save_name(rt, folder, names.name(number), places, told, teller)?;
     }
     Ok(())
 }
 
-/// Writes the file of a name's lines with their replies.
+/// Writes the file of a name's lines, which are at these places, with their replies.
 fn save_name<H: Files + AllocGlobal, E: Sink>(
     rt: &H,
     folder: &str,
     name: &[u8],
-    acts: &[Act<&[u8]>],
+    places: &[usize],
     told: &[ToldLine<'_>],
     teller: &mut E,
 ) -> Result<(), Outcome> {
@@ -38,7 +39,7 @@ fn save_name<H: Files + AllocGlobal, E: Sink>(
         name: text,
         kind: "replies",
     };
-    match own_text(rt.alloc(), name, acts, told) {
+    match own_text(rt.alloc(), places, told) {
         Ok(lines) => {
             let written = write_file(rt, file, lines.as_bytes(), teller);
             drop(lines);
@@ -48,14 +49,13 @@ fn save_name<H: Files + AllocGlobal, E: Sink>(
     }
 }
 
-/// The lines of a name with their replies, as a text.
+/// The lines at these places with their replies, as a text.
 fn own_text(
     alloc: Global,
-    name: &[u8],
-    acts: &[Act<&[u8]>],
+    places: &[usize],
     told: &[ToldLine<'_>],
 ) -> Result<MemorySink, AllocError> {
-    let own = own_lines(alloc, name, acts, told)?;
+    let own = own_lines(alloc, places, told)?;
     let mut text = MemorySink::new(alloc);
     let written = write_told(&mut text, &own);
     drop(own);
@@ -68,17 +68,16 @@ fn own_text(
     }
 }
 
-/// The lines of a name with their replies.
+/// The lines at these places with their replies.
 fn own_lines<'a>(
     alloc: Global,
-    name: &[u8],
-    acts: &[Act<&[u8]>],
+    places: &[usize],
     told: &[ToldLine<'a>],
 ) -> Result<Vec<ToldLine<'a>>, AllocError> {
     let mut own = Vec::new(alloc);
-    for (act, line) in acts.iter().zip(told.iter()) {
-        if is_own(act, name) {
-            own.push(*line)?;
+    for place in places {
+        if *place < told.len() {
+            own.push(told[*place])?;
         }
     }
     Ok(own)

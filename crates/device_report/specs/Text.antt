@@ -1,13 +1,24 @@
 -- The report as a text.
-use Rattle.std.specs.Prelude.{ℕ, List, [], ◌∷◌, ◌++◌, codes, decimal, flat_map, Option, Some, None}
+use Rattle.std.specs.Prelude.{ℕ, List, [], ◌∷◌, ◌++◌, codes, decimal, flat_map, Bool, if◌then◌else◌, Option, Some, None}
 use Rattle.std.specs.List.{concat}
+use Rattle.std.specs.Str.{bytes_eq}
+use Rattle.device_lines.specs.declared.tenancy.Tenancy.{Tenancy}
 use Rattle.device_report.specs.declared.channels.ChannelDirection.{ChannelDirection}
 use Rattle.device_report.specs.declared.channels.ChannelDirection.TheVariants.{Across, Up}
 use Rattle.device_report.specs.declared.channels.ChannelUse.{ChannelUse}
 use Rattle.device_report.specs.declared.columns.ColumnUse.{ColumnUse}
 use Rattle.device_report.specs.declared.report.Report.{Report}
+use Rattle.device_report.specs.declared.tenancies.ResourceUse.{ResourceUse}
 use Rattle.device_report.specs.declared.tenancies.TenancyUse.{TenancyUse}
 use Rattle.device_report.specs.declared.widest.Room.{Room}
+
+-- a tenancy in the state Routed: no other one owns anything
+abbrev pub is_routed : Tenancy → Bool
+is_routed tenancy = bytes_eq tenancy.state.now (codes "Routed")
+
+-- the number of resources of one kind that it uses; `-` if it isn't routed
+abbrev pub used_text : Tenancy → ResourceUse → List ℕ
+used_text tenancy resources = if is_routed tenancy then decimal resources.used else codes "-"
 
 -- the line of a tenancy: its id, its name, its strip's offset and width, its state, and for each
 -- kind the numbers of used and of all
@@ -15,10 +26,10 @@ abbrev pub tenancy_line : TenancyUse → List ℕ
 tenancy_line uses = concat (
     codes "tenancy " ∷ decimal uses.tenancy.id ∷ codes " " ∷ uses.tenancy.name.now
     ∷ codes " offset " ∷ decimal uses.tenancy.offset ∷ codes " width " ∷ decimal uses.tenancy.width ∷ codes " " ∷ uses.tenancy.state.now
-    ∷ codes " blocks " ∷ decimal uses.blocks.used ∷ codes "/" ∷ decimal uses.blocks.there
-    ∷ codes " pads " ∷ decimal uses.pads.used ∷ codes "/" ∷ decimal uses.pads.there
-    ∷ codes " across " ∷ decimal uses.across.used ∷ codes "/" ∷ decimal uses.across.there
-    ∷ codes " up " ∷ decimal uses.up.used ∷ codes "/" ∷ decimal uses.up.there ∷ codes "\n" ∷ [])
+    ∷ codes " blocks " ∷ used_text uses.tenancy uses.blocks ∷ codes "/" ∷ decimal uses.blocks.there
+    ∷ codes " pads " ∷ used_text uses.tenancy uses.pads ∷ codes "/" ∷ decimal uses.pads.there
+    ∷ codes " across " ∷ used_text uses.tenancy uses.across ∷ codes "/" ∷ decimal uses.across.there
+    ∷ codes " up " ∷ used_text uses.tenancy uses.up ∷ codes "/" ∷ decimal uses.up.there ∷ codes "\n" ∷ [])
 
 -- the line of columns
 abbrev pub columns_line : ℕ → ColumnUse → List ℕ

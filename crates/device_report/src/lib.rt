@@ -4,7 +4,8 @@
 //! A [`Report`] has for each tenancy how many of its strip's blocks, pads and wires are used; for
 //! the device how many columns are used, are guard columns and are free, the widest strip that
 //! would be admitted now, and the ten fullest channels. [`write_report`] writes it to a
-//! [`line_text::Sink`], in small pieces, so the sink should have a buffer.
+//! [`line_text::Sink`], in small pieces, so the sink should have a buffer. Only a routed tenancy
+//! owns anything, so `-` is written for what another one uses.
 //!
 //! It is proved that each number is the count over what was read, that the widest strip is the
 //! widest that fits by the service's own rule, that the channels are the first ten of all, the
@@ -22,5 +23,5 @@ pub use channels::{ChannelDirection, ChannelUse, MAX_SHOWN};
 pub use columns::ColumnUse;
 pub use report::Report;
 pub use tenancies::{ResourceUse, TenancyUse};
-pub use text::{write_channel, write_report};
+pub use text::{used_part, write_channel, write_report};
 pub use widest::Room;

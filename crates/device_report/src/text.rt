@@ -1,14 +1,16 @@
 //! The report as a text.
 ghost use Rattle.std.specs.Prelude.{◌≡◌, flat_map};
 ghost use Rattle.line_text.specs.Writing.{Writes};
-ghost use Rattle.device_report.specs.Text.{channel_line, channel_word, columns_line, report_text, tenancy_line, widest_line};
+ghost use Rattle.text_parts.specs.Parts.{bytes_of_part};
+ghost use Rattle.device_report.specs.Text.{channel_line, channel_word, columns_line, report_text, tenancy_line, used_text, widest_line};
 
 use crate::channels::{ChannelDirection, ChannelUse};
 use crate::columns::ColumnUse;
 use crate::report::Report;
-use crate::tenancies::TenancyUse;
+use crate::tenancies::{ResourceUse, TenancyUse};
 use crate::widest::Room;
-use line_text::{Failed, Sink};
+use device_lines::Tenancy;
+use line_text::{Failed, Sink, is_word};
 use text_parts::{Part, write_parts};
 
 /// Writes a report: one line for each tenancy, as in `op list`, with what it uses, a line of
@@ -63,24 +65,36 @@ fn write_tenancy<K: Sink>(sink: &mut K, uses: &TenancyUse<'_>) -> Result<(), Fai
             Part::Text(" "),
             Part::Bytes(uses.tenancy.state),
             Part::Text(" blocks "),
-            Part::Long(uses.blocks.used as u64),
+            used_part(&uses.tenancy, uses.blocks),
             Part::Text("/"),
             Part::Number(uses.blocks.there),
             Part::Text(" pads "),
-            Part::Long(uses.pads.used as u64),
+            used_part(&uses.tenancy, uses.pads),
             Part::Text("/"),
             Part::Number(uses.pads.there),
             Part::Text(" across "),
-            Part::Long(uses.across.used as u64),
+            used_part(&uses.tenancy, uses.across),
             Part::Text("/"),
             Part::Number(uses.across.there),
             Part::Text(" up "),
-            Part::Long(uses.up.used as u64),
+            used_part(&uses.tenancy, uses.up),
             Part::Text("/"),
             Part::Number(uses.up.there),
             Part::Text("\n"),
         ],
     )
+}
+
+/// The number of resources of one kind that a tenancy uses, as a part of a text; `-` if it isn't
+/// routed, since only a routed tenancy owns anything.
+pub fn used_part(tenancy: &Tenancy<'_>, resources: ResourceUse) -> Part<'static>
+    ensures { bytes_of_part result ≡ used_text tenancy.now resources }
+{
+    if is_word(tenancy.state, "Routed") {
+        Part::Long(resources.used as u64)
+    } else {
+        Part::Text("-")
+    }
 }
 
 /// Writes the line of columns.

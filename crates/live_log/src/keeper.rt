@@ -53,12 +53,7 @@ impl<'l> Keeper<'l> {
     }
 
     /// Notes a line that is of no name's session.
-    fn note_other(
-        &mut self,
-        tag: &[u8],
-        said: &'l [u8],
-        reply: &[u8],
-    ) -> Result<(), AllocError>
+    fn note_other(&mut self, tag: &[u8], said: &'l [u8], reply: &[u8]) -> Result<(), AllocError>
         ensures { OnOk result (length self.new.marks.lines.items
             ≡ length self.old.marks.lines.items + 1) }
     {

@@ -3,3 +3,5 @@ mod Raising
 mod Starting
 mod Ending
 mod Tracing
+mod Marks
+mod Looping

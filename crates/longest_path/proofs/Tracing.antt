@@ -12,7 +12,7 @@ use Rattle.longest_path.specs.Tracing.{CanTrace, IsThrough, Leads, NoneLeads}
 use Rattle.std.proofs.lemmas.Option.{same_Some, slice_get_within}
 
 -- a way with one table more at its beginning
-extend : (tables : List LookupTable) (net from to : ℕ) (through : List LookupTable) (table : LookupTable) → IsWay tables net through to → IsTable tables table → table.output ≡ net
+pub extend : (tables : List LookupTable) (net from to : ℕ) (through : List LookupTable) (table : LookupTable) → IsWay tables net through to → IsTable tables table → table.output ≡ net
     → IsIn table.inputs from → IsWay tables from (through ++ table ∷ []) to
 extend tables net from to [] table way is drives reads = (is, drives ∙ way, (from, reads, refl))
 extend tables net from to (first ∷ others) table way is drives reads =

@@ -4,3 +4,4 @@ pub mod Passes
 pub mod Settled
 pub mod Ends
 pub mod Tracing
+pub mod Lasting

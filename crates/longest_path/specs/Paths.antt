@@ -28,6 +28,15 @@ IsWay tables from (table ∷ others) to =
 abbrev pub HasLoop : List LookupTable → Type 0
 HasLoop tables = (net : ℕ) × (table : LookupTable) × (others : List LookupTable) × IsWay tables net (table ∷ others) net
 
+-- the tables of these numbers form a loop: a way leads through them, the last one first, back to
+-- the net at which it begins
+pub record IsLoop (tables : List LookupTable) (numbers : List ℕ) : Type 0 where
+  pub net : ℕ
+  pub through : List LookupTable
+  pub some : 0 < length numbers
+  pub at : AreAt tables numbers through
+  pub way : IsWay tables net through net
+
 -- the nets at which paths begin: inputs, and the outputs of latches
 abbrev pub starts_of : Circuit → List ℕ
 starts_of circuit = circuit.inputs ++ map (λ latch. latch.output) circuit.latches

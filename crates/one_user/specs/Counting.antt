@@ -27,9 +27,13 @@ pub record HasRoom (counts : PackedCounts) (io_rat columns rows : ℕ) : Type 0 
   pub blocks : counts.clusters ≤ columns * rows
   pub pads : counts.pads ≤ 2 * columns * io_rat
 
--- with one side less than that no square has room, and with one column less no device of these rows
+-- with one side less than that no square has room; with one column less no device of these rows,
+-- and with one row less no device of these columns
 abbrev pub NoSquareBelow : PackedCounts → ℕ → ℕ → Type 0
 NoSquareBelow counts io_rat limit = (side : ℕ) → 1 ≤ side → side < limit → HasRoom counts io_rat side side → ⊥
 
 abbrev pub NoColumnsBelow : PackedCounts → ℕ → ℕ → ℕ → Type 0
 NoColumnsBelow counts io_rat rows limit = (columns : ℕ) → 1 ≤ columns → columns < limit → HasRoom counts io_rat columns rows → ⊥
+
+abbrev pub NoRowsBelow : PackedCounts → ℕ → ℕ → ℕ → Type 0
+NoRowsBelow counts io_rat columns limit = (rows : ℕ) → 1 ≤ rows → rows < limit → HasRoom counts io_rat columns rows → ⊥

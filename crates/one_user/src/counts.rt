@@ -2,7 +2,7 @@
 ghost use Rattle.std.specs.Prelude.{◌+◌, ◌≡◌, ◌≤◌, ◌↔◌, IfOk, IsTrue, MatchOption};
 ghost use Rattle.arch_file.specs.declared.arch.TheConstants.{MAX_IO_RAT};
 ghost use Rattle.grid.specs.declared.TheConstants.{MAX_COLUMNS, MAX_ROWS};
-ghost use Rattle.one_user.specs.Counting.{HasRoom, IsCounted, NoColumnsBelow, NoSquareBelow};
+ghost use Rattle.one_user.specs.Counting.{HasRoom, IsCounted, NoColumnsBelow, NoRowsBelow, NoSquareBelow};
 ghost use Rattle.one_user.specs.Outcomes.{task_on};
 ghost use Rattle.one_user.specs.Steps.{IsReadyToPack, IsReadyToUpload, task_in};
 
@@ -88,6 +88,22 @@ pub fn least_columns(counts: PackedCounts, io_rat: u32, rows: u32) -> Option<u32
     for columns in 1..257 {
         if has_room(counts, io_rat, columns, rows) {
             return Some(columns);
+        }
+    }
+    None
+}
+
+/// Returns the least number of rows, at most 64, with which a device of these columns has room for
+/// a packing with these counts, with `io_rat` pads at each end of a column. `None` if none has.
+pub fn least_rows(counts: PackedCounts, io_rat: u32, columns: u32) -> Option<u32>
+    requires pads { io_rat ≤ MAX_IO_RAT }
+    requires columns { columns ≤ MAX_COLUMNS }
+    ensures { MatchOption result (NoRowsBelow counts io_rat columns (MAX_ROWS + 1))
+        (λ rows. HasRoom counts io_rat columns rows × NoRowsBelow counts io_rat columns rows) }
+{
+    for rows in 1..65 {
+        if has_room(counts, io_rat, columns, rows) {
+            return Some(rows);
         }
     }
     None

@@ -5,8 +5,8 @@
 //!   outcome: the three files, how the routing ended without routes, or why the netlist is refused.
 //!   It writes one line for each step to a [`line_text::Sink`].
 //! - [`Figures`] are what the routed circuit uses of the device; [`write_figures`] writes them.
-//! - [`OwnDevice::count`] packs a netlist and counts its blocks; [`least_side`] and
-//!   [`least_columns`] return the least device that has room for them.
+//! - [`OwnDevice::count`] packs a netlist and counts its blocks; [`least_side`],
+//!   [`least_columns`] and [`least_rows`] return the least device that has room for them.
 //! - [`OwnDevice::crowding`] and [`crowding_with`] return where a routing that was given up is
 //!   overused: a [`Crowding`] with the most overused nodes and the nets on them;
 //!   [`write_crowding`] writes it.
@@ -36,7 +36,7 @@ mod steps;
 mod table;
 mod telling;
 
-pub use counts::{Counted, least_columns, least_side};
+pub use counts::{Counted, least_columns, least_rows, least_side};
 pub use crowding::{CrowdedNode, Crowding};
 pub use crowding_text::write_crowding;
 pub use device::{OwnDevice, Request};

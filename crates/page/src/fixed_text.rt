@@ -1,8 +1,11 @@
 //! The fixed text of the page: its elements, its styles and its script.
 //!
-//! The script reads the hidden elements of class `data`: of each name its `net`, `place` and
-//! `route` file, and with no name `lines`, a script's lines with their replies, and `device`, its
-//! columns and tracks. It writes names by `textContent` alone, never as markup.
+//! The script reads the hidden elements of class `data`. Of each name: its `net`, `place` and
+//! `route` file. With no name: `lines`, a script's lines with their replies; `refused`, those that
+//! are refused, in four lines each (the line's number, the line, its reply, and what may be done);
+//! `states`, a line for each name with its last state and the number of the line with that reply;
+//! and `device`, its columns and tracks. The script writes names by `textContent` alone, never as
+//! markup.
 use crate::page::Viewer;
 
 /// The fixed text around the texts that are shown.
@@ -21,7 +24,8 @@ body{margin:0;font:14px sans-serif;color:#222;display:flex;flex-direction:column
 header,nav{padding:6px 10px;background:#f4f6f9;border-bottom:1px solid #ccd}
 nav button{margin-right:4px}button.on{background:#1f77b4;color:#fff}
 #device{position:relative;height:34px;background:#fff;border:1px solid #99a;margin-top:4px}
-#device div{position:absolute;top:0;bottom:0;background:#dbe8f7;border:1px solid #1f77b4;overflow:hidden;cursor:pointer;padding:2px;box-sizing:border-box;white-space:nowrap}
+#device div{position:absolute;top:0;bottom:0;background:#eef0f3;border:1px dashed #99a;overflow:hidden;cursor:pointer;padding:2px;box-sizing:border-box;white-space:nowrap}
+#device div.Routed{background:#dbe8f7;border:1px solid #1f77b4}#device div.Unrouted{background:#fbe0e0;border:1px dashed #b00020}
 main{flex:1;display:flex;min-height:0}#view{flex:1;position:relative;min-width:0}canvas{position:absolute;inset:0;width:100%;height:100%}
 aside{width:320px;overflow:auto;padding:8px 10px;border-left:1px solid #ccd;font-size:13px}
 aside h2{font-size:15px;margin:8px 0 4px}aside pre{white-space:pre-wrap;margin:0}
@@ -40,6 +44,7 @@ const TAIL: &str = "<script>
 const $ = id => document.getElementById(id);
 const LF = String.fromCharCode(10);
 const lines = text => text.split(LF);
+const count = (n, word) => n + ' ' + word + (n === 1 ? '' : 's');
 const make = (tag, text, kind) => { const e = document.createElement(tag); e.textContent = text; if (kind) e.className = kind; return e; };
 const texts = new Map();
 for (const pre of document.querySelectorAll('pre.data')) {
@@ -51,6 +56,10 @@ const general = texts.get('') || new Map();
 texts.delete('');
 const limits = new Map(lines(general.get('device') || '').filter(l => l).map(l => l.split(' ')));
 const trackCount = Number(limits.get('tracks') || 0);
+// The last state of a name by the replies, and the number of that line.
+const states = new Map(lines(general.get('states') || '').filter(l => l).map(l => { const [name, line, word] = l.split(' '); return [name, { word, line }]; }));
+const stateOf = name => states.get(name) || null;
+const stateText = state => 'state ' + state.word + ' (line ' + state.line + ')';
 
 // The blocks of a .net file, with their BLEs.
 function readNet(text) {
@@ -99,7 +108,8 @@ function readTenancy(name, kinds) {
   const size = readPlaces(kinds.get('place') || '', blocks);
   const nets = readRoutes(kinds.get('route') || '');
   const at = new Map();
-  blocks.forEach((b, i) => at.set(b.x + ',' + b.y + ',' + (b.kind === 'clb' ? '' : b.s), i));
+  const isPlaced = !!kinds.get('place'), isRouted = !!kinds.get('route');
+  if (isPlaced) blocks.forEach((b, i) => at.set(b.x + ',' + b.y + ',' + (b.kind === 'clb' ? '' : b.s), i));
   const use = new Map(); let tracks = trackCount;
   for (const net of nets) {
     net.driver = -1; net.readers = new Set(); net.wires = new Set();
@@ -117,7 +127,7 @@ function readTenancy(name, kinds) {
     if (net.isGlobal && net.ends.length) { net.driver = net.ends[0]; net.readers = new Set(net.ends.slice(1)); }
   }
   const byName = new Map(nets.map((n, i) => [n.name, i]));
-  return { name, blocks, globals, size, nets, at, use, tracks, byName };
+  return { name, blocks, globals, size, nets, at, use, tracks, byName, isPlaced, isRouted, state: stateOf(name) };
 }
 const tenancies = [];
 for (const [name, kinds] of texts) if (kinds.has('net')) tenancies.push(readTenancy(name, kinds));
@@ -139,13 +149,24 @@ const strips = readStrips(general.get('lines') || '');
 let columns = Number(limits.get('columns') || 0);
 for (const s of strips.values()) columns = Math.max(columns, s.offset + s.width);
 for (const [name, s] of strips) {
-  const box = make('div', name); box.title = name + ': columns ' + (s.offset + 1) + ' to ' + (s.offset + s.width);
+  const state = stateOf(name), box = make('div', state ? name + ' ' + state.word : name, state ? state.word : '');
+  box.title = name + ': columns ' + (s.offset + 1) + ' to ' + (s.offset + s.width) + (state ? ', ' + stateText(state) : '');
   box.style.left = 100 * s.offset / columns + '%'; box.style.width = 100 * s.width / columns + '%';
   box.onclick = () => { const i = tenancies.findIndex(t => t.name === name); if (i >= 0) show(i); };
   $('device').append(box);
 }
 if (!strips.size) $('device').hidden = true;
-$('summary').textContent = strips.size + ' strips on ' + columns + ' columns, ' + tenancies.length + ' placements';
+// Of a device whose columns are given: those in strips, the unused ones beside a strip, and others.
+function columnUse() {
+  let used = 0, guard = 0;
+  for (let c = 1; c <= columns; c++) {
+    const all = [...strips.values()];
+    if (all.some(s => s.offset < c && c <= s.offset + s.width)) used++;
+    else if (all.some(s => c === s.offset || c === s.offset + s.width + 1)) guard++;
+  }
+  return ' (' + used + ' used, ' + guard + ' guard, ' + (columns - used - guard) + ' free)';
+}
+$('summary').textContent = count(strips.size, 'strip') + ' on ' + count(columns, 'column') + (limits.has('columns') ? columnUse() : '') + ', ' + count(tenancies.filter(t => t.isPlaced).length, 'placement');
 if (!strips.size) $('summary').textContent = '';
 
 let now = null, picked = -1, chosen = -1, heat = false, view = { x: 0, y: 0, zoom: 10 };
@@ -194,7 +215,7 @@ function draw() {
   if (canvas.width !== Math.round(w * r)) canvas.width = Math.round(w * r);
   if (canvas.height !== Math.round(h * r)) canvas.height = Math.round(h * r);
   pen.setTransform(1, 0, 0, 1, 0, 0); pen.clearRect(0, 0, canvas.width, canvas.height);
-  if (!now) return;
+  if (!now || !now.isPlaced) return;
   const t = now, z = view.zoom * r;
   pen.setTransform(z, 0, 0, -z, -view.x * z, canvas.height + view.y * z);
   pen.lineWidth = 0.015;
@@ -222,19 +243,37 @@ function whole() {
   const w = left(t, t.size.columns + 1) + 1, h = left(t, t.size.rows + 2);
   view.zoom = Math.max(0.5, Math.min(canvas.clientWidth / w, canvas.clientHeight / h)); view.x = (w - canvas.clientWidth / view.zoom) / 2; view.y = -0.2; draw();
 }
-function list(title, kind, all) {
-  const side = $('side'); side.append(make('h2', title + ' (' + all.length + ')', kind));
-  for (const text of all.slice(0, 200)) side.append(make('div', text, kind));
+// A heading with the number of items; if not all are shown, with the number of those that are.
+function heading(title, kind, all, most) {
+  $('side').append(make('h2', title + ' (' + (all > most ? most + ' of ' + all : all) + ')', kind));
 }
-const blockText = b => (b.kind === 'clb' ? 'cluster ' : b.kind + ' ') + b.name + ' at (' + b.x + ',' + b.y + ')';
+function list(title, kind, all) {
+  heading(title, kind, all.length, 200);
+  for (const text of all.slice(0, 200)) $('side').append(make('div', text, kind));
+}
+const blockText = b => (b.kind === 'clb' ? 'cluster ' : b.kind + ' ') + b.name + (now.isPlaced ? ' at (' + b.x + ',' + b.y + ')' : '');
+// The first of equally full channels is the first in node order, as `fpgad_desk route` names it.
+const isBefore = (a, b) => a.x !== b.x ? a.x < b.x : a.kind !== b.kind ? a.kind === 'CHANX' : a.y < b.y;
+// The wires of a routed tenancy; of another one, what is missing, by its state.
+function wireTexts(t) {
+  const word = t.state ? t.state.word : '', hasPlaces = ['Placed', 'Routing', 'Routed', 'Unrouted'].includes(word);
+  if (!t.isPlaced) return [hasPlaces ? 'placed, but its .place file was not printed' : word ? 'not placed' : 'no .place file'];
+  if (!t.isRouted) return [word === 'Routed' ? 'routed, but its .route file was not printed' : word ? 'not routed' : 'no .route file'];
+  let wires = 0, most = null;
+  for (const c of t.use.values()) {
+    wires += c.tracks.size;
+    if (!most || c.tracks.size > most.tracks.size || c.tracks.size === most.tracks.size && isBefore(c, most)) most = c;
+  }
+  return [count(t.nets.length, 'net'), 'wire length ' + wires,
+    most ? 'fullest channel ' + most.kind + ' (' + most.x + ',' + most.y + '): ' + (trackCount ? most.tracks.size + ' of ' + count(trackCount, 'track') : count(most.tracks.size, 'track')) : 'no channel is used'];
+}
 function tell() {
   const side = $('side'), t = now; side.replaceChildren(); if (!t) return tellLines();
   side.append(make('h2', t.name));
   const clusters = t.blocks.filter(b => b.kind === 'clb').length, pads = t.blocks.length - clusters;
-  let wires = 0, most = null;
-  for (const c of t.use.values()) { wires += c.tracks.size; if (!most || c.tracks.size > most.tracks.size) most = c; }
-  for (const text of [t.size.columns + ' columns, ' + t.size.rows + ' rows', clusters + '/' + t.size.columns * t.size.rows + ' logic blocks', pads + ' pads', t.nets.length + ' nets',
-    'wire length ' + wires, most ? 'fullest channel ' + most.kind + ' (' + most.x + ',' + most.y + '): ' + most.tracks.size + (trackCount ? ' of ' + trackCount : '') + ' tracks' : 'no routes']) side.append(make('div', text));
+  const there = t.isPlaced ? '/' + t.size.columns * t.size.rows : '';
+  for (const text of [...(t.state ? [stateText(t.state)] : []), ...(t.isPlaced ? [count(t.size.columns, 'column') + ', ' + count(t.size.rows, 'row')] : []),
+    clusters + there + ' logic blocks', count(pads, 'pad'), ...wireTexts(t)]) side.append(make('div', text));
   const net = t.nets[picked], block = t.blocks[chosen];
   if (net) {
     const title = make('h2', 'net ' + net.name + (net.isGlobal ? ' (global)' : '')); title.id = 'picked'; side.append(title);
@@ -249,30 +288,37 @@ function tell() {
   }
   tellLines();
 }
+// The refused lines: each is four lines, with its number, the line, its reply and what may be done.
+function readRefused(text) {
+  const refused = [], all = lines(text);
+  for (let i = 0; i + 3 < all.length; i += 4) refused.push({ asked: all[i] + ': ' + all[i + 1], reply: all[i + 2], advice: all[i + 3] });
+  return refused;
+}
+const refused = readRefused(general.get('refused') || '');
 function tellLines() {
-  const bad = []; const all = lines(general.get('lines') || '');
-  for (let i = 0; i + 2 < all.length; i++) if (all[i + 1].startsWith('    refused') || all[i + 1].startsWith('    error')) bad.push([all[i], all[i + 1], all[i + 2].startsWith('    ') ? all[i + 2] : '']);
-  if (bad.length) { $('side').append(make('h2', 'refused (' + bad.length + ')', 'bad')); }
-  for (const [asked, reply, advice] of bad.slice(0, 100)) { $('side').append(make('div', asked), make('div', reply.trim(), 'bad'), make('div', advice.trim(), 'advice')); }
+  if (refused.length) heading('refused', 'bad', refused.length, 100);
+  for (const line of refused.slice(0, 100)) $('side').append(make('div', line.asked), make('div', line.reply, 'bad'), make('div', line.advice, 'advice'));
 }
 function pick(net, block) { picked = net; chosen = block; const t = now;
   $('q').value = net >= 0 ? t.nets[net].name : block >= 0 ? t.blocks[block].name : '';
   $('said').textContent = net >= 0 ? 'net found' : block >= 0 ? 'block found' : ''; tell(); draw(); }
 function search(text) {
   const t = now; if (!t) return; if (!text) return pick(-1, -1);
-  const net = t.byName.has(text) ? t.byName.get(text) : t.nets.findIndex(n => n.name.includes(text));
-  if (net >= 0) return pick(net, -1);
+  if (t.byName.has(text)) return pick(t.byName.get(text), -1);
   const block = t.blocks.findIndex(b => b.name === text || b.bles.includes(text));
   if (block >= 0) return pick(-1, block);
-  $('said').textContent = 'nothing has this name';
+  const found = t.nets.filter(n => n.name.includes(text));
+  if (!found.length) { $('said').textContent = 'nothing has this name'; return; }
+  pick(t.nets.indexOf(found[0]), -1);
+  $('said').textContent = 'the first of ' + count(found.length, 'net') + ' with this text';
 }
 function show(i) {
-  now = tenancies[i]; picked = chosen = -1; $('q').value = ''; $('said').textContent = '';
+  now = tenancies[i]; document.title = 'fpgad: ' + now.name; picked = chosen = -1; $('q').value = ''; $('said').textContent = '';
   [...$('tabs').children].forEach((b, k) => b.classList.toggle('on', k === i));
-  $('names').replaceChildren(...now.nets.slice(0, 9000).map(n => { const o = document.createElement('option'); o.value = n.name; return o; }));
+  $('names').replaceChildren(...[...new Set([...now.nets, ...now.blocks].map(n => n.name))].map(name => { const o = document.createElement('option'); o.value = name; return o; }));
   whole(); tell();
 }
-tenancies.forEach((t, i) => { const b = make('button', t.name); b.onclick = () => show(i); $('tabs').append(b); });
+tenancies.forEach((t, i) => { const b = make('button', t.state ? t.name + ' ' + t.state.word : t.name); b.onclick = () => show(i); $('tabs').append(b); });
 $('q').onchange = () => search($('q').value);
 $('heat').onclick = () => { heat = !heat; $('heat').classList.toggle('on', heat); draw(); };
 $('home').onclick = whole;

@@ -1,7 +1,8 @@
 pub mod BehindLemmas
 mod Examples
-pub mod FileLemmas
 pub mod FirstPlaces
 pub mod LengthLemmas
 pub mod PrintLemmas
 pub mod ReadLemmas
+pub mod OnePass
+pub mod SectionLemmas

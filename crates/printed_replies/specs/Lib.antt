@@ -3,3 +3,4 @@ pub mod Lengths
 pub mod Parts
 pub mod Printing
 pub mod Replies
+pub mod Sections

@@ -9,9 +9,10 @@
 //! - [`read_replies`] takes the lines of a script and returns each with its reply, or the line of
 //!   the printed text that doesn't fit. It returns exactly what `replies_in` of
 //!   `specs/Replies.antt` defines.
-//! - [`names_of`] returns the names of the sessions in that order.
 //! - [`printed_is_read`] is the law that reading undoes printing, whatever the replies contain.
-//! - [`Replies::file_of`] is the last file of a kind in the replies to a name's session.
+//! - [`Replies::names`] are the names of the sessions in that order, and [`Replies::places_of`] the
+//!   places of a session's lines.
+//! - [`file_in`] is the file in a reply.
 #![tactic(auto)]
 
 mod answered;
@@ -21,9 +22,11 @@ mod law;
 mod length;
 mod reading;
 mod replies;
+mod sections;
 
 pub use answered::Answered;
 pub use asked::{Asked, ReplyForm};
+pub use file::file_in;
 pub use law::printed_is_read;
-pub use reading::{ReplyError, names_of, read_replies};
+pub use reading::{ReplyError, read_replies};
 pub use replies::Replies;

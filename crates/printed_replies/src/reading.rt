@@ -1,14 +1,17 @@
 //! The printed text, read once from its beginning to its end.
 ghost use Rattle.std.specs.Prelude.{◌≡◌, ◌+◌, ◌<◌, ◌≤◌, ◌^◌, length, map, option_map, Some, IfOk, OnOk, [], ◌∷◌, ◌++◌, codes, is_some};
 ghost use Rattle.printed_replies.specs.Parts.{IsRead, answered_lines, rest_at, speaker_of};
-ghost use Rattle.printed_replies.specs.Replies.{Gives, answered_line, asked_line, after_heading, line_at, line_read, live_after, names_of, read_from, replies_in, section_read, without_reply};
+ghost use Rattle.printed_replies.specs.Replies.{Gives, answered_line, asked_line, after_heading, line_at, live_after, read_from, reply_read, replies_in, section_read, without_reply};
 ghost use Rattle.printed_replies.specs.Lengths.{after_prefix, is_line_feed};
+ghost use Rattle.printed_replies.specs.Printing.{asked_in};
+ghost use Rattle.printed_replies.specs.Sections.{AreSections, places_of};
 
-use crate::answered::{Answered, is_of};
+use crate::answered::Answered;
 use crate::asked::{Asked, ReplyForm};
 use crate::length::{after_prefix, reply_length};
 use crate::replies::Replies;
-use line_text::{NameSet, TextError};
+use crate::sections::{Sections, sections_of};
+use line_text::TextError;
 use std::alloc::{AllocError, Global};
 
 /// Why lines have no replies: memory ran out, or the line of the printed text, from 1, that fits no
@@ -28,8 +31,8 @@ pub(crate) struct Place<'p> {
     pub(crate) rest: &'p [u8],
 }
 
-/// Returns the lines with their replies. Goes through the lines once for each name. Fails with the
-/// line of the printed text that fits no reply, or if memory runs out.
+/// Returns the lines with their replies. Fails with the line of the printed text that fits no
+/// reply, or if memory runs out.
 #[tactic(auto, unfolding(crate::specs::Replies::replies_in))]
 pub fn read_replies<'t, 'p>(
     alloc: Global,
@@ -38,36 +41,21 @@ pub fn read_replies<'t, 'p>(
 ) -> Result<Replies<'t, 'p>, ReplyError>
     ensures { Gives printed.now (replies_in (map asked_line asked.now) printed.now) result }
 {
-    let names = names_of(alloc, asked)?;
+    let sections = sections_of(alloc, asked)?;
     let mut lines = Vec::new(alloc);
     if let Err(failed) = add_unanswered(&mut lines, asked) {
         drop(lines);
-        drop(names);
+        drop(sections);
         return Err(ReplyError::from(failed));
     }
-    let read = read_sections(&mut lines, &names, printed);
-    drop(names);
-    match read {
-        Ok(()) => Ok(Replies::new(lines)),
+    match read_sections(&mut lines, &sections, printed) {
+        Ok(()) => Ok(Replies::new(lines, sections)),
         Err(left) => {
             drop(lines);
+            drop(sections);
             Err(ReplyError::Fault(line_at(printed, left.bytes)))
         }
     }
-}
-
-/// Returns the names of the sessions, in the order of their first lines. Fails with [`AllocError`]
-/// if memory runs out.
-pub fn names_of<'t>(alloc: Global, asked: &[Asked<'t>]) -> Result<NameSet<'t>, AllocError>
-    ensures { IfOk result (λ names. names ≡ names_of (map asked_line asked.now)) }
-{
-    let mut names = NameSet::new(alloc);
-    for one in asked {
-        if let Some(name) = one.name {
-            names.add(name)?;
-        }
-    }
-    Ok(names)
 }
 
 /// The lines without replies.
@@ -91,16 +79,21 @@ fn add_unanswered<'t>(
 /// Reads the operator's section, and those of the names, up to the end.
 fn read_sections<'p>(
     lines: &mut Vec<Answered<'_, 'p>>,
-    names: &NameSet<'_>,
+    sections: &Sections<'_>,
     printed: &'p [u8],
 ) -> Result<(), Left>
-    ensures { IsRead (λ _. answered_lines lines.new.items)
-        (read_from names.now (answered_lines lines.old.items) printed.now) result }
+    requires { AreSections (asked_in (answered_lines lines.old.items)) sections.now }
+    ensures read { IsRead (λ _. answered_lines lines.new.items)
+        (read_from sections.now.names (answered_lines lines.old.items) printed.now) result }
+    ensures asked { OnOk result (asked_in (answered_lines lines.new.items)
+        ≡ asked_in (answered_lines lines.old.items)) }
 {
-    let mut rest = read_section(None, lines, printed)?.rest;
+    let mut rest = read_section(None, sections.operator.as_slice(), lines, printed)?.rest;
     let mut number = 0;
-    while number < names.len() {
-        match read_section(Some(names.name(number)), lines, rest) {
+    while number < sections.names.len() {
+        let name = sections.names.name(number);
+        let places = sections.sessions[number].as_slice();
+        match read_section(Some(name), places, lines, rest) {
             Ok(place) => rest = place.rest,
             Err(left) => return Err(left),
         }
@@ -113,22 +106,29 @@ fn read_sections<'p>(
     }
 }
 
-/// Reads the section of a speaker, whose lines take their replies, and returns the rest after it.
+/// Reads the section of a speaker, whose lines at these places take their replies, and returns the
+/// rest after it.
 fn read_section<'p>(
     speaker: Option<&[u8]>,
+    places: &[usize],
     lines: &mut Vec<Answered<'_, 'p>>,
     printed: &'p [u8],
 ) -> Result<Place<'p>, Left>
-    ensures { IsRead (λ place. (answered_lines lines.new.items, rest_at place))
+    requires { places.now
+        ≡ places_of (speaker_of speaker) (asked_in (answered_lines lines.old.items)) }
+    ensures read { IsRead (λ place. (answered_lines lines.new.items, rest_at place))
         (section_read (speaker_of speaker.entry) (answered_lines lines.old.items) printed.now)
         result }
+    ensures asked { OnOk result (asked_in (answered_lines lines.new.items)
+        ≡ asked_in (answered_lines lines.old.items)) }
 {
     let mut place = after_heading(speaker, printed)?;
     let mut number = 0;
-    while number < lines.len() {
-        match read_line(speaker, place, lines[number]) {
+    while number < places.len() {
+        let index = places[number];
+        match read_line(place, lines[index]) {
             Ok((line, next)) => {
-                lines[number] = line;
+                lines[index] = line;
                 place = next;
             }
             Err(left) => return Err(left),
@@ -158,21 +158,16 @@ fn after_words<'p>(name: &[u8], printed: &'p [u8]) -> Option<&'p [u8]>
     after_prefix(b"\n", after_prefix(name, after_prefix(b"== ", printed)?)?)
 }
 
-/// Returns a line with its reply, if it is the speaker's, and what remains.
+/// Returns a line with its reply, and what remains.
 fn read_line<'t, 'p>(
-    speaker: Option<&[u8]>,
     place: Place<'p>,
     line: Answered<'t, 'p>,
 ) -> Result<(Answered<'t, 'p>, Place<'p>), Left>
     requires { place.live + 1 < 2 ^ 64 }
     ensures read { IsRead (λ read. (answered_line read.0, rest_at read.1))
-        (line_read (speaker_of speaker.entry) (rest_at place.entry) (answered_line line.entry))
-        result }
+        (reply_read (rest_at place.entry) (answered_line line.entry).asked) result }
     ensures live { IfOk result (λ read. read.1.live ≤ place.entry.live + 1) }
 {
-    if !is_of(speaker, line.asked.name) {
-        return Ok((line, place));
-    }
     let form = line.asked.form;
     let Some(length) = reply_length(place.live, form, place.rest) else {
         return Err(Left {

@@ -1,33 +1,42 @@
 //! The replies of a script.
-ghost use Rattle.std.specs.Prelude.{◌≡◌, map, option_map};
-ghost use Rattle.printed_replies.specs.Files.{file_of};
+ghost use Rattle.std.specs.Prelude.{◌≡◌, ◌<◌, length, map, slice_get, Some};
 ghost use Rattle.printed_replies.specs.Parts.{answered_lines};
-ghost use Rattle.printed_replies.specs.Replies.{answered_line};
+ghost use Rattle.printed_replies.specs.Printing.{asked_in};
+ghost use Rattle.printed_replies.specs.Replies.{answered_line, names_of};
+ghost use Rattle.printed_replies.specs.Sections.{AreSections, session_places};
 
 use crate::answered::Answered;
-use crate::file::file_told;
+use crate::sections::Sections;
+use line_text::NameSet;
 use std::marker::Model;
 
 /// The lines of a script, each with its reply, in the script's order. Its value is their list.
 #[derive(Drop)]
 pub struct Replies<'t, 'p> {
     lines: Vec<Answered<'t, 'p>>,
+    sections: Sections<'t>,
 }
 
 impl<'t, 'p> Model for Replies<'t, 'p> {
-    ghost use Rattle.std.specs.Prelude.{List, map};
-    ghost use Rattle.printed_replies.specs.Replies.{AnsweredLine, answered_line};
+    ghost use Rattle.std.specs.Prelude.{List};
+    ghost use Rattle.printed_replies.specs.Parts.{answered_lines};
+    ghost use Rattle.printed_replies.specs.Printing.{asked_in};
+    ghost use Rattle.printed_replies.specs.Replies.{AnsweredLine};
+    ghost use Rattle.printed_replies.specs.Sections.{AreSections};
 
     ghost Value = { List AnsweredLine };
 
-    ghost view = { λ a. map answered_line a.lines.items };
+    ghost view = { λ a. answered_lines a.lines.items };
+
+    ghost invariant = { λ a. AreSections (asked_in (answered_lines a.lines.items)) a.sections };
 }
 
 impl<'t, 'p> Replies<'t, 'p> {
-    pub(crate) fn new(lines: Vec<Answered<'t, 'p>>) -> Self
+    pub(crate) fn new(lines: Vec<Answered<'t, 'p>>, sections: Sections<'t>) -> Self
+        requires { AreSections (asked_in (answered_lines lines.items)) sections }
         ensures { result ≡ answered_lines lines.entry.items }
     {
-        Replies { lines }
+        Replies { lines, sections }
     }
 
     /// The lines with their replies, in the script's order.
@@ -37,23 +46,18 @@ impl<'t, 'p> Replies<'t, 'p> {
         self.lines.as_slice()
     }
 
-    /// Returns the last file of that kind in the replies to the name's session; `None` if there is
-    /// no such file.
-    pub fn file_of(&self, name: &[u8], kind: &[u8]) -> Option<&'p [u8]>
-        ensures { option_map (λ file. file.now) result ≡ file_of name.now kind.now self.now }
+    /// The names of the sessions, in the order of their first lines.
+    pub fn names(&self) -> &NameSet<'t>
+        ensures { result.now ≡ names_of (asked_in self.now) }
     {
-        last_file(self.lines.as_slice(), name, kind)
+        &self.sections.names
     }
-}
 
-/// Returns the last file of that kind in the replies to the name's session.
-fn last_file<'p>(lines: &[Answered<'_, 'p>], name: &[u8], kind: &[u8]) -> Option<&'p [u8]>
-    ensures { option_map (λ file. file.now) result
-        ≡ file_of name.now kind.now (answered_lines lines.now) }
-{
-    let mut last = None;
-    for line in lines {
-        last = file_told(name, kind, line).or(last);
+    /// The places of the lines of the session with that name's number, in order.
+    pub fn places_of(&self, number: usize) -> &[usize]
+        requires { number < length (names_of (asked_in self.now)) }
+        ensures { slice_get (session_places (asked_in self.now)) number ≡ Some result.now }
+    {
+        self.sections.sessions[number].as_slice()
     }
-    last
 }

@@ -16,9 +16,8 @@ use Rattle.script_text.specs.declared.act.Act.{Act}
 use Rattle.script_text.specs.declared.act.Act.TheVariants.{Operator, Session}
 use Rattle.script_text.specs.declared.operator_line.OperatorLine.{OperatorLine}
 use Rattle.script_text.specs.declared.operator_line.OperatorLine.TheVariants.{Admit, Evict, Move, List as ListAll, Owners, Step, Take, Put}
-use Rattle.sessions.specs.declared.line.SessionLine.{SessionLine}
 use Rattle.script_replies.specs.declared.usage.Usage.{Usage}
-use Rattle.script_replies.specs.Usage.{IsWithin, Told, admitted_columns, begins_job, usage_in, is_job, is_own, is_refusal, last_of, steps_asked, told_of, usage_of, with_act, with_line, with_operator}
+use Rattle.script_replies.specs.Usage.{IsWithin, Told, admitted_columns, begins_job, usage_in, is_job, is_own, is_refusal, last_of, steps_asked, told_of, usage_of, with_act, with_operator}
 
 abbrev make : ℕ → ℕ → ℕ → ℕ → ℕ → Usage
 make columns lines refused jobs steps = record { columns = columns; lines = lines; refused = refused; jobs = jobs; steps = steps }

@@ -1,2 +1,4 @@
+mod AccountLemmas
 mod Counting
+mod Examples
 mod ToldLines

@@ -1,17 +1,13 @@
 //! The replies to acts.
-ghost use Rattle.std.specs.Prelude.{◌≡◌, List, ℕ, map, option_map, IfOk};
-ghost use Rattle.printed_replies.specs.Files.{file_of};
-ghost use Rattle.printed_replies.specs.Replies.{Gives, asked_line, names_of};
+ghost use Rattle.std.specs.Prelude.{◌≡◌, List, ℕ, map, IfOk};
+ghost use Rattle.printed_replies.specs.Replies.{Gives, asked_line};
 ghost use Rattle.script_replies.specs.Asking.{asked_of, operator_form, replies_in, session_form};
 ghost use Rattle.script_text.specs.Script.{named_act, named_operator};
-ghost use Rattle.tenant_slot.specs.Names.{file_text};
 
-use line_text::NameSet;
 use printed_replies::{Asked, Replies, ReplyError, ReplyForm};
 use script_text::{Act, OperatorLine};
 use sessions::SessionLine;
 use std::alloc::{AllocError, Global};
-use tenant_slot::FileKind;
 
 /// The form of the reply to a line of the operator.
 fn operator_form(line: &OperatorLine<&[u8]>) -> ReplyForm
@@ -76,21 +72,4 @@ pub fn read_replies<'t, 'p>(
 {
     let asked = asked_lines(alloc, acts)?;
     printed_replies::read_replies(alloc, &asked, printed)
-}
-
-/// Returns the names of the acts' sessions, in the order of their first lines: the printed text has
-/// a section for each. Fails with [`AllocError`] if memory runs out.
-pub fn session_names<'t>(alloc: Global, acts: &[Act<&'t [u8]>]) -> Result<NameSet<'t>, AllocError>
-    ensures { IfOk result (λ names. names ≡ names_of (map asked_of (map named_act acts.now))) }
-{
-    let asked = asked_lines(alloc, acts)?;
-    printed_replies::names_of(alloc, &asked)
-}
-
-/// Returns the last file of that kind in the replies to the name's session; `None` if there is no
-/// such file.
-pub fn file_of<'p>(replies: &Replies<'_, 'p>, name: &[u8], kind: FileKind) -> Option<&'p [u8]>
-    ensures { option_map (λ file. file.now) result ≡ file_of name.now (file_text kind) replies.now }
-{
-    replies.file_of(name, kind.name().as_bytes())
 }

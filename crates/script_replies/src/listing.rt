@@ -1,9 +1,8 @@
 //! A script's lines with their replies.
-ghost use Rattle.std.specs.Prelude.{◌≡◌, ◌++◌, ◌∷◌, [], false, map, IfOk, OnOk};
-ghost use Rattle.std.specs.Option.{option_map_or};
+ghost use Rattle.std.specs.Prelude.{◌≡◌, ◌++◌, ◌∷◌, [], map, IfOk, OnOk};
 ghost use Rattle.printed_replies.specs.Replies.{answered_line};
 ghost use Rattle.script_replies.specs.LineReplies.{line_replies, line_reply, reply_to};
-ghost use Rattle.script_replies.specs.Usage.{is_refusal};
+ghost use Rattle.script_replies.specs.Told.{is_refused};
 
 use crate::advising::{advice_for, is_refusal, netlist_line};
 use crate::lines::ScriptLine;
@@ -33,7 +32,7 @@ pub struct ToldLine<'a> {
 impl<'a> ToldLine<'a> {
     /// Returns whether the line is refused.
     pub fn is_refused(&self) -> bool
-        ensures { result ≡ option_map_or (λ reply. is_refusal reply.now) self.now.reply false }
+        ensures { result ≡ is_refused self.now }
     {
         match self.reply {
             Some(reply) => is_refusal(reply),

@@ -1,11 +1,9 @@
 //! What a name used, by the replies to a script.
-ghost use Rattle.std.specs.Prelude.{◌≡◌, ◌^◌, ◌-◌, map};
-ghost use Rattle.printed_replies.specs.Replies.{answered_line};
-ghost use Rattle.script_replies.specs.Usage.{IsWithin, begins_job, is_own, is_refusal, usage_of, with_act, with_line, with_operator};
+ghost use Rattle.std.specs.Prelude.{◌≡◌, ◌^◌, ◌-◌};
+ghost use Rattle.script_replies.specs.Accounts.{no_usage};
+ghost use Rattle.script_replies.specs.Usage.{IsWithin, begins_job, with_act, with_line, with_operator};
 ghost use Rattle.script_text.specs.Script.{named_act, named_operator};
 
-use crate::advising::is_refusal;
-use printed_replies::{Answered, Replies};
 use script_text::{Act, OperatorLine};
 use sessions::SessionLine;
 use tenant_slot::Command;
@@ -25,44 +23,21 @@ pub struct Usage {
     pub steps: u64,
 }
 
-/// Returns what a name used, by the acts of a script and their replies.
-pub fn usage_of(acts: &[Act<&[u8]>], replies: &Replies<'_, '_>, name: &[u8]) -> Usage
-    ensures { result ≡ usage_of name.now (map named_act acts.now) replies.now }
+/// No act.
+pub(crate) fn no_usage() -> Usage
+    ensures { result ≡ no_usage }
 {
-    let lines = replies.lines();
-    let mut usage = Usage {
+    Usage {
         columns: 0,
         lines: 0,
         refused: 0,
         jobs: 0,
         steps: 0,
-    };
-    for place in 0..acts.len().min(lines.len()) {
-        let is_refused = is_refused_line(&lines[place]);
-        usage = with_act(usage, name, &acts[place], is_refused);
-    }
-    usage
-}
-
-/// Returns whether the reply to a line is a refusal.
-fn is_refused_line(line: &Answered<'_, '_>) -> bool
-    ensures { result ≡ is_refusal (answered_line line.now).reply }
-{
-    is_refusal(line.reply)
-}
-
-/// Returns whether an act is a line of that name's session.
-pub fn is_own(act: &Act<&[u8]>, name: &[u8]) -> bool
-    ensures { result ≡ is_own name.now (named_act act.now) }
-{
-    match act {
-        Act::Session(own, _) => *own == name,
-        Act::Operator(_) => false,
     }
 }
 
 /// The usage with one more act.
-fn with_act(usage: Usage, name: &[u8], act: &Act<&[u8]>, is_refused: bool) -> Usage
+pub(crate) fn with_act(usage: Usage, name: &[u8], act: &Act<&[u8]>, is_refused: bool) -> Usage
     requires { IsWithin (2 ^ 64 - 1) usage }
     ensures { result ≡ with_act name.now (named_act act.now) is_refused usage }
 {

@@ -9,5 +9,5 @@ unwrapped None other = refl
 
 pub returns : goal.returns
 returns g c =
-    rw (c.text_if.ensures, c.is_some.ensures, c.text_if-2.ensures, c.is_some-2.ensures, c.number.ensures, c.text_if-3.ensures, c.is_some-3.ensures, c.unwrap_or.ensures, unwrapped c.args.told.now.advice)
+    rw (c.text_if.ensures, c.is_some.ensures, c.number.ensures, c.text_if-2.ensures, c.is_some-2.ensures, c.unwrap_or.ensures, unwrapped c.args.told.now.advice)
     at c.write_parts.ensures

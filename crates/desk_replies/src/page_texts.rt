@@ -1,0 +1,117 @@
+//! The texts that a page shows beside the files.
+use crate::script_input::Lines;
+use crate::states::{NameState, last_states, states_after};
+use desk_common::Outcome;
+use indexmap::IndexMap;
+use line_text::{Failed, MemorySink};
+use script_replies::{Replies, ToldLine, script_lines, told_lines, write_refused, write_told};
+use script_text::Act;
+use std::alloc::Global;
+use text_parts::{Part, write_parts};
+
+/// Texts about a script and the device.
+#[derive(Drop)]
+pub(crate) struct PageTexts {
+    /// The lines of the script with their replies.
+    pub(crate) lines: MemorySink,
+    /// Those that are refused, in four lines each.
+    pub(crate) refused: MemorySink,
+    /// The last state of each name, and the number of the line with that reply: `NAME LINE STATE`.
+    pub(crate) states: MemorySink,
+    /// The sizes that are given.
+    pub(crate) device: MemorySink,
+}
+
+impl PageTexts {
+    /// Empty texts.
+    pub(crate) fn new(alloc: Global) -> Self {
+        PageTexts {
+            lines: MemorySink::new(alloc),
+            refused: MemorySink::new(alloc),
+            states: MemorySink::new(alloc),
+            device: MemorySink::new(alloc),
+        }
+    }
+
+    /// Writes the texts about these lines of a script and their replies. Fails if memory runs out.
+    pub(crate) fn fill<'a>(
+        &mut self,
+        alloc: Global,
+        lines: Lines<'a>,
+        acts: &[Act<&'a [u8]>],
+        replies: &Replies<'a, 'a>,
+    ) -> Result<(), Outcome> {
+        let Ok(asked) = script_lines(alloc, lines.text, lines.number, acts) else {
+            return Err(Outcome::NoMemory);
+        };
+        let told = told_lines(alloc, &asked, replies);
+        drop(asked);
+        match told {
+            Ok(told) => {
+                let written = self.write(alloc, acts, replies, &told);
+                drop(told);
+                written.or(Err(Outcome::NoMemory))
+            }
+            Err(_) => Err(Outcome::NoMemory),
+        }
+    }
+
+    /// Writes the lines, those that are refused, and the states.
+    fn write<'a>(
+        &mut self,
+        alloc: Global,
+        acts: &[Act<&'a [u8]>],
+        replies: &Replies<'a, 'a>,
+        told: &[ToldLine<'_>],
+    ) -> Result<(), Failed> {
+        write_told(&mut self.lines, told)?;
+        write_refused(&mut self.refused, told)?;
+        let Ok(states) = states_after(alloc, acts, replies) else {
+            return Err(Failed);
+        };
+        let last = last_states(alloc, &states);
+        drop(states);
+        match last {
+            Ok(last) => {
+                let written = write_states(&mut self.states, &last, told);
+                drop(last);
+                written
+            }
+            Err(_) => Err(Failed),
+        }
+    }
+}
+
+/// Writes a line for each state: the name, the number of the line with that reply, and the state.
+fn write_states(
+    sink: &mut MemorySink,
+    last: &IndexMap<&[u8], NameState<'_>>,
+    told: &[ToldLine<'_>],
+) -> Result<(), Failed> {
+    for state in last.values() {
+        write_state(sink, *state, told)?;
+    }
+    Ok(())
+}
+
+/// Writes the line of a state.
+fn write_state(
+    sink: &mut MemorySink,
+    state: NameState<'_>,
+    told: &[ToldLine<'_>],
+) -> Result<(), Failed> {
+    let Some(line) = told.get(state.act) else {
+        return Ok(());
+    };
+    write_parts(
+        sink,
+        &[
+            Part::Bytes(state.name),
+            Part::Text(" "),
+            Part::Long(line.number as u64),
+            Part::Text(" "),
+            Part::Bytes(state.state),
+            Part::Text("\n"),
+        ],
+    )
+}

@@ -1,0 +1,7 @@
+use Rattle.std.proofs.Common.{ℕ, ◌<◌}
+use Rattle.longest_path.specs.Lasting.{IsMarked}
+use Rattle.longest_path.proofs.lasting.first_lost.Given as goal
+
+-- none of the nets before this one is lost
+abbrev pub invariant-loop-net : goal.invariant-loop-net
+invariant-loop-net l = (k : ℕ) → k < l.net → IsMarked l.marks k → IsMarked l.next k

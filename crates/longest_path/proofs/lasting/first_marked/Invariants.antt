@@ -1,0 +1,7 @@
+use Rattle.std.proofs.Common.{ℕ, ◌≡◌, ◌<◌, false}
+use Rattle.std.specs.Prelude.{slice_index_or}
+use Rattle.longest_path.proofs.lasting.first_marked.Given as goal
+
+-- none of the nets before this one is marked
+abbrev pub invariant-loop-net : goal.invariant-loop-net
+invariant-loop-net l = (k : ℕ) → k < l.net-index → slice_index_or l.marks (slice_index_or l.nets k 0) false ≡ false

@@ -1,0 +1,7 @@
+use Rattle.std.proofs.Common.{ℕ, ◌≤◌}
+use Rattle.one_user.specs.Counting.{NoRowsBelow}
+use Rattle.one_user.proofs.counts.least_rows.Given as goal
+
+-- there is no room with less
+abbrev pub invariant-loop-rows : goal.invariant-loop-rows
+invariant-loop-rows l = record { low : 1 ≤ l.rows; below : NoRowsBelow l.counts l.io_rat l.columns l.rows }

@@ -1,0 +1,5 @@
+use Rattle.std.proofs.Common.{◌≡◌, [], List, ℕ, map, replicate}
+use Rattle.printed_replies.proofs.sections.add_empty.Given as goal
+
+abbrev pub invariant-loop-number : goal.invariant-loop-number
+invariant-loop-number l = map (λ list. list.items) l.lists.items ≡ replicate {A = List ℕ} l._number []

@@ -1,0 +1,16 @@
+use Rattle.line_text.proofs.WritingLemmas.{part_first, part_then, writes_part, writes_then}
+use Rattle.script_replies.proofs.report.write_refusal.Goals as goal
+
+pub returns-in_err-write_reply : goal.returns-in_err-write_reply
+returns-in_err-write_reply g c =
+    writes_part _ c.from_residual.ensures.0 (part_first _ c.in_err-write_reply.ensures)
+
+pub returns-in_err-write_meaning : goal.returns-in_err-write_meaning
+returns-in_err-write_meaning g c =
+    writes_part _ c.from_residual-in_err-write_meaning.ensures.0
+    (part_then c.in_ok-write_reply.ensures (part_first _ c.in_err-write_meaning.ensures))
+
+pub returns : goal.returns
+returns g c =
+    writes_then c.in_ok-write_reply.ensures _ _ c.write_parts.result
+    (writes_then c.in_ok-write_meaning.ensures _ _ c.write_parts.result c.write_parts.ensures)
