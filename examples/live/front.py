@@ -115,18 +115,18 @@ class Service:
         self.process, self.is_open, self.input = process, True, asyncio.Lock()
         self.turns = {tag: asyncio.Lock() for tag in tags}
         self.replies = {tag: asyncio.Queue() for tag in tags}
-        self.asked = set()
+        self.asked = {}    # by tag, the command that is to be answered
 
     async def ask(self, tag, command, last_reply=None):
         """The reply to a command. If it has several, they are read up to the last one."""
         async with self.turns[tag]:
-            self.asked.add(tag)
+            self.asked[tag] = command
             for lines in pieces_of(tag, command):
                 await self.hand_over(lines)
             reply = await self.replies[tag].get()
             while reply is not None and last_reply not in (None, reply):
                 reply = await self.replies[tag].get()
-            self.asked.discard(tag)
+            del self.asked[tag]
             if reply is None:
                 raise Refused("the service has ended")
             return reply
@@ -149,7 +149,8 @@ class Service:
                 tag, _, says = line.partition(b" ")
                 if tag == b"?":    # a line without a form: only one of the operator can have none
                     tag = b"op"
-                lines, left, measure = coming.pop(tag, None) or ([], *what_follows(says))
+                is_echo = tag == b"op" and self.asked.get(tag, b"").startswith(b"op echo ")    # it may look like any reply
+                lines, left, measure = coming.pop(tag, None) or ([], *what_follows(b"" if is_echo else says))
                 left -= measure(says) if lines else 0
                 lines.append(line if tag == b"op" else says)
                 if left > 0:

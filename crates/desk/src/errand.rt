@@ -20,7 +20,7 @@ Status: 0 done; 1 a file could not be read or written, `files` found a refused l
 
 Example: fpgad_desk script --name T --width 2 < t.blif | fpgad --arch my.arch --tracks 8 --columns 10 --rows 10";
 
-/// All tools, for the program's help; those that draw or report have no options here.
+/// All tools, for the program's help; those that another toolbox has have no options here.
 const TOOLBOX: Toolbox = Toolbox {
     name: "fpgad_desk",
     about: ABOUT,
@@ -28,7 +28,7 @@ const TOOLBOX: Toolbox = Toolbox {
     tools: &[
         script::TOOL,
         files::TOOL,
-        route_wishes::TOOL,
+        route_wishes::NAMED,
         check::NAMED,
         configure::NAMED,
         strip::NAMED,
@@ -46,6 +46,14 @@ const VIEWS: Toolbox = Toolbox {
     about: ABOUT,
     after_help: AFTER_HELP,
     tools: &[strip::TOOL, picture::TOOL, report::TOOL, page_tool::TOOL],
+};
+
+/// The tool that routes, with its options.
+const ROUTES: Toolbox = Toolbox {
+    name: "fpgad_desk",
+    about: ABOUT,
+    after_help: AFTER_HELP,
+    tools: &[route_wishes::TOOL],
 };
 
 /// The tools that read a layout and its netlist, with their options.
@@ -95,6 +103,7 @@ pub(crate) fn read_errand<'a, S: AsStr>(
     match words.get(1).map_or("", |word| word.as_str()) {
         "strip" | "picture" | "report" | "page" => read_view(alloc, words),
         "check" | "configure" => read_layout_errand(alloc, words),
+        "route" => read_route(alloc, words),
         _ => read_other(alloc, words),
     }
 }
@@ -107,6 +116,11 @@ fn read_view<'a, S: AsStr>(alloc: Global, words: &'a [S]) -> Result<Errand<'a>, 
 /// What words ask that call a tool which reads a layout.
 fn read_layout_errand<'a, S: AsStr>(alloc: Global, words: &'a [S]) -> Result<Errand<'a>, Error> {
     errand_by(alloc, &LAYOUTS, words)
+}
+
+/// What words ask that call the tool which routes.
+fn read_route<'a, S: AsStr>(alloc: Global, words: &'a [S]) -> Result<Errand<'a>, Error> {
+    errand_by(alloc, &ROUTES, words)
 }
 
 /// What other words ask.

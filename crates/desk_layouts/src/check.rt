@@ -1,10 +1,17 @@
 //! The tool that checks a layout against its netlist.
-use crate::layout_input::{LAYOUT_OPTIONS, LayoutPaths, circuit_in, read_layout_files};
+ghost use Rattle.std.specs.Prelude.{IfOk, codes};
+ghost use Rattle.layout_verdict.specs.declared.laid_circuit.LaidCircuit.{LaidCircuit};
+ghost use Rattle.line_text.specs.Writing.{TakesAll};
+ghost use Rattle.desk_layouts.specs.Checked.{IsChecked, IsLaidIn};
+
+use crate::file_texts::FileTexts;
+use crate::given_files::GivenFiles;
+use crate::laid_circuit::circuit_in;
+use crate::layout_input::{LAYOUT_OPTIONS, LayoutPaths};
 use desk_common::Outcome;
 use line_text::{Sink, write_all};
 use option_words::Program;
 use std::alloc::Global;
-use std::rt::Files;
 
 /// The beginning of its help.
 const ABOUT: &str =
@@ -34,27 +41,36 @@ Example: fpgad_desk check --arch my.arch --tracks 8 t.blif t.net t.place t.route
 };
 
 /// Checks a layout against its netlist, and prints `implements` if it implements the netlist.
-pub fn run<H: Files + AllocGlobal, W: Sink, E: Sink>(
-    rt: &H,
+pub fn run<F: FileTexts + AllocGlobal, W: Sink, E: Sink>(
+    files: &F,
     paths: LayoutPaths<'_>,
     writer: &mut W,
     teller: &mut E,
-) -> Result<(), Outcome> {
-    let texts = read_layout_files(rt, paths, teller)?;
-    let checked = check(rt.alloc(), paths, texts.as_slice(), teller);
-    drop(texts);
+) -> Result<(), Outcome>
+    ensures checked { IfOk result (λ _. IsChecked (F.text files.now) paths.entry) }
+    ensures printed { IfOk result (λ _. TakesAll W.contents W.has_failed writer.old writer.new
+        (codes "implements\n")) }
+{
+    let given = GivenFiles::read(files, paths, teller)?;
+    let checked = check(files.alloc(), paths, &given, teller);
+    drop(given);
     checked?;
-    write_all(writer, b"implements\n").or(Err(Outcome::OutputFailed))
+    match write_all(writer, b"implements\n") {
+        Ok(()) => Ok(()),
+        Err(_) => Err(Outcome::OutputFailed),
+    }
 }
 
 /// Checks the layout whose files have these bytes.
 fn check<E: Sink>(
     alloc: Global,
     paths: LayoutPaths<'_>,
-    texts: &[Vec<u8>],
+    given: &GivenFiles,
     teller: &mut E,
-) -> Result<(), Outcome> {
-    match circuit_in(alloc, paths, texts, teller) {
+) -> Result<(), Outcome>
+    ensures { IfOk result (λ _. (laid : LaidCircuit) × IsLaidIn paths.entry given.now laid) }
+{
+    match circuit_in(alloc, paths, given, teller) {
         Ok(laid) => {
             drop(laid);
             Ok(())

@@ -1,17 +1,23 @@
 //! The tool that writes what a device is loaded with.
-ghost use Rattle.std.specs.Prelude.{◌≡◌, List, Ok, IfOk};
-ghost use Rattle.configuration.specs.ConfigurationText.{configuration_text};
+ghost use Rattle.std.specs.Prelude.{◌≡◌, ℕ, List, Ok, IfOk};
+ghost use Rattle.blif.specs.LawfulCircuits.{IsCircuit};
+ghost use Rattle.grid.specs.Sizes.{IsStripSize};
+ghost use Rattle.layout_verdict.specs.Verdicts.{IsImplemented};
 ghost use Rattle.line_text.specs.Lines.{JoinedLine, lines_of};
 ghost use Rattle.line_text.specs.Writing.{TakesAll};
+ghost use Rattle.desk_layouts.specs.Configured.{IsConfigurationOf, IsConfigured, Works, text_with};
 
-use crate::layout_input::{LAYOUT_OPTIONS, LayoutPaths, circuit_in, read_layout_files};
+use crate::file_texts::FileTexts;
+use crate::given_files::GivenFiles;
+use crate::laid_circuit::circuit_in;
+use crate::layout_input::{LAYOUT_OPTIONS, LayoutPaths};
+use configuration::{laws_of_configurations, values_are_rows};
 use configuration_text::{Design, Unwritten, write_configuration};
 use desk_common::Outcome;
 use layout_verdict::LaidCircuit;
 use line_text::{Lines, MAX_TEXT, Sink, logical_lines};
 use option_words::Program;
 use std::alloc::Global;
-use std::rt::Files;
 
 /// The beginning of its help.
 const ABOUT: &str =
@@ -38,15 +44,19 @@ Example: fpgad_desk configure --arch my.arch --tracks 8 t.blif t.net t.place t.r
 };
 
 /// Checks a layout against its netlist, and prints its configuration if it implements the netlist.
-pub fn run<H: Files + AllocGlobal, W: Sink, E: Sink>(
-    rt: &H,
+pub fn run<F: FileTexts + AllocGlobal, W: Sink, E: Sink>(
+    files: &F,
     paths: LayoutPaths<'_>,
     writer: &mut W,
     teller: &mut E,
-) -> Result<(), Outcome> {
-    let texts = read_layout_files(rt, paths, teller)?;
-    let printed = print_checked(rt.alloc(), paths, texts.as_slice(), writer, teller);
-    drop(texts);
+) -> Result<(), Outcome>
+    ensures { IfOk result (λ _. (text : List ℕ)
+        × IsConfigured (F.text files.now) paths.entry text
+        × TakesAll W.contents W.has_failed writer.old writer.new text) }
+{
+    let given = GivenFiles::read(files, paths, teller)?;
+    let printed = print_checked(files.alloc(), paths, &given, writer, teller);
+    drop(given);
     printed
 }
 
@@ -55,16 +65,16 @@ pub fn run<H: Files + AllocGlobal, W: Sink, E: Sink>(
 fn print_checked<W: Sink, E: Sink>(
     alloc: Global,
     paths: LayoutPaths<'_>,
-    texts: &[Vec<u8>],
+    given: &GivenFiles,
     writer: &mut W,
     teller: &mut E,
-) -> Result<(), Outcome> {
-    let [_, netlist, ..] = texts else {
-        return Err(Outcome::NoMemory);
-    };
-    match circuit_in(alloc, paths, texts, teller) {
+) -> Result<(), Outcome>
+    ensures { IfOk result (λ _. (text : List ℕ) × IsConfigurationOf paths.entry given.now text
+        × TakesAll W.contents W.has_failed writer.old writer.new text) }
+{
+    match circuit_in(alloc, paths, given, teller) {
         Ok(laid) => {
-            let printed = print_laid(alloc, netlist.as_slice(), &laid, writer);
+            let printed = print_laid(alloc, given.netlist.as_slice(), &laid, writer);
             drop(laid);
             printed
         }
@@ -79,10 +89,15 @@ fn print_laid<W: Sink>(
     laid: &LaidCircuit,
     writer: &mut W,
 ) -> Result<(), Outcome>
-    ensures { (lines : List JoinedLine) → lines_of netlist.now ≡ Ok lines → IfOk result (λ _.
-        TakesAll W.contents W.has_failed writer.old writer.new (configuration_text lines
-        laid.now.circuit laid.now.arch laid.now.strip laid.now.layout)) }
+    requires implemented { IsImplemented laid.now }
+    requires circuit { IsCircuit laid.now.circuit }
+    requires strip { IsStripSize laid.now.strip }
+    ensures { IfOk result (λ _. (lines : List JoinedLine) × (lines_of netlist.now ≡ Ok lines)
+        × Works lines laid.now
+        × TakesAll W.contents W.has_failed writer.old writer.new (text_with lines laid.now)) }
 {
+    laws_of_configurations();
+    values_are_rows();
     if netlist.len() > MAX_TEXT {
         return Err(Outcome::NoMemory);
     }
@@ -104,8 +119,7 @@ fn print_lines<W: Sink>(
     writer: &mut W,
 ) -> Result<(), Outcome>
     ensures { IfOk result (λ _. TakesAll W.contents W.has_failed writer.old writer.new
-        (configuration_text lines.now laid.now.circuit laid.now.arch laid.now.strip
-        laid.now.layout)) }
+        (text_with lines.now laid.now)) }
 {
     let design = Design {
         netlist: lines,

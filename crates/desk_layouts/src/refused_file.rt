@@ -1,4 +1,5 @@
 //! The file of a layout that is refused.
+use crate::given_files::GivenFiles;
 use crate::layout_input::LayoutPaths;
 use layout_files::LayoutFault;
 use line_text::{Sink, split_line};
@@ -9,20 +10,17 @@ use text_parts::{Part, write_parts};
 /// cause if it shows: lines that end with CR, or a file of another kind.
 pub(crate) fn tell_file<E: Sink>(
     paths: LayoutPaths<'_>,
-    texts: &[Vec<u8>],
+    given: &GivenFiles,
     fault: LayoutFault,
     teller: &mut E,
 ) {
     let LayoutFault::Line(fault) = fault else {
         return;
     };
-    let [_, _, net, place, route] = texts else {
-        return;
-    };
     let (path, text) = match fault.file {
-        File::Net => (paths.net, net),
-        File::Place => (paths.place, place),
-        File::Route => (paths.route, route),
+        File::Net => (paths.net, &given.net),
+        File::Place => (paths.place, &given.place),
+        File::Route => (paths.route, &given.route),
     };
     let (first, _) = split_line(text.as_slice());
     let _ = write_parts(

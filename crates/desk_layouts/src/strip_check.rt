@@ -1,5 +1,7 @@
 //! The check of a layout against its netlist, before it is drawn.
-use crate::layout_input::{MAX_READ, laid_circuit, size_in_places};
+use crate::given_files::MAX_READ;
+use crate::laid_circuit::laid_circuit;
+use crate::layout_input::size_in_places;
 use arch_file::MAX_TRACKS;
 use desk_common::{FileRole, NO_DEVICE, NetlistSource, Outcome, read_file};
 use layout_verdict::{LayoutTexts, StripShape};

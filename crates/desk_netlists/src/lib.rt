@@ -5,7 +5,10 @@
 //! - [`random`] prints a script with random circuits, to measure the service with.
 #![tactic(auto)]
 
+mod device_use;
+mod extra_files;
 mod overuse;
+mod path_lines;
 pub mod random;
 mod refusals;
 pub mod route;

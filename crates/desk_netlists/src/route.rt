@@ -2,6 +2,7 @@
 ghost use Rattle.std.specs.Prelude.{◌≤◌};
 ghost use Rattle.strip_place.specs.declared.placing.TheConstants.{MAX_EFFORT};
 
+use crate::extra_files::write_extra_files;
 use crate::overuse::tell_overuse;
 use crate::refusals::told_unfit;
 use crate::route_size::{Sized, size_for};
@@ -45,6 +46,8 @@ pub fn run<H: Files + AllocGlobal, W: Sink, E: Sink>(
     }
     if let Err(Outcome::Unrouted | Outcome::NetlistRefused | Outcome::ArchRefused(_)) = outcome {
         tell_stale(rt, result_file(wishes, "route"), teller);
+        tell_stale(rt, result_file(wishes, "svg"), teller);
+        tell_stale(rt, result_file(wishes, "configuration"), teller);
     }
     outcome
 }
@@ -218,12 +221,10 @@ fn write_run<H: Files + AllocGlobal, W: Sink, E: Sink>(
     let Run { outcome, figures } = run;
     match outcome {
         End::Routed(files) => {
-            let mut saved = save_files(rt, wishes, &files, teller);
-            if let Ok(()) = saved {
-                saved = print_known(rt.alloc(), wishes, size, request, figures, &files, writer);
-            }
+            let routed = routed_of(wishes, arch, size, request, &files, figures);
+            let written = write_routed(rt, wishes, &files, routed, writer, teller);
             drop(files);
-            saved
+            written
         }
         End::Unrouted(left) => {
             let saved = saved_left(rt, wishes, &left, teller);
@@ -237,30 +238,44 @@ fn write_run<H: Files + AllocGlobal, W: Sink, E: Sink>(
     }
 }
 
-/// Prints what a run uses, if that is known.
-fn print_known<W: Sink>(
-    alloc: Global,
-    wishes: RouteWishes<'_>,
+/// The netlist that was routed, if it is known what it uses.
+fn routed_of<'a>(
+    wishes: RouteWishes<'a>,
+    arch: &'a [u8],
     size: GivenSize,
-    request: Request<'_>,
+    request: Request<'a>,
+    files: &'a Results,
     figures: Option<Figures>,
-    files: &Results,
+) -> Option<Routed<'a>> {
+    let figures = figures?;
+    Some(Routed {
+        name: stem_of(wishes.netlist),
+        netlist: request.netlist.as_bytes(),
+        arch,
+        texts: StripTexts {
+            net: files.net.as_bytes(),
+            place: files.places.as_bytes(),
+            route: files.routes.as_bytes(),
+        },
+        size,
+        figures,
+    })
+}
+
+/// Writes the files of a netlist that was routed, and prints what it uses.
+fn write_routed<'x, H: Files + AllocGlobal, W: Sink, E: Sink>(
+    rt: &H,
+    wishes: RouteWishes<'x>,
+    files: &'x Results,
+    routed: Option<Routed<'x>>,
     writer: &mut W,
+    teller: &mut E,
 ) -> Result<(), Outcome> {
-    match figures {
-        Some(figures) => {
-            let routed = Routed {
-                name: stem_of(wishes.netlist).as_bytes(),
-                netlist: request.netlist.as_bytes(),
-                texts: StripTexts {
-                    net: files.net.as_bytes(),
-                    place: files.places.as_bytes(),
-                    route: files.routes.as_bytes(),
-                },
-                size,
-                figures,
-            };
-            print_routed(alloc, wishes, routed, writer).or(Err(Outcome::OutputFailed))
+    save_files(rt, wishes, files, teller)?;
+    match routed {
+        Some(routed) => {
+            print_routed(rt.alloc(), wishes, routed, writer).or(Err(Outcome::OutputFailed))?;
+            write_extra_files(rt, wishes, routed, writer, teller)
         }
         None => Ok(()),
     }

@@ -14,13 +14,28 @@ const NO_ROWS: &str = "give --rows NY with --least-columns, and no --columns";
 
 const NO_TRACKS: &str = "give either --tracks W or --least-tracks";
 
+const NO_PATH: &str = "give either --csv or --path";
+
+/// The beginning of its help.
+const ABOUT: &str =
+    "Packs, places and routes one netlist on a device of its own, and writes its .net, .place and .route files to a folder";
+
+/// The tool without its options, for the program's help.
+pub const NAMED: Program = Program {
+    name: "route",
+    about: ABOUT,
+    after_help: "",
+    options: &[],
+};
+
 /// The tool and its options.
 pub const TOOL: Program = Program {
     name: "route",
-    about: "Packs, places and routes one netlist on a device of its own, and writes its .net, .place and .route files to a folder",
+    about: ABOUT,
     after_help: "\
 The files are the ones that the service prints for this netlist in a strip of this size, on any device and beside any other tenants.
-At the end, a summary says how much of the device they use. With --progress, or if standard error is a terminal, each step prints a line there.
+At the end, a summary says how much of the device they use, and what sets its size if that is not given. With --progress, or if standard error
+is a terminal, each step prints a line there. With --svg and --configuration a picture and the configuration of what was routed are written too.
 
 Example: fpgad_desk route --arch my.arch --tracks 8 --columns 10 --rows 10 --effort 100 t.blif results",
     options: &[
@@ -77,6 +92,34 @@ Example: fpgad_desk route --arch my.arch --tracks 8 --columns 10 --rows 10 --eff
             default: None,
         },
         OptionWord {
+            name: "path",
+            value_name: "",
+            help: "Prints the longest path stop by stop, with the wires between, each table's block and each pad's place",
+            takes: Takes::Nothing,
+            default: None,
+        },
+        OptionWord {
+            name: "svg",
+            value_name: "",
+            help: "Also writes a picture of the routed netlist, as NETLIST's name and .svg",
+            takes: Takes::Nothing,
+            default: None,
+        },
+        OptionWord {
+            name: "configuration",
+            value_name: "",
+            help: "Checks the files as `fpgad_desk check` does, and also writes what the device is loaded with, as NETLIST's name and .configuration",
+            takes: Takes::Nothing,
+            default: None,
+        },
+        OptionWord {
+            name: "check",
+            value_name: "",
+            help: "Checks the files as `fpgad_desk check` does, and prints `implements`",
+            takes: Takes::Nothing,
+            default: None,
+        },
+        OptionWord {
             name: "progress",
             value_name: "",
             help: "Prints a line for each step on standard error, even if it is not a terminal",
@@ -116,7 +159,21 @@ pub struct RouteWishes<'a> {
     pub(crate) is_told: bool,
     /// Whether the summary is a table.
     pub(crate) is_table: bool,
+    /// Whether the summary has the stops of the longest path.
+    pub(crate) has_path: bool,
+    pub(crate) extras: Extras,
     ghost effort_lawful: { effort ≤ MAX_EFFORT },
+}
+
+/// What is made of the three files.
+#[derive(Clone, Copy)]
+pub(crate) struct Extras {
+    /// Whether a picture is written.
+    pub(crate) has_picture: bool,
+    /// Whether the configuration is written.
+    pub(crate) has_configuration: bool,
+    /// Whether it is printed that the files implement the netlist.
+    pub(crate) has_verdict: bool,
 }
 
 /// The size of the device.
@@ -146,6 +203,9 @@ pub fn wishes_of<'a>(given: &Given<'a>) -> Result<RouteWishes<'a>, &'static str>
     if effort > 100 {
         return Err(NO_DEVICE);
     }
+    if given.is_given("csv") && given.is_given("path") {
+        return Err(NO_PATH);
+    }
     Ok(RouteWishes {
         arch: given.text("arch").ok_or(NO_FILE)?,
         netlist: given.text("netlist").ok_or(NO_FILE)?,
@@ -156,6 +216,12 @@ pub fn wishes_of<'a>(given: &Given<'a>) -> Result<RouteWishes<'a>, &'static str>
         effort,
         is_told: given.is_given("progress"),
         is_table: given.is_given("csv"),
+        has_path: given.is_given("path"),
+        extras: Extras {
+            has_picture: given.is_given("svg"),
+            has_configuration: given.is_given("configuration"),
+            has_verdict: given.is_given("check"),
+        },
     })
 }
 

@@ -1,4 +1,5 @@
 //! What a routed netlist uses, as lines or as a table.
+use crate::device_use::write_device_use;
 use crate::route_wishes::{GivenSize, RouteWishes};
 use desk_circuits::{measure, write_numbers, write_path, write_quoted};
 use line_text::{Failed, Sink};
@@ -10,8 +11,10 @@ use text_parts::{Part, write_parts};
 /// A netlist that was routed.
 #[derive(Clone, Copy)]
 pub(crate) struct Routed<'a> {
-    pub(crate) name: &'a [u8],
+    /// The name of its files.
+    pub(crate) name: &'a str,
     pub(crate) netlist: &'a [u8],
+    pub(crate) arch: &'a [u8],
     pub(crate) texts: StripTexts<'a>,
     pub(crate) size: GivenSize,
     pub(crate) figures: Figures,
@@ -30,14 +33,15 @@ pub(crate) fn print_routed<W: Sink>(
 ) -> Result<(), Failed> {
     if wishes.is_table {
         write_parts(writer, &[Part::Text(HEADINGS)])?;
-        write_quoted(writer, routed.name)?;
+        write_quoted(writer, routed.name.as_bytes())?;
         return write_row(alloc, routed, writer);
     }
     write_size(routed.size, writer)?;
     let tracks = Part::Number(routed.figures.tracks);
     write_parts(writer, &[Part::Text("tracks "), tracks, Part::Text("\n")])?;
     write_figures(writer, &routed.figures)?;
-    write_longest(alloc, routed, writer)
+    write_longest(alloc, routed, writer)?;
+    write_device_use(alloc, wishes, routed, writer)
 }
 
 /// Writes the line of the longest path. A netlist with a fault has no line, and if memory runs out

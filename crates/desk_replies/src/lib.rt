@@ -3,17 +3,20 @@
 //! - [`files`] saves the result files which the service printed for a script, and prints each line
 //!   beside its reply.
 //! - [`picture`] draws the device. [`report`] says how full it is, and the longest paths of its
-//!   tenancies if it reads the script too.
+//!   tenancies if it reads the script too, and where those that are Unrouted are overused.
 //! - [`page_tool`] prints one HTML file with the device and its tenancies, for a browser.
 #![tactic(auto)]
 
 mod device_input;
 pub mod files;
+mod layout_wish;
 mod outdated;
+mod overuse;
 mod page_texts;
 pub mod page_tool;
 pub mod picture;
 pub mod report;
+mod report_moves;
 mod report_paths;
 mod script_input;
 mod size;

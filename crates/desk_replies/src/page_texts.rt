@@ -1,6 +1,6 @@
 //! The texts that a page shows beside the files.
 use crate::script_input::Lines;
-use crate::states::{NameState, last_states, states_after};
+use crate::states::NameState;
 use desk_common::Outcome;
 use indexmap::IndexMap;
 use line_text::{Failed, MemorySink};
@@ -33,13 +33,15 @@ impl PageTexts {
         }
     }
 
-    /// Writes the texts about these lines of a script and their replies. Fails if memory runs out.
+    /// Writes the texts about these lines of a script, their replies and the last state of each
+    /// name. Fails if memory runs out.
     pub(crate) fn fill<'a>(
         &mut self,
         alloc: Global,
         lines: Lines<'a>,
         acts: &[Act<&'a [u8]>],
         replies: &Replies<'a, 'a>,
+        states: &IndexMap<&[u8], NameState<'_>>,
     ) -> Result<(), Outcome> {
         let Ok(asked) = script_lines(alloc, lines.text, lines.number, acts) else {
             return Err(Outcome::NoMemory);
@@ -48,7 +50,7 @@ impl PageTexts {
         drop(asked);
         match told {
             Ok(told) => {
-                let written = self.write(alloc, acts, replies, &told);
+                let written = self.write(&told, states);
                 drop(told);
                 written.or(Err(Outcome::NoMemory))
             }
@@ -57,28 +59,14 @@ impl PageTexts {
     }
 
     /// Writes the lines, those that are refused, and the states.
-    fn write<'a>(
+    fn write(
         &mut self,
-        alloc: Global,
-        acts: &[Act<&'a [u8]>],
-        replies: &Replies<'a, 'a>,
         told: &[ToldLine<'_>],
+        states: &IndexMap<&[u8], NameState<'_>>,
     ) -> Result<(), Failed> {
         write_told(&mut self.lines, told)?;
         write_refused(&mut self.refused, told)?;
-        let Ok(states) = states_after(alloc, acts, replies) else {
-            return Err(Failed);
-        };
-        let last = last_states(alloc, &states);
-        drop(states);
-        match last {
-            Ok(last) => {
-                let written = write_states(&mut self.states, &last, told);
-                drop(last);
-                written
-            }
-            Err(_) => Err(Failed),
-        }
+        write_states(&mut self.states, states, told)
     }
 }
 

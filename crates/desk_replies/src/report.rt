@@ -1,5 +1,9 @@
 //! The tool that says how full the device is.
+ghost use Rattle.std.specs.Prelude.{◌<◌, ◌^◌, length};
+
 use crate::device_input::device_in;
+use crate::overuse::{ServedScript, SharedDevice, write_overuses};
+use crate::report_moves::print_moves;
 use crate::report_paths::{write_path_table, write_paths};
 use crate::script_input::{Lines, acts_of, lines_of, replies_of};
 use crate::size::{PADS, TRACKS, size_of};
@@ -36,7 +40,12 @@ rows (CHANX), and `up` those of the channels beside columns (CHANY). A tenancy t
 For the device: its used, guard and free columns, the widest strip that `op admit` would accept now, and the fullest channels.
 With --csv only the tenancies are printed: a line of headings, and a line for each of them. With --script, which names the script
 whose output is read, also the longest path of the netlist that each tenancy has: in tables, and, if its three files were printed,
-in wires; or that some tables form a loop.
+in wires; or that some tables form a loop. And of each tenancy that is Unrouted: how many nodes were left overused, the most overused
+ones, and the nets on them. For that its netlist is placed and routed again; if it was changed, they are not known.
+
+With --moves it prints instead, as comments, each gap (free columns side by side) and the widest strip that `op admit` would accept;
+then lines `op move NAME OFFSET` that move each strip to the left, each of which is accepted after those before it; and the widest
+strip after them. So the lines can be put at the end of a script, or into fpgad_live. No result changes by a move.
 
 Example: fpgad --tracks 8 --columns 10 --rows 8 < my.script | fpgad_desk report --tracks 8 --columns 10 --rows 8",
     options: OPTIONS,
@@ -57,9 +66,16 @@ const OPTIONS: &[OptionWord] = &[
         default: None,
     },
     OptionWord {
+        name: "moves",
+        value_name: "",
+        help: "Prints only the gaps, and moves that join them, as lines of a script",
+        takes: Takes::Nothing,
+        default: None,
+    },
+    OptionWord {
         name: "script",
         value_name: "SCRIPT",
-        help: "The script whose output is read: the longest path of each tenancy is printed too",
+        help: "The script whose output is read: longest paths and overused nodes are printed too",
         takes: Takes::Text,
         default: None,
     },
@@ -78,9 +94,11 @@ pub struct ReportWishes<'a> {
     size: DeviceSize,
     /// Whether only a table of the tenancies is printed.
     is_table: bool,
+    /// Whether only moves are printed.
+    is_moves: bool,
     script: Option<&'a str>,
-    /// Whether the script begins with the architecture.
-    has_architecture: bool,
+    /// The architecture's file; without it the script begins with the architecture.
+    arch: Option<&'a str>,
 }
 
 /// What the options ask for, or why they are refused.
@@ -88,8 +106,9 @@ pub fn wishes_of<'a>(given: &Given<'a>) -> Result<ReportWishes<'a>, &'static str
     Ok(ReportWishes {
         size: size_of(given)?,
         is_table: given.is_given("csv"),
+        is_moves: given.is_given("moves"),
         script: given.text("script"),
-        has_architecture: given.text("arch").is_none(),
+        arch: given.text("arch"),
     })
 }
 
@@ -105,9 +124,35 @@ pub fn run<H: Files + AllocGlobal, R: Source, W: Sink, E: Sink>(
         return run_on_lines(rt.alloc(), wishes, None, reader, writer);
     };
     let script = read_file(rt, FileRole::Script, path, u64::MAX, teller)?;
-    let lines = lines_of(script.as_slice(), wishes.has_architecture);
-    let outcome = run_on_lines(rt.alloc(), wishes, Some(lines), reader, writer);
+    let outcome = run_on_script(rt, wishes, script.as_slice(), reader, writer, teller);
     drop(script);
+    outcome
+}
+
+/// Reads the architecture if it has a file of its own, and what was printed for the script, and
+/// prints the report.
+fn run_on_script<H: Files + AllocGlobal, R: Source, W: Sink, E: Sink>(
+    rt: &H,
+    wishes: ReportWishes<'_>,
+    script: &[u8],
+    reader: &mut R,
+    writer: &mut W,
+    teller: &mut E,
+) -> Result<(), Outcome>
+    requires { length script.now < 2 ^ 63 }
+{
+    let lines = lines_of(script, wishes.arch.is_none());
+    let Some(path) = wishes.arch else {
+        return run_on_lines(rt.alloc(), wishes, Some(lines), reader, writer);
+    };
+    let arch = read_file(rt, FileRole::Architecture, path, u64::MAX, teller)?;
+    let lines = Lines {
+        text: lines.text,
+        architecture: arch.as_slice(),
+        number: lines.number,
+    };
+    let outcome = run_on_lines(rt.alloc(), wishes, Some(lines), reader, writer);
+    drop(arch);
     outcome
 }
 
@@ -142,7 +187,11 @@ fn run_on_text<W: Sink>(
     drop(device);
     match report {
         Ok(report) => {
-            let outcome = print(alloc, wishes.is_table, lines, printed, &report, writer);
+            let outcome = if wishes.is_moves {
+                print_moves(alloc, &report, writer)
+            } else {
+                print(alloc, wishes, lines, printed, &report, writer)
+            };
             drop(report);
             outcome
         }
@@ -153,19 +202,29 @@ fn run_on_text<W: Sink>(
 /// Prints a report, with the longest paths of the tenancies' netlists if the script is given.
 fn print<W: Sink>(
     alloc: Global,
-    is_table: bool,
+    wishes: ReportWishes<'_>,
     lines: Option<Lines<'_>>,
     printed: &[u8],
     report: &Report<'_>,
     writer: &mut W,
 ) -> Result<(), Outcome> {
     let Some(lines) = lines else {
-        return print_plain(is_table, report, writer);
+        return print_plain(wishes.is_table, report, writer);
     };
+    let size = wishes.size;
+    let device = SharedDevice::new(lines.architecture, size.rows, size.tracks);
     let acts = acts_of(alloc, lines)?;
     let outcome = match replies_of(alloc, &acts, printed) {
         Ok(replies) => {
-            let outcome = print_with_paths(alloc, is_table, report, &acts, &replies, writer);
+            let outcome = print_acts(
+                alloc,
+                wishes.is_table,
+                device,
+                report,
+                &acts,
+                &replies,
+                writer,
+            );
             drop(replies);
             outcome
         }
@@ -173,6 +232,24 @@ fn print<W: Sink>(
     };
     drop(acts);
     outcome
+}
+
+/// Prints a report of a device on which these acts had these replies.
+fn print_acts<W: Sink>(
+    alloc: Global,
+    is_table: bool,
+    device: Option<SharedDevice<'_>>,
+    report: &Report<'_>,
+    acts: &[Act<&[u8]>],
+    replies: &Replies<'_, '_>,
+    writer: &mut W,
+) -> Result<(), Outcome> {
+    let served = ServedScript {
+        acts,
+        replies,
+        device,
+    };
+    print_served(alloc, is_table, report, served, writer)
 }
 
 /// Prints a report without longest paths.
@@ -189,21 +266,25 @@ fn print_plain<W: Sink>(
     written.or(Err(Outcome::OutputFailed))
 }
 
-/// Prints a report with the longest path of each tenancy's netlist.
-fn print_with_paths<W: Sink>(
+/// Prints a report with the longest path of each tenancy's netlist, and where the routings of those
+/// that are Unrouted are overused.
+fn print_served<'a, W: Sink>(
     alloc: Global,
     is_table: bool,
-    report: &Report<'_>,
-    acts: &[Act<&[u8]>],
-    replies: &Replies<'_, '_>,
+    report: &Report<'a>,
+    served: ServedScript<'a>,
     writer: &mut W,
 ) -> Result<(), Outcome> {
-    let Ok(accounts) = accounts_of(alloc, acts, replies) else {
+    let Ok(accounts) = accounts_of(alloc, served.acts, served.replies) else {
         return Err(Outcome::NoMemory);
     };
     let outcome = print_accounts(alloc, is_table, report, &accounts, writer);
     drop(accounts);
-    outcome
+    outcome?;
+    if is_table {
+        return Ok(());
+    }
+    write_overuses(alloc, report, served, writer).or(Err(Outcome::OutputFailed))
 }
 
 /// Prints a report with the longest path of each tenancy's netlist, by these accounts.

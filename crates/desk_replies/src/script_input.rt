@@ -11,6 +11,8 @@ use std::alloc::Global;
 #[derive(Clone, Copy)]
 pub(crate) struct Lines<'t> {
     pub(crate) text: &'t [u8],
+    /// The architecture's text; empty if the script doesn't begin with it.
+    pub(crate) architecture: &'t [u8],
     /// The number of its first line.
     pub(crate) number: usize,
     ghost counted: { number + length text.now < 2 ^ 64 },
@@ -22,6 +24,7 @@ pub(crate) fn lines_of(script: &[u8], has_architecture: bool) -> Lines<'_>
 {
     let whole = Lines {
         text: script,
+        architecture: b"",
         number: 1,
     };
     if !has_architecture {
@@ -30,6 +33,7 @@ pub(crate) fn lines_of(script: &[u8], has_architecture: bool) -> Lines<'_>
     match cut_text(script, 1) {
         Some(cut) => Lines {
             text: cut.rest,
+            architecture: cut.ahead,
             number: cut.number,
         },
         None => whole,

@@ -20,8 +20,20 @@ pub(crate) struct NameState<'a> {
     pub(crate) act: usize,
 }
 
+/// The last state of each name, by the acts of a script and their replies.
+pub(crate) fn present_states<'a>(
+    alloc: Global,
+    acts: &[Act<&'a [u8]>],
+    replies: &Replies<'a, 'a>,
+) -> Result<IndexMap<&'a [u8], NameState<'a>>, AllocError> {
+    let states = states_after(alloc, acts, replies)?;
+    let last = last_states(alloc, &states);
+    drop(states);
+    last
+}
+
 /// The last of these states of each name, in the order of the first ones.
-pub(crate) fn last_states<'a>(
+fn last_states<'a>(
     alloc: Global,
     states: &[NameState<'a>],
 ) -> Result<IndexMap<&'a [u8], NameState<'a>>, AllocError>
@@ -35,7 +47,7 @@ pub(crate) fn last_states<'a>(
 }
 
 /// The states after acts, by the replies to them, in order.
-pub(crate) fn states_after<'a>(
+fn states_after<'a>(
     alloc: Global,
     acts: &[Act<&'a [u8]>],
     replies: &Replies<'a, 'a>,

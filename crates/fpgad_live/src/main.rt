@@ -4,12 +4,17 @@
 
 use line_text::{StdSink, StdSource};
 use live_promises::{ProgramEnd, serve};
-use live_run::WholeLines;
+use live_run::{RESULTS_VERSION, WholeLines};
 use std::fs::File;
 use std::process::ExitCode;
 use std::{env, io};
 
 fn main(rt: HostRuntime) -> ExitCode {
+    let words = words(&rt);
+    if asks_version(&words) {
+        drop(words);
+        return write_version(&rt);
+    }
     let streams = fill_streams(&rt);
     let reader = WholeLines::new(&rt, StdSource::new(rt.reader()));
     let writer = StdSink::new(io::writer(&rt));
@@ -17,10 +22,26 @@ fn main(rt: HostRuntime) -> ExitCode {
         status,
         connection,
         devices,
-    } = serve(&rt, words(&rt), reader, writer);
+    } = serve(&rt, words, reader, writer);
     drop((connection, devices));
     drop(streams);
     status
+}
+
+/// Whether the words ask for the version, and for nothing else.
+fn asks_version(words: &io::Result<Vec<String>>) -> bool {
+    match words {
+        Ok(words) => words.len() == 2 && words[1].as_str() == "--version",
+        Err(_) => false,
+    }
+}
+
+/// Writes the version. The status is 1 if that fails.
+fn write_version(rt: &HostRuntime) -> ExitCode {
+    match println!(rt; "fpgad_live {RESULTS_VERSION}") {
+        Ok(()) => ExitCode::SUCCESS,
+        Err(_) => ExitCode::from(1),
+    }
 }
 
 /// Takes the numbers of the standard streams that are closed: else the log's file would get one of

@@ -139,6 +139,27 @@ pub struct CommandLine<'a> {
     pub arch: Option<&'a str>,
 }
 
+impl<'a> CommandLine<'a> {
+    ghost use Rattle.std.specs.Prelude.{MatchResult};
+    ghost use Rattle.fpgad_run.specs.CommandLines.{IsLineOf};
+    ghost use Rattle.fpgad_run.specs.declared.options.CommandLine.{CommandLine};
+
+    /// The command line that the options give, or why they are refused.
+    fn of(given: &Given<'a>) -> Result<Self, &'static str>
+        ensures { MatchResult result (IsLineOf given.now)
+            (λ _. (line : CommandLine) → IsLineOf given.now line → ⊥) }
+    {
+        let tracks = given.number("tracks")?;
+        let columns = given.number("columns")?;
+        let rows = given.number("rows")?;
+        let workers = given.number("workers")?;
+        Ok(CommandLine {
+            options: Options::new(tracks, columns, rows, workers).ok_or(BEYOND)?,
+            arch: given.text("arch"),
+        })
+    }
+}
+
 /// The options that these words give, the first being the program's name. An error is clap's; a
 /// request for help is one.
 pub fn read_options<'a, S: AsStr>(alloc: Global, words: &'a [S]) -> Result<CommandLine<'a>, Error> {
@@ -152,22 +173,10 @@ fn options_by<'a, S: AsStr>(
     words: &'a [S],
 ) -> Result<CommandLine<'a>, Error> {
     let given = read_words(alloc, program, words)?;
-    let line = line_of(&given);
+    let line = CommandLine::of(&given);
     drop(given);
     match line {
         Ok(line) => Ok(line),
         Err(why) => Err(refusal(alloc, program, words, why)),
     }
-}
-
-/// The command line that the options give, or why they are refused.
-fn line_of<'a>(given: &Given<'a>) -> Result<CommandLine<'a>, &'static str> {
-    let tracks = given.number("tracks")?;
-    let columns = given.number("columns")?;
-    let rows = given.number("rows")?;
-    let options = Options::new(tracks, columns, rows, given.number("workers")?).ok_or(BEYOND)?;
-    Ok(CommandLine {
-        options,
-        arch: given.text("arch"),
-    })
 }

@@ -46,29 +46,23 @@ pub fn run_script<R: Source, W: Sink>(
     }
 }
 
-/// Runs a script as `run_script` does, if the options have no workers; else serves the sessions on
-/// threads of their own, beside the workers.
-pub fn run<H: Threads + Wait + Clock + AllocGlobal + Sync, R: Source, W: Sink>(
+/// Runs a script beside as many workers as the options say, at least one: reads and checks it as
+/// [`run_script`] does, and serves the sessions on threads of their own.
+pub fn run_on_threads<H: Threads + Wait + Clock + AllocGlobal + Sync, R: Source, W: Sink>(
     rt: &H,
     options: &Options,
     architecture: Architecture<'_>,
     reader: &mut R,
     writer: &mut W,
 ) -> Outcome
-    ensures in_order { options.now.workers ≡ 0 →
-        RunsInOrder options.now architecture.entry (R.remaining reader.old) result
-        (W.contents writer.old) (W.contents writer.new) }
-    ensures on_threads { 1 ≤ options.now.workers →
-        RunsOnThreads options.now architecture.entry (R.remaining reader.old) result
+    requires { 1 ≤ options.now.workers }
+    ensures runs { RunsOnThreads options.now architecture.entry (R.remaining reader.old) result
         (W.contents writer.old) (W.contents writer.new) }
     ensures unreadable { architecture.entry ≡ Architecture.Unreadable →
         result ≡ Outcome.ArchUnreadable }
     ensures input { result ≡ Outcome.InputFailed → R.has_failed reader.new ≡ true }
     ensures output { result ≡ Outcome.OutputFailed → W.has_failed writer.new ≡ true }
 {
-    if options.workers == 0 {
-        return run_script(rt.alloc(), options, architecture, reader, writer);
-    }
     match read_input(rt.alloc(), architecture, reader) {
         Ok(input) => {
             let replies = on_threads::replies(rt, options, architecture, input.as_slice());

@@ -20,8 +20,8 @@ use Rattle.tagged_lines.proofs.IdLemmas.{first_of_owner, has_none, is_lawful, ow
 use Rattle.tagged_lines.proofs.TagLemmas.{apart, both, same, same_tag}
 use Rattle.live_lines.specs.Acts.{IsAnswered, Telling, Tells}
 use Rattle.live_lines.specs.Laws.{item_for, items_for, replies_for, reply_for, said_by}
-use Rattle.live_lines.specs.Live.{Asked, LiveState, Takes, TakesAsked, TellsItem, asked_by, asked_of, is_open, is_passed, is_short, operator_asks, told_by}
-use Rattle.live_lines.specs.Live.Asked.{NoForm, Nothing, Operates, Says}
+use Rattle.live_lines.specs.Live.{Asked, LiveState, Takes, TakesAsked, TellsItem, asked_by, asked_of, is_echo, is_open, is_passed, is_short, operator_asks, told_by, words_ask}
+use Rattle.live_lines.specs.Live.Asked.{Echoes, NoForm, Nothing, Operates, Says}
 use Rattle.live_lines.proofs.AnswerLemmas.{answer_whole}
 
 -- a line says something only under a name, and its tag is that name's
@@ -44,12 +44,15 @@ operated_named tag (Ok (Operator line ∷ act ∷ acts)) = tt
 operated_named tag (Ok (Session name item ∷ acts)) = tt
 operated_named tag (Err fault) = tt
 
+words_named : (tag line said : List ℕ) (acts : Acts) → IsNamed tag (words_ask line said acts)
+words_named tag line said acts = either_named tag (is_echo line said) (Echoes (rest_of said)) (operator_asks acts) (λ e. tt) (operated_named tag acts)
+
 named_by : (tag owner line rest : List ℕ) → owner_of tag ≡ owner → is_good_id (id_of tag) ≡ true → IsNamed tag (asked_by owner line rest)
 named_by tag [] line rest own good = tt
 named_by tag (b ∷ name) line rest own good =
-    either_named tag (eqb b 64) (cond (is_name name) (Says name rest) NoForm) (cond (bytes_eq (b ∷ name) (codes "op") && is_short line) (operator_asks (script_of 1 line)) NoForm)
+    either_named tag (eqb b 64) (cond (is_name name) (Says name rest) NoForm) (cond (bytes_eq (b ∷ name) (codes "op") && is_short line) (words_ask line rest (script_of 1 line)) NoForm)
     (λ at. says_named tag name rest (is_name name) refl (own ∙ ap (λ x. x ∷ name) (eqb-true b 64 at)) good)
-    (either_named tag (bytes_eq (b ∷ name) (codes "op") && is_short line) (operator_asks (script_of 1 line)) NoForm (λ e. operated_named tag (script_of 1 line)) tt)
+    (either_named tag (bytes_eq (b ∷ name) (codes "op") && is_short line) (words_ask line rest (script_of 1 line)) NoForm (λ e. words_named tag line rest (script_of 1 line)) tt)
 
 pub named : (line : List ℕ) → IsNamed (tag_of line) (asked_of line)
 named line =
@@ -80,6 +83,9 @@ operated_not_of name (Ok (Operator line ∷ act ∷ acts)) = tt
 operated_not_of name (Ok (Session other item ∷ acts)) = tt
 operated_not_of name (Err fault) = tt
 
+words_not_of : (name line said : List ℕ) (acts : Acts) → IsNotOf name (words_ask line said acts)
+words_not_of name line said acts = either_not_of name (is_echo line said) (Echoes (rest_of said)) (operator_asks acts) (λ e. tt) (operated_not_of name acts)
+
 other_name : (b : ℕ) (other name : List ℕ) → eqb b 64 ≡ true → bytes_eq (b ∷ other) (64 ∷ name) ≡ false → bytes_eq name other ≡ false
 other_name b other name is apart =
     elim (bytes_eq name other) as (λ v. bytes_eq name other ≡ v → v ≡ false) [
@@ -94,9 +100,9 @@ other_name b other name is apart =
 not_of_by : (name owner line rest : List ℕ) → bytes_eq owner (64 ∷ name) ≡ false → IsNotOf name (asked_by owner line rest)
 not_of_by name [] line rest apart = tt
 not_of_by name (b ∷ other) line rest apart =
-    either_not_of name (eqb b 64) (cond (is_name other) (Says other rest) NoForm) (cond (bytes_eq (b ∷ other) (codes "op") && is_short line) (operator_asks (script_of 1 line)) NoForm)
+    either_not_of name (eqb b 64) (cond (is_name other) (Says other rest) NoForm) (cond (bytes_eq (b ∷ other) (codes "op") && is_short line) (words_ask line rest (script_of 1 line)) NoForm)
     (λ at. either_not_of name (is_name other) (Says other rest) NoForm (λ n. other_name b other name at apart) tt)
-    (either_not_of name (bytes_eq (b ∷ other) (codes "op") && is_short line) (operator_asks (script_of 1 line)) NoForm (λ e. operated_not_of name (script_of 1 line)) tt)
+    (either_not_of name (bytes_eq (b ∷ other) (codes "op") && is_short line) (words_ask line rest (script_of 1 line)) NoForm (λ e. words_not_of name line rest (script_of 1 line)) tt)
 
 first_false : (a b : Bool) → b ≡ true → a && b ≡ false → a ≡ false
 first_false a true good e = first_is a e
@@ -171,6 +177,7 @@ no_items : (tag name : List ℕ) (old : LiveState) (number : ℕ) (asked : Asked
     (new.texts name ≡ old.texts name) × (items_for name tellings ≡ [])
 no_items tag name old number Nothing tellings told new apart (none, nothing, stays) = (ap (λ (s : LiveState). s.texts name) stays, ap (items_for name) none)
 no_items tag name old number NoForm tellings told new apart (none, nothing, stays) = (ap (λ (s : LiveState). s.texts name) stays, ap (items_for name) none)
+no_items tag name old number (Echoes words) tellings told new apart (none, nothing, stays) = (ap (λ (s : LiveState). s.texts name) stays, ap (items_for name) none)
 no_items tag name old number (Operates line) tellings told new apart (t, act, answered, one, is, stay) =
     (ap (λ texts. texts name) stay, ap (items_for name) one ∙ ap (λ a. item_for name a ++ []) act)
 no_items tag name old number (Says other rest) tellings told new apart (item, hears, tells) =
@@ -245,6 +252,7 @@ item_replies tag name other old (Some item) tellings told new own good (t, act, 
 asked_replies : (tag name : List ℕ) (old : LiveState) (number : ℕ) (asked : Asked) (tellings : List Telling) (told : List Tagged) (new : LiveState) → IsNamed tag asked → TakesAsked old number tag asked tellings told new → told_in (64 ∷ name) told ≡ replies_for name tellings
 asked_replies tag name old number Nothing tellings told new is_named (none, nothing, stays) = ap (told_in (64 ∷ name)) nothing ∙ sym (ap (replies_for name) none)
 asked_replies tag name old number NoForm tellings told new is_named (none, nothing, stays) = ap (told_in (64 ∷ name)) nothing ∙ sym (ap (replies_for name) none)
+asked_replies tag name old number (Echoes words) tellings told new is_named (none, nothing, stays) = ap (told_in (64 ∷ name)) nothing ∙ sym (ap (replies_for name) none)
 asked_replies tag name old number (Operates line) tellings told new is_named (t, act, answered, one, is, stay) =
     ap (told_in (64 ∷ name)) is
     ∙ (no_reply_by name t.text (is_open line)
@@ -333,6 +341,7 @@ item_tags tag name old (Some item) tellings told new ok (t, act, answered, one, 
 asked_tags : (tag : List ℕ) (old : LiveState) (number : ℕ) (asked : Asked) (tellings : List Telling) (told : List Tagged) (new : LiveState) → IsNamed tag asked → TakesAsked old number tag asked tellings told new → have_tags told ≡ true
 asked_tags tag old number Nothing tellings told new ok (none, nothing, stays) = ap have_tags nothing
 asked_tags tag old number NoForm tellings told new ok (none, nothing, stays) = ap have_tags nothing
+asked_tags tag old number (Echoes words) tellings told new ok (none, nothing, stays) = ap have_tags nothing
 asked_tags tag old number (Operates line) tellings told new ok (t, act, answered, one, is, stay) = ap have_tags is ∙ told_tags (is_open line) t.text
 asked_tags tag old number (Says name rest) tellings told new (ok, own, good) (item, hears, tells) = item_tags tag name old.stage item tellings told new.stage (of_name_tag tag name ok own good) tells
 
@@ -366,6 +375,7 @@ item_tells old tag name (Some item) tellings told new (t, act, answered, one, is
 asked_tells : (tag : List ℕ) (old : LiveState) (number : ℕ) (asked : Asked) (tellings : List Telling) (told : List Tagged) (new : LiveState) → TakesAsked old number tag asked tellings told new → Tells old.stage tellings new.stage
 asked_tells tag old number Nothing tellings told new (none, nothing, stays) = no_tells old.stage tellings new.stage none (ap (λ (s : LiveState). s.stage) stays)
 asked_tells tag old number NoForm tellings told new (none, nothing, stays) = no_tells old.stage tellings new.stage none (ap (λ (s : LiveState). s.stage) stays)
+asked_tells tag old number (Echoes words) tellings told new (none, nothing, stays) = no_tells old.stage tellings new.stage none (ap (λ (s : LiveState). s.stage) stays)
 asked_tells tag old number (Operates line) tellings told new (t, act, answered, one, is, stay) = one_tells old.stage t tellings new.stage one answered
 asked_tells tag old number (Says name rest) tellings told new (item, hears, tells) = item_tells old.stage tag name item tellings told new.stage tells
 

@@ -1,5 +1,5 @@
 -- What each line of a live service asks, and what is done and written for it.
-use Rattle.std.specs.Prelude.{ℕ, ◌≡◌, ◌+◌, List, [], ◌∷◌, ◌++◌, codes, decimal, length, nat_le, Bool, true, false, ◌==◌, ◌||◌, ◌&&◌, Option, Some, None, Ok, ⊤, if◌then◌else◌}
+use Rattle.std.specs.Prelude.{ℕ, ◌≡◌, ◌+◌, List, [], ◌∷◌, ◌++◌, codes, decimal, length, nat_le, Bool, true, false, not, ◌==◌, ◌||◌, ◌&&◌, Option, Some, None, Ok, ⊤, if◌then◌else◌}
 use Rattle.std.specs.List.{list_all}
 use Rattle.std.specs.Str.{bytes_eq}
 use Rattle.line_text.specs.Lines.{physical_lines}
@@ -15,16 +15,17 @@ use Rattle.live_lines.specs.Acts.{IsAnswered, Telling}
 use Rattle.std.specs.Io.KnownBytes.{Appends}
 use Rattle.tagged_lines.specs.Tags.{Tagged, answer_told, id_of, is_good_id, output_of, owner_of, rest_of, tag_of}
 use Rattle.live_lines.specs.declared.live.Live.{Live}
-use Rattle.live_lines.specs.declared.asked.TheConstants.{MAX_OPERATOR_LINE}
+use Rattle.live_lines.specs.declared.asked.TheConstants.{MAX_ECHO, MAX_OPERATOR_LINE}
 use Rattle.live_lines.specs.declared.asked.LineRequest.{LineRequest as AskedIn}
-use Rattle.live_lines.specs.declared.asked.LineRequest.TheVariants.{Nothing as NothingIn, NoForm as NoFormIn, Operates as OperatesIn, Says as SaysIn}
+use Rattle.live_lines.specs.declared.asked.LineRequest.TheVariants.{Nothing as NothingIn, NoForm as NoFormIn, Echoes as EchoesIn, Operates as OperatesIn, Says as SaysIn}
 use Rattle.live_lines.specs.Said.{HearsLine, IsEven, Texts, texts_of}
 
--- what a line asks: nothing; something without a form, which is refused; a line of the operator; or
--- a line of that name's session
+-- what a line asks: nothing; something without a form, which is refused; that the operator is
+-- answered these words; another line of the operator; or a line of that name's session
 pub data Asked : Type 0 where
   Nothing : Asked
   NoForm : Asked
+  Echoes : List ℕ → Asked
   Operates : OperatorLine (List ℕ) → Asked
   Says : List ℕ → List ℕ → Asked
 
@@ -41,6 +42,21 @@ abbrev pub operator_asks : Acts → Asked
 operator_asks (Ok (Operator line ∷ [])) = Operates line
 operator_asks acts = NoForm
 
+-- words that `echo` may have: 1 to 64 letters, digits, signs and blanks of ASCII
+abbrev pub is_echoed : ℕ → Bool
+is_echoed byte = nat_le 32 byte && nat_le byte 126
+
+abbrev pub are_echoed : List ℕ → Bool
+are_echoed words = nat_le 1 (length words) && nat_le (length words) MAX_ECHO && list_all is_echoed words
+
+-- the line has the tag `op` without an id, and says `echo`, one blank, and such words
+abbrev pub is_echo : List ℕ → List ℕ → Bool
+is_echo line said = bytes_eq (tag_of line) (codes "op") && bytes_eq (tag_of said) (codes "echo") && are_echoed (rest_of said)
+
+-- what a line of the operator asks, from what it says, and from a script of this one line
+abbrev pub words_ask : List ℕ → List ℕ → Acts → Asked
+words_ask line said acts = if is_echo line said then Echoes (rest_of said) else operator_asks acts
+
 -- a line of the operator may not be longer than 1,048,576 bytes
 abbrev pub is_short : List ℕ → Bool
 is_short line = nat_le (length line) MAX_OPERATOR_LINE
@@ -50,7 +66,7 @@ abbrev pub asked_by : List ℕ → List ℕ → List ℕ → Asked
 asked_by [] line rest = NoForm
 asked_by (b ∷ name) line rest =
     if b == 64 then (if is_name name then Says name rest else NoForm) else
-    if bytes_eq (b ∷ name) (codes "op") && is_short line then operator_asks (script_of 1 line) else NoForm
+    if bytes_eq (b ∷ name) (codes "op") && is_short line then words_ask line rest (script_of 1 line) else NoForm
 
 -- the tag may have an id
 abbrev pub asked_of : List ℕ → Asked
@@ -62,6 +78,7 @@ asked_of line =
 abbrev pub asks : AskedIn → Asked
 asks NothingIn = Nothing
 asks NoFormIn = NoForm
+asks (EchoesIn words) = Echoes words.now
 asks (OperatesIn line) = Operates (named_operator line)
 asks (SaysIn tag name rest) = Says name.now rest.now
 
@@ -113,6 +130,7 @@ TellsItem old tag name (Some item) tellings told new = (t : Telling)
 abbrev pub TakesAsked : LiveState → ℕ → List ℕ → Asked → List Telling → List Tagged → LiveState → Type 0
 TakesAsked old number tag Nothing tellings told new = (tellings ≡ []) × (told ≡ []) × (new ≡ old)
 TakesAsked old number tag NoForm tellings told new = (tellings ≡ []) × (told ≡ record { tag = codes "?"; text = decimal number } ∷ []) × (new ≡ old)
+TakesAsked old number tag (Echoes words) tellings told new = (tellings ≡ []) × (told ≡ for_operator words ∷ []) × (new ≡ old)
 TakesAsked old number tag (Operates line) tellings told new = (t : Telling)
     × (t.act ≡ Operator line) × IsAnswered old.stage t.act t.calls t.text new.stage × (tellings ≡ t ∷ []) × (told ≡ operator_told line t.text) × (new.texts ≡ old.texts)
 TakesAsked old number tag (Says name line) tellings told new = (item : Option SessionLine)

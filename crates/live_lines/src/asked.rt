@@ -4,7 +4,7 @@ ghost use Rattle.std.specs.List.{list_all};
 ghost use Rattle.line_text.specs.Words.{is_blank as is_blank_byte};
 ghost use Rattle.script_text.specs.Script.{named_act, script_of};
 ghost use Rattle.tagged_lines.specs.Tags.{tag_of};
-ghost use Rattle.live_lines.specs.Live.{HasTag, asked_by, asked_of, asks, begins_comment, is_passed, is_short, operator_asks};
+ghost use Rattle.live_lines.specs.Live.{HasTag, asked_by, asked_of, asks, are_echoed, begins_comment, is_echo, is_echoed, is_passed, is_short, operator_asks, words_ask};
 
 use line_text::{is_blank, is_word};
 use script_text::{Act, OperatorLine, ScriptError, is_name, read_script};
@@ -15,12 +15,17 @@ use tagged_lines::{owner_of, split_tag};
 /// are kept of a line, so no line is taken for another one because its end was cut off.
 pub const MAX_OPERATOR_LINE: usize = 1_048_576;
 
+/// The most bytes of the words that `op echo` may have.
+pub const MAX_ECHO: usize = 64;
+
 /// What a line asks.
 #[derive(Clone, Copy)]
 pub enum LineRequest<'l> {
     /// It is a comment, or has no word.
     Nothing,
     NoForm,
+    /// That the operator is answered these words: 1 to 64 printing ASCII characters and blanks.
+    Echoes(&'l [u8]),
     Operates(OperatorLine<&'l [u8]>),
     /// The tag, the name in it, and what the line says.
     Says(&'l [u8], &'l [u8], &'l [u8]),
@@ -64,7 +69,7 @@ fn asked_by<'l>(
         }
         _ => {
             if is_word(owner, "op") && is_short(line) {
-                operator_asks(alloc, line)
+                words_ask(alloc, line, rest)
             } else {
                 Ok(LineRequest::NoForm)
             }
@@ -101,7 +106,52 @@ fn is_short(line: &[u8]) -> bool
     line.len() <= MAX_OPERATOR_LINE
 }
 
-/// What a line of the operator asks.
+/// What a line of the operator asks, which says that.
+fn words_ask<'l>(
+    alloc: Global,
+    line: &'l [u8],
+    said: &'l [u8],
+) -> Result<LineRequest<'l>, AllocError>
+    requires { length line.now < 2 ^ 63 }
+    ensures { IfOk result (λ asked. asks asked ≡ words_ask line.now said.now (script_of 1 line.now)) }
+{
+    if is_echo(line, said) {
+        let (_, words) = split_tag(said);
+        return Ok(LineRequest::Echoes(words));
+    }
+    operator_asks(alloc, line)
+}
+
+/// Whether a line has the tag `op` without an id, and says `echo`, one blank, and words that may be
+/// echoed.
+fn is_echo(line: &[u8], said: &[u8]) -> bool
+    ensures { result ≡ is_echo line.now said.now }
+{
+    let (tag, _) = split_tag(line);
+    let (verb, words) = split_tag(said);
+    is_word(tag, "op") && is_word(verb, "echo") && are_echoed(words)
+}
+
+fn are_echoed(words: &[u8]) -> bool
+    ensures { result ≡ are_echoed words.now }
+{
+    !words.is_empty() && words.len() <= MAX_ECHO && are_echo_bytes(words)
+}
+
+fn are_echo_bytes(words: &[u8]) -> bool
+    ensures { result ≡ list_all is_echoed words.now }
+{
+    words.iter().all(|byte| is_echoed(*byte))
+}
+
+/// Whether a byte is a printing ASCII character or a blank.
+fn is_echoed(byte: u8) -> bool
+    ensures { result ≡ is_echoed byte }
+{
+    (b' '..=b'~').contains(&byte)
+}
+
+/// What a line of the operator asks that is no `echo`.
 fn operator_asks(alloc: Global, line: &[u8]) -> Result<LineRequest<'_>, AllocError>
     requires { length line.now < 2 ^ 63 }
     ensures { IfOk result (λ asked. asks asked ≡ operator_asks (script_of 1 line.now)) }

@@ -67,7 +67,7 @@ impl<'g> Live<'g> {
     /// lines is `op`, that of a name's session `@NAME` or `@NAME/ID`. If the tag of an item's last
     /// line has an id, a line `done @NAME/ID` follows the reply. A comment or a line without a word
     /// has no reply. A line without a form changes nothing, and its reply is its number with the
-    /// tag `?`.
+    /// tag `?`. Nor does `op echo WORDS` change anything: its reply is these words.
     ///
     /// # Errors
     /// `NoMemory` if it runs out of memory, and `Failed` if the writer fails. The service takes no
@@ -88,6 +88,7 @@ impl<'g> Live<'g> {
         match asked_of(self.alloc, line)? {
             LineRequest::Nothing => Ok(()),
             LineRequest::NoForm => self.take_no_form(writer, number),
+            LineRequest::Echoes(words) => self.write_to_operator(writer, false, words),
             LineRequest::Operates(line) => self.take_operator(writer, line),
             LineRequest::Says(tag, name, rest) => match self.said.hear(name, rest)? {
                 Some(item) => self.take_item(writer, tag, name, item),

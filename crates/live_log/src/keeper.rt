@@ -19,11 +19,14 @@ use tagged_lines::{owner_of, split_tag};
 ///   a `withdraw` followed;
 /// - a line of the operator that made steps of a job, as long as the session's lines before it;
 /// - each job that the operator took or put; nothing of such a tenancy is dropped later;
+/// - the last `echo` of the operator;
 /// - a text that is open at the end.
 #[derive(Drop)]
 pub(crate) struct Keeper<'l> {
     marks: Marks,
     names: Names<'l>,
+    /// The group of the last line that says `echo`.
+    echo: Option<usize>,
 }
 
 impl<'l> Keeper<'l> {
@@ -34,6 +37,7 @@ impl<'l> Keeper<'l> {
         Ok(Keeper {
             marks: Marks::new(alloc)?,
             names: Names::new(alloc),
+            echo: None,
         })
     }
 
@@ -90,6 +94,9 @@ impl<'l> Keeper<'l> {
         if is_word(verb, "step") {
             return self.note_steps(name, reply);
         }
+        if is_word(verb, "echo") {
+            return self.note_echo();
+        }
         if is_word(verb, "put") {
             let group = if is_put(reply) { KEPT } else { DROPPED };
             return self.marks.add_line(group);
@@ -117,6 +124,19 @@ impl<'l> Keeper<'l> {
         }
         let who = self.who(name)?;
         self.marks.add_line(who.life)
+    }
+
+    /// Notes an `echo`: it is kept, and those before it are not.
+    fn note_echo(&mut self) -> Result<(), AllocError>
+        ensures { OnOk result (length self.new.marks.lines.items
+            ≡ length self.old.marks.lines.items + 1) }
+    {
+        if let Some(group) = self.echo {
+            self.marks.drop_group(group);
+        }
+        let group = self.marks.begin()?;
+        self.echo = Some(group);
+        self.marks.add_line(group)
     }
 
     /// Notes that the operator took a job of a name's tenancy.

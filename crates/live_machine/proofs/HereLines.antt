@@ -19,8 +19,8 @@ use Rattle.operator.specs.OperatorText.{last_id}
 use Rattle.operator.specs.Serving.{Stage}
 use Rattle.tagged_lines.specs.Tags.{Tagged, id_of, is_good_id, owner_of, rest_of, tag_of}
 use Rattle.live_lines.specs.Acts.{IsAnswered, Telling}
-use Rattle.live_lines.specs.Live.{Asked, LiveState, TakesAsked, TellsItem, asked_by, asked_of, is_passed, is_short, operator_asks}
-use Rattle.live_lines.specs.Live.Asked.{NoForm, Nothing, Operates, Says}
+use Rattle.live_lines.specs.Live.{Asked, LiveState, TakesAsked, TellsItem, asked_by, asked_of, is_echo, is_passed, is_short, operator_asks, words_ask}
+use Rattle.live_lines.specs.Live.Asked.{Echoes, NoForm, Nothing, Operates, Says}
 use Rattle.live_input.specs.Serving.{AnswersLine}
 use Rattle.live_machine.specs.Held.{form_of, is_wait}
 use Rattle.live_machine.specs.Machine.{is_busy, is_by_hand, is_outside}
@@ -45,12 +45,15 @@ operated_said rest (Ok (Operator line ∷ act ∷ acts)) = tt
 operated_said rest (Ok (Session name item ∷ acts)) = tt
 operated_said rest (Err fault) = tt
 
+words_said : (rest line said : List ℕ) (acts : Acts) → IsSaidOf rest (words_ask line said acts)
+words_said rest line said acts = either_said rest (is_echo line said) (Echoes (rest_of said)) (operator_asks acts) tt (operated_said rest acts)
+
 said_by_tag : (owner line rest : List ℕ) → IsSaidOf rest (asked_by owner line rest)
 said_by_tag [] line rest = tt
 said_by_tag (b ∷ name) line rest =
-    either_said rest (eqb b 64) (cond (is_name name) (Says name rest) NoForm) (cond (bytes_eq (b ∷ name) (codes "op") && is_short line) (operator_asks (script_of 1 line)) NoForm)
+    either_said rest (eqb b 64) (cond (is_name name) (Says name rest) NoForm) (cond (bytes_eq (b ∷ name) (codes "op") && is_short line) (words_ask line rest (script_of 1 line)) NoForm)
     (either_said rest (is_name name) (Says name rest) NoForm refl tt)
-    (either_said rest (bytes_eq (b ∷ name) (codes "op") && is_short line) (operator_asks (script_of 1 line)) NoForm (operated_said rest (script_of 1 line)) tt)
+    (either_said rest (bytes_eq (b ∷ name) (codes "op") && is_short line) (words_ask line rest (script_of 1 line)) NoForm (words_said rest line rest (script_of 1 line)) tt)
 
 said_of_line : (line : List ℕ) → IsSaidOf (rest_of line) (asked_of line)
 said_of_line line =
@@ -93,6 +96,7 @@ WaitsAtHome live asked line = ⊤
 idle_waits : (live : LiveState) (asked : Asked) (line : List ℕ) → NeedNotWait (without_workers live) asked line → WaitsAtHome live asked line
 idle_waits live Nothing line need = tt
 idle_waits live NoForm line need = tt
+idle_waits live (Echoes words) line need = tt
 idle_waits live (Operates operates) line need = tt
 idle_waits live (Says name said) line need =
     λ waits. idle_home live.stage.service (last_id live.stage.names name) (not_busy (is_outside (live.texts name)) (is_wait (form_of line)) (is_busy (without_workers live) name) waits need)
@@ -122,6 +126,7 @@ AsksHere old number tag asked told new = (tellings : List Telling) × TakesAsked
 asked_here : (old new : LiveState) (number : ℕ) (tag line : List ℕ) (asked : Asked) (tellings : List Telling) (told : List Tagged) → IsSaidOf (rest_of line) asked → is_by_hand asked ≡ false → WaitsAtHome old asked line → TakesAsked old number tag asked tellings told new → AsksHere old number tag asked told new
 asked_here old new number tag line Nothing tellings told said hand home (none, nothing, same) = (tellings, (none, nothing, ap without_workers same))
 asked_here old new number tag line NoForm tellings told said hand home (none, nothing, same) = (tellings, (none, nothing, ap without_workers same))
+asked_here old new number tag line (Echoes words) tellings told said hand home (none, nothing, same) = (tellings, (none, nothing, ap without_workers same))
 asked_here old new number tag line (Operates operates) tellings told said hand home (t, act, answered, one, is, stay) = (tellings, (t, act, operator_here old.stage t.act operates t.calls t.text new.stage act hand answered, one, is, stay))
 asked_here old new number tag line (Says name rest) tellings told said hand home (item, hears, tells) =
     let waits : item ≡ Some Wait → IsHome old name =

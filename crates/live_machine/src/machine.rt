@@ -187,7 +187,9 @@ impl<'g> Machine<'g> {
                 self.mark(name)
             }
             LineRequest::Operates(asked) => self.operate(asked, line),
-            LineRequest::Nothing | LineRequest::NoForm => self.server.serve(line),
+            LineRequest::Nothing | LineRequest::NoForm | LineRequest::Echoes(_) => {
+                self.server.serve(line)
+            }
         }
     }
 }

@@ -1,5 +1,6 @@
 pub mod Commands
 pub mod Headings
 pub mod Limits
+pub mod Lines
 pub mod Outcomes
 pub mod Runs

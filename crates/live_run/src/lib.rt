@@ -1,10 +1,12 @@
 //! The live service as a program over a dialogue.
 //!
-//! - [`read_options`] reads the command line. [`first_line`] is the line that a log begins with.
+//! - [`read_options`] reads the command line. [`RESULTS_VERSION`] is that of what lines are
+//!   answered. [`first_line`] is the line that a log begins with.
 //! - [`serve`] serves the lines of a dialogue as they come, after those of a log if there is one.
 //! - [`run_line`] serves as a command line says. [`Outcome`] says how a service ended.
 //! - [`log_at`] opens a log, as what it kept and what comes ([`KeptLog`]).
 //! - [`LockLog`] keeps a log to one service at a time.
+//! - [`say_ready`] says that a service is ready.
 //! - [`WholeLines`] is an input that tells of a last line without its end.
 #![tactic(auto)]
 
@@ -14,6 +16,8 @@ mod log_lock;
 mod options;
 mod outcome;
 mod program;
+mod reading;
+mod ready;
 mod serving;
 mod streams;
 mod whole_lines;
@@ -21,8 +25,10 @@ mod whole_lines;
 pub use beginning::first_line;
 pub use kept_log::KeptLog;
 pub use log_lock::LockLog;
-pub use options::{CommandLine, Options, read_options};
+pub use options::{CommandLine, Options, RESULTS_VERSION};
 pub use outcome::Outcome;
 pub use program::{log_at, read_architecture, run_line};
+pub use reading::read_options;
+pub use ready::say_ready;
 pub use serving::serve;
 pub use whole_lines::{NO_END, WholeLines};

@@ -5,17 +5,18 @@ ghost use Rattle.grid.specs.declared.TheConstants.{MAX_COLUMNS, MAX_ROWS};
 ghost use Rattle.live_run.specs.declared.options.TheConstants.{MAX_TENANT_MEMORY};
 
 use arch_file::{Arch, MAX_TRACKS};
-use clap::Error;
 use grid::{MAX_COLUMNS, MAX_ROWS};
-use option_words::{Given, OptionWord, Program, Takes, read_words, refusal};
+use option_words::{OptionWord, Program, Takes};
 use service_core::Device;
-use std::alloc::Global;
-use std::convert::AsStr;
+
+/// The version of what lines are answered, which `fpgad_live --version` prints. It is raised
+/// whenever the same options and the same lines would be answered by other bytes.
+pub const RESULTS_VERSION: u32 = 1;
 
 /// What follows the options in the help.
 const HELP: &str = "\
 A line of input is a request; NAME is 1 to 32 letters, digits and `_`:
-  op admit NAME WIDTH | evict NAME | move NAME OFFSET | list | owners
+  op admit NAME WIDTH | evict NAME | move NAME OFFSET | list | owners | echo WORDS
   op step NAME N | take NAME | put JOB, without workers
   @NAME upload | change, then lines `@NAME ..` with a BLIF netlist, and a line `@NAME .`
   @NAME pack | place SEED EFFORT | route | wait | cancel | withdraw
@@ -26,11 +27,13 @@ Each line of a reply begins with `op` or `@NAME`; `? N` says that line N has no 
 Status: 0 served, 1 the architecture or a device failed, 2 the options are refused,
   4 memory ran out
 
+fpgad_live --version prints the version of what lines are answered.
+
 Example: fpgad_live --arch my.arch --tracks 8 --columns 20 --rows 10 --log day.log
 All of it: docs/LIVE.md";
 
 /// The program for its options.
-const PROGRAM: Program = Program {
+pub(crate) const PROGRAM: Program = Program {
     name: "fpgad_live",
     about: "Place and route for one shared FPGA: answers each line of standard input as it comes",
     after_help: HELP,
@@ -84,6 +87,13 @@ const PROGRAM: Program = Program {
             takes: Takes::Text,
             default: None,
         },
+        OptionWord {
+            name: "ready",
+            value_name: "",
+            help: "Writes `ready` to standard error once the log is read and lines are answered",
+            takes: Takes::Nothing,
+            default: None,
+        },
     ],
 };
 
@@ -95,10 +105,6 @@ pub(crate) const TENANT_MEMORY: u32 = 256;
 
 /// The bytes of a MiB.
 const MIB: u64 = 1_048_576;
-
-const BEYOND: &str = "a number is beyond its limits";
-
-const NO_ARCH: &str = "--arch FILE is missing";
 
 /// The size of the device and of its channels, and of what a tenancy's journal may hold, within
 /// their limits.
@@ -189,34 +195,6 @@ pub struct CommandLine<'a> {
     pub log: Option<&'a str>,
     /// 0 to 16.
     pub workers: u32,
-}
-
-/// The options that these words give, the first being the program's name. An error is clap's; a
-/// request for help is one.
-pub fn read_options<'a, S: AsStr>(alloc: Global, words: &'a [S]) -> Result<CommandLine<'a>, Error> {
-    let given = read_words(alloc, &PROGRAM, words)?;
-    let line = line_of(&given);
-    drop(given);
-    match line {
-        Ok(line) => Ok(line),
-        Err(why) => Err(refusal(alloc, &PROGRAM, words, why)),
-    }
-}
-
-/// The command line that the options give, or why they are refused.
-fn line_of<'a>(given: &Given<'a>) -> Result<CommandLine<'a>, &'static str> {
-    let tracks = given.number("tracks")?;
-    let columns = given.number("columns")?;
-    let rows = given.number("rows")?;
-    let options = Options::new(tracks, columns, rows).ok_or(BEYOND)?;
-    let tenant_memory = given.number("tenant-memory")?;
-    let options = options.with_tenant_memory(tenant_memory).ok_or(BEYOND)?;
-    let workers = given.number("workers")?;
-    let log = given.text("log");
-    Ok(CommandLine {
-        options,
-        arch: given.text("arch").ok_or(NO_ARCH)?,
-        log,
-        workers,
-    })
+    /// Whether the service says when it is ready.
+    pub ready: bool,
 }

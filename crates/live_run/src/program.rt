@@ -11,14 +11,14 @@ use crate::serving::serve;
 use dialogue::{Connection, Dialogue, FileLog};
 use line_text::{MAX_TEXT, ReadError, Sink, Source, StdSource, read_all};
 use std::fs::File;
-use std::io::{Read, Take};
+use std::io::{Eprint, Read, Take};
 use std::rt::Files;
 use std::sync::Wait;
 
 /// Serves the lines of a connection without workers, as the command line says: reads the
 /// architecture's file and the log, if there is one. The connection must have no log yet. With
 /// [`Outcome::Done`] all lines are answered, and all replies are written.
-pub fn run_line<H: Files + Wait + AllocGlobal, R: Source + Drop, W: Sink + Drop>(
+pub fn run_line<H: Files + Wait + AllocGlobal + Eprint, R: Source + Drop, W: Sink + Drop>(
     rt: &H,
     line: &CommandLine<'_>,
     connection: &mut Connection<R, W, FileLog<H::File>>,
@@ -38,7 +38,7 @@ where
 }
 
 /// Serves over that architecture, with a log if the command line names one.
-fn run_over<H: Files + Wait + AllocGlobal, R: Source + Drop, W: Sink + Drop>(
+fn run_over<H: Files + Wait + AllocGlobal + Eprint, R: Source + Drop, W: Sink + Drop>(
     rt: &H,
     line: &CommandLine<'_>,
     architecture: &[u8],
@@ -54,12 +54,12 @@ where
     match line.log {
         None => {
             let none: Option<StdSource<Take<H::File>>> = None;
-            serve(rt, &line.options, architecture, none, connection)
+            serve(rt, line, architecture, none, connection)
         }
         Some(path) => match log_at(rt, line, path, architecture) {
             Ok(KeptLog { past, log }) => {
                 connection.keep_on(log);
-                serve(rt, &line.options, architecture, Some(past), connection)
+                serve(rt, line, architecture, Some(past), connection)
             }
             Err(outcome) => outcome,
         },

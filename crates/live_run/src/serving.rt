@@ -6,8 +6,9 @@ ghost use Rattle.line_service.specs.Conversation.{IsConversation};
 ghost use Rattle.live_input.specs.Serving.{AnswersLine, begins, is_ready, state_in};
 ghost use Rattle.live_run.specs.Runs.{ClosesAs, Replays, Runs, RunsFrom, past_of};
 
-use crate::options::Options;
+use crate::options::CommandLine;
 use crate::outcome::Outcome;
+use crate::ready::say_ready;
 use arch_file::{ArchError, read_arch};
 use dialogue::{Dialogue, Replay};
 use line_feed::LineFeed;
@@ -17,25 +18,26 @@ use live_input::{LiveLines, serve_lines};
 use service_core::{Device, Service};
 use sessions::device_graph;
 use std::alloc::AllocError;
+use std::io::Eprint;
 use std::sync::Wait;
 
 /// Serves the lines of a dialogue as they come, over a device of that architecture. If there is a
 /// log, its lines are served before, and their replies are dropped; and texts that are open at the
 /// input's end stay open for a run that goes on from the log. Else each such text is refused.
-pub fn serve<H: Wait + AllocGlobal, P: Source + Drop, D: Dialogue>(
+pub fn serve<H: Wait + AllocGlobal + Eprint, P: Source + Drop, D: Dialogue>(
     rt: &H,
-    options: &Options,
+    line: &CommandLine<'_>,
     architecture: &[u8],
     past: Option<P>,
     dialogue: &mut D,
 ) -> Outcome
-    ensures { Runs options.now architecture.now (is_some past) (past_of P.remaining past)
+    ensures { Runs line.now.options architecture.now (is_some past) (past_of P.remaining past)
         (D.view dialogue.old) (D.view dialogue.new) result }
 {
-    match read_arch(rt.alloc(), architecture, options.tracks) {
+    match read_arch(rt.alloc(), architecture, line.options.tracks) {
         Ok(arch) => {
-            let device = options.device(arch);
-            match serve_device(rt, device, options.text_limit(), past, dialogue) {
+            let device = line.options.device(arch);
+            match serve_device(rt, line, device, past, dialogue) {
                 Ok(outcome) => outcome,
                 Err(_) => Outcome::NoMemory,
             }
@@ -45,11 +47,11 @@ pub fn serve<H: Wait + AllocGlobal, P: Source + Drop, D: Dialogue>(
     }
 }
 
-/// Serves the lines on that device. The texts of a journal may have at most `text_limit` bytes.
-fn serve_device<H: Wait + AllocGlobal, P: Source + Drop, D: Dialogue>(
+/// Serves the lines on that device.
+fn serve_device<H: Wait + AllocGlobal + Eprint, P: Source + Drop, D: Dialogue>(
     rt: &H,
+    line: &CommandLine<'_>,
     device: Device,
-    text_limit: u64,
     past: Option<P>,
     dialogue: &mut D,
 ) -> Result<Outcome, AllocError>
@@ -60,16 +62,18 @@ fn serve_device<H: Wait + AllocGlobal, P: Source + Drop, D: Dialogue>(
         (λ _. D.view dialogue.new ≡ D.view dialogue.old) }
 {
     let graph = device_graph(rt.alloc(), &device)?;
-    let core = Service::with_text_limit(rt.alloc(), device, text_limit)?;
+    let core = Service::with_text_limit(rt.alloc(), device, line.options.text_limit())?;
     let mut lines = LiveLines::new(rt.alloc(), &graph, core);
-    let outcome = serve_past(rt, &mut lines, past, dialogue);
+    let outcome = serve_past(rt, line.ready, &mut lines, past, dialogue);
     lines.close();
     Ok(outcome)
 }
 
-/// Serves the lines of the log, if there is one, and then those of the dialogue.
-fn serve_past<H: Wait + AllocGlobal, P: Source + Drop, D: Dialogue>(
+/// Serves the lines of the log, if there is one, and then those of the dialogue. Between them it
+/// says that it is ready, if that is wanted.
+fn serve_past<H: Wait + AllocGlobal + Eprint, P: Source + Drop, D: Dialogue>(
     rt: &H,
+    ready: bool,
     lines: &mut LiveLines<'_>,
     past: Option<P>,
     dialogue: &mut D,
@@ -81,13 +85,19 @@ fn serve_past<H: Wait + AllocGlobal, P: Source + Drop, D: Dialogue>(
     let mut number = 1;
     match past {
         Some(past) => match replay(rt, lines, past, &mut number) {
-            Ok(()) => Outcome::of(talk(rt, lines, dialogue, &mut number)),
+            Ok(()) => {
+                say_ready(rt, ready);
+                Outcome::of(talk(rt, lines, dialogue, &mut number))
+            }
             Err(outcome) => outcome,
         },
-        None => match talk(rt, lines, dialogue, &mut number) {
-            ConversationEnd::Done => close_texts(lines, dialogue),
-            end => Outcome::of(end),
-        },
+        None => {
+            say_ready(rt, ready);
+            match talk(rt, lines, dialogue, &mut number) {
+                ConversationEnd::Done => close_texts(lines, dialogue),
+                end => Outcome::of(end),
+            }
+        }
     }
 }
 

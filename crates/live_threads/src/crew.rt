@@ -38,10 +38,12 @@ impl Crew {
 }
 
 /// What a thread of a service works with: the handle by which it waits, what it shares with the
-/// others, and the graph of the whole device.
+/// others, the graph of the whole device, and whether it says when it is ready.
 #[derive_where(Clone, Copy)]
 pub(crate) struct Site<'s, H> {
     pub(crate) rt: &'s H,
     pub(crate) crew: &'s Crew,
     pub(crate) graph: &'s DeviceGraph,
+    /// Whether the service says when it is ready.
+    pub(crate) ready: bool,
 }

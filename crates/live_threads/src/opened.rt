@@ -17,10 +17,11 @@ use dialogue::Log;
 use line_text::{Sink, Source};
 use live_input::LiveLines;
 use live_machine::Machine;
-use live_run::Outcome;
+use live_run::{Outcome, say_ready};
 use rtrb::Consumer;
 use service_core::Service;
 use std::alloc::AllocGlobal;
+use std::io::Eprint;
 use std::snapshot::Snapshot;
 use std::sync::Wait;
 use std::thread::Promise;
@@ -83,11 +84,12 @@ impl<P: Source + Drop, W: Sink + Drop, L: Log + Drop> Promise<ServerEnd<W, L>>
 }
 
 /// Serves the lines of the log, and then those that come.
-pub(crate) fn serve_opened<H: Wait + AllocGlobal, P: Source + Drop, W: Sink + Drop, L: Log + Drop>(
-    site: Site<'_, H>,
-    opened: Opened<P, W, L>,
-    lines: Consumer<Vec<u8>>,
-) -> ServerEnd<W, L>
+pub(crate) fn serve_opened<
+    H: Wait + AllocGlobal + Eprint,
+    P: Source + Drop,
+    W: Sink + Drop,
+    L: Log + Drop,
+>(site: Site<'_, H>, opened: Opened<P, W, L>, lines: Consumer<Vec<u8>>) -> ServerEnd<W, L>
     requires { opened.service.histories ≡ [] }
     ensures { TakesLines lines result.lines (λ heard.
         RunsService (option_map P.remaining opened.past) (empty_on opened.service site.entry.graph.now)
@@ -111,8 +113,9 @@ pub(crate) fn serve_opened<H: Wait + AllocGlobal, P: Source + Drop, W: Sink + Dr
     }
 }
 
-/// Serves the lines of the log over that live service, and then those that come.
-fn serve_resumed<H: Wait + AllocGlobal, P: Source + Drop, O: Outlet>(
+/// Serves the lines of the log over that live service, and then those that come. Between them it
+/// says that it is ready, if that is wanted.
+fn serve_resumed<H: Wait + AllocGlobal + Eprint, P: Source + Drop, O: Outlet>(
     site: Site<'_, H>,
     live: LiveLines<'_>,
     past: Option<P>,
@@ -125,7 +128,10 @@ fn serve_resumed<H: Wait + AllocGlobal, P: Source + Drop, O: Outlet>(
         result) }
 {
     match resume(site, live, past, outlet) {
-        Ok(machine) => serve_machine(site.rt, site.crew, lines, machine, outlet),
+        Ok(machine) => {
+            say_ready(site.rt, site.ready);
+            serve_machine(site.rt, site.crew, lines, machine, outlet)
+        }
         Err(outcome) => outcome,
     }
 }

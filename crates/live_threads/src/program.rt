@@ -107,7 +107,7 @@ where
 /// architecture's file, and the log if there is one, and serves the lines of the reader, with
 /// workers if the options ask for some.
 pub fn run_words<
-    H: Files + Threads + Wait + Clock + AllocGlobal + Sync,
+    H: Files + Threads + Wait + Clock + AllocGlobal + Eprint + Sync,
     T: AsStr,
     S: Source + Drop,
     W: Sink + Drop + Send,
@@ -146,7 +146,7 @@ fn refusal_of(error: Error) -> Result<Outcome, Error>
 }
 
 /// Serves without workers as the command line says.
-fn run_alone<H: Files + Wait + AllocGlobal, S: Source + Drop, W: Sink + Drop>(
+fn run_alone<H: Files + Wait + AllocGlobal + Eprint, S: Source + Drop, W: Sink + Drop>(
     rt: &H,
     line: &CommandLine<'_>,
     reader: S,
@@ -170,7 +170,7 @@ where
 
 /// Serves with workers as the command line says.
 fn with_workers<
-    H: Files + Threads + Wait + Clock + AllocGlobal + Sync,
+    H: Files + Threads + Wait + Clock + AllocGlobal + Eprint + Sync,
     S: Source + Drop,
     W: Sink + Drop + Send,
 >(

@@ -237,7 +237,8 @@ impl<'g, R: Wait + AllocGlobal> Replayed<'g, R> {
             LineRequest::Operates(OperatorLine::Step(name, _) | OperatorLine::Take(name)) => {
                 self.await_home(name);
             }
-            LineRequest::Operates(_) | LineRequest::Nothing | LineRequest::NoForm => {}
+            LineRequest::Operates(_) | LineRequest::Echoes(_) => {}
+            LineRequest::Nothing | LineRequest::NoForm => {}
         }
     }
 
@@ -261,7 +262,8 @@ impl<'g, R: Wait + AllocGlobal> Replayed<'g, R> {
             LineRequest::Says(_, name, _) | LineRequest::Operates(OperatorLine::Step(name, _)) => {
                 self.order_step(name)
             }
-            LineRequest::Operates(_) | LineRequest::Nothing | LineRequest::NoForm => Ok(()),
+            LineRequest::Operates(_) | LineRequest::Echoes(_) => Ok(()),
+            LineRequest::Nothing | LineRequest::NoForm => Ok(()),
         }
     }
 

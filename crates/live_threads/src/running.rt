@@ -17,9 +17,10 @@ use crate::serving::MOST_AHEAD;
 use crate::worker::run_worker;
 use dialogue::{FailedDevice, Log};
 use line_text::{Sink, Source};
-use live_run::Outcome;
+use live_run::{CommandLine, Outcome};
 use rtrb::{Consumer, Producer, RingBuffer};
 use std::alloc::AllocGlobal;
+use std::io::Eprint;
 use std::sync::Wait;
 use std::thread;
 use std::thread::{Scope, Threads};
@@ -35,14 +36,20 @@ pub(crate) struct RunEnd<W: Sink + Drop, L: Log + Drop> {
 }
 
 /// Serves the lines of a log, and then those of an input, over the graph of the whole device, with
-/// that many workers.
+/// as many workers as the command line says.
 pub(crate) fn serve_with_workers<
-    H: Threads + Wait + Clock + AllocGlobal + Sync,
+    H: Threads + Wait + Clock + AllocGlobal + Eprint + Sync,
     P: Source + Drop + Send,
     S: Source + Drop,
     W: Sink + Drop + Send,
     L: Log + Drop + Send,
->(rt: &H, workers: u32, graph: &DeviceGraph, opened: Opened<P, W, L>, reader: S) -> RunEnd<W, L>
+>(
+    rt: &H,
+    line: &CommandLine<'_>,
+    graph: &DeviceGraph,
+    opened: Opened<P, W, L>,
+    reader: S,
+) -> RunEnd<W, L>
     requires { opened.service.histories ≡ [] }
     ensures { RunsOpened (option_map P.remaining opened.past) (empty_on opened.service graph.now)
         (view_of W.contents W.has_failed L.kept L.has_failed opened.devices) (S.remaining reader)
@@ -53,11 +60,12 @@ pub(crate) fn serve_with_workers<
         rt,
         crew: &crew,
         graph,
+        ready: line.ready,
     };
     let end = match RingBuffer::new(rt.alloc(), MOST_AHEAD) {
         Ok((producer, consumer)) => {
             let input = InputLines { producer, reader };
-            run_threads(site, workers, opened, consumer, input)
+            run_threads(site, line.workers, opened, consumer, input)
         }
         Err(_) => {
             drop((opened, reader));
@@ -91,7 +99,7 @@ struct InputLines<S: Source + Drop> {
 /// Runs the threads to their end.
 fn run_threads<
     's,
-    H: Threads + Wait + Clock + AllocGlobal + Sync,
+    H: Threads + Wait + Clock + AllocGlobal + Eprint + Sync,
     P: Source + Drop + Send,
     S: Source + Drop,
     W: Sink + Drop + Send,
@@ -132,7 +140,7 @@ fn run_threads<
 fn run_in<
     's,
     E,
-    H: Threads + Wait + Clock + AllocGlobal + Sync + 's,
+    H: Threads + Wait + Clock + AllocGlobal + Eprint + Sync + 's,
     P: Source + Drop + Send + 's,
     S: Source + Drop,
     W: Sink + Drop + Send + 's,

@@ -14,7 +14,7 @@ use service_core::{Device, Service};
 use sessions::device_graph;
 use std::alloc::{AllocGlobal, Global};
 use std::fs::OpenFile;
-use std::io::{Read, Take, Write};
+use std::io::{Eprint, Read, Take, Write};
 use std::rt::Files;
 use std::sync::Wait;
 use std::thread::Threads;
@@ -29,7 +29,7 @@ struct Streams<F: Read + Write + OpenFile + Drop, W: Sink + Drop> {
 
 /// Serves with workers as the command line says.
 pub(crate) fn run_threads<
-    H: Files + Threads + Wait + Clock + AllocGlobal + Sync,
+    H: Files + Threads + Wait + Clock + AllocGlobal + Eprint + Sync,
     S: Source + Drop,
     W: Sink + Drop + Send,
 >(rt: &H, line: &CommandLine<'_>, reader: S, writer: W) -> RunEnd<W, FileLog<H::File>>
@@ -64,7 +64,7 @@ fn unread_architecture(error: ReadError) -> Outcome
 
 /// Serves over that architecture, with a log if the command line names one.
 fn run_over<
-    H: Files + Threads + Wait + Clock + AllocGlobal + Sync,
+    H: Files + Threads + Wait + Clock + AllocGlobal + Eprint + Sync,
     S: Source + Drop,
     W: Sink + Drop + Send,
 >(
@@ -148,7 +148,7 @@ where
 
 /// Serves over that device.
 fn run_device<
-    H: Files + Threads + Wait + Clock + AllocGlobal + Sync,
+    H: Files + Threads + Wait + Clock + AllocGlobal + Eprint + Sync,
     S: Source + Drop,
     W: Sink + Drop + Send,
 >(
@@ -178,7 +178,7 @@ where
                 past,
                 devices,
             };
-            serve_with_workers(rt, line.workers, &graph, opened, reader)
+            serve_with_workers(rt, line, &graph, opened, reader)
         }
         Err(_) => {
             drop((past, devices, reader));

@@ -17,3 +17,4 @@ mod Told
 mod LastPass
 mod Placings
 mod Bases
+mod TooFew

@@ -109,7 +109,7 @@ module _ (plan : DevicePlan) (request : Request) (tracks : ℕ) (arch : Arch) (i
   abbrev task : Task
   task = task_for plan arch request
 
-  serves : Serves task placing
+  pub serves : Serves task placing
   serves =
       let first = given.1 in
       let same = same_task plan request first arch (same_text given.0 tracks first arch plan.text.now given.2 is) in

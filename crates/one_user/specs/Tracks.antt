@@ -1,5 +1,5 @@
 -- The least number of tracks with which a netlist is routed.
-use Rattle.std.specs.Prelude.{ℕ, ◌≡◌, ◌+◌, ◌<◌, ◌≤◌, List, Result, Ok, Err, Option, Some, None}
+use Rattle.std.specs.Prelude.{ℕ, ◌≡◌, ◌+◌, ◌*◌, ◌<◌, ◌≤◌, List, Result, Ok, Err, Option, Some, None}
 use Rattle.strip_place.specs.declared.placing.TheConstants.{MAX_EFFORT}
 use Rattle.grid.specs.declared.TheConstants.{MAX_COLUMNS, MAX_ROWS}
 use Rattle.arch_file.specs.declared.arch.TheConstants.{MAX_TRACKS}
@@ -11,6 +11,7 @@ use Rattle.grid.specs.declared.place.Place.{Place}
 use Rattle.job_state.specs.JobValue.{pass_count, placing_at}
 use Rattle.strip_place.specs.Anneal.{PlacingUnderWay, places_by_block}
 use Rattle.strips.specs.Windows.{device_strip}
+use Rattle.track_bound.specs.Busiest.{IsBusiest}
 use Rattle.one_user.specs.Crowding.{IsCrowdingOf}
 use Rattle.one_user.specs.Figures.{HasFigures}
 use Rattle.one_user.specs.Outcomes.{Task, outcome_of, placing_of}
@@ -21,6 +22,7 @@ use Rattle.one_user.specs.declared.placing.PlacingEnd.TheVariants as placing
 use Rattle.one_user.specs.declared.device.Request.{Request}
 use Rattle.one_user.specs.declared.figures.Figures.{Figures}
 use Rattle.one_user.specs.declared.least.DevicePlan.{DevicePlan}
+use Rattle.one_user.specs.declared.least.FirstTry.{FirstTry}
 use Rattle.one_user.specs.declared.least.Least.{Least}
 use Rattle.one_user.specs.declared.least.Least.TheVariants.{Routed, Refused, Unrouted}
 use Rattle.one_user.specs.declared.outcome.FlowOutcome.{FlowOutcome}
@@ -93,6 +95,16 @@ IsCrowdingWith plan request tracks crowding = (arch : Arch) × (arch_of plan.tex
 -- Private: the netlist is packed and placed for one of the numbers of tracks
 abbrev pub IsPlacedWith : DevicePlan → Request → PlacingUnderWay → Type 0
 IsPlacedWith plan request placed = (tracks : ℕ) × (arch : Arch) × (arch_of plan.text.now tracks ≡ Ok arch) × IsPlacing (task_for plan arch request) placed
+
+-- Private: the first try is with the least number of tracks, from 1 to the limit, with which each
+-- net that crosses the busiest column has a horizontal wire over it; if no number is enough, it is
+-- one past the limit
+pub record IsFirstTry (plan : DevicePlan) (placed : PlacingUnderWay) (first : FirstTry) : Type 0 where
+  pub crossing : IsBusiest placed.packed (places_by_block placed) plan.columns first.crossing
+  pub low : 1 ≤ first.tracks
+  pub high : first.tracks ≤ MAX_TRACKS + 1
+  pub enough : first.tracks ≤ MAX_TRACKS → first.crossing.nets ≤ (plan.rows + 1) * first.tracks
+  pub too_few : (tracks : ℕ) → 1 ≤ tracks → tracks < first.tracks → (plan.rows + 1) * tracks < first.crossing.nets
 
 -- Private: it is packed and placed, or refused with one track
 abbrev pub IsPlacedOrRefused : DevicePlan → Request → PlacingEnd → Type 0

@@ -1,9 +1,12 @@
 //! The least number of tracks with which a netlist is routed.
-ghost use Rattle.std.specs.Prelude.{ℕ, IfErr, IfOk, IfSome};
+ghost use Rattle.std.specs.Prelude.{ℕ, ◌≤◌, IfErr, IfOk, IfSome};
 ghost use Rattle.arch_file.specs.declared.arch.TheConstants.{MAX_TRACKS};
 ghost use Rattle.arch_file.specs.Arch.{IsWithin, arch_of};
+ghost use Rattle.grid.specs.declared.TheConstants.{MAX_COLUMNS};
 ghost use Rattle.line_text.specs.TextErrors.{Fails};
-ghost use Rattle.one_user.specs.Tracks.{ComesTo, HasFiguresWith, IsCrowdingWith, IsLawful, IsLeast, IsPlacedOrRefused, IsPlacedWith, IsTry, fault_of};
+ghost use Rattle.strip_place.specs.Anneal.{places_by_block};
+ghost use Rattle.track_bound.specs.Busiest.{IsBusiest};
+ghost use Rattle.one_user.specs.Tracks.{AreUnroutedBelow, ComesTo, HasFiguresWith, IsCrowdingWith, IsFirstTry, IsLawful, IsLeast, IsPlacedOrRefused, IsPlacedWith, IsTry, fault_of};
 
 use crate::crowding::Crowding;
 use crate::device::{OwnDevice, Request};
@@ -11,10 +14,12 @@ use crate::outcome::Run;
 use crate::placing::PlacingEnd;
 use crate::stages::refused_run;
 use arch_file::{ArchError, MAX_TRACKS, read_arch};
+use cluster::laws_of_packing;
 use line_text::{Failed, Sink};
-use std::alloc::Global;
+use std::alloc::{AllocError, Global};
 use strip_place::Placing;
 use text_parts::{Part, write_parts};
+use track_bound::{Crossing, busiest_column, few_cross_at_end};
 
 /// The result of the search for the least number of tracks.
 #[derive(Drop)]
@@ -39,10 +44,19 @@ pub struct DevicePlan<'a> {
     pub rows: u32,
 }
 
-/// Routes a netlist with 1 track, then with 2, and so on, until it is routed; the netlist may be
-/// refused. It is packed and placed once for all tries, since neither depends on the tracks. Writes
-/// one line for each try to `tries`; a line that can't be written is skipped. Fails if the
-/// architecture has a fault or memory runs out.
+/// The number of tracks that is tried first.
+#[derive(Clone, Copy)]
+struct FirstTry {
+    tracks: u32,
+    /// The nets for which fewer tracks are too few.
+    crossing: Crossing,
+}
+
+/// Routes a netlist with more and more tracks, until it is routed; the netlist may be refused. It
+/// is packed and placed once for all tries, since neither depends on the tracks. The first try has
+/// a track for each net that crosses the busiest column, over all channels: fewer are too few.
+/// Writes a line for these and one for each try to `tries`; a line that can't be written is
+/// skipped. Fails if the architecture has a fault or memory runs out.
 pub fn least_tracks<T: Sink>(
     alloc: Global,
     plan: DevicePlan<'_>,
@@ -81,7 +95,10 @@ fn least_for<T: Sink>(
     ensures fault { IfErr result (λ error. (tracks : ℕ)
         × Fails (fault_of (arch_of plan.entry.text.now tracks)) error) }
 {
-    for tracks in 1..MAX_TRACKS + 1 {
+    let first = first_try(alloc, plan, placing)?;
+    too_few_below(plan, request, placing, first);
+    let _told = tell_too_few(tries, first);
+    for tracks in first.tracks..MAX_TRACKS + 1 {
         match try_with(alloc, plan, tracks, request, placing)? {
             None => {
                 let _told = tell_try(tries, tracks, "left without routes");
@@ -93,6 +110,43 @@ fn least_for<T: Sink>(
         }
     }
     Ok(Least::Unrouted)
+}
+
+/// The least number of tracks with which each net that crosses the busiest column has a wire over
+/// it, at least 1 and at most one more than a channel may have. Fails with [`AllocError`] if memory
+/// runs out.
+fn first_try(alloc: Global, plan: DevicePlan<'_>, placing: &Placing) -> Result<FirstTry, AllocError>
+    requires { IsWithin 1 plan.columns MAX_COLUMNS }
+    ensures { IfOk result (IsFirstTry plan.entry placing.now) }
+{
+    let crossing = busiest_of(alloc, placing, plan.columns)?;
+    let needed = crossing.least_tracks(plan.rows);
+    let tracks = needed.max(1).min(MAX_TRACKS as usize + 1) as u32;
+    Ok(FirstTry { tracks, crossing })
+}
+
+/// The first of the columns that the most nets of a placing cross.
+fn busiest_of(alloc: Global, placing: &Placing, columns: u32) -> Result<Crossing, AllocError>
+    requires { IsWithin 1 columns MAX_COLUMNS }
+    ensures { IfOk result (IsBusiest placing.now.packed (places_by_block placing.now) columns) }
+{
+    let places = placing.places(alloc)?;
+    let crossing = busiest_column(placing.packed(), places.as_slice(), columns);
+    drop(places);
+    Ok(crossing)
+}
+
+/// With fewer tracks than the first try has, the netlist is left unrouted. Computes nothing.
+fn too_few_below(plan: DevicePlan<'_>, request: Request<'_>, placing: &Placing, first: FirstTry)
+    requires lawful { IsLawful plan request }
+    requires placed { IsPlacedWith plan request placing.now }
+    requires first { IsFirstTry plan placing.now first }
+    ensures { AreUnroutedBelow plan.entry request.entry first.tracks }
+{
+    few_cross_at_end();
+    laws_of_packing();
+    placing.laws();
+    placing.packed().laws();
 }
 
 /// Routes a placed netlist with that number of tracks. `None` if it is left without routes.
@@ -142,6 +196,28 @@ fn tell_try<W: Sink>(sink: &mut W, tracks: u32, end: &str) -> Result<(), Failed>
             Part::Number(tracks),
             Part::Text(": "),
             Part::Text(end),
+            Part::Text("\n"),
+        ],
+    )
+}
+
+/// Writes the line of the numbers of tracks that are too few, if there are such.
+fn tell_too_few<W: Sink>(sink: &mut W, first: FirstTry) -> Result<(), Failed>
+    requires { 1 ≤ first.tracks }
+{
+    let FirstTry { tracks, crossing } = first;
+    match tracks - 1 {
+        0 => return Ok(()),
+        1 => write_parts(sink, &[Part::Text("tracks 1")])?,
+        last => write_parts(sink, &[Part::Text("tracks 1 to "), Part::Number(last)])?,
+    }
+    write_parts(
+        sink,
+        &[
+            Part::Text(": too few for the "),
+            Part::Long(crossing.nets as u64),
+            Part::Text(" nets that cross column "),
+            Part::Number(crossing.column),
             Part::Text("\n"),
         ],
     )

@@ -1,13 +1,14 @@
+//! A command line, and what it runs.
 ghost use Rattle.promises.specs.Commands.{Runs, RunsWords};
 
+use crate::given_architecture::GivenArchitecture;
+use crate::in_order::run_in_order;
 use crate::page::serve;
 use clap::Error;
 use clap::error::ErrorKind;
-use fpgad_run::{Architecture, CommandLine, Outcome, read_options};
-use line_text::{MAX_TEXT, ReadError, Sink, Source, StdSource, read_all};
+use fpgad_run::{CommandLine, Outcome, read_options};
+use line_text::{Sink, Source};
 use std::convert::AsStr;
-use std::fs::File;
-use std::io::Read;
 use std::rt::Files;
 use std::sync::Wait;
 use std::thread::Threads;
@@ -32,7 +33,7 @@ pub fn run_words<
     }
 }
 
-/// Runs a script as the command line says.
+/// Runs a script as the command line says. Without workers it calls [`run_in_order`].
 pub fn run_line<H: Files + Threads + Wait + Clock + AllocGlobal + Sync, R: Source, W: Sink>(
     rt: &H,
     line: &CommandLine<'_>,
@@ -42,32 +43,15 @@ pub fn run_line<H: Files + Threads + Wait + Clock + AllocGlobal + Sync, R: Sourc
     ensures { Runs line.now (R.remaining reader.old) result (W.contents writer.old)
         (W.contents writer.new) }
 {
-    let options = &line.options;
-    let Some(path) = line.arch else {
-        return serve(rt, options, Architecture::InScript, reader, writer);
-    };
-    match read_architecture(rt, path) {
-        Ok(text) => serve(
-            rt,
-            options,
-            Architecture::Text(text.as_slice()),
-            reader,
-            writer,
-        ),
-        Err(ReadError::Failed) => serve(rt, options, Architecture::Unreadable, reader, writer),
-        Err(ReadError::NoMemory) => Outcome::NoMemory,
+    if line.options.workers == 0 {
+        return run_in_order(rt, line, reader, writer);
     }
-}
-
-/// The text of the architecture's file. Of a file that is longer than a text may be, the first byte
-/// above that is the last that is read: it is refused whatever else it holds. The file is closed
-/// again, so that its number is never taken for standard input's.
-fn read_architecture<H: Files + AllocGlobal>(rt: &H, path: &str) -> Result<Vec<u8>, ReadError> {
-    match File::open(rt, path) {
-        Ok(file) => read_all(
-            rt.alloc(),
-            &mut StdSource::new(file.take(MAX_TEXT as u64 + 1)),
-        ),
-        Err(_) => Err(ReadError::Failed),
+    match GivenArchitecture::read(rt, line.arch) {
+        Ok(given) => {
+            let outcome = serve(rt, &line.options, given.architecture(), reader, writer);
+            drop(given);
+            outcome
+        }
+        Err(_) => Outcome::NoMemory,
     }
 }

@@ -13,7 +13,8 @@ ghost use Rattle.service_core.specs.declared.device.Device.{Device};
 ghost use Rattle.workers_law.specs.Workers.{HasWaitedText};
 ghost use Rattle.promises.specs.Promises.{EndsAsDecided, OfEachRun};
 
-use fpgad_run::{Architecture, Options, Outcome, run};
+use crate::either::run;
+use fpgad_run::{Architecture, Options, Outcome};
 use line_text::{Sink, Source};
 use script_threads::one_run;
 use service_core::headline;
@@ -29,6 +30,11 @@ use workers_law::same_with_workers;
 ///
 /// A run is a list of calls of the core, each with its answer, from the empty device to a state.
 /// Jobs may be out in it for any time, and be put in any order.
+///
+/// With workers these clauses hold if it returns. Without them it calls [`serve_in_order`], which
+/// is proved to return if the reader and the writer do.
+///
+/// [`serve_in_order`]: crate::serve_in_order
 pub fn serve<H: Threads + Wait + Clock + AllocGlobal + Sync, R: Source, W: Sink>(
     rt: &H,
     options: &Options,
@@ -36,8 +42,8 @@ pub fn serve<H: Threads + Wait + Clock + AllocGlobal + Sync, R: Source, W: Sink>
     reader: &mut R,
     writer: &mut W,
 ) -> Outcome
-    // 1. If it returns, its end has a name: the first fault of the architecture, or else of the
-    // script, decides it. No index, sum or cast goes wrong (the compiler sees to that). (507 lines)
+    // 1. Its end has a name: the first fault of the architecture, or else of the script, decides
+    // it. No index, sum or cast goes wrong (the compiler sees to that). (507 lines)
     ensures ends { EndsAsDecided options.now architecture.entry (R.remaining reader.old) result }
     // 2. If it ends because a file, the input or the output failed, that is so. (0 lines)
     ensures unreadable { architecture.entry ≡ Architecture.Unreadable →

@@ -25,7 +25,7 @@ use crate::verdict::Verdict;
 use live_run::LockLog;
 use std::alloc::AllocGlobal;
 use std::io;
-use std::io::{Input, Print};
+use std::io::{Eprint, Input, Print};
 use std::process::ExitCode;
 use std::rt::Files;
 use std::sync::Wait;
@@ -40,7 +40,7 @@ fn main(rt: HostRuntime) -> ExitCode {
 }
 
 /// Runs the lines of standard input, and returns whether all agree.
-fn run_all<H: Input + Print + Files + Threads + Wait + Clock + AllocGlobal + Sync>(
+fn run_all<H: Input + Print + Files + Threads + Wait + Clock + AllocGlobal + Eprint + Sync>(
     rt: &H,
 ) -> io::Result<bool>
 where
@@ -62,7 +62,7 @@ where
 }
 
 /// Runs one line of the list, prints it if it does not agree, and returns whether it does.
-fn agrees<H: Print + Files + Threads + Wait + Clock + AllocGlobal + Sync>(
+fn agrees<H: Print + Files + Threads + Wait + Clock + AllocGlobal + Eprint + Sync>(
     rt: &H,
     line: &str,
 ) -> io::Result<bool>

@@ -10,14 +10,14 @@ use live_run::{LockLog, NO_END};
 use live_threads::ProgramRun;
 use std::alloc::{AllocError, AllocGlobal, Global};
 use std::fs::File;
-use std::io::Read;
+use std::io::{Eprint, Read};
 use std::rt::Files;
 use std::sync::Wait;
 use std::thread::Threads;
 use std::time::Clock;
 
 /// Runs a row as the program that it names does, and compares the result with the row's files.
-pub(crate) fn verdict_on<H: Files + Threads + Wait + Clock + AllocGlobal + Sync>(
+pub(crate) fn verdict_on<H: Files + Threads + Wait + Clock + AllocGlobal + Eprint + Sync>(
     rt: &H,
     row: Row<'_>,
 ) -> Result<Verdict, AllocError>
@@ -34,7 +34,7 @@ where
 }
 
 /// Runs the program that the first word names, on the row's input.
-fn run_words<H: Files + Threads + Wait + Clock + AllocGlobal + Sync>(
+fn run_words<H: Files + Threads + Wait + Clock + AllocGlobal + Eprint + Sync>(
     rt: &H,
     name: &str,
     words: &[&str],
@@ -52,7 +52,7 @@ where
 }
 
 /// Runs the program that the first word names, on that input.
-fn run_program<H: Files + Threads + Wait + Clock + AllocGlobal + Sync>(
+fn run_program<H: Files + Threads + Wait + Clock + AllocGlobal + Eprint + Sync>(
     rt: &H,
     words: &[&str],
     input: &[u8],
@@ -90,7 +90,7 @@ fn run_script<H: Files + Threads + Wait + Clock + AllocGlobal + Sync>(
 }
 
 /// Serves the lines of a client as the live service does under these words.
-fn run_live<H: Files + Threads + Wait + Clock + AllocGlobal + Sync>(
+fn run_live<H: Files + Threads + Wait + Clock + AllocGlobal + Eprint + Sync>(
     rt: &H,
     words: &[&str],
     lines: &[u8],

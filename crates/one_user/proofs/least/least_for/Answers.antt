@@ -8,5 +8,6 @@ loop-tracks-preserved g c =
     let stays = subst (IsTry c.args.plan c.args.request c.loop-tracks.tracks) c.in-None.is c.in_ok-try_with.ensures.tried in
     record {
       low = omega (arith, c.loop-tracks.invariant.low);
+      high = omega (arith, c.loop-tracks-test.true);
       below = unrouted_more c.args.plan c.args.request c.loop-tracks.tracks stays.0 c.loop-tracks.invariant.below stays.1 stays.2;
     }

@@ -1,0 +1,41 @@
+//! What stands in files.
+use desk_common::{FileRole, Outcome, read_file};
+use line_text::Sink;
+use std::rt::Files;
+
+/// Files that are read by their paths.
+pub trait FileTexts {
+    ghost use Rattle.std.specs.Prelude.{◌≡◌, ℕ, List, Option, IfOk, IfSome, take};
+
+    // The text of the file with this path, if it is known.
+    ghost text: { Self → List ℕ → Option (List ℕ) };
+
+    /// Reads a file, up to `most` bytes. If it can't be read, the path and the reason are written
+    /// to the teller.
+    fn read_text<E: Sink>(
+        &self,
+        role: FileRole,
+        path: &str,
+        most: u64,
+        teller: &mut E,
+    ) -> Result<Vec<u8>, Outcome>
+        ensures { IfOk result (λ bytes.
+            IfSome (text self.now path.now) (λ known. bytes.items ≡ take most known)) };
+}
+
+/// The texts of the system's files are not known.
+impl<H: Files + AllocGlobal> FileTexts for H {
+    ghost use Rattle.std.specs.Prelude.{None};
+
+    ghost text = { λ _ _. None };
+
+    fn read_text<E: Sink>(
+        &self,
+        role: FileRole,
+        path: &str,
+        most: u64,
+        teller: &mut E,
+    ) -> Result<Vec<u8>, Outcome> {
+        read_file(self, role, path, most, teller)
+    }
+}

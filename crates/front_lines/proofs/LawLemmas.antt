@@ -1,0 +1,62 @@
+-- Whose the lines are that are handed over.
+use Rattle.std.proofs.Common.{◌≡◌, ℕ, List, [], ◌∷◌, ◌++◌, Bool, true, false, ◌&&◌, ◌||◌, map, refl, sym, ap, ◌∙◌}
+use Rattle.std.specs.List.{list_all, list_any}
+use Rattle.std.specs.Str.{bytes_eq}
+use Rattle.line_text.specs.Lines.{physical_lines}
+use Rattle.tagged_lines.specs.Tags.{Tagged, are_of, have_tags, is_tag, is_whole, output_of, tag_of}
+use Rattle.tagged_lines.proofs.TagLemmas.{both, lines as lines_are, whole as whole_is}
+use Rattle.front_lines.specs.Commands.{ClientState, Item, handed, handed_for, item_of, state_after}
+use Rattle.front_lines.specs.Commands.Item.{HandOver, Nothing, Refuse}
+
+abbrev commands_in : Item → List (List ℕ)
+commands_in Nothing = []
+commands_in (HandOver command) = command ∷ []
+commands_in (Refuse refusal) = []
+
+abbrev commands_of : ClientState → List (List ℕ) → List (List ℕ)
+commands_of state [] = []
+commands_of state (line ∷ lines) = commands_in (item_of state line) ++ commands_of (state_after state line) lines
+
+abbrev with_tag : List ℕ → List ℕ → Tagged
+with_tag tag command = record { tag = tag; text = command }
+
+item_is : (tag : List ℕ) (item : Item) (more : List (List ℕ)) → handed_for tag item ++ output_of (map (with_tag tag) more) ≡ output_of (map (with_tag tag) (commands_in item ++ more))
+item_is tag Nothing more = refl
+item_is tag (HandOver command) more = refl
+item_is tag (Refuse refusal) more = refl
+
+handed_is : (tag : List ℕ) (state : ClientState) (lines : List (List ℕ)) → handed tag state lines ≡ output_of (map (with_tag tag) (commands_of state lines))
+handed_is tag state [] = refl
+handed_is tag state (line ∷ lines) =
+    ap (λ l. handed_for tag (item_of state line) ++ l) (handed_is tag (state_after state line) lines)
+    ∙ item_is tag (item_of state line) (commands_of (state_after state line) lines)
+
+all_have : (tag : List ℕ) (commands : List (List ℕ)) → is_tag tag ≡ true → have_tags (map (with_tag tag) commands) ≡ true
+all_have tag [] ok = refl
+all_have tag (command ∷ commands) ok = ap (λ b. b && have_tags (map (with_tag tag) commands)) ok ∙ all_have tag commands ok
+
+or_same : (a b : Bool) → a || b ≡ true → (b ≡ true → a ≡ true) → a ≡ true
+or_same true b e more = refl
+or_same false b e more = more e
+
+any_own : (tag line : List ℕ) (commands : List (List ℕ)) → list_any (λ t. bytes_eq (tag_of line) t.tag) (map (with_tag tag) commands) ≡ true → bytes_eq (tag_of line) tag ≡ true
+any_own tag line [] e = absurd (cc)
+any_own tag line (command ∷ commands) e = or_same (bytes_eq (tag_of line) tag) (list_any (λ t. bytes_eq (tag_of line) t.tag) (map (with_tag tag) commands)) e (any_own tag line commands)
+
+abbrev has_tag : List ℕ → List ℕ → Bool
+has_tag tag line = bytes_eq (tag_of line) tag
+
+are_own : (tag : List ℕ) (commands lines : List (List ℕ)) → are_of (map (with_tag tag) commands) lines ≡ true → list_all (has_tag tag) lines ≡ true
+are_own tag commands [] are = refl
+are_own tag commands (line ∷ lines) are =
+    let parts = both (list_any (λ t. bytes_eq (tag_of line) t.tag) (map (with_tag tag) commands)) (are_of (map (with_tag tag) commands) lines) are in
+    ap (λ b. b && list_all (has_tag tag) lines) (any_own tag line commands parts.0) ∙ are_own tag commands lines parts.1
+
+pub own : (tag : List ℕ) (state : ClientState) (lines : List (List ℕ)) → is_tag tag ≡ true → list_all (has_tag tag) (physical_lines (handed tag state lines)) ≡ true
+own tag state lines ok =
+    let commands = commands_of state lines in
+    ap (λ bytes. list_all (has_tag tag) (physical_lines bytes)) (handed_is tag state lines)
+    ∙ are_own tag commands (physical_lines (output_of (map (with_tag tag) commands))) (lines_are (map (with_tag tag) commands) (all_have tag commands ok))
+
+pub whole : (tag : List ℕ) (state : ClientState) (lines : List (List ℕ)) → is_whole (handed tag state lines) ≡ true
+whole tag state lines = ap is_whole (handed_is tag state lines) ∙ whole_is (map (with_tag tag) (commands_of state lines))

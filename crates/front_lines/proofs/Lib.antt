@@ -1,0 +1,5 @@
+mod LawLemmas
+mod ReadLemmas
+mod ReplyLemmas
+pub mod ServedLemmas
+mod TurnLemmas

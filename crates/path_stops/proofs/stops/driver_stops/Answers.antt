@@ -1,0 +1,15 @@
+use Rattle.std.proofs.Common.{ℕ, ◌∙◌, List, [], ◌∷◌, ◌++◌, ap, map, sym, zero-add}
+use Rattle.std.specs.List.{range_with_len}
+use Rattle.std.proofs.lemmas.List.FromFn.{map-range_with_len_more}
+use Rattle.path_stops.specs.Stops.{stop_at}
+use Rattle.path_stops.specs.declared.stops.PathStop.{PathStop}
+use Rattle.path_stops.proofs.stops.driver_stops.Goals as goal
+
+pub loop-place-preserved : goal.loop-place-preserved
+loop-place-preserved c =
+    let at : ℕ → PathStop = stop_at c.args.strip.now c.args.circuit.now c.args.path.now in
+    let place : ℕ = c.loop-place.place in
+    c.in_ok-push.ensures.items
+    ∙ (ap (λ (stops : List PathStop). stops ++ c.stop_at.result ∷ []) c.loop-place.invariant
+    ∙ (ap (λ (stop : PathStop). map at (range_with_len 0 place) ++ stop ∷ []) c.stop_at.ensures
+    ∙ sym (map-range_with_len_more at 0 place place (zero-add place))))

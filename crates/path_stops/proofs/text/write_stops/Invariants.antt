@@ -1,0 +1,9 @@
+use Rattle.std.proofs.Common.{take}
+use Rattle.std.specs.List.{flat_map}
+use Rattle.line_text.specs.Writing.{TakesAll}
+use Rattle.path_stops.specs.Text.{stop_text}
+use Rattle.path_stops.proofs.text.write_stops.Given as goal
+
+-- the stops before this one are written
+abbrev pub invariant-loop-stop : goal.invariant-loop-stop
+invariant-loop-stop g l = TakesAll g.W.Sink.contents g.W.Sink.has_failed l.initial.sink l.sink (flat_map (stop_text l.strip l.circuit) (take l.stop-index l.stops))

@@ -1,0 +1,4 @@
+pub mod Blocks
+pub mod Stops
+pub mod Measured
+pub mod Text

@@ -1,0 +1,6 @@
+use Rattle.strip_moves.specs.Moves.{AreAccepted}
+use Rattle.strip_moves.proofs.joining.moves_on.Given as goal
+
+-- the moves so far are accepted
+abbrev pub invariant-loop-offset : goal.invariant-loop-offset
+invariant-loop-offset l = AreAccepted l.fn.plan l.moves.items l.plan

@@ -1,0 +1,6 @@
+use Rattle.std.proofs.Common.{◌-◌}
+use Rattle.track_bound.specs.Busiest.{IsBusiest}
+use Rattle.track_bound.proofs.crossing.busiest_column.Given as goal
+
+abbrev pub invariant-loop-column : goal.invariant-loop-column
+invariant-loop-column l = IsBusiest l.packed l.places (l.column - 1) l.busiest

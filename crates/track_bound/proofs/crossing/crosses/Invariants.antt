@@ -1,0 +1,8 @@
+use Rattle.std.proofs.Common.{◌≡◌, false, take}
+use Rattle.std.specs.List.{list_any}
+use Rattle.block_places.specs.Placed.{place_of}
+use Rattle.track_bound.specs.Crossings.{is_between}
+use Rattle.track_bound.proofs.crossing.crosses.Given as goal
+
+abbrev pub invariant-loop-reader : goal.invariant-loop-reader
+invariant-loop-reader l = list_any (λ reader. is_between l.column l.from (place_of l.places reader).x) (take l.reader-index l.net.readers.now) ≡ false
