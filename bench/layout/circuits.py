@@ -32,7 +32,7 @@ def netlist(draw):
         lines += ['.names ' + ' '.join(reads + [name])] + rows(draw, len(reads))
     for data, name, control in latches:
         kind = '%s %s ' % (draw.choice(['re', 're', 'fe', 'ah', 'al', 'as']), control) if control else ''
-        lines.append('.latch %s %s %s%d' % (data, name, kind, draw.randint(0, 1)))
+        lines.append('.latch %s %s %s%d' % (data, name, kind, draw.randint(0, 1) + 2 * (n % 2)))
     return '\n'.join(lines + ['.end', '']), (inputs, outputs, tables, latches, width)
 
 

@@ -1,3 +1,4 @@
+pub mod AllTexts
 mod Answering
 mod Building
 mod Counts

@@ -2,7 +2,7 @@
 ghost use Rattle.std.specs.Prelude.{◌≡◌, ◌++◌, IfOk, map};
 ghost use Rattle.std.specs.Option.{option_to_list};
 ghost use Rattle.configuration.specs.Configuration.{ble_lines, input_lines, latch_lines, values_in};
-ghost use Rattle.configuration.specs.ConfigurationText.{line_words, lines_text};
+ghost use Rattle.configuration.specs.ConfigurationText.{bit_digit, line_words, lines_text};
 ghost use Rattle.configuration.specs.Lines.{Takes, Values};
 ghost use Rattle.configuration.specs.RoutedPins.{ble_numbers};
 ghost use Rattle.configuration_text.specs.Parts.{latch_line};
@@ -13,7 +13,7 @@ use crate::bits::push_bits;
 use crate::cells::{latch_driving, table_within};
 use crate::design::Design;
 use crate::feeds::{control_in, nets_in, signal_for};
-use crate::latch_words::latch_words;
+use crate::latch_text::latch_words;
 use crate::line_bytes::{end_line, push_stores, push_takes, push_used};
 use crate::words::push_place;
 use blif::Latch;
@@ -116,9 +116,26 @@ fn push_values_of(
     text.extend_from_slice(b"table")?;
     push_place(text, seat.place)?;
     text.push(b' ')?;
-    let table = table_within(design.circuit, seat.ble.name(), nets);
-    push_bits(text, design.netlist, table, nets, design.arch.lut_size)?;
+    push_table_bits(text, design, seat.laid, seat.ble, nets)?;
     end_line(text)
+}
+
+/// Appends the bits of the table of a block's BLE, those of a wire if it has a latch alone. `nets`
+/// are the nets that come to the BLE's inputs.
+pub fn push_table_bits(
+    text: &mut Vec<u8>,
+    design: Design<'_>,
+    laid: &LaidBlock,
+    ble: &LaidBle,
+    nets: &[u32],
+) -> Result<(), AllocError>
+    requires { nets.now ≡ (traced_ble design.arch.now laid.now ble.now).inputs }
+    ensures { IfOk result (λ _. text.new.items ≡ text.old.items
+        ++ map bit_digit (values_in design.entry.netlist.now design.entry.circuit.now
+        design.entry.arch.now laid.now ble.now)) }
+{
+    let table = table_within(design.circuit, ble.name(), nets);
+    push_bits(text, design.netlist, table, nets, design.arch.lut_size)
 }
 
 /// Appends the line of the BLE's latch, if it has one.

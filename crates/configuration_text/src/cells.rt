@@ -11,7 +11,7 @@ ghost use Rattle.implements.specs.Layouts.{LaidBle, LaidBlock, traced_ble};
 use blif::{Circuit, Latch, Table};
 
 /// The latch that drives the net.
-pub(crate) fn latch_driving(circuit: &Circuit, net: u32) -> Option<Latch>
+pub fn latch_driving(circuit: &Circuit, net: u32) -> Option<Latch>
     ensures { result ≡ latch_driving circuit.now net }
 {
     match circuit

@@ -73,7 +73,7 @@ fn input_net(arch: &Arch, laid: &LaidBlock, feed: Feed) -> Option<u32>
 }
 
 /// The nets that come to the inputs of the BLE.
-pub(crate) fn nets_in(
+pub fn nets_in(
     alloc: Global,
     arch: &Arch,
     laid: &LaidBlock,
@@ -133,7 +133,7 @@ pub(crate) fn control_in(
 }
 
 /// The net that clocks the BLE.
-fn clock_of(arch: &Arch, laid: &LaidBlock, ble: &LaidBle) -> Option<u32>
+pub fn clock_of(arch: &Arch, laid: &LaidBlock, ble: &LaidBle) -> Option<u32>
     ensures { result ≡ (traced_ble arch.now laid.now ble.now).clock }
 {
     match ble.clock() {

@@ -1,10 +1,11 @@
 //! Reads the program's words to an errand.
+use crate::tools::{COMPLETION, MANUAL, ToolsForm, shell_of};
 use clap::Error;
 use desk_layouts::{LayoutPaths, check, configure, paths_of, strip};
 use desk_netlists::{random, route_wishes, script};
 use desk_replies::{files, page_tool, picture, report, size_of};
 use device_lines::DeviceSize;
-use option_words::{Call, Toolbox, call_refusal, read_call};
+use option_words::{Call, Program, Toolbox, call_refusal, read_call};
 use std::alloc::Global;
 use std::convert::AsStr;
 use tenancy_script::ScriptParameters;
@@ -14,14 +15,14 @@ const ABOUT: &str = "Tools for fpgad: they write its scripts and read its output
 
 /// The end of the program's help.
 const AFTER_HELP: &str = "\
-Each tool has its own help: fpgad_desk TOOL --help, or fpgad_desk help TOOL. The version: fpgad_desk --version
+Each tool has its own help: fpgad_desk TOOL --help, or fpgad_desk help TOOL. The versions: fpgad_desk --version
 
 Status: 0 done; 1 a file could not be read or written, `files` found a refused line, or `check` or `configure` found that the files do not implement the netlist; 2 the command line is wrong; 3 the input is wrong (standard error names the line); 4 out of memory
 
 Example: fpgad_desk script --name T --width 2 < t.blif | fpgad --arch my.arch --tracks 8 --columns 10 --rows 10";
 
 /// All tools, for the program's help; those that another toolbox has have no options here.
-const TOOLBOX: Toolbox = Toolbox {
+pub(crate) const TOOLBOX: Toolbox = Toolbox {
     name: "fpgad_desk",
     about: ABOUT,
     after_help: AFTER_HELP,
@@ -37,11 +38,23 @@ const TOOLBOX: Toolbox = Toolbox {
         page_tool::NAMED,
         random::TOOL,
         desk_log::TOOL,
+        COMPLETION,
+        MANUAL,
     ],
 };
 
+/// The tools whose options the whole toolbox has.
+pub(crate) const OTHERS: &[Program] = &[
+    script::TOOL,
+    files::TOOL,
+    random::TOOL,
+    desk_log::TOOL,
+    COMPLETION,
+    MANUAL,
+];
+
 /// The tools that draw or report, with their options.
-const VIEWS: Toolbox = Toolbox {
+pub(crate) const VIEWS: Toolbox = Toolbox {
     name: "fpgad_desk",
     about: ABOUT,
     after_help: AFTER_HELP,
@@ -49,7 +62,7 @@ const VIEWS: Toolbox = Toolbox {
 };
 
 /// The tool that routes, with its options.
-const ROUTES: Toolbox = Toolbox {
+pub(crate) const ROUTES: Toolbox = Toolbox {
     name: "fpgad_desk",
     about: ABOUT,
     after_help: AFTER_HELP,
@@ -57,7 +70,7 @@ const ROUTES: Toolbox = Toolbox {
 };
 
 /// The tools that read a layout and its netlist, with their options.
-const LAYOUTS: Toolbox = Toolbox {
+pub(crate) const LAYOUTS: Toolbox = Toolbox {
     name: "fpgad_desk",
     about: ABOUT,
     after_help: AFTER_HELP,
@@ -79,7 +92,7 @@ pub(crate) enum Errand<'a> {
     /// A layout against its netlist.
     Check(LayoutPaths<'a>),
     /// The configuration of a layout.
-    Configure(LayoutPaths<'a>),
+    Configure(configure::ConfigureWishes<'a>),
     /// A picture of a tenancy.
     Strip(strip::StripWishes<'a>),
     /// A picture of a device of that size.
@@ -92,6 +105,8 @@ pub(crate) enum Errand<'a> {
     Random(random::RandomWishes),
     /// A shorter log of a live service.
     Log(desk_log::LogWishes<'a>),
+    /// The names of the tools and their options, for a shell or for the manual.
+    Tools(ToolsForm),
 }
 
 /// What these words ask, the first being the program's name. An error is clap's; a request for help
@@ -151,13 +166,15 @@ fn errand_of<'a>(call: &Call<'a>) -> Result<Errand<'a>, &'static str> {
         "files" => Ok(Errand::Files(files::wishes_of(&call.given)?)),
         "route" => Ok(Errand::Route(route_wishes::wishes_of(&call.given)?)),
         "check" => Ok(Errand::Check(paths_of(&call.given)?)),
-        "configure" => Ok(Errand::Configure(paths_of(&call.given)?)),
+        "configure" => Ok(Errand::Configure(configure::wishes_of(&call.given)?)),
         "strip" => Ok(Errand::Strip(strip::wishes_of(&call.given)?)),
         "picture" => Ok(Errand::Picture(size_of(&call.given)?)),
         "report" => Ok(Errand::Report(report::wishes_of(&call.given)?)),
         "page" => Ok(Errand::Page(page_tool::wishes_of(&call.given)?)),
         "random" => Ok(Errand::Random(random::wishes_of(&call.given)?)),
         "log" => Ok(Errand::Log(desk_log::wishes_of(&call.given)?)),
+        "completion" => Ok(Errand::Tools(shell_of(&call.given)?)),
+        "man" => Ok(Errand::Tools(ToolsForm::Manual)),
         _ => Err(NO_TOOL),
     }
 }

@@ -14,6 +14,7 @@
 //! - `page` prints one HTML file with the device and its tenancies, for a browser.
 //! - `random` prints a script with random circuits, to measure the service with.
 //! - `log` makes the log of a live service shorter.
+//! - `completion` prints a script for a shell, and `man` a page of the manual, from the same table.
 //!
 //! [`run_words`] reads a program's words and does what they ask, over any input and output.
 //! [`Outcome`] says how it ended, by a status and a message.
@@ -21,6 +22,7 @@
 
 mod errand;
 mod run;
+mod tools;
 
 pub use desk_common::{FileRole, Outcome};
 pub use run::{Streams, run_words};

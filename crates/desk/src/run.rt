@@ -1,5 +1,6 @@
 //! Runs errands.
 use crate::errand::{Errand, read_errand};
+use crate::tools::print_tools;
 use clap::Error;
 use clap::error::ErrorKind;
 use desk_circuits::warn_of_netlist;
@@ -10,11 +11,13 @@ use desk_common::{
 use desk_layouts::{check, configure, strip};
 use desk_netlists::{random, route, script};
 use desk_replies::{files, page_tool, picture, report};
-use line_text::{Sink, Source, read_all, write_all, write_slices};
+use line_text::{Failed, Sink, Source, read_all, write_all};
+use live_run::RESULTS_VERSION;
 use std::alloc::Global;
 use std::convert::AsStr;
 use std::rt::Files;
 use tenancy_script::ScriptParameters;
+use text_parts::{Part, write_parts};
 
 /// What a program reads and writes besides files.
 #[derive(Drop)]
@@ -25,12 +28,9 @@ pub struct Streams<'a, R: Source, W: Sink, E: Sink> {
     pub teller: &'a mut E,
     /// Whether that is a terminal: then progress is written without being asked for.
     pub is_terminal: bool,
-    /// What the program was built from, for its version; empty if that is not known.
+    /// What the programs were built from, for their versions; empty if that is not known.
     pub built_from: &'a str,
 }
-
-/// The beginning of what `--version` prints.
-const VERSION: &str = "fpgad_desk 1.0";
 
 /// Does what a program's words ask, the first being its name. Help and the version are printed to
 /// the writer. An error is clap's: the words are refused.
@@ -109,11 +109,29 @@ fn run_plain<H: Files + AllocGlobal, S: AsStr, R: Source, W: Sink, E: Sink>(
     match asked {
         "help" if words.len() < 4 => run_read(rt, &[name, tool, "--help"], streams),
         "--version" | "-V" if words.len() == 2 => {
-            let parts = [VERSION.as_bytes(), streams.built_from.as_bytes(), b"\n"];
-            Ok(Outcome::of_writing(write_slices(streams.writer, &parts)))
+            let built_from = streams.built_from;
+            let written = write_versions(streams.writer, built_from);
+            Ok(Outcome::of_writing(written))
         }
         _ => run_read(rt, words, streams),
     }
+}
+
+/// Writes the versions of the three programs, a line each.
+fn write_versions<W: Sink>(writer: &mut W, built_from: &str) -> Result<(), Failed> {
+    write_parts(
+        writer,
+        &[
+            Part::Text("fpgad_desk 1.0"),
+            Part::Text(built_from),
+            Part::Text("\nfpgad 1.0"),
+            Part::Text(built_from),
+            Part::Text("\nfpgad_live "),
+            Part::Number(RESULTS_VERSION),
+            Part::Text(built_from),
+            Part::Text("\n"),
+        ],
+    )
 }
 
 /// Reads the words and does what they ask. Help is printed to the writer.
@@ -162,13 +180,14 @@ fn run<H: Files + AllocGlobal, R: Source, W: Sink, E: Sink>(
         Errand::Files(wishes) => Outcome::of(files::run(rt, wishes, reader, writer, teller)),
         Errand::Route(wishes) => Outcome::of(route::run(rt, wishes, writer, teller, is_terminal)),
         Errand::Check(paths) => Outcome::of(check::run(rt, paths, writer, teller)),
-        Errand::Configure(paths) => Outcome::of(configure::run(rt, paths, writer, teller)),
+        Errand::Configure(wishes) => Outcome::of(configure::run(rt, wishes, writer, teller)),
         Errand::Strip(wishes) => Outcome::of(strip::print(rt, wishes, writer, teller)),
         Errand::Picture(size) => picture::run(rt.alloc(), size, reader, writer),
         Errand::Report(wishes) => Outcome::of(report::run(rt, wishes, reader, writer, teller)),
         Errand::Page(wishes) => Outcome::of(page_tool::run(rt, wishes, reader, writer, teller)),
         Errand::Random(wishes) => random::print(wishes, writer),
         Errand::Log(wishes) => Outcome::of(desk_log::run(rt, wishes, writer, teller)),
+        Errand::Tools(form) => print_tools(form, writer),
     }
 }
 

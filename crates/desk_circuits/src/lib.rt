@@ -2,14 +2,22 @@
 //! what each name of a script used. And the fields of tables.
 #![tactic(auto)]
 
+mod channel_json;
 mod csv;
 mod latches;
 mod longest;
 mod path_hops;
+mod path_json;
+mod path_text;
 mod usages;
+mod usages_json;
 mod warnings;
 
+pub use channel_json::write_channel;
 pub use csv::{write_numbers, write_quoted};
 pub use longest::{MeasuredCircuit, measure};
-pub use usages::{present_circuit, print_usages, write_longest, write_path};
+pub use path_json::write_circuit_members;
+pub use path_text::{stops_on, write_netlist_stops, write_path_stops, write_present_stops};
+pub use usages::{NameFacts, facts_of, present_circuit, print_usages, write_longest, write_path};
+pub use usages_json::{LineCounts, usages_text};
 pub use warnings::warn_of_netlist;

@@ -1,9 +1,11 @@
 //! The longest path of a netlist, in a line.
 ghost use Rattle.blif.specs.LawfulCircuits.{IsCircuit};
+ghost use Rattle.desk_circuits.specs.Json.{end_name, has_output, latch_storing};
+ghost use Rattle.std.specs.Prelude.{◌≡◌};
 
 use crate::path_hops::{name_of, wires_of};
 use crate::warnings::ANY_TABLE;
-use blif::{Circuit, read_blif};
+use blif::{Circuit, Latch, read_blif};
 use line_text::{Failed, Sink};
 use longest_path::{Longest, LongestPath, find_loop, longest_path};
 use std::alloc::Global;
@@ -15,12 +17,12 @@ const MAX_SHOWN: usize = 20;
 
 /// A netlist's circuit and its longest path.
 pub struct MeasuredCircuit {
-    circuit: Circuit,
-    longest: Longest,
+    pub(crate) circuit: Circuit,
+    pub(crate) longest: Longest,
     /// The tables of a loop, the last one first, if some tables form one.
-    looped: Option<Vec<usize>>,
+    pub(crate) looped: Option<Vec<usize>>,
     /// The wires of that path, if they are known.
-    wires: Option<u64>,
+    pub(crate) wires: Option<u64>,
 }
 
 impl Drop for MeasuredCircuit {
@@ -94,8 +96,21 @@ fn loop_with(alloc: Global, circuit: &Circuit, longest: &Longest) -> Option<Vec<
 impl MeasuredCircuit {
     /// The number of tables of the longest path.
     pub(crate) fn tables(&self) -> Option<u64> {
+        match self.path() {
+            Some(path) => Some(path.tables.len() as u64),
+            None => None,
+        }
+    }
+
+    /// The circuit.
+    pub(crate) fn circuit(&self) -> &Circuit {
+        &self.circuit
+    }
+
+    /// The longest path, if there is one.
+    pub(crate) fn path(&self) -> Option<&LongestPath> {
         match &self.longest {
-            Longest::Path(path) => Some(path.tables.len() as u64),
+            Longest::Path(path) => Some(path),
             Longest::NoPath | Longest::Loop => None,
         }
     }
@@ -196,21 +211,42 @@ fn write_path<W: Sink>(
 }
 
 /// The name of the end of a path: of the output, or of the first latch that reads the net.
-fn end_name(circuit: &Circuit, net: u32) -> &[u8] {
-    if circuit
+pub(crate) fn end_name(circuit: &Circuit, net: u32) -> &[u8]
+    ensures { result.now ≡ end_name circuit.now net }
+{
+    if has_output(circuit, net) {
+        return name_of(circuit, net);
+    }
+    match latch_storing(circuit, net) {
+        Some(latch) => name_of(circuit, latch.output),
+        None => name_of(circuit, net),
+    }
+}
+
+/// Returns whether a net is an output.
+fn has_output(circuit: &Circuit, net: u32) -> bool
+    ensures { result ≡ has_output circuit.now net }
+{
+    circuit
         .outputs
         .as_slice()
         .iter()
         .any(|output| *output == net)
+}
+
+/// The first latch that reads a net.
+fn latch_storing(circuit: &Circuit, net: u32) -> Option<Latch>
+    ensures { result ≡ latch_storing circuit.now net }
+{
+    match circuit
+        .latches
+        .as_slice()
+        .iter()
+        .find(|latch| latch.input == net)
     {
-        return name_of(circuit, net);
+        Some(latch) => Some(*latch),
+        None => None,
     }
-    for latch in circuit.latches.as_slice() {
-        if latch.input == net {
-            return name_of(circuit, latch.output);
-        }
-    }
-    name_of(circuit, net)
 }
 
 /// Writes a number with the word for one or for several.

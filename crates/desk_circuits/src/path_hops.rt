@@ -1,4 +1,7 @@
 //! The wires of a netlist's path, by the files of its routing.
+ghost use Rattle.std.specs.Prelude.{◌≡◌};
+ghost use Rattle.desk_circuits.specs.Json.{net_name};
+
 use blif::Circuit;
 use longest_path::LongestPath;
 use path_wires::{Hop, wires_along};
@@ -160,7 +163,9 @@ fn pad_of(strip: &RoutedStrip<'_>, circuit: &Circuit, net: u32) -> Option<usize>
 }
 
 /// The name of a net.
-pub(crate) fn name_of(circuit: &Circuit, net: u32) -> &[u8] {
+pub(crate) fn name_of(circuit: &Circuit, net: u32) -> &[u8]
+    ensures { result.now ≡ net_name circuit.now net }
+{
     if (net as usize) < circuit.nets.len() {
         circuit.nets.name(net as usize)
     } else {

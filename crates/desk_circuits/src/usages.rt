@@ -1,10 +1,13 @@
 //! What each name used: a line for each, or a table.
+ghost use Rattle.std.specs.Prelude.{◌≡◌, ◌++◌, IfOk, OnOk, map};
+ghost use Rattle.desk_circuits.specs.Json.{told_in, told_of};
+
 use crate::csv::write_numbers;
 use crate::longest::{MeasuredCircuit, measure};
+use crate::path_text::texts_of;
 use line_text::{Failed, Sink};
 use script_replies::{Account, NameFiles, Usage};
-use std::alloc::Global;
-use strip_files::StripTexts;
+use std::alloc::{AllocError, Global};
 use text_parts::{Part, write_parts};
 
 /// The headings of the table.
@@ -34,19 +37,55 @@ pub fn print_usages<W: Sink>(
     Ok(())
 }
 
+/// What a name used, and the circuit of the netlist that it has.
+#[derive(Drop)]
+pub struct NameFacts<'a> {
+    pub(crate) name: &'a [u8],
+    pub(crate) usage: Usage,
+    /// `None` if it has no netlist, or if memory ran out.
+    pub(crate) circuit: Option<MeasuredCircuit>,
+}
+
+/// What the names of these accounts used. Fails if memory runs out.
+pub fn facts_of<'a>(
+    alloc: Global,
+    accounts: &[Account<'a, '_>],
+) -> Result<Vec<NameFacts<'a>>, AllocError>
+    ensures { IfOk result (λ facts. map told_of facts.items ≡ map told_in accounts.now) }
+{
+    let mut facts = Vec::new(alloc);
+    match add_facts(alloc, accounts, &mut facts) {
+        Ok(()) => Ok(facts),
+        Err(error) => {
+            drop(facts);
+            Err(error)
+        }
+    }
+}
+
+/// Adds what the names of these accounts used.
+fn add_facts<'a>(
+    alloc: Global,
+    accounts: &[Account<'a, '_>],
+    facts: &mut Vec<NameFacts<'a>>,
+) -> Result<(), AllocError>
+    ensures { OnOk result (map told_of facts.new.items
+        ≡ map told_of facts.old.items ++ map told_in accounts.now) }
+{
+    for account in accounts {
+        facts.push(NameFacts {
+            name: account.name,
+            usage: account.usage,
+            circuit: present_circuit(alloc, account.files),
+        })?;
+    }
+    Ok(())
+}
+
 /// The circuit of the netlist that a name has, and its longest path. `None` if it has no netlist,
 /// or if memory runs out.
 pub fn present_circuit(alloc: Global, files: NameFiles<'_, '_>) -> Option<MeasuredCircuit> {
     measure(alloc, files.netlist?, texts_of(files))
-}
-
-/// The three files, if all are present.
-fn texts_of<'p>(files: NameFiles<'_, 'p>) -> Option<StripTexts<'p>> {
-    Some(StripTexts {
-        net: files.net.text?,
-        place: files.place.text?,
-        route: files.route.text?,
-    })
 }
 
 /// Prints what a name used, and the longest path of its netlist.

@@ -1,6 +1,8 @@
 -- How an errand ends.
 use Rattle.std.specs.Prelude.{ℕ, Result, Ok, Err}
 use Rattle.line_text.specs.declared.source.Failed.{Failed}
+use Rattle.line_text.specs.declared.source.ReadError.{ReadError}
+use Rattle.line_text.specs.declared.source.ReadError.TheVariants.{NoMemory as ReadNoMemory, Failed as ReadFailed}
 use Rattle.desk_common.specs.declared.outcome.Outcome.{Outcome}
 use Rattle.desk_common.specs.declared.outcome.Outcome.TheVariants.{DeviceRefused, Done, InputFailed, OutputFailed, FileFailed, LayoutRefused, LinesRefused, NoMemory, OtherCircuit}
 
@@ -21,3 +23,13 @@ status_of refused = 3
 abbrev pub written_so : Result (Unit {0}) Failed → Outcome
 written_so (Ok u) = Done
 written_so (Err failed) = OutputFailed
+
+-- how an errand ends whose input could not be read
+abbrev pub read_so : ReadError → Outcome
+read_so ReadNoMemory = NoMemory
+read_so ReadFailed = InputFailed
+
+-- how an errand ends that was done, or failed so
+abbrev pub done_so : Result (Unit {0}) Outcome → Outcome
+done_so (Ok u) = Done
+done_so (Err outcome) = outcome

@@ -7,6 +7,7 @@
 mod arch_words;
 mod options_file;
 mod outcome;
+mod outputs;
 mod paths;
 mod reply_words;
 mod words;
@@ -16,8 +17,10 @@ pub use options_file::{
     DEVICE, DeviceOption, MAX_DEVICE_READ, device_options, device_path, with_device,
 };
 pub use outcome::Outcome;
+pub use outputs::FileOutputs;
 pub use paths::{
     FileRole, NewFile, ResultFile, make_folder, read_file, tell_stale, write_file, write_files,
+    write_path,
 };
 pub use reply_words::{NetlistSource, tell_reply, told_refused};
 pub use words::{COLUMNS, EFFORT, FOLDER, NO_DEVICE, ROWS, SEED};

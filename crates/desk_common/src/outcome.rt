@@ -1,6 +1,6 @@
 //! How an errand ended.
 ghost use Rattle.std.specs.Prelude.{◌≡◌};
-ghost use Rattle.desk_common.specs.Outcomes.{status_of, written_so};
+ghost use Rattle.desk_common.specs.Outcomes.{done_so, read_so, status_of, written_so};
 
 use crate::paths::FileRole;
 use arch_file::ArchFault;
@@ -36,6 +36,8 @@ pub enum Outcome {
     /// The netlist has a fault, or doesn't fit a cluster or the device. The cause is written to
     /// standard error.
     NetlistRefused,
+    /// A pin file has a fault, or a pin can't be met. The cause is written to standard error.
+    PinsRefused,
     /// The netlist is left without routes. The cause is written to standard error.
     Unrouted,
     /// A file isn't one that the service wrote for a tenancy.
@@ -68,7 +70,9 @@ impl Outcome {
     }
 
     /// How an errand ended whose input can't be read.
-    pub fn of_reading(error: ReadError) -> Self {
+    pub fn of_reading(error: ReadError) -> Self
+        ensures { result ≡ read_so error }
+    {
         match error {
             ReadError::NoMemory => Outcome::NoMemory,
             ReadError::Failed => Outcome::InputFailed,
@@ -76,7 +80,9 @@ impl Outcome {
     }
 
     /// How an errand ended that was done, or failed so.
-    pub fn of(done: Result<(), Outcome>) -> Self {
+    pub fn of(done: Result<(), Outcome>) -> Self
+        ensures { result ≡ done_so done }
+    {
         match done {
             Ok(()) => Outcome::Done,
             Err(outcome) => outcome,
@@ -114,6 +120,7 @@ impl fmt::Display for Outcome {
             Outcome::ArchRefused(fault) => write!(f, "arch: {fault}"),
             Outcome::DeviceRefused => write!(f, "device file: refused"),
             Outcome::NetlistRefused => write!(f, "netlist: refused"),
+            Outcome::PinsRefused => write!(f, "pins: refused"),
             Outcome::Unrouted => write!(f, "netlist: not routed"),
             Outcome::StripRefused(fault) => write!(f, "{fault}"),
             Outcome::LayoutRefused(fault) => write!(f, "{fault}"),

@@ -17,7 +17,9 @@ pub enum FileRole {
     Places,
     Routes,
     Device,
+    Pins,
     Log,
+    Verilog,
     Folder,
 }
 
@@ -31,7 +33,9 @@ impl fmt::Display for FileRole {
             FileRole::Places => write!(f, ".place file"),
             FileRole::Routes => write!(f, ".route file"),
             FileRole::Device => write!(f, "device file"),
+            FileRole::Pins => write!(f, "pin file"),
             FileRole::Log => write!(f, "log"),
+            FileRole::Verilog => write!(f, "Verilog file"),
             FileRole::Folder => write!(f, "folder"),
         }
     }
@@ -83,6 +87,39 @@ fn told_failed<E: Sink>(
         drop(line);
     }
     Outcome::FileFailed(role)
+}
+
+/// Writes the file of that path, in place of one that is there. It is written as `PATH.part`, and
+/// then takes its name. If it can't be written, the path and the reason are written to the teller,
+/// what was there stays, and no part is left.
+pub fn write_path<H: Files + AllocGlobal, E: Sink>(
+    rt: &H,
+    role: FileRole,
+    path: &str,
+    bytes: &[u8],
+    teller: &mut E,
+) -> Result<(), Outcome> {
+    let Ok(part) = format!(in rt.alloc(); "{path}.part") else {
+        return Err(Outcome::NoMemory);
+    };
+    let written = write_as(rt, part.as_str(), path, bytes);
+    drop(part);
+    match written {
+        Ok(()) => Ok(()),
+        Err(error) => Err(told_failed(rt.alloc(), role, path, error, teller)),
+    }
+}
+
+/// Writes a file as its part, and gives the part the file's name. If that fails, no part is left.
+fn write_as<H: Files>(rt: &H, part: &str, path: &str, bytes: &[u8]) -> Result<(), Error> {
+    let mut written = fs::write(rt, part, bytes);
+    if written.is_ok() {
+        written = fs::rename(rt, part, path);
+    }
+    if written.is_err() {
+        let _ = fs::remove_file(rt, part);
+    }
+    written
 }
 
 /// Makes a folder, if it isn't there. If it can't be made, the path and the reason are written to

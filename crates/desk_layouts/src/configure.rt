@@ -5,19 +5,22 @@ ghost use Rattle.grid.specs.Sizes.{IsStripSize};
 ghost use Rattle.layout_verdict.specs.Verdicts.{IsImplemented};
 ghost use Rattle.line_text.specs.Lines.{JoinedLine, lines_of};
 ghost use Rattle.line_text.specs.Writing.{TakesAll};
+ghost use Rattle.desk_layouts.specs.Asked.{IsAskedFor};
 ghost use Rattle.desk_layouts.specs.Configured.{IsConfigurationOf, IsConfigured, Works, text_with};
 
 use crate::file_texts::FileTexts;
 use crate::given_files::GivenFiles;
 use crate::laid_circuit::circuit_in;
-use crate::layout_input::{LAYOUT_OPTIONS, LayoutPaths};
+use crate::layout_input::{
+    ARCH, COLUMNS, LayoutPaths, NETLIST, PACKING, PLACES, ROUTES, ROWS, TRACKS, paths_of,
+};
+use circuit_verilog::verilog_text;
 use configuration::{laws_of_configurations, values_are_rows};
 use configuration_text::{Design, Unwritten, write_configuration};
-use desk_common::Outcome;
+use desk_common::{DEVICE, FileRole, Outcome};
 use layout_verdict::LaidCircuit;
 use line_text::{Lines, MAX_TEXT, Sink, logical_lines};
-use option_words::Program;
-use std::alloc::Global;
+use option_words::{Given, OptionWord, Program, Takes};
 
 /// The beginning of its help.
 const ABOUT: &str =
@@ -37,44 +40,83 @@ pub const TOOL: Program = Program {
     about: ABOUT,
     after_help: "\
 It first checks the layout as `fpgad_desk check` does; if the files don't implement the netlist, it prints nothing, and standard error
-says what is wrong. docs/FORMATS.md says what the lines mean.
+says what is wrong. docs/FORMATS.md says what the lines mean. With --verilog F what the device then computes is written to the file F
+as a Verilog module with the netlist's inputs and outputs, to be simulated.
 
 Example: fpgad_desk configure --arch my.arch --tracks 8 t.blif t.net t.place t.route > t.configuration",
-    options: LAYOUT_OPTIONS,
+    options: &[
+        ARCH,
+        TRACKS,
+        COLUMNS,
+        ROWS,
+        DEVICE,
+        OptionWord {
+            name: "verilog",
+            value_name: "F",
+            help: "Also writes what the device then computes to the file F, as a Verilog module",
+            takes: Takes::Text,
+            default: None,
+        },
+        NETLIST,
+        PACKING,
+        PLACES,
+        ROUTES,
+    ],
 };
 
+/// Whose configuration is wanted, and the file for its Verilog, if that is wanted too.
+#[derive(Clone, Copy)]
+pub struct ConfigureWishes<'a> {
+    pub(crate) paths: LayoutPaths<'a>,
+    verilog: Option<&'a str>,
+}
+
+/// What the options ask for, or why they are refused.
+pub fn wishes_of<'a>(given: &Given<'a>) -> Result<ConfigureWishes<'a>, &'static str>
+    ensures { IfOk result (λ wishes. IsAskedFor given.now wishes.paths) }
+{
+    let paths = paths_of(given)?;
+    Ok(ConfigureWishes {
+        paths,
+        verilog: given.text("verilog"),
+    })
+}
+
 /// Checks a layout against its netlist, and prints its configuration if it implements the netlist.
+/// Before that its Verilog is written, if it is wanted.
 pub fn run<F: FileTexts + AllocGlobal, W: Sink, E: Sink>(
     files: &F,
-    paths: LayoutPaths<'_>,
+    wishes: ConfigureWishes<'_>,
     writer: &mut W,
     teller: &mut E,
 ) -> Result<(), Outcome>
     ensures { IfOk result (λ _. (text : List ℕ)
-        × IsConfigured (F.text files.now) paths.entry text
+        × IsConfigured (F.text files.now) wishes.entry.paths text
         × TakesAll W.contents W.has_failed writer.old writer.new text) }
 {
-    let given = GivenFiles::read(files, paths, teller)?;
-    let printed = print_checked(files.alloc(), paths, &given, writer, teller);
+    let given = GivenFiles::read(files, wishes.paths, teller)?;
+    let printed = print_checked(files, wishes, &given, writer, teller);
     drop(given);
     printed
 }
 
 /// Prints the configuration of the layout whose files have these bytes, if it implements the
 /// netlist.
-fn print_checked<W: Sink, E: Sink>(
-    alloc: Global,
-    paths: LayoutPaths<'_>,
+fn print_checked<F: FileTexts + AllocGlobal, W: Sink, E: Sink>(
+    files: &F,
+    wishes: ConfigureWishes<'_>,
     given: &GivenFiles,
     writer: &mut W,
     teller: &mut E,
 ) -> Result<(), Outcome>
-    ensures { IfOk result (λ _. (text : List ℕ) × IsConfigurationOf paths.entry given.now text
+    ensures { IfOk result (λ _. (text : List ℕ)
+        × IsConfigurationOf wishes.entry.paths given.now text
         × TakesAll W.contents W.has_failed writer.old writer.new text) }
 {
-    match circuit_in(alloc, paths, given, teller) {
+    match circuit_in(files.alloc(), wishes.paths, given, teller) {
         Ok(laid) => {
-            let printed = print_laid(alloc, given.netlist.as_slice(), &laid, writer);
+            let netlist = given.netlist.as_slice();
+            let printed = print_laid(files, wishes.verilog, netlist, &laid, writer, teller);
             drop(laid);
             printed
         }
@@ -83,11 +125,13 @@ fn print_checked<W: Sink, E: Sink>(
 }
 
 /// Prints the configuration of the layout. `netlist` is the text that the circuit was read from.
-fn print_laid<W: Sink>(
-    alloc: Global,
+fn print_laid<F: FileTexts + AllocGlobal, W: Sink, E: Sink>(
+    files: &F,
+    verilog: Option<&str>,
     netlist: &[u8],
     laid: &LaidCircuit,
     writer: &mut W,
+    teller: &mut E,
 ) -> Result<(), Outcome>
     requires implemented { IsImplemented laid.now }
     requires circuit { IsCircuit laid.now.circuit }
@@ -101,9 +145,9 @@ fn print_laid<W: Sink>(
     if netlist.len() > MAX_TEXT {
         return Err(Outcome::NoMemory);
     }
-    match logical_lines(alloc, netlist) {
+    match logical_lines(files.alloc(), netlist) {
         Ok(lines) => {
-            let printed = print_lines(alloc, &lines, laid, writer);
+            let printed = print_lines(files, verilog, &lines, laid, writer, teller);
             drop(lines);
             printed
         }
@@ -112,11 +156,13 @@ fn print_laid<W: Sink>(
 }
 
 /// Prints the configuration of the layout of the circuit with these lines.
-fn print_lines<W: Sink>(
-    alloc: Global,
+fn print_lines<F: FileTexts + AllocGlobal, W: Sink, E: Sink>(
+    files: &F,
+    verilog: Option<&str>,
     lines: &Lines<'_>,
     laid: &LaidCircuit,
     writer: &mut W,
+    teller: &mut E,
 ) -> Result<(), Outcome>
     ensures { IfOk result (λ _. TakesAll W.contents W.has_failed writer.old writer.new
         (text_with lines.now laid.now)) }
@@ -128,9 +174,29 @@ fn print_lines<W: Sink>(
         strip: laid.strip,
         layout: &laid.layout,
     };
-    match write_configuration(alloc, design, writer) {
+    if let Some(path) = verilog {
+        save_verilog(files, path, design, teller)?;
+    }
+    match write_configuration(files.alloc(), design, writer) {
         Ok(()) => Ok(()),
         Err(Unwritten::NoMemory) => Err(Outcome::NoMemory),
         Err(Unwritten::SinkFailed) => Err(Outcome::OutputFailed),
+    }
+}
+
+/// Writes the Verilog of a device that is configured by the design's layout into a file.
+fn save_verilog<F: FileTexts + AllocGlobal, E: Sink>(
+    files: &F,
+    path: &str,
+    design: Design<'_>,
+    teller: &mut E,
+) -> Result<(), Outcome> {
+    match verilog_text(files.alloc(), design) {
+        Ok(text) => {
+            let saved = files.write_text(FileRole::Verilog, path, text.as_slice(), teller);
+            drop(text);
+            saved
+        }
+        Err(_) => Err(Outcome::NoMemory),
     }
 }

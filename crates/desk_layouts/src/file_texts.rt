@@ -1,5 +1,5 @@
-//! What stands in files.
-use desk_common::{FileRole, Outcome, read_file};
+//! Texts of files.
+use desk_common::{FileRole, Outcome, read_file, write_path};
 use line_text::Sink;
 use std::rt::Files;
 
@@ -21,6 +21,16 @@ pub trait FileTexts {
     ) -> Result<Vec<u8>, Outcome>
         ensures { IfOk result (λ bytes.
             IfSome (text self.now path.now) (λ known. bytes.items ≡ take most known)) };
+
+    /// Writes the file of that path, in place of one that is there. If it can't be written, the
+    /// path and the reason are written to the teller, and what was there stays.
+    fn write_text<E: Sink>(
+        &self,
+        role: FileRole,
+        path: &str,
+        bytes: &[u8],
+        teller: &mut E,
+    ) -> Result<(), Outcome>;
 }
 
 /// The texts of the system's files are not known.
@@ -37,5 +47,15 @@ impl<H: Files + AllocGlobal> FileTexts for H {
         teller: &mut E,
     ) -> Result<Vec<u8>, Outcome> {
         read_file(self, role, path, most, teller)
+    }
+
+    fn write_text<E: Sink>(
+        &self,
+        role: FileRole,
+        path: &str,
+        bytes: &[u8],
+        teller: &mut E,
+    ) -> Result<(), Outcome> {
+        write_path(self, role, path, bytes, teller)
     }
 }

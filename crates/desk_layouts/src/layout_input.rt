@@ -13,65 +13,81 @@ const NO_FILE: &str = "give an architecture, a netlist and its .net, .place and 
 
 const NO_TRACKS: &str = "give --tracks W";
 
+/// The architecture.
+pub(crate) const ARCH: OptionWord = OptionWord {
+    name: "arch",
+    value_name: "FILE",
+    help: "The architecture",
+    takes: Takes::GivenText,
+    default: None,
+};
+
+/// The tracks of each channel.
+pub(crate) const TRACKS: OptionWord = OptionWord {
+    name: "tracks",
+    value_name: "W",
+    help: "Tracks of each channel, 1 to 64",
+    takes: Takes::Number(1, 64),
+    default: None,
+};
+
+/// The columns of the strip.
+pub(crate) const COLUMNS: OptionWord = OptionWord {
+    name: "columns",
+    value_name: "NX",
+    help: "Columns of the strip, 1 to 256; without it those in the .place file",
+    takes: Takes::Number(1, 256),
+    default: None,
+};
+
+/// The rows of the strip.
+pub(crate) const ROWS: OptionWord = OptionWord {
+    name: "rows",
+    value_name: "NY",
+    help: "Rows of the strip, 1 to 64; without it those in the .place file",
+    takes: Takes::Number(1, 64),
+    default: None,
+};
+
+/// The netlist.
+pub(crate) const NETLIST: OptionWord = OptionWord {
+    name: "netlist",
+    value_name: "NETLIST",
+    help: "The netlist, in BLIF",
+    takes: Takes::Alone,
+    default: None,
+};
+
+/// The first of its three files.
+pub(crate) const PACKING: OptionWord = OptionWord {
+    name: "packing",
+    value_name: "NET_FILE",
+    help: "The .net file",
+    takes: Takes::Alone,
+    default: None,
+};
+
+/// The second one.
+pub(crate) const PLACES: OptionWord = OptionWord {
+    name: "places",
+    value_name: "PLACE_FILE",
+    help: "The .place file",
+    takes: Takes::Alone,
+    default: None,
+};
+
+/// The third one.
+pub(crate) const ROUTES: OptionWord = OptionWord {
+    name: "routes",
+    value_name: "ROUTE_FILE",
+    help: "The .route file",
+    takes: Takes::Alone,
+    default: None,
+};
+
 /// The options of a tool that reads a layout.
 pub(crate) const LAYOUT_OPTIONS: &[OptionWord] = &[
-    OptionWord {
-        name: "arch",
-        value_name: "FILE",
-        help: "The architecture",
-        takes: Takes::GivenText,
-        default: None,
-    },
-    OptionWord {
-        name: "tracks",
-        value_name: "W",
-        help: "Tracks of each channel, 1 to 64",
-        takes: Takes::Number(1, 64),
-        default: None,
-    },
-    OptionWord {
-        name: "columns",
-        value_name: "NX",
-        help: "Columns of the strip, 1 to 256; without it those in the .place file",
-        takes: Takes::Number(1, 256),
-        default: None,
-    },
-    OptionWord {
-        name: "rows",
-        value_name: "NY",
-        help: "Rows of the strip, 1 to 64; without it those in the .place file",
-        takes: Takes::Number(1, 64),
-        default: None,
-    },
-    DEVICE,
-    OptionWord {
-        name: "netlist",
-        value_name: "NETLIST",
-        help: "The netlist, in BLIF",
-        takes: Takes::Alone,
-        default: None,
-    },
-    OptionWord {
-        name: "packing",
-        value_name: "NET_FILE",
-        help: "The .net file",
-        takes: Takes::Alone,
-        default: None,
-    },
-    OptionWord {
-        name: "places",
-        value_name: "PLACE_FILE",
-        help: "The .place file",
-        takes: Takes::Alone,
-        default: None,
-    },
-    OptionWord {
-        name: "routes",
-        value_name: "ROUTE_FILE",
-        help: "The .route file",
-        takes: Takes::Alone,
-        default: None,
-    },
+    ARCH, TRACKS, COLUMNS, ROWS, DEVICE, NETLIST, PACKING, PLACES, ROUTES,
 ];
 
 /// The paths of a layout's files, and what is said of its strip.

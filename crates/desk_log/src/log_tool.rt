@@ -26,8 +26,8 @@ pub const TOOL: Program = Program {
     about: "Prints a shorter log for fpgad_live, with which it goes on as with the whole one",
     after_help: "\
 The options are those that fpgad_live runs with. The service must not be running. Left out are the lines of evicted tenancies,
-what a later `withdraw` made void, `status`, `net`, `placefile`, `routefile`, `op list`, `op owners`, each `op echo` but the last,
-and what was refused.
+what a later `withdraw`, `change`, `place` or `cancel` made void, `status`, `net`, `placefile`, `routefile`, `op list`, `op owners`,
+each `op echo` but the last, and what was refused.
 Ids and offsets stay. Journals have fewer entries then, and `? N` counts the lines of the shorter log.
 
 Example: fpgad_desk log --arch my.arch --tracks 8 --columns 20 --rows 10 day.log > short.log && mv short.log day.log",

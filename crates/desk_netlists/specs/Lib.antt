@@ -1,1 +1,3 @@
 pub mod Scripts
+pub mod RoutedJson
+pub mod Written

@@ -4,8 +4,8 @@ ghost use Rattle.arch_file.specs.Arch.{IsArch};
 ghost use Rattle.arch_file.specs.declared.arch.TheConstants.{MAX_IO_RAT};
 ghost use Rattle.blif.specs.LawfulCircuits.{IsCircuit};
 
-use crate::path_lines::write_path_stops;
-use crate::route_wishes::{RouteWishes, Size};
+use crate::path_lines::write_stops_of;
+use crate::route_wishes::{RouteForm, RouteWishes, Size};
 use crate::routed_table::Routed;
 use arch_file::{Arch, read_arch};
 use blif::{Circuit, read_blif};
@@ -61,8 +61,8 @@ fn write_circuit<W: Sink>(
     requires arch { IsArch arch.now }
     requires circuit { IsCircuit circuit.now }
 {
-    if wishes.has_path {
-        write_path_stops(alloc, routed, circuit, writer)?;
+    if let RouteForm::Path = wishes.form {
+        write_stops_of(alloc, routed, circuit, writer)?;
     }
     write_counted(alloc, routed, arch, circuit, writer)?;
     match lacking_before(wishes.size, routed, arch.io_rat) {
@@ -100,7 +100,7 @@ fn write_counted<W: Sink>(
 
 /// The places of which a device has too few that is one column, one row or one of both smaller.
 /// `None` if the size is given.
-fn lacking_before(asked: Size, routed: Routed<'_>, io_rat: u32) -> Option<Lacking>
+pub(crate) fn lacking_before(asked: Size, routed: Routed<'_>, io_rat: u32) -> Option<Lacking>
     requires { io_rat ≤ MAX_IO_RAT }
 {
     let columns = routed.size.columns;

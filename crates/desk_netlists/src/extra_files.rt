@@ -1,4 +1,6 @@
-//! What is made of the three files of a routed netlist: a picture, a check, and the configuration.
+//! What is made of the three files of a routed netlist: a picture, a page, a check, and the
+//! configuration.
+use crate::page_file::write_netlist_page;
 use crate::route_wishes::{Extras, RouteWishes};
 use crate::routed_table::Routed;
 use configuration_text::{Design, Unwritten, write_configuration};
@@ -23,11 +25,15 @@ pub(crate) fn write_extra_files<H: Files + AllocGlobal, W: Sink, E: Sink>(
 ) -> Result<(), Outcome> {
     let Extras {
         has_picture,
+        has_page,
         has_configuration,
         has_verdict,
     } = wishes.extras;
     if has_picture {
         save_picture(rt, extra_file(wishes, routed, "svg"), routed.texts, teller)?;
+    }
+    if has_page {
+        save_page(rt, extra_file(wishes, routed, "html"), routed, teller)?;
     }
     if has_configuration || has_verdict {
         check_routed(rt, wishes, routed, teller)?;
@@ -61,6 +67,18 @@ fn save_picture<H: Files + AllocGlobal, E: Sink>(
     let mut sink = MemorySink::new(rt.alloc());
     let drawn = draw_routed(rt.alloc(), texts, &mut sink);
     save(rt, file, drawn, sink, teller)
+}
+
+/// Writes the page of a routed netlist.
+fn save_page<H: Files + AllocGlobal, E: Sink>(
+    rt: &H,
+    file: ResultFile<'_>,
+    routed: Routed<'_>,
+    teller: &mut E,
+) -> Result<(), Outcome> {
+    let mut sink = MemorySink::new(rt.alloc());
+    let made = write_netlist_page(rt.alloc(), routed, &mut sink);
+    save(rt, file, made, sink, teller)
 }
 
 /// Writes a file with the bytes that were made, unless making them failed.

@@ -7,13 +7,19 @@
 
 mod device_use;
 mod extra_files;
+mod json_summary;
 mod overuse;
+mod page_file;
+mod path_facts;
 mod path_lines;
+mod pin_words;
+mod pinned_route;
 pub mod random;
 mod refusals;
 pub mod route;
 mod route_size;
 pub mod route_wishes;
+mod routed_json;
 mod routed_table;
 pub mod script;
 mod silence;

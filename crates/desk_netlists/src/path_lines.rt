@@ -3,15 +3,14 @@ ghost use Rattle.blif.specs.LawfulCircuits.{IsCircuit};
 
 use crate::routed_table::Routed;
 use blif::Circuit;
+use desk_circuits::write_path_stops;
 use line_text::{Failed, Sink};
-use longest_path::{Longest, LongestPath, longest_path};
-use path_stops::{MeasuredStop, measured_stops, stops_of, write_stops};
-use std::alloc::{AllocError, Global};
-use strip_files::{RoutedStrip, read_strip};
+use longest_path::{Longest, longest_path};
+use std::alloc::Global;
 
 /// Writes the stops of a netlist's longest path, with the wires between them. Writes nothing if
 /// there is no longest path, or if memory runs out.
-pub(crate) fn write_path_stops<W: Sink>(
+pub(crate) fn write_stops_of<W: Sink>(
     alloc: Global,
     routed: Routed<'_>,
     circuit: &Circuit,
@@ -21,46 +20,10 @@ pub(crate) fn write_path_stops<W: Sink>(
 {
     match longest_path(alloc, circuit) {
         Ok(Longest::Path(path)) => {
-            let written = write_path(alloc, routed, circuit, &path, writer);
+            let written = write_path_stops(alloc, routed.texts, circuit, &path, writer);
             drop(path);
             written
         }
         Ok(Longest::NoPath | Longest::Loop) | Err(_) => Ok(()),
     }
-}
-
-/// Writes the stops of that path.
-fn write_path<W: Sink>(
-    alloc: Global,
-    routed: Routed<'_>,
-    circuit: &Circuit,
-    path: &LongestPath,
-    writer: &mut W,
-) -> Result<(), Failed> {
-    let Ok(strip) = read_strip(alloc, routed.texts) else {
-        return Ok(());
-    };
-    let written = match stops_on(alloc, &strip, circuit, path) {
-        Ok(stops) => {
-            let written = write_stops(writer, &strip, circuit, &stops);
-            drop(stops);
-            written
-        }
-        Err(_) => Ok(()),
-    };
-    drop(strip);
-    written
-}
-
-/// The stops of a path over that strip, with the wires between them.
-fn stops_on(
-    alloc: Global,
-    strip: &RoutedStrip<'_>,
-    circuit: &Circuit,
-    path: &LongestPath,
-) -> Result<Vec<MeasuredStop>, AllocError> {
-    let stops = stops_of(alloc, strip, circuit, path)?;
-    let measured = measured_stops(alloc, strip, circuit, &stops);
-    drop(stops);
-    measured
 }

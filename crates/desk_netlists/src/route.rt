@@ -1,19 +1,23 @@
 //! The tool that routes one netlist on a device of its own.
-ghost use Rattle.std.specs.Prelude.{◌≤◌};
+ghost use Rattle.std.specs.Prelude.{◌≡◌, ◌≤◌, OnOk};
+ghost use Rattle.desk_common.specs.Outputs.{named};
+ghost use Rattle.desk_netlists.specs.Written.{AreLeftWritten, AreWritten};
 ghost use Rattle.strip_place.specs.declared.placing.TheConstants.{MAX_EFFORT};
 
 use crate::extra_files::write_extra_files;
+use crate::json_summary::print_object;
 use crate::overuse::tell_overuse;
+use crate::pinned_route::{PinnedJob, run_with_pins};
 use crate::refusals::told_unfit;
 use crate::route_size::{Sized, size_for};
-use crate::route_wishes::{GivenSize, RouteWishes, Tracks};
+use crate::route_wishes::{GivenSize, RouteForm, RouteWishes, Tracks};
 use crate::routed_table::{Routed, print_routed};
 use crate::silence::Silence;
 use arch_file::ArchError;
 use desk_circuits::warn_of_netlist;
 use desk_common::{
-    FileRole, NewFile, Outcome, ResultFile, make_folder, read_file, tell_reply, tell_stale,
-    write_arch_fault, write_files,
+    FileOutputs, FileRole, NewFile, Outcome, ResultFile, read_file, tell_reply, tell_stale,
+    write_arch_fault,
 };
 use line_text::{MAX_TEXT, Sink, Text, TextError};
 use one_user::{
@@ -26,7 +30,7 @@ use strip_files::StripTexts;
 use tenant_slot::{Ending, Refusal, Reply, SharedText, StateName, Status};
 
 /// The most bytes of a text that are read: one more than it may have.
-const MAX_READ: u64 = MAX_TEXT as u64 + 1;
+pub(crate) const MAX_READ: u64 = MAX_TEXT as u64 + 1;
 
 /// Routes a netlist, writes its files, and prints what they use.
 pub fn run<H: Files + AllocGlobal, W: Sink, E: Sink>(
@@ -40,13 +44,20 @@ pub fn run<H: Files + AllocGlobal, W: Sink, E: Sink>(
     let is_told = wishes.is_told || is_terminal;
     let outcome = run_with_arch(rt, wishes, arch.as_slice(), writer, teller, is_told);
     drop(arch);
-    if let Err(Outcome::NetlistRefused | Outcome::ArchRefused(_)) = outcome {
+    if let Err(Outcome::NetlistRefused | Outcome::PinsRefused | Outcome::ArchRefused(_)) = outcome {
         tell_stale(rt, result_file(wishes, "net"), teller);
         tell_stale(rt, result_file(wishes, "place"), teller);
     }
-    if let Err(Outcome::Unrouted | Outcome::NetlistRefused | Outcome::ArchRefused(_)) = outcome {
+    if let Err(
+        Outcome::Unrouted
+        | Outcome::NetlistRefused
+        | Outcome::PinsRefused
+        | Outcome::ArchRefused(_),
+    ) = outcome
+    {
         tell_stale(rt, result_file(wishes, "route"), teller);
         tell_stale(rt, result_file(wishes, "svg"), teller);
+        tell_stale(rt, result_file(wishes, "html"), teller);
         tell_stale(rt, result_file(wishes, "configuration"), teller);
     }
     outcome
@@ -62,11 +73,7 @@ fn run_with_arch<H: Files + AllocGlobal, W: Sink, E: Sink>(
     is_told: bool,
 ) -> Result<(), Outcome> {
     let netlist = netlist_of(rt, wishes, teller)?;
-    let request = Request {
-        netlist: &netlist,
-        seed: wishes.seed,
-        effort: wishes.effort,
-    };
+    let request = request_of(wishes, &netlist);
     let outcome = match size_for(rt.alloc(), wishes.size, arch, request) {
         Ok(Sized::Size(size)) => {
             run_on_size(rt, wishes, arch, request, size, writer, teller, is_told)
@@ -78,6 +85,19 @@ fn run_with_arch<H: Files + AllocGlobal, W: Sink, E: Sink>(
     };
     drop(netlist);
     outcome
+}
+
+/// What is asked for: a netlist, with the seed and the effort of the wishes.
+fn request_of<'a>(wishes: RouteWishes<'_>, netlist: &'a SharedText) -> Request<'a>
+    ensures netlist { result.netlist ≡ netlist.entry }
+    ensures seed { result.seed ≡ wishes.entry.seed }
+    ensures effort { result.effort ≡ wishes.entry.effort }
+{
+    Request {
+        netlist,
+        seed: wishes.seed,
+        effort: wishes.effort,
+    }
 }
 
 /// Routes a netlist on a device of that size.
@@ -93,6 +113,16 @@ fn run_on_size<H: Files + AllocGlobal, W: Sink, E: Sink>(
 ) -> Result<(), Outcome>
     requires { request.effort ≤ MAX_EFFORT }
 {
+    if let Some(path) = wishes.pins {
+        let job = PinnedJob {
+            wishes,
+            path,
+            arch,
+            request,
+            size,
+        };
+        return run_with_pins(rt, job, writer, teller, is_told);
+    }
     let trial = if is_told {
         trial_with(rt.alloc(), wishes, arch, request, size, teller)
     } else {
@@ -119,7 +149,11 @@ fn is_given_up(outcome: &End) -> bool {
 }
 
 /// Writes what is wrong with the architecture, and returns how the errand ended.
-fn told_arch<E: Sink>(error: ArchError, wishes: RouteWishes<'_>, teller: &mut E) -> Outcome {
+pub(crate) fn told_arch<E: Sink>(
+    error: ArchError,
+    wishes: RouteWishes<'_>,
+    teller: &mut E,
+) -> Outcome {
     match error {
         TextError::NoMemory => Outcome::NoMemory,
         TextError::Fault(fault) => {
@@ -206,7 +240,7 @@ fn trial_with<E: Sink>(
 }
 
 /// Writes the result of a run.
-fn write_run<H: Files + AllocGlobal, W: Sink, E: Sink>(
+pub(crate) fn write_run<H: Files + AllocGlobal, W: Sink, E: Sink>(
     rt: &H,
     wishes: RouteWishes<'_>,
     arch: &[u8],
@@ -227,7 +261,7 @@ fn write_run<H: Files + AllocGlobal, W: Sink, E: Sink>(
             written
         }
         End::Unrouted(left) => {
-            let saved = saved_left(rt, wishes, &left, teller);
+            let saved = save_left(rt, wishes, &left, teller);
             let outcome = told_unrouted(rt.alloc(), left, teller);
             saved?;
             Err(outcome)
@@ -274,48 +308,84 @@ fn write_routed<'x, H: Files + AllocGlobal, W: Sink, E: Sink>(
     save_files(rt, wishes, files, teller)?;
     match routed {
         Some(routed) => {
-            print_routed(rt.alloc(), wishes, routed, writer).or(Err(Outcome::OutputFailed))?;
+            print_summary(rt.alloc(), wishes, routed, writer)?;
             write_extra_files(rt, wishes, routed, writer, teller)
         }
         None => Ok(()),
     }
 }
 
+/// Prints what a netlist uses, in the form that is asked for.
+fn print_summary<W: Sink>(
+    alloc: Global,
+    wishes: RouteWishes<'_>,
+    routed: Routed<'_>,
+    writer: &mut W,
+) -> Result<(), Outcome> {
+    match wishes.form {
+        RouteForm::Json => print_object(alloc, wishes, routed, writer),
+        _ => print_routed(alloc, wishes, routed, writer).or(Err(Outcome::OutputFailed)),
+    }
+}
+
 /// Writes the three files.
-fn save_files<'x, H: Files + AllocGlobal, E: Sink>(
-    rt: &H,
+pub fn save_files<'x, O: FileOutputs, E: Sink>(
+    outputs: &O,
     wishes: RouteWishes<'x>,
     files: &'x Results,
     teller: &mut E,
-) -> Result<(), Outcome> {
-    make_folder(rt, wishes.folder, teller)?;
+) -> Result<(), Outcome>
+    ensures { OnOk result (AreWritten (O.is_written outputs.now) wishes.entry.folder.now files.now) }
+{
+    outputs.make_folder(wishes.folder, teller)?;
+    let name = stem_of(wishes.netlist);
     let new = [
-        new_file(wishes, "net", files.net.as_bytes()),
-        new_file(wishes, "place", files.places.as_bytes()),
-        new_file(wishes, "route", files.routes.as_bytes()),
+        new_file(wishes, name, "net", files.net.as_bytes()),
+        new_file(wishes, name, "place", files.places.as_bytes()),
+        new_file(wishes, name, "route", files.routes.as_bytes()),
     ];
-    write_files(rt, new.as_slice(), teller)
+    outputs.write_files(new.as_slice(), teller)
 }
 
 /// Writes the two files of a netlist that was left without routes.
-fn saved_left<'x, H: Files + AllocGlobal, E: Sink>(
-    rt: &H,
+pub fn save_left<'x, O: FileOutputs, E: Sink>(
+    outputs: &O,
     wishes: RouteWishes<'x>,
     left: &'x Unrouted,
     teller: &mut E,
-) -> Result<(), Outcome> {
-    make_folder(rt, wishes.folder, teller)?;
+) -> Result<(), Outcome>
+    ensures { OnOk result (AreLeftWritten (O.is_written outputs.now) wishes.entry.folder.now
+        left.now) }
+{
+    outputs.make_folder(wishes.folder, teller)?;
+    let name = stem_of(wishes.netlist);
     let new = [
-        new_file(wishes, "net", left.net.as_bytes()),
-        new_file(wishes, "place", left.places.as_bytes()),
+        new_file(wishes, name, "net", left.net.as_bytes()),
+        new_file(wishes, name, "place", left.places.as_bytes()),
     ];
-    write_files(rt, new.as_slice(), teller)
+    outputs.write_files(new.as_slice(), teller)
 }
 
-/// The file of that kind, with its bytes.
-fn new_file<'x>(wishes: RouteWishes<'x>, kind: &'static str, bytes: &'x [u8]) -> NewFile<'x> {
+/// The file of that name and kind, with its bytes.
+fn new_file<'x>(
+    wishes: RouteWishes<'x>,
+    name: &'x str,
+    kind: &'static str,
+    bytes: &'x [u8],
+) -> NewFile<'x>
+    ensures { named result ≡ record {
+      folder = wishes.entry.folder.now;
+      name = name.entry.now;
+      kind = kind.now;
+      bytes = bytes.entry.now;
+    } }
+{
     NewFile {
-        file: result_file(wishes, kind),
+        file: ResultFile {
+            folder: wishes.folder,
+            name,
+            kind,
+        },
         bytes,
     }
 }

@@ -14,7 +14,7 @@ const NO_ROWS: &str = "give --rows NY with --least-columns, and no --columns";
 
 const NO_TRACKS: &str = "give either --tracks W or --least-tracks";
 
-const NO_PATH: &str = "give either --csv or --path";
+const ONE_FORM: &str = "give only one of --csv, --json and --path";
 
 /// The beginning of its help.
 const ABOUT: &str =
@@ -35,7 +35,8 @@ pub const TOOL: Program = Program {
     after_help: "\
 The files are the ones that the service prints for this netlist in a strip of this size, on any device and beside any other tenants.
 At the end, a summary says how much of the device they use, and what sets its size if that is not given. With --progress, or if standard error
-is a terminal, each step prints a line there. With --svg and --configuration a picture and the configuration of what was routed are written too.
+is a terminal, each step prints a line there. With --svg, --page and --configuration a picture, a page and the configuration of what
+was routed are written too.
 
 Example: fpgad_desk route --arch my.arch --tracks 8 --columns 10 --rows 10 --effort 100 t.blif results",
     options: &[
@@ -85,9 +86,23 @@ Example: fpgad_desk route --arch my.arch --tracks 8 --columns 10 --rows 10 --eff
         SEED,
         EFFORT,
         OptionWord {
+            name: "pins",
+            value_name: "FILE",
+            help: "Puts inputs and outputs on the pads in FILE, a line `NAME COLUMN ROW PAD` for each; the service puts them elsewhere",
+            takes: Takes::Text,
+            default: None,
+        },
+        OptionWord {
             name: "csv",
             value_name: "",
             help: "Prints the summary as a table: a line of headings, and a line of numbers",
+            takes: Takes::Nothing,
+            default: None,
+        },
+        OptionWord {
+            name: "json",
+            value_name: "",
+            help: "Prints the summary as one JSON object, with the stops of the longest path (docs/SERVICE.md names its members)",
             takes: Takes::Nothing,
             default: None,
         },
@@ -102,6 +117,13 @@ Example: fpgad_desk route --arch my.arch --tracks 8 --columns 10 --rows 10 --eff
             name: "svg",
             value_name: "",
             help: "Also writes a picture of the routed netlist, as NETLIST's name and .svg",
+            takes: Takes::Nothing,
+            default: None,
+        },
+        OptionWord {
+            name: "page",
+            value_name: "",
+            help: "Also writes a page for a browser with the routed netlist and its longest path, as NETLIST's name and .html",
             takes: Takes::Nothing,
             default: None,
         },
@@ -155,14 +177,26 @@ pub struct RouteWishes<'a> {
     pub(crate) size: Size,
     pub(crate) seed: u64,
     pub(crate) effort: u32,
+    /// The pin file, if pads have given places.
+    pub(crate) pins: Option<&'a str>,
     /// Whether a line for each step is written in any case.
     pub(crate) is_told: bool,
-    /// Whether the summary is a table.
-    pub(crate) is_table: bool,
-    /// Whether the summary has the stops of the longest path.
-    pub(crate) has_path: bool,
+    pub(crate) form: RouteForm,
     pub(crate) extras: Extras,
     ghost effort_lawful: { effort ≤ MAX_EFFORT },
+}
+
+/// The form of the summary.
+#[derive(Clone, Copy)]
+pub(crate) enum RouteForm {
+    /// Lines for a reader.
+    Lines,
+    /// The same, with the stops of the longest path.
+    Path,
+    /// A table.
+    Table,
+    /// One object for a program.
+    Json,
 }
 
 /// What is made of the three files.
@@ -170,6 +204,8 @@ pub struct RouteWishes<'a> {
 pub(crate) struct Extras {
     /// Whether a picture is written.
     pub(crate) has_picture: bool,
+    /// Whether a page for a browser is written.
+    pub(crate) has_page: bool,
     /// Whether the configuration is written.
     pub(crate) has_configuration: bool,
     /// Whether it is printed that the files implement the netlist.
@@ -203,9 +239,6 @@ pub fn wishes_of<'a>(given: &Given<'a>) -> Result<RouteWishes<'a>, &'static str>
     if effort > 100 {
         return Err(NO_DEVICE);
     }
-    if given.is_given("csv") && given.is_given("path") {
-        return Err(NO_PATH);
-    }
     Ok(RouteWishes {
         arch: given.text("arch").ok_or(NO_FILE)?,
         netlist: given.text("netlist").ok_or(NO_FILE)?,
@@ -214,15 +247,30 @@ pub fn wishes_of<'a>(given: &Given<'a>) -> Result<RouteWishes<'a>, &'static str>
         size: size_of(given)?,
         seed: given.long_number("seed")?,
         effort,
+        pins: given.text("pins"),
         is_told: given.is_given("progress"),
-        is_table: given.is_given("csv"),
-        has_path: given.is_given("path"),
+        form: form_of(given)?,
         extras: Extras {
             has_picture: given.is_given("svg"),
+            has_page: given.is_given("page"),
             has_configuration: given.is_given("configuration"),
             has_verdict: given.is_given("check"),
         },
     })
+}
+
+/// The form of the summary, or why the options are refused.
+fn form_of(given: &Given<'_>) -> Result<RouteForm, &'static str> {
+    let is_table = given.is_given("csv");
+    let is_json = given.is_given("json");
+    let has_path = given.is_given("path");
+    match (is_table, is_json, has_path) {
+        (false, false, false) => Ok(RouteForm::Lines),
+        (false, false, true) => Ok(RouteForm::Path),
+        (true, false, false) => Ok(RouteForm::Table),
+        (false, true, false) => Ok(RouteForm::Json),
+        _ => Err(ONE_FORM),
+    }
 }
 
 /// The size of the device. Without one of --columns and --rows it is the least that fits with the

@@ -1,6 +1,6 @@
 //! What a routed netlist uses, as lines or as a table.
 use crate::device_use::write_device_use;
-use crate::route_wishes::{GivenSize, RouteWishes};
+use crate::route_wishes::{GivenSize, RouteForm, RouteWishes};
 use desk_circuits::{measure, write_numbers, write_path, write_quoted};
 use line_text::{Failed, Sink};
 use one_user::{Figures, write_figures};
@@ -31,7 +31,7 @@ pub(crate) fn print_routed<W: Sink>(
     routed: Routed<'_>,
     writer: &mut W,
 ) -> Result<(), Failed> {
-    if wishes.is_table {
+    if let RouteForm::Table = wishes.form {
         write_parts(writer, &[Part::Text(HEADINGS)])?;
         write_quoted(writer, routed.name.as_bytes())?;
         return write_row(alloc, routed, writer);

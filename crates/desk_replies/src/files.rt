@@ -1,22 +1,28 @@
 //! The tool that saves the files which the service printed.
+ghost use Rattle.std.specs.Prelude.{◌≡◌, All, IfOk, IfSome};
+ghost use Rattle.desk_common.specs.Outputs.{named};
+ghost use Rattle.desk_replies.specs.Saved.{AreSaved};
+ghost use Rattle.script_replies.specs.Accounts.{account_now};
+
 use crate::outdated::tell_outdated;
 use crate::script_input::{Lines, acts_of, lines_of, replies_of};
 use crate::tenants::save_replies;
-use desk_circuits::print_usages;
-use desk_common::{
-    DEVICE, FOLDER, FileRole, Outcome, ResultFile, make_folder, read_file, tell_stale, write_file,
-};
-use line_text::{Failed, Sink, Source, read_all};
+use desk_circuits::{LineCounts, facts_of, print_usages, usages_text};
+use desk_common::{DEVICE, FOLDER, FileOutputs, FileRole, NewFile, Outcome, ResultFile, read_file};
+use line_text::{Failed, Sink, Source, read_all, write_all};
 use option_words::{Given, OptionWord, Program, Takes};
 use printed_replies::Replies;
 use script_replies::{
     Account, PrintedFile, ToldLine, accounts_of, script_lines, told_lines, write_told,
 };
 use script_text::Act;
+use std::alloc::Global;
 use std::rt::Files;
 use text_parts::{Part, write_parts};
 
 const NO_FILE: &str = "give a script and a folder";
+
+const TWO_FORMS: &str = "give either --csv or --json";
 
 /// The tool and its options.
 pub const TOOL: Program = Program {
@@ -31,7 +37,8 @@ refused lines and the files. The status is 1 if a line was refused. A file left 
 
 A line for each name counts what the replies say of it: the columns of its last admission, its lines, the refused ones, the jobs that
 began, and the steps for which the operator asked by `op step`. A line after it tells the longest path of the netlist that it has,
-in tables, and, if its three files are written, in wires. With --csv only a table is printed, with a row for each name.
+in tables, and, if its three files are written, in wires. With --csv only a table is printed, with a row for each name; with --json
+one JSON object (docs/SERVICE.md names its members).
 
 Example: fpgad --arch my.arch --tracks 8 --columns 10 < my.script | fpgad_desk files --arch my.arch my.script results",
     options: &[
@@ -56,6 +63,13 @@ Example: fpgad --arch my.arch --tracks 8 --columns 10 < my.script | fpgad_desk f
             takes: Takes::Nothing,
             default: None,
         },
+        OptionWord {
+            name: "json",
+            value_name: "",
+            help: "Prints only what each name used and how many lines were served, as one JSON object",
+            takes: Takes::Nothing,
+            default: None,
+        },
         DEVICE,
         FOLDER,
     ],
@@ -68,8 +82,18 @@ pub struct FilesWishes<'a> {
     folder: &'a str,
     /// Whether the script begins with the architecture.
     has_architecture: bool,
-    /// Whether what each name used is printed as a table, and nothing else.
-    is_table: bool,
+    form: FilesForm,
+}
+
+/// What is printed.
+#[derive(Clone, Copy)]
+enum FilesForm {
+    /// The lines beside their replies, and what each name used.
+    Lines,
+    /// What each name used, as a table.
+    Table,
+    /// What each name used, as one object for a program.
+    Json,
 }
 
 /// What the options ask for, or why they are refused.
@@ -78,8 +102,18 @@ pub fn wishes_of<'a>(given: &Given<'a>) -> Result<FilesWishes<'a>, &'static str>
         script: given.text("script").ok_or(NO_FILE)?,
         folder: given.text("folder").ok_or(NO_FILE)?,
         has_architecture: given.text("arch").is_none(),
-        is_table: given.is_given("csv"),
+        form: form_of(given)?,
     })
+}
+
+/// What is to be printed, or why the options are refused.
+fn form_of(given: &Given<'_>) -> Result<FilesForm, &'static str> {
+    match (given.is_given("csv"), given.is_given("json")) {
+        (false, false) => Ok(FilesForm::Lines),
+        (true, false) => Ok(FilesForm::Table),
+        (false, true) => Ok(FilesForm::Json),
+        (true, true) => Err(TWO_FORMS),
+    }
 }
 
 /// Reads the script, and what was printed for its lines. Writes the files, and prints the lines
@@ -117,10 +151,9 @@ fn run_on_lines<H: Files + AllocGlobal, R: Source, W: Sink, E: Sink>(
     }
 }
 
-/// A script's acts with their replies, and what these say of each name.
+/// The replies to a script, and what they say of each name.
 #[derive(Clone, Copy)]
 struct Answers<'a, 'p> {
-    acts: &'a [Act<&'a [u8]>],
     replies: &'a Replies<'a, 'p>,
     accounts: &'a [Account<'a, 'p>],
 }
@@ -161,7 +194,6 @@ fn run_on_replies<H: Files + AllocGlobal, W: Sink, E: Sink>(
         return Err(Outcome::NoMemory);
     };
     let answers = Answers {
-        acts,
         replies,
         accounts: &accounts,
     };
@@ -174,58 +206,69 @@ fn run_on_replies<H: Files + AllocGlobal, W: Sink, E: Sink>(
 }
 
 /// Writes the present files of all names into the folder, and returns how many they are.
-fn save_files<H: Files + AllocGlobal, E: Sink>(
-    rt: &H,
+pub fn save_files<O: FileOutputs, E: Sink>(
+    outputs: &O,
     folder: &str,
     accounts: &[Account<'_, '_>],
     teller: &mut E,
-) -> Result<u32, Outcome> {
-    make_folder(rt, folder, teller)?;
+) -> Result<u32, Outcome>
+    ensures { IfOk result (λ _. All (λ account.
+        AreSaved (O.is_written outputs.now) folder.now (account_now account)) accounts.now) }
+{
+    outputs.make_folder(folder, teller)?;
     let mut files = 0u32;
     for account in accounts {
-        let saved = save_name(rt, folder, *account, teller)?;
+        let saved = save_name(outputs, folder, *account, teller)?;
         files = files.saturating_add(saved);
     }
     Ok(files)
 }
 
 /// Writes the present files of a name, and returns how many they are.
-fn save_name<H: Files + AllocGlobal, E: Sink>(
-    rt: &H,
+fn save_name<O: FileOutputs, E: Sink>(
+    outputs: &O,
     folder: &str,
     account: Account<'_, '_>,
     teller: &mut E,
-) -> Result<u32, Outcome> {
+) -> Result<u32, Outcome>
+    ensures { IfOk result (λ _.
+        AreSaved (O.is_written outputs.now) folder.now (account_now account.entry)) }
+{
     let Ok(name) = str::from_utf8(account.name) else {
         return Ok(0);
     };
     let files = account.files;
-    let net = save_file(rt, file_of(folder, name, "net"), files.net, teller)?;
-    let place = save_file(rt, file_of(folder, name, "place"), files.place, teller)?;
-    let route = save_file(rt, file_of(folder, name, "route"), files.route, teller)?;
+    let net = save_file(outputs, file_of(folder, name, "net"), files.net, teller)?;
+    let place = save_file(outputs, file_of(folder, name, "place"), files.place, teller)?;
+    let route = save_file(outputs, file_of(folder, name, "route"), files.route, teller)?;
     tell_outdated(account, "not written", teller);
     Ok(u32::from(net) + u32::from(place) + u32::from(route))
 }
 
 /// A file of that kind of a name.
-fn file_of<'a>(folder: &'a str, name: &'a str, kind: &'static str) -> ResultFile<'a> {
+fn file_of<'a>(folder: &'a str, name: &'a str, kind: &'static str) -> ResultFile<'a>
+    ensures { result ≡ record { folder = folder.entry; name = name.entry; kind = kind.entry } }
+{
     ResultFile { folder, name, kind }
 }
 
 /// Writes a file if it is present, and returns whether it is.
-fn save_file<H: Files + AllocGlobal, E: Sink>(
-    rt: &H,
+fn save_file<O: FileOutputs, E: Sink>(
+    outputs: &O,
     file: ResultFile<'_>,
     printed: PrintedFile<'_>,
     teller: &mut E,
-) -> Result<bool, Outcome> {
+) -> Result<bool, Outcome>
+    ensures { IfOk result (λ _. IfSome printed.entry.text (λ text.
+        O.is_written outputs.now (named (record { file = file.entry; bytes = text })))) }
+{
     match printed.text {
         Some(text) => {
-            write_file(rt, file, text, teller)?;
+            outputs.write_files(&[NewFile { file, bytes: text }], teller)?;
             Ok(true)
         }
         None => {
-            tell_stale(rt, file, teller);
+            outputs.tell_stale(file, teller);
             Ok(false)
         }
     }
@@ -241,7 +284,7 @@ fn print<H: Files + AllocGlobal, W: Sink, E: Sink>(
     writer: &mut W,
     teller: &mut E,
 ) -> Result<(), Outcome> {
-    let Ok(asked) = script_lines(rt.alloc(), lines.text, lines.number, answers.acts) else {
+    let Ok(asked) = script_lines(rt.alloc(), lines.text, lines.number) else {
         return Err(Outcome::NoMemory);
     };
     let told = told_lines(rt.alloc(), &asked, answers.replies);
@@ -268,38 +311,82 @@ fn print_told<H: Files + AllocGlobal, W: Sink, E: Sink>(
     teller: &mut E,
 ) -> Result<(), Outcome> {
     let refused = told.iter().filter(|line| line.is_refused()).count();
-    let served = told.len().saturating_sub(refused);
-    if !wishes.is_table {
-        write_told(writer, told).or(Err(Outcome::OutputFailed))?;
-    }
+    let counts = LineCounts {
+        served: told.len().saturating_sub(refused) as u64,
+        refused: refused as u64,
+        files: u64::from(files),
+    };
     save_replies(rt, wishes.folder, answers.replies, told, teller)?;
-    let printed = print_usages(rt.alloc(), wishes.is_table, answers.accounts, writer);
-    printed.or(Err(Outcome::OutputFailed))?;
-    if !wishes.is_table {
-        write_summary(writer, served, refused, files).or(Err(Outcome::OutputFailed))?;
-    }
+    print_form(
+        rt.alloc(),
+        wishes.form,
+        answers.accounts,
+        told,
+        counts,
+        writer,
+    )?;
     if refused > 0 {
         return Err(Outcome::LinesRefused(refused));
     }
     Ok(())
 }
 
-/// Writes the numbers of lines that were served and refused, and of files.
-fn write_summary<W: Sink>(
+/// Prints what is asked for.
+fn print_form<W: Sink>(
+    alloc: Global,
+    form: FilesForm,
+    accounts: &[Account<'_, '_>],
+    told: &[ToldLine<'_>],
+    counts: LineCounts,
     writer: &mut W,
-    served: usize,
-    refused: usize,
-    files: u32,
-) -> Result<(), Failed> {
+) -> Result<(), Outcome> {
+    match form {
+        FilesForm::Lines => {
+            let written = write_told(writer, told)
+                .and_then(|()| print_usages(alloc, false, accounts, writer))
+                .and_then(|()| write_summary(writer, counts));
+            written.or(Err(Outcome::OutputFailed))
+        }
+        FilesForm::Table => {
+            print_usages(alloc, true, accounts, writer).or(Err(Outcome::OutputFailed))
+        }
+        FilesForm::Json => print_object(alloc, accounts, counts, writer),
+    }
+}
+
+/// Prints what each name used as one object.
+fn print_object<W: Sink>(
+    alloc: Global,
+    accounts: &[Account<'_, '_>],
+    counts: LineCounts,
+    writer: &mut W,
+) -> Result<(), Outcome> {
+    let Ok(names) = facts_of(alloc, accounts) else {
+        return Err(Outcome::NoMemory);
+    };
+    let text = usages_text(alloc, counts, &names);
+    drop(names);
+    match text {
+        Ok(text) => {
+            let written = write_all(writer, text.as_slice());
+            drop(text);
+            written.or(Err(Outcome::OutputFailed))
+        }
+        Err(_) => Err(Outcome::NoMemory),
+    }
+}
+
+/// Writes the numbers of lines that were served and refused, and of files.
+fn write_summary<W: Sink>(writer: &mut W, counts: LineCounts) -> Result<(), Failed> {
     write_parts(
         writer,
         &[
             Part::Text("served "),
-            Part::Long(served as u64),
+            Part::Long(counts.served),
             Part::Text(", refused "),
-            Part::Long(refused as u64),
+            Part::Long(counts.refused),
             Part::Text(", files written "),
-            Part::Number(files),
+            Part::Long(counts.files),
             Part::Text("\n"),
         ],
     )

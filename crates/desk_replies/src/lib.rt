@@ -7,6 +7,7 @@
 //! - [`page_tool`] prints one HTML file with the device and its tenancies, for a browser.
 #![tactic(auto)]
 
+mod crowding_json;
 mod device_input;
 pub mod files;
 mod layout_wish;
@@ -16,6 +17,8 @@ mod page_texts;
 pub mod page_tool;
 pub mod picture;
 pub mod report;
+mod report_facts;
+mod report_json;
 mod report_moves;
 mod report_paths;
 mod script_input;

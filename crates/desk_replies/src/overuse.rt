@@ -114,6 +114,23 @@ fn write_named<W: Sink>(name: &[u8], crowding: &Crowding, writer: &mut W) -> Res
     write_crowding(writer, crowding)
 }
 
+/// Where the routing of an Unrouted name is overused: its netlist is packed, placed and routed
+/// again, as it was asked for. `None` if the routing is not given up, if that is not known, or if
+/// memory runs out.
+pub(crate) fn crowding_of(
+    alloc: Global,
+    served: ServedScript<'_>,
+    name: &[u8],
+) -> Option<Crowding> {
+    let device = served.device?;
+    let wish = wish_of(name, served.acts, served.replies);
+    let (plan, request) = plan_of(device, wish)?;
+    match crowding_with(alloc, plan, device.tracks, request) {
+        Ok(found) => found,
+        Err(_) => None,
+    }
+}
+
 /// The device and the request of a wish, if a netlist was asked to be placed on a strip.
 fn plan_of<'a>(
     device: SharedDevice<'a>,

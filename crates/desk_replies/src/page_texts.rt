@@ -5,7 +5,6 @@ use desk_common::Outcome;
 use indexmap::IndexMap;
 use line_text::{Failed, MemorySink};
 use script_replies::{Replies, ToldLine, script_lines, told_lines, write_refused, write_told};
-use script_text::Act;
 use std::alloc::Global;
 use text_parts::{Part, write_parts};
 
@@ -35,15 +34,14 @@ impl PageTexts {
 
     /// Writes the texts about these lines of a script, their replies and the last state of each
     /// name. Fails if memory runs out.
-    pub(crate) fn fill<'a>(
+    pub(crate) fn fill(
         &mut self,
         alloc: Global,
-        lines: Lines<'a>,
-        acts: &[Act<&'a [u8]>],
-        replies: &Replies<'a, 'a>,
+        lines: Lines<'_>,
+        replies: &Replies<'_, '_>,
         states: &IndexMap<&[u8], NameState<'_>>,
     ) -> Result<(), Outcome> {
-        let Ok(asked) = script_lines(alloc, lines.text, lines.number, acts) else {
+        let Ok(asked) = script_lines(alloc, lines.text, lines.number) else {
             return Err(Outcome::NoMemory);
         };
         let told = told_lines(alloc, &asked, replies);

@@ -6,6 +6,7 @@ use crate::overuse::{ServedScript, SharedDevice, write_overuse};
 use crate::page_texts::PageTexts;
 use crate::script_input::{Lines, acts_of, lines_of, replies_of};
 use crate::states::{NameState, present_states};
+use desk_circuits::write_present_stops;
 use desk_common::{DEVICE, FileRole, Outcome, read_file};
 use indexmap::IndexMap;
 use line_text::{Failed, MemorySink, Sink, Source, decimal_u32, is_word, read_all, write_all};
@@ -38,7 +39,7 @@ pub const TOOL: Program = Program {
     after_help: "\
 The page has the strips with their names, and of each tenancy its placement and routes: zoom with the wheel, drag, search for a net
 or a block, click one to see its driver, its readers and its wires, show the use of channels. It says the state of each tenancy, and
-the line whose reply tells it last. It lists the refused lines with their numbers, their replies and advice: the first 100 of them.
+the line whose reply tells it last. A button shows the longest path of a routed netlist, stop by stop. It lists the refused lines with their numbers, their replies and advice: the first 100 of them.
 With the rows and tracks it also says where the routing of an Unrouted tenancy was left overused, and by which nets; for that the
 netlist is placed and routed again; if it was changed, that is not known. The page needs nothing else. A name or a line of the script is never markup in it. NAME.html#TENANCY/NET opens with that net.
 
@@ -225,7 +226,7 @@ fn print_served<'a, W: Sink, E: Sink>(
         return Err(Outcome::NoMemory);
     };
     let mut texts = PageTexts::new(alloc);
-    let outcome = match texts.fill(alloc, lines, served.acts, served.replies, &states) {
+    let outcome = match texts.fill(alloc, lines, served.replies, &states) {
         Ok(()) => {
             write_device(wishes, &mut texts.device);
             print_texts(alloc, served, &states, &texts, writer, teller)
@@ -277,8 +278,8 @@ fn print_texts<'a, W: Sink, E: Sink>(
     written.or(Err(Outcome::OutputFailed))
 }
 
-/// Writes the page: the viewer around these texts, and the files of these names, and where the
-/// routings of those that are Unrouted are overused.
+/// Writes the page: the viewer around these texts, and the files of these names with the stops of
+/// their longest paths, and where the routings of those that are Unrouted are overused.
 fn write_page_of<'a, W: Sink>(
     alloc: Global,
     served: ServedScript<'a>,
@@ -292,6 +293,7 @@ fn write_page_of<'a, W: Sink>(
     write_texts(texts, writer)?;
     for account in accounts {
         write_files(*account, writer)?;
+        write_stops_of(alloc, *account, writer)?;
         if is_unrouted(states, account.name) {
             write_overuse_of(alloc, served, account.name, writer)?;
         }
@@ -326,6 +328,24 @@ fn write_overuse_of<W: Sink>(
     let written = match write_overuse(alloc, served, name, &mut text) {
         Ok(()) => write_text("overuse", name, text.as_bytes(), writer),
         Err(_) => Ok(()),
+    };
+    drop(text);
+    written
+}
+
+/// Writes the stops of the longest path of a name's netlist, if there is one and memory suffices to
+/// find it.
+fn write_stops_of<W: Sink>(
+    alloc: Global,
+    account: Account<'_, '_>,
+    writer: &mut W,
+) -> Result<(), Failed> {
+    let mut text = MemorySink::new(alloc);
+    let written = match write_present_stops(alloc, account.files, &mut text) {
+        Ok(()) if !text.as_bytes().is_empty() => {
+            write_text("path", account.name, text.as_bytes(), writer)
+        }
+        Ok(()) | Err(_) => Ok(()),
     };
     drop(text);
     written

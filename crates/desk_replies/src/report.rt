@@ -3,6 +3,8 @@ ghost use Rattle.std.specs.Prelude.{◌<◌, ◌^◌, length};
 
 use crate::device_input::device_in;
 use crate::overuse::{ServedScript, SharedDevice, write_overuses};
+use crate::report_facts::{Told, facts_of};
+use crate::report_json::print_json;
 use crate::report_moves::print_moves;
 use crate::report_paths::{write_path_table, write_paths};
 use crate::script_input::{Lines, acts_of, lines_of, replies_of};
@@ -13,10 +15,12 @@ use device_lines::DeviceSize;
 use device_report::{Report, write_report};
 use line_text::{Sink, Source, read_all};
 use option_words::{Given, OptionWord, Program, Takes};
-use script_replies::{Account, Replies, accounts_of};
+use script_replies::{Replies, accounts_of};
 use script_text::Act;
 use std::alloc::Global;
 use std::rt::Files;
+
+const ONE_FORM: &str = "give only one of --csv, --json and --moves";
 
 /// The beginning of its help.
 const ABOUT: &str =
@@ -38,7 +42,8 @@ pub const TOOL: Program = Program {
 For each tenancy: how many of its strip's logic blocks, pads and wires it uses. The wires `across` are those of the channels above
 rows (CHANX), and `up` those of the channels beside columns (CHANY). A tenancy that is not Routed owns nothing, and has `-` there.
 For the device: its used, guard and free columns, the widest strip that `op admit` would accept now, and the fullest channels.
-With --csv only the tenancies are printed: a line of headings, and a line for each of them. With --script, which names the script
+With --csv only the tenancies are printed: a line of headings, and a line for each of them. With --json all of it is one JSON object
+(docs/SERVICE.md names its members). With --script, which names the script
 whose output is read, also the longest path of the netlist that each tenancy has: in tables, and, if its three files were printed,
 in wires; or that some tables form a loop. And of each tenancy that is Unrouted: how many nodes were left overused, the most overused
 ones, and the nets on them. For that its netlist is placed and routed again; if it was changed, they are not known.
@@ -66,6 +71,13 @@ const OPTIONS: &[OptionWord] = &[
         default: None,
     },
     OptionWord {
+        name: "json",
+        value_name: "",
+        help: "Prints the report as one JSON object, with all that it knows",
+        takes: Takes::Nothing,
+        default: None,
+    },
+    OptionWord {
         name: "moves",
         value_name: "",
         help: "Prints only the gaps, and moves that join them, as lines of a script",
@@ -88,14 +100,24 @@ const OPTIONS: &[OptionWord] = &[
     },
 ];
 
+/// What is printed.
+#[derive(Clone, Copy)]
+enum ReportForm {
+    /// Lines for a reader.
+    Lines,
+    /// A table of the tenancies.
+    Table,
+    /// One object for a program.
+    Json,
+    /// Moves that join the gaps.
+    Moves,
+}
+
 /// The size of the device, what is printed, and the script whose output is read.
 #[derive(Clone, Copy)]
 pub struct ReportWishes<'a> {
     size: DeviceSize,
-    /// Whether only a table of the tenancies is printed.
-    is_table: bool,
-    /// Whether only moves are printed.
-    is_moves: bool,
+    form: ReportForm,
     script: Option<&'a str>,
     /// The architecture's file; without it the script begins with the architecture.
     arch: Option<&'a str>,
@@ -105,11 +127,24 @@ pub struct ReportWishes<'a> {
 pub fn wishes_of<'a>(given: &Given<'a>) -> Result<ReportWishes<'a>, &'static str> {
     Ok(ReportWishes {
         size: size_of(given)?,
-        is_table: given.is_given("csv"),
-        is_moves: given.is_given("moves"),
+        form: form_of(given)?,
         script: given.text("script"),
         arch: given.text("arch"),
     })
+}
+
+/// What is to be printed, or why the options are refused.
+fn form_of(given: &Given<'_>) -> Result<ReportForm, &'static str> {
+    let is_table = given.is_given("csv");
+    let is_json = given.is_given("json");
+    let is_moves = given.is_given("moves");
+    match (is_table, is_json, is_moves) {
+        (false, false, false) => Ok(ReportForm::Lines),
+        (true, false, false) => Ok(ReportForm::Table),
+        (false, true, false) => Ok(ReportForm::Json),
+        (false, false, true) => Ok(ReportForm::Moves),
+        _ => Err(ONE_FORM),
+    }
 }
 
 /// Reads what was printed, and the script if it is given, and prints the report.
@@ -187,10 +222,9 @@ fn run_on_text<W: Sink>(
     drop(device);
     match report {
         Ok(report) => {
-            let outcome = if wishes.is_moves {
-                print_moves(alloc, &report, writer)
-            } else {
-                print(alloc, wishes, lines, printed, &report, writer)
+            let outcome = match wishes.form {
+                ReportForm::Moves => print_moves(alloc, &report, writer),
+                _ => print(alloc, wishes, lines, printed, &report, writer),
             };
             drop(report);
             outcome
@@ -209,22 +243,14 @@ fn print<W: Sink>(
     writer: &mut W,
 ) -> Result<(), Outcome> {
     let Some(lines) = lines else {
-        return print_plain(wishes.is_table, report, writer);
+        return print_plain(alloc, wishes.form, report, writer);
     };
     let size = wishes.size;
     let device = SharedDevice::new(lines.architecture, size.rows, size.tracks);
     let acts = acts_of(alloc, lines)?;
     let outcome = match replies_of(alloc, &acts, printed) {
         Ok(replies) => {
-            let outcome = print_acts(
-                alloc,
-                wishes.is_table,
-                device,
-                report,
-                &acts,
-                &replies,
-                writer,
-            );
+            let outcome = print_acts(alloc, wishes.form, device, report, &acts, &replies, writer);
             drop(replies);
             outcome
         }
@@ -237,7 +263,7 @@ fn print<W: Sink>(
 /// Prints a report of a device on which these acts had these replies.
 fn print_acts<W: Sink>(
     alloc: Global,
-    is_table: bool,
+    form: ReportForm,
     device: Option<SharedDevice<'_>>,
     report: &Report<'_>,
     acts: &[Act<&[u8]>],
@@ -249,28 +275,43 @@ fn print_acts<W: Sink>(
         replies,
         device,
     };
-    print_served(alloc, is_table, report, served, writer)
+    print_served(alloc, form, report, served, writer)
 }
 
 /// Prints a report without longest paths.
 fn print_plain<W: Sink>(
-    is_table: bool,
+    alloc: Global,
+    form: ReportForm,
     report: &Report<'_>,
     writer: &mut W,
 ) -> Result<(), Outcome> {
-    let written = if is_table {
-        write_table(writer, report)
-    } else {
-        write_report(writer, report)
+    match form {
+        ReportForm::Table => write_table(writer, report).or(Err(Outcome::OutputFailed)),
+        ReportForm::Json => print_object(alloc, report, None, writer),
+        _ => write_report(writer, report).or(Err(Outcome::OutputFailed)),
+    }
+}
+
+/// Prints a report as one object, by the script if it is given.
+fn print_object<W: Sink>(
+    alloc: Global,
+    report: &Report<'_>,
+    told: Option<Told<'_>>,
+    writer: &mut W,
+) -> Result<(), Outcome> {
+    let Ok(facts) = facts_of(alloc, report, told) else {
+        return Err(Outcome::NoMemory);
     };
-    written.or(Err(Outcome::OutputFailed))
+    let printed = print_json(alloc, report, &facts, writer);
+    drop(facts);
+    printed
 }
 
 /// Prints a report with the longest path of each tenancy's netlist, and where the routings of those
 /// that are Unrouted are overused.
 fn print_served<'a, W: Sink>(
     alloc: Global,
-    is_table: bool,
+    form: ReportForm,
     report: &Report<'a>,
     served: ServedScript<'a>,
     writer: &mut W,
@@ -278,27 +319,41 @@ fn print_served<'a, W: Sink>(
     let Ok(accounts) = accounts_of(alloc, served.acts, served.replies) else {
         return Err(Outcome::NoMemory);
     };
-    let outcome = print_accounts(alloc, is_table, report, &accounts, writer);
+    let told = Told {
+        served,
+        accounts: &accounts,
+    };
+    let outcome = print_told(alloc, form, report, told, writer);
     drop(accounts);
-    outcome?;
-    if is_table {
-        return Ok(());
-    }
-    write_overuses(alloc, report, served, writer).or(Err(Outcome::OutputFailed))
+    outcome
 }
 
-/// Prints a report with the longest path of each tenancy's netlist, by these accounts.
-fn print_accounts<W: Sink>(
+/// Prints a report by a served script.
+fn print_told<W: Sink>(
     alloc: Global,
-    is_table: bool,
+    form: ReportForm,
     report: &Report<'_>,
-    accounts: &[Account<'_, '_>],
+    told: Told<'_>,
     writer: &mut W,
 ) -> Result<(), Outcome> {
-    if is_table {
-        let written = write_path_table(alloc, report, accounts, writer);
-        return written.or(Err(Outcome::OutputFailed));
+    match form {
+        ReportForm::Table => write_path_table(alloc, report, told.accounts, writer).or(Err(
+            Outcome::OutputFailed,
+        )),
+        ReportForm::Json => print_object(alloc, report, Some(told), writer),
+        _ => print_lines(alloc, report, told, writer),
     }
-    print_plain(false, report, writer)?;
-    write_paths(alloc, report, accounts, writer).or(Err(Outcome::OutputFailed))
+}
+
+/// Prints a report in lines, by a served script.
+fn print_lines<W: Sink>(
+    alloc: Global,
+    report: &Report<'_>,
+    told: Told<'_>,
+    writer: &mut W,
+) -> Result<(), Outcome> {
+    let written = write_report(writer, report)
+        .and_then(|()| write_paths(alloc, report, told.accounts, writer))
+        .and_then(|()| write_overuses(alloc, report, told.served, writer));
+    written.or(Err(Outcome::OutputFailed))
 }

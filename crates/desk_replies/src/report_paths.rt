@@ -1,6 +1,7 @@
 //! The longest path of each tenancy's netlist, for the report of a device.
+use crate::report_facts::circuit_of;
 use crate::tenancy_table::{write_fields, write_heading_fields};
-use desk_circuits::{MeasuredCircuit, present_circuit, write_longest, write_path};
+use desk_circuits::{write_longest, write_path};
 use device_report::Report;
 use line_text::{Failed, Sink};
 use script_replies::Account;
@@ -45,14 +46,4 @@ pub(crate) fn write_path_table<W: Sink>(
         written?;
     }
     Ok(())
-}
-
-/// The circuit of the netlist that a name has. `None` if it has no netlist, or if memory runs out.
-fn circuit_of(alloc: Global, accounts: &[Account<'_, '_>], name: &[u8]) -> Option<MeasuredCircuit> {
-    for account in accounts {
-        if account.name == name {
-            return present_circuit(alloc, account.files);
-        }
-    }
-    None
 }

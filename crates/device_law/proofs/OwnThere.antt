@@ -35,7 +35,7 @@ use Rattle.job_state.specs.JobValue.{basis_in, end_value, nets_in, pads_in, pass
 use Rattle.job_state.specs.RoutedCircuits.{pad_of, pads_of}
 use Rattle.job_state.specs.RoutedSet.{held_at_end, resources_of}
 use Rattle.kept_places.specs.Kept.{KeptPlaces}
-use Rattle.layout_law.specs.Tenancies.{AreLawfulTexts, ImplementsItsText}
+use Rattle.layout_law.specs.Tenancies.{ImplementsItsText}
 use Rattle.layout_law.proofs.Ends.{placed_end}
 use Rattle.pathfinder.specs.Negotiation.{Tree, Standing, More, Done, GaveUp as GivenUp, NoPath as WithoutPath, Routed as RoutedTrees, routed_after}
 use Rattle.pathfinder.specs.PlacedNets.{wiring_of}
@@ -180,7 +180,7 @@ blocks_on strip packed places routes all block within =
 
 -- what `routed_implements` and `laws_of_passes` ensure
 pub record Laws : Type 0 where
-  pub implemented : (arch : Arch) (strip : Strip) (events : List Event) → IsArch arch → IsStripSize strip → AreLawfulTexts arch.lut_size → (run arch strip events).0.name ≡ Routed → ImplementsItsText (run arch strip events).0
+  pub implemented : (arch : Arch) (strip : Strip) (events : List Event) → IsArch arch → IsStripSize strip → (run arch strip events).0.name ≡ Routed → ImplementsItsText (run arch strip events).0
   pub passes : (strip : Strip) (passes : ℕ) → is_past_last strip passes ≡ false → passes ≤ strip.width + strip.rows
 
 state_there : Laws → (state : State) → IsStripSize state.strip → ImplementsItsText state → All (IsThere state.arch state.strip) (resources_of (routing_sources state.arch state.strip state.text state.kept state.seed state.effort))
@@ -210,10 +210,10 @@ held_there laws Routed state r named size implements is =
     has_all (IsThere state.arch state.strip) (resources_of (routing_sources state.arch state.strip state.text state.kept state.seed state.effort)) r (state_there laws state size (implements (sym named))) is
 held_there laws Unrouted state r named size implements is = absurd (false≢true is)
 
-pub routed_there : Laws → (h : History) (r : Resource) → IsArch h.arch → IsStripSize h.strip → AreLawfulTexts h.arch.lut_size → has (routed_set (state_of h)) r ≡ true → is_there h.arch h.strip r ≡ true
+pub routed_there : Laws → (h : History) (r : Resource) → IsArch h.arch → IsStripSize h.strip → has (routed_set (state_of h)) r ≡ true → is_there h.arch h.strip r ≡ true
 unfolding routed_set
-routed_there laws h r arch size texts is =
+routed_there laws h r arch size is =
     let state = state_of h in
     let stay = events_stay (start h.arch h.strip) (events_of h.entries) in
-    let there = held_there laws state.name state r refl (subst IsStripSize (sym stay.strip_is) size) (laws.implemented h.arch h.strip (events_of h.entries) arch size texts) is in
+    let there = held_there laws state.name state r refl (subst IsStripSize (sym stay.strip_is) size) (laws.implemented h.arch h.strip (events_of h.entries) arch size) is in
     sym (ap (λ a. is_there a state.strip r) stay.arch_is ∙ ap (λ s. is_there h.arch s r) stay.strip_is) ∙ there

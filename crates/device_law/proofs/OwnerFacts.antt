@@ -8,7 +8,6 @@ use Rattle.arch_file.specs.Arch.{IsArch}
 use Rattle.arch_file.specs.declared.arch.Arch.{Arch}
 use Rattle.grid.specs.Sizes.{IsStripSize}
 use Rattle.grid.specs.declared.Strip.{Strip}
-use Rattle.layout_law.specs.Tenancies.{AreLawfulTexts}
 use Rattle.rr_graph.specs.declared.resource.Resource.{Resource}
 use Rattle.rr_graph.specs.Resources.{has, is_there, moved_resource}
 use Rattle.strips.specs.declared.placed_strip.PlacedStrip.{PlacedStrip}
@@ -103,16 +102,15 @@ pub record IsOwnedAt (device : Device) (known : IsDevice device) (state : Servic
   pub on : is_on (size_of device known) r ≡ true
   pub inside : is_in_strip r (strip_listed lives.strip) ≡ true
 
-pub owned_at : Laws → (device : Device) (state : ServiceState) (r : Resource) (id : ℕ) → Stands device state → (known : IsDevice device) → AreLawfulTexts device.arch.lut_size → IsOwner state r id → IsOwnedAt device known state r id
-owned_at laws device state r id stands known texts owns = by_live (live_of state.histories id) refl owns
+pub owned_at : Laws → (device : Device) (state : ServiceState) (r : Resource) (id : ℕ) → Stands device state → (known : IsDevice device) → IsOwner state r id → IsOwnedAt device known state r id
+owned_at laws device state r id stands known owns = by_live (live_of state.histories id) refl owns
   where
     has_it : (l : Lives device state id) → has (map (moved_resource l.strip.offset) (routed_set (state_of l.history))) r ≡ true → IsOwnedAt device known state r id
     has_it l is =
         let both = and_parts (nat_le l.strip.offset r.x) (has (routed_set (state_of l.history)) (moved_left l.strip.offset r)) (sym (has-moved l.strip.offset (routed_set (state_of l.history)) r) ∙ is) in
         let right = leb-true l.strip.offset r.x both.0 in
         let left : Resource = moved_left l.strip.offset r in
-        let lawful = subst (λ (a : Arch). AreLawfulTexts a.lut_size) (sym l.arch_is) texts in
-        let own = routed_there laws l.history left (subst IsArch (sym l.arch_is) known.arch) (strip_size device state id known l) lawful both.1 in
+        let own = routed_there laws l.history left (subst IsArch (sym l.arch_is) known.arch) (strip_size device state id known l) both.1 in
         let there : is_there device.arch (strip_on device l.strip.width) left ≡ true = sym (ap (λ (a : Arch). is_there a l.history.strip left) l.arch_is ∙ ap (λ (s : Strip). is_there device.arch s left) l.strip_is) ∙ own in
         record {
           lives = l;
@@ -136,7 +134,7 @@ live_within state id h is = (
   elim (cases_lt (length state.histories) id) [ inl past ↦ (let wrong : None ≡ Some h = sym (history_of-past state.histories id past) ∙ is in absurd cc) | inr few ↦ few ],
 )
 
-pub are_on_device : Laws → (device : Device) (calls : List Call) (state : ServiceState) → (known : IsDevice device) → AreLawfulTexts device.arch.lut_size → Run (empty_service device) calls state → AreOnDevice device known state
-are_on_device laws device calls state known texts run = λ r id owns.
-    let at = owned_at laws device state r id (after_run device calls state run) known texts owns in
+pub are_on_device : Laws → (device : Device) (calls : List Call) (state : ServiceState) → (known : IsDevice device) → Run (empty_service device) calls state → AreOnDevice device known state
+are_on_device laws device calls state known run = λ r id owns.
+    let at = owned_at laws device state r id (after_run device calls state run) known owns in
     (at.on, subst (λ o. IsSomeAnd o (λ (s : PlacedStrip). is_in_strip r (strip_listed s) ≡ true)) (sym at.lives.found) at.inside)

@@ -5,7 +5,6 @@ use Rattle.std.proofs.lemmas.List.Elements.{All-contains_itself}
 use Rattle.rr_graph.specs.Resources.{IsEarlier}
 use Rattle.strips.specs.declared.placed_strip.PlacedStrip.{PlacedStrip}
 use Rattle.device_book.specs.declared.book.Owned.{Owned}
-use Rattle.layout_law.specs.Tenancies.{AreLawfulTexts}
 use Rattle.service_core.specs.declared.device.Device.{Device}
 use Rattle.service_core.specs.Kept.{IsDevice}
 use Rattle.service_core.specs.Owners.{ListsOwnersOf}
@@ -116,9 +115,9 @@ module _ (device : Device) (known : IsDevice device) (stage : Stage) (fine : Fin
       subst Q (sym told) (by_list list bare (subst P (sym shows.size_is) on) (entries_fit device stage.service stage.names stands fine.names.named) (λ rest. list_is_read stage.service stage.names rest seen number prints shows.inside))
 
   -- owners
-  module _ (laws : Laws) (texts : AreLawfulTexts device.arch.lut_size) (owners : List Owned) (lists : ListsOwnersOf stage.service owners) where
+  module _ (laws : Laws) (owners : List Owned) (lists : ListsOwnersOf stage.service owners) where
     at : (k : ℕ) (d : Owned) → k < length owners → IsOwnedAt device known stage.service (get_or owners k d).resource (get_or owners k d).id
-    at k d within = let o = get_or owners k d in owned_at laws device stage.service o.resource o.id (stands_in device stage fine) known texts ((lists.1 o).0 (All-contains_itself owners k d within))
+    at k d within = let o = get_or owners k d in owned_at laws device stage.service o.resource o.id (stands_in device stage fine) known ((lists.1 o).0 (All-contains_itself owners k d within))
 
     on : All (λ (o : Owned). is_on (size_of device known) o.resource ≡ true) owners
     on = λ k d within. (at k d within).on

@@ -2,7 +2,6 @@
 use Rattle.std.proofs.Common.{◌≡◌, ℕ, ◌+◌, ◌-◌, List, [], ◌∷◌, length, map, Some, sym, ap, subst}
 use Rattle.std.specs.List.{flat_map}
 use Rattle.strips.specs.declared.placed_strip.PlacedStrip.{PlacedStrip}
-use Rattle.layout_law.specs.Tenancies.{AreLawfulTexts}
 use Rattle.service_core.specs.declared.device.Device.{Device}
 use Rattle.service_core.specs.Kept.{IsDevice}
 use Rattle.service_core.specs.Run.{Call}
@@ -39,7 +38,7 @@ after_same size strips other names others shown seen number text same same_names
 strips_same : (old new : ServiceState) → new.plan ≡ old.plan → new.plan.strips ≡ old.plan.strips
 strips_same old new is = ap (λ (p : Plan). p.strips) is
 
-module _ (laws : Laws) (device : Device) (known : IsDevice device) (texts : AreLawfulTexts device.arch.lut_size) where
+module _ (laws : Laws) (device : Device) (known : IsDevice device) where
   abbrev size : DeviceSize
   size = size_of device known
 
@@ -71,7 +70,7 @@ module _ (laws : Laws) (device : Device) (known : IsDevice device) (texts : AreL
       let P : Stage → Type 0 = λ s. Then s (record shown { listed = Some (entries old.service old.names) }) seen number text in
       subst P (sym is.2) (list_then device known old fine shown seen number at text is.1)
   line_then old new Owners calls text is fine shown seen number at =
-      let now = owners_then device known old fine shown seen number at laws texts is.0 is.1 text is.3 in
+      let now = owners_then device known old fine shown seen number at laws is.0 is.1 text is.3 in
       let P : Stage → Type 0 = λ s. Then s (record shown { owned = Some (map node_of (owners_in calls)) }) seen number text in
       let Q : List Call → Type 0 = λ cs. Then old (record shown { owned = Some (map node_of (owners_in cs)) }) seen number text in
       subst P (sym is.4) (subst Q (sym is.2) now)

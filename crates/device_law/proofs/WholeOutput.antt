@@ -2,7 +2,6 @@
 use Rattle.std.proofs.Common.{◌≡◌, ℕ, ◌+◌, ◌-◌, List, [], ◌∷◌, ◌++◌, map, codes, Result, Ok, refl, sym, ap, ◌∙◌, subst, append_assoc}
 use Rattle.std.specs.Prelude.{◌==◌}
 use Rattle.std.specs.List.{flat_map}
-use Rattle.layout_law.specs.Tenancies.{AreLawfulTexts}
 use Rattle.rr_graph.specs.Graph.{Basis}
 use Rattle.service_core.specs.declared.device.Device.{Device}
 use Rattle.service_core.specs.Kept.{IsDevice}
@@ -37,15 +36,15 @@ heading_is size rest =
 start_shows : (size : DeviceSize) → Shows size [] [] nothing_shown (after_heading size)
 start_shows size = record { size_is = refl; inside = record { place = refl; awaited = refl }; live_is = refl; listed_is = refl; list_now = tt; owned_is = refl; has_is = refl; owned_now = tt }
 
-output_read : Laws → (device : Device) (known : IsDevice device) → AreLawfulTexts device.arch.lut_size → (graph : Basis) (ts : List Telling) (last : Stage) →
+output_read : Laws → (device : Device) (known : IsDevice device) → (graph : Basis) (ts : List Telling) (last : Stage) →
     (told : Tells (record { names = []; jobs = []; service = empty_service device; graph = graph }) ts last) → Each HasName (map (λ (t : Telling). t.act) ts) →
     IsReadFrom (shown_after (record { names = []; jobs = []; service = empty_service device; graph = graph }) ts last told nothing_shown) last (device_in (size_of device known) (replies_text ts))
 unfolding device_in
-output_read laws device known texts graph ts last told named =
+output_read laws device known graph ts last told named =
     let size = size_of device known in
     let start : Stage = record { names = []; jobs = []; service = empty_service device; graph = graph } in
     let fine : Fine device start = record { before = []; runs = refl; names = record { even = refl; named = tt } } in
-    let all = tells_then laws device known texts start ts last told named fine nothing_shown (after_heading size) 1 (start_shows size) in
+    let all = tells_then laws device known start ts last told named fine nothing_shown (after_heading size) 1 (start_shows size) in
     let shows = all.after.shows in
     let operator = flat_map (λ (t : Telling). told_operator t.act t.text) ts in
     let sections = sections_after [] ts in
@@ -61,8 +60,8 @@ output_read laws device known texts graph ts last told named =
 
 -- in the words of the law
 pub run_read : Laws → IsOutputRead
-run_read laws options tracks architecture input output r known texts =
+run_read laws options tracks architecture input output r known =
     let device = device_of options r.arch in
     let named = subst (Each HasName) (sym r.all) (start_has tracks architecture input r.arch r.acts r.begins) in
     let P : List ℕ → Type 0 = λ o. IsReadFrom (shown_in r) r.last (device_in (size_of device known) o) in
-    subst P (sym r.output_is) (output_read laws device known texts (own_graph device) r.tellings r.last r.told named)
+    subst P (sym r.output_is) (output_read laws device known (own_graph device) r.tellings r.last r.told named)

@@ -19,7 +19,6 @@ use Rattle.fpgad_run.specs.declared.inputs.Architecture.{Architecture}
 use Rattle.fpgad_run.specs.declared.options.Options.{Options}
 use Rattle.fpgad_run.specs.Program.{IsReplies, Start, device_of, start_of}
 use Rattle.fpgad_run.specs.Run.{Telling, Tells}
-use Rattle.layout_law.specs.Tenancies.{AreLawfulTexts}
 use Rattle.device_lines.specs.declared.fault.DeviceFault.TheVariants.{NoList, NoOwners}
 use Rattle.device_lines.specs.declared.fault.InputFault.{InputFault}
 use Rattle.device_lines.specs.declared.size.DeviceSize.{DeviceSize}
@@ -85,11 +84,10 @@ size_of device known = record {
   pads_lawful = known.arch.io_rat;
 }
 
--- so is what a script's run writes read. `AreLawfulTexts` says of all texts what the reader of
--- netlists ensures of each circuit that it returns
+-- so is what a script's run writes read
 abbrev pub IsOutputRead : Type 0
 IsOutputRead = (options : Options) (tracks : ℕ) (architecture : Architecture) (input output : List ℕ) → (r : IsReplies options (start_of tracks architecture input) output) →
-    (known : IsDevice (device_of options r.arch)) → AreLawfulTexts r.arch.lut_size → IsReadFrom (shown_in r) r.last (device_in (size_of (device_of options r.arch) known) output)
+    (known : IsDevice (device_of options r.arch)) → IsReadFrom (shown_in r) r.last (device_in (size_of (device_of options r.arch) known) output)
 
 -- a strip as a tenancy's line of `op list` shows it
 abbrev pub strip_listed : PlacedStrip → Listed

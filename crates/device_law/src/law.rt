@@ -1,6 +1,5 @@
 //! The laws.
 ghost use Rattle.std.specs.Prelude.{List};
-ghost use Rattle.layout_law.specs.Tenancies.{AreLawfulTexts};
 ghost use Rattle.service_core.specs.declared.device.Device.{Device};
 ghost use Rattle.service_core.specs.Kept.{IsDevice};
 ghost use Rattle.service_core.specs.Run.{Call, Run};
@@ -30,8 +29,8 @@ pub fn owners_are_read()
 /// in the tenancy's strip.
 pub fn owners_are_on_device()
     ensures { (device : Device) (known : IsDevice device) (calls : List Call)
-        (state : ServiceState) → AreLawfulTexts device.arch.lut_size →
-        Run (empty_service device) calls state → AreOnDevice device known state }
+        (state : ServiceState) → Run (empty_service device) calls state →
+        AreOnDevice device known state }
 {
     routed_implements();
     laws_of_passes();

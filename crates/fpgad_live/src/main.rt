@@ -2,6 +2,7 @@
 //! input as it comes.
 #![tactic(auto)]
 
+use ended_input::UntilEnd;
 use line_text::{StdSink, StdSource};
 use live_promises::{ProgramEnd, serve};
 use live_run::{RESULTS_VERSION, WholeLines};
@@ -16,7 +17,7 @@ fn main(rt: HostRuntime) -> ExitCode {
         return write_version(&rt);
     }
     let streams = fill_streams(&rt);
-    let reader = WholeLines::new(&rt, StdSource::new(rt.reader()));
+    let reader = WholeLines::new(&rt, UntilEnd::new(StdSource::new(rt.reader())));
     let writer = StdSink::new(io::writer(&rt));
     let ProgramEnd {
         status,

@@ -4,6 +4,7 @@ use Rattle.arch_file.specs.Arch.{IsArch}
 use Rattle.arch_file.specs.declared.arch.Arch.{Arch}
 use Rattle.blif.specs.declared.circuit.Circuit.{Circuit}
 use Rattle.blif.specs.LawfulCircuits.{IsNarrow}
+use Rattle.blif.proofs.AllTexts.{text_lawful}
 use Rattle.block_places.specs.Placed.{ArePlaced}
 use Rattle.cluster.specs.Clusters.{PackedCircuit, packed_of}
 use Rattle.cluster.specs.LawfulPackings.{IsPacked}
@@ -29,7 +30,7 @@ use Rattle.tenant_slot.specs.SingleUser.{State, run}
 use Rattle.tenant_slot.specs.declared.event.Event.{Event}
 use Rattle.tenant_slot.specs.declared.reply.StateName.{StateName}
 use Rattle.tenant_slot.specs.declared.reply.StateName.TheVariants.{Routed}
-use Rattle.layout_law.specs.Tenancies.{AreLawfulTexts, ImplementsItsText}
+use Rattle.layout_law.specs.Tenancies.{ImplementsItsText}
 use Rattle.layout_law.proofs.Ends.{HasRoutes, placed_end, routed_end}
 use Rattle.layout_law.proofs.Laws.{Laws}
 use Rattle.layout_law.proofs.States.{Has, HasNotFailed, IsPlaceable, always_sound, lawful_packed, places_lawful}
@@ -50,7 +51,7 @@ nets_are : (arch : Arch) (strip : Strip) (text : List ℕ) (kept : KeptPlaces) (
 unfolding nets_in
 nets_are arch strip text kept seed effort circuit = refl
 
-module _ (laws : Laws) (arch : Arch) (strip : Strip) (known : IsArch arch) (size : IsStripSize strip) (texts : AreLawfulTexts arch.lut_size) where
+module _ (laws : Laws) (arch : Arch) (strip : Strip) (known : IsArch arch) (size : IsStripSize strip) where
   abbrev basis : Basis
   basis = record { arch = arch; strip = strip }
 
@@ -68,13 +69,13 @@ module _ (laws : Laws) (arch : Arch) (strip : Strip) (known : IsArch arch) (size
     places = places_by_block placing
 
     lawful : IsPacked packed
-    lawful = lawful_packed laws arch strip known size texts text is.circuit is.says is.fit
+    lawful = lawful_packed laws arch strip known size text is.circuit is.says is.fit
 
     narrow : IsNarrow packed.arch.lut_size packed.circuit
-    narrow = subst (λ (a : Arch). IsNarrow a.lut_size packed.circuit) (sym (packed_arch is.circuit arch)) (subst (IsNarrow arch.lut_size) (sym (packed_circuit is.circuit arch)) (texts text is.circuit is.says).1)
+    narrow = subst (λ (a : Arch). IsNarrow a.lut_size packed.circuit) (sym (packed_arch is.circuit arch)) (subst (IsNarrow arch.lut_size) (sym (packed_circuit is.circuit arch)) (text_lawful text arch.lut_size is.circuit is.says).1)
 
     placed : ArePlaced strip packed places
-    placed = places_lawful laws arch strip known size texts text is kept seed effort (pass_count strip) stays
+    placed = places_lawful laws arch strip known size text is kept seed effort (pass_count strip) stays
 
     legal : (routes : HasRoutes arch strip text kept seed effort is.circuit is.says) → IsLegal packed.arch strip packed places routes.routed.routes
     legal routes =
@@ -133,6 +134,6 @@ module _ (laws : Laws) (arch : Arch) (strip : Strip) (known : IsArch arch) (size
   pub routed_implements : (events : List Event) → (run arch strip events).0.name ≡ Routed → ImplementsItsText (run arch strip events).0
   routed_implements events is =
       let state = (run arch strip events).0 in
-      let sound = always_sound laws arch strip known size texts events in
+      let sound = always_sound laws arch strip known size events in
       let has = of_name state state.name is sound.has in
       of_routed state sound.arch_is sound.strip_is sound.kept has.0 has.1

@@ -8,6 +8,7 @@ use Rattle.arch_file.specs.declared.arch.Arch.{Arch}
 use Rattle.blif.specs.CircuitOf.{circuit_of}
 use Rattle.blif.specs.declared.circuit.Circuit.{Circuit}
 use Rattle.blif.specs.declared.fault.BlifFault.{BlifFault}
+use Rattle.blif.proofs.AllTexts.{text_lawful}
 use Rattle.block_places.specs.Fits.{fit_of}
 use Rattle.block_places.specs.Placed.{ArePlaced}
 use Rattle.block_places.specs.declared.fit.Fit.{Fit}
@@ -44,7 +45,6 @@ use Rattle.tenant_slot.specs.declared.reply.StateName.TheVariants.{Empty, Loaded
 use Rattle.tenant_slot.specs.Results.{failure_of, kept_at_end}
 use Rattle.tenant_slot.specs.SingleUser.{State, advance, after_reply, answer_to, at_rest, circuit_in, state_at_end, is_lawful, is_next, with_kept_places, with_netlist, misfit_of, pack_unless, place, place_unless, next_generation, routed_unless, run, kind_that_runs, serve, sources_of, start, state_after, step, with_circuit}
 use Rattle.vpr_files.specs.NetFile.{net_text_of}
-use Rattle.layout_law.specs.Tenancies.{AreLawfulTexts}
 use Rattle.layout_law.proofs.Laws.{Laws}
 use Rattle.layout_law.proofs.Places.{always_placed}
 
@@ -88,9 +88,9 @@ pub record IsSound (arch : Arch) (strip : Strip) (state : State) : Type 0 where
 
 -- ---- places
 
-module _ (laws : Laws) (arch : Arch) (strip : Strip) (known : IsArch arch) (size : IsStripSize strip) (texts : AreLawfulTexts arch.lut_size) where
+module _ (laws : Laws) (arch : Arch) (strip : Strip) (known : IsArch arch) (size : IsStripSize strip) where
   pub lawful_packed : (text : List ℕ) (circuit : Circuit) → circuit_of text arch.lut_size ≡ Ok circuit → unfit_of circuit arch ≡ None → IsPacked (packed_of circuit arch)
-  lawful_packed text circuit says fit = packed_lawful circuit arch (texts text circuit says).0 known fit
+  lawful_packed text circuit says fit = packed_lawful circuit arch (text_lawful text arch.lut_size circuit says).0 known fit
 
   pub places_lawful : (text : List ℕ) (is : IsPlaceable arch strip text) (kept : KeptPlaces) (seed effort passes : ℕ) → AreKeptOn strip kept →
       ArePlaced strip (packed_of is.circuit arch) (places_by_block (placing_at (placing_sources arch strip text kept seed effort) is.circuit passes))

@@ -20,8 +20,7 @@ use Rattle.tenant_slot.specs.declared.event.Event.TheVariants.{Command as Asked}
 use Rattle.tenant_slot.specs.declared.reply.FileKind.TheVariants.{Net as NetFile, Place as PlacesFile, Route as RoutesFile}
 use Rattle.tenant_slot.specs.declared.reply.Reply.TheVariants.{File}
 
--- what a text says is a lawful circuit, as the reader of netlists ensures of each circuit that it
--- returns
+-- each circuit that a text gives is lawful
 abbrev pub AreLawfulTexts : ℕ → Type 0
 AreLawfulTexts lut_size = (text : List ℕ) (circuit : Circuit) → circuit_of text lut_size ≡ Ok circuit → IsLawfulFor lut_size circuit
 

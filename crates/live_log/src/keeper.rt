@@ -2,11 +2,12 @@
 ghost use Rattle.std.specs.Prelude.{◌≡◌, ◌+◌, length, IfOk, OnOk};
 
 use crate::marks::{DROPPED, KEPT, Marks};
-use crate::names::{Names, Who};
+use crate::names::{NO_WORK, Names, Who};
 use crate::replies::{
     has_no_form, has_step, is_at_rest, is_begun, is_blank, is_done, is_put, is_wait, is_withdrawn,
     two_words,
 };
+use crate::work::{note_done, note_netlist};
 use line_text::is_word;
 use std::alloc::{AllocError, Global};
 use tagged_lines::{owner_of, split_tag};
@@ -15,8 +16,10 @@ use tagged_lines::{owner_of, split_tag};
 ///
 /// - the first line, if it is a comment;
 /// - each admission, eviction and move that was done, so that ids and offsets stay;
-/// - of a session a command that was done and a `wait` for a job, unless its tenancy was evicted or
-///   a `withdraw` followed;
+/// - of a session a command that was done and a `wait` for a job, unless a later line made it void:
+///   an eviction or a `withdraw` all of the tenancy; a `place` the placing before it, with its
+///   routing; a `cancel` the job and itself; a `change` the routing, and if nothing was placed
+///   since the `change` before, this one with its packing;
 /// - a line of the operator that made steps of a job, as long as the session's lines before it;
 /// - each job that the operator took or put; nothing of such a tenancy is dropped later;
 /// - the last `echo` of the operator;
@@ -75,12 +78,7 @@ impl<'l> Keeper<'l> {
         if let Some(who) = self.names.entry_of(name) {
             return Ok(who);
         }
-        let who = Who {
-            life: self.marks.begin()?,
-            text: None,
-            is_busy: false,
-            is_taken: false,
-        };
+        let who = Who::new(self.marks.begin()?);
         self.names.note(name, who)?;
         Ok(who)
     }
@@ -123,7 +121,7 @@ impl<'l> Keeper<'l> {
             return self.marks.add_line(DROPPED);
         }
         let who = self.who(name)?;
-        self.marks.add_line(who.life)
+        self.marks.add_line(who.last())
     }
 
     /// Notes an `echo`: it is kept, and those before it are not.
@@ -154,6 +152,8 @@ impl<'l> Keeper<'l> {
     {
         let mut who = self.who(name)?;
         who.life = self.marks.begin()?;
+        who.is_loaded = false;
+        who.work = NO_WORK;
         who.is_busy = false;
         who.is_taken = false;
         self.names.note(name, who)
@@ -212,7 +212,8 @@ impl<'l> Keeper<'l> {
             ≡ length self.old.marks.lines.items + 1) }
     {
         if is_done(reply) {
-            self.marks.put_into(text, who.life);
+            let netlist = note_netlist(&mut self.marks, &mut who)?;
+            self.marks.put_into(text, netlist);
             who.is_busy = false;
         } else {
             self.marks.drop_group(text);
@@ -233,8 +234,9 @@ impl<'l> Keeper<'l> {
             return self.end_life(name);
         }
         who.is_busy = is_begun(reply);
+        let group = note_done(&mut self.marks, &mut who, reply)?;
         self.names.note(name, who)?;
-        self.marks.add_line(who.life)
+        self.marks.add_line(group)
     }
 
     /// Notes a wait for a job.
@@ -244,7 +246,7 @@ impl<'l> Keeper<'l> {
     {
         who.is_busy = !is_at_rest(reply);
         self.names.note(name, who)?;
-        self.marks.add_line(who.life)
+        self.marks.add_line(who.last())
     }
 
     /// For each line, whether it is kept.

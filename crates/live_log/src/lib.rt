@@ -12,6 +12,7 @@ mod names;
 mod replies;
 mod short_log;
 mod shortening;
+mod work;
 
 pub use short_log::ShortLog;
 pub use shortening::shorten;

@@ -9,6 +9,10 @@ pub(crate) const KEPT: usize = 0;
 /// The group of lines that are dropped.
 pub(crate) const DROPPED: usize = 1;
 
+/// The most groups around a line that are looked at: its text, a routing, the layout, the packing,
+/// the netlist and the tenancy.
+const MAX_DEPTH: usize = 6;
+
 /// A group of lines.
 #[derive(Clone, Copy)]
 struct Group {
@@ -58,16 +62,23 @@ impl Marks {
         Ok(())
     }
 
-    /// A new group, whose lines are kept for now.
-    pub(crate) fn begin(&mut self) -> Result<usize, AllocError>
+    /// A new group in that one, whose lines are kept for now.
+    pub(crate) fn begin_in(&mut self, around: usize) -> Result<usize, AllocError>
         ensures { self.new.lines ≡ self.old.lines }
     {
         let group = self.groups.len();
         self.groups.push(Group {
             stands: true,
-            around: KEPT,
+            around,
         })?;
         Ok(group)
+    }
+
+    /// A new group, whose lines are kept for now.
+    pub(crate) fn begin(&mut self) -> Result<usize, AllocError>
+        ensures { self.new.lines ≡ self.old.lines }
+    {
+        self.begin_in(KEPT)
     }
 
     /// Drops the lines of a group.
@@ -86,6 +97,18 @@ impl Marks {
         if let Some(put) = self.groups.get_mut(group) {
             put.around = around;
         }
+    }
+
+    /// Whether the lines of a group are kept: it stands, and so do the groups around it.
+    fn is_kept(&self, group: usize) -> bool {
+        let mut group = group;
+        for _ in 0..MAX_DEPTH {
+            if !self.stands(group) {
+                return false;
+            }
+            group = self.around(group);
+        }
+        true
     }
 
     /// Whether the lines of a group are kept, if those of the group around it are.
@@ -110,7 +133,7 @@ impl Marks {
     {
         let mut kept = Vec::with_capacity(alloc, self.lines.len())?;
         for group in self.lines.as_slice() {
-            kept.push(self.stands(*group) && self.stands(self.around(*group)))?;
+            kept.push(self.is_kept(*group))?;
         }
         Ok(kept)
     }

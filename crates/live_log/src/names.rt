@@ -7,12 +7,69 @@ use std::alloc::{AllocError, Global};
 pub(crate) struct Who {
     /// The group of the lines that made its tenancy what it is.
     pub(crate) life: usize,
+    /// Whether the tenancy has a netlist.
+    pub(crate) is_loaded: bool,
+    /// The groups of what was done with the netlist that it has.
+    pub(crate) work: Work,
     /// The group of the lines of the text that its session is in.
     pub(crate) text: Option<usize>,
     /// Whether a job of its tenancy may be running.
     pub(crate) is_busy: bool,
     /// Whether the operator took a job of its tenancy.
     pub(crate) is_taken: bool,
+}
+
+/// The groups of the lines with which a tenancy's present netlist was loaded, packed, placed and
+/// routed, each inside of those before it. `None` for what was not begun, or was given up.
+#[derive(Clone, Copy)]
+pub(crate) struct Work {
+    /// That of the netlist, if it came by a `change`.
+    pub(crate) netlist: Option<usize>,
+    pub(crate) packing: Option<usize>,
+    pub(crate) layout: Option<usize>,
+    pub(crate) routing: Option<usize>,
+}
+
+/// Nothing was done.
+pub(crate) const NO_WORK: Work = Work {
+    netlist: None,
+    packing: None,
+    layout: None,
+    routing: None,
+};
+
+impl Who {
+    /// What is known of a name whose tenancy begins with that group of lines.
+    pub(crate) fn new(life: usize) -> Self {
+        Who {
+            life,
+            is_loaded: false,
+            work: NO_WORK,
+            text: None,
+            is_busy: false,
+            is_taken: false,
+        }
+    }
+
+    /// The group around the lines of a packing.
+    pub(crate) fn netlist(&self) -> usize {
+        self.work.netlist.unwrap_or(self.life)
+    }
+
+    /// The group around the lines of a placing.
+    pub(crate) fn packing(&self) -> usize {
+        self.work.packing.unwrap_or(self.netlist())
+    }
+
+    /// The group around the lines of a routing.
+    pub(crate) fn layout(&self) -> usize {
+        self.work.layout.unwrap_or(self.packing())
+    }
+
+    /// The group of the lines that a running job takes.
+    pub(crate) fn last(&self) -> usize {
+        self.work.routing.unwrap_or(self.layout())
+    }
 }
 
 /// The names, each with what is known of it.

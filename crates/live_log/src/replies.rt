@@ -31,6 +31,14 @@ pub(crate) fn is_done(reply: &[u8]) -> bool {
     said.starts_with(b"ok")
 }
 
+/// The state that a reply tells to what was done. Empty if it tells none.
+pub(crate) fn told_state(reply: &[u8]) -> &[u8] {
+    let (line, _) = split_line(reply);
+    let (_, said) = split_tag(line);
+    let (_, state) = two_words(said);
+    state
+}
+
 /// Whether everything was given up.
 pub(crate) fn is_withdrawn(reply: &[u8]) -> bool {
     let (_, said) = split_tag(reply);

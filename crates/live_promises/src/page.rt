@@ -20,7 +20,7 @@ use std::time::Clock;
 
 /// The program of a live service, with workers or without: serves the lines of a reader as the
 /// words say, the first being the program's name. Each clause is a promise. Beside it is the number
-/// of lines of definitions that one reads to believe it: 2616 lines in all.
+/// of lines of definitions that one reads to believe it: 2662 lines in all.
 ///
 /// A day is lines that are answered one after another. With workers a run is calls of one machine:
 /// lines of the input, turns of names that wait, steps that workers made, and what is drained to be
@@ -40,7 +40,7 @@ where
     // 1. If it returns, its end has a name, and the status is that of the name. With status 0 all
     // lines of the input were served, all that this gives was kept and written, and no name waits;
     // else that is so of a beginning. It begins where the lines lead that are read of its log.
-    // (2420 lines)
+    // (2466 lines)
     ensures run { IsProgramEnd (S.remaining reader) (W.contents writer)
         (option_map (⟦<Connection<S, W, FileLog<H::File>> as Dialogue>⟧.view) result.connection)
         (option_map (⟦<Devices<W, FileLog<H::File>> as Outlet>⟧.view) result.devices)

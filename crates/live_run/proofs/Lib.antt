@@ -1,2 +1,4 @@
 mod LineRuns
+mod ReadLemmas
+pub mod RetellLemmas
 mod RunLemmas

@@ -15,7 +15,7 @@ pub record Begins (line : CommandLine) (before after : View) (outcome : Outcome)
   pub input : begun.remaining ≡ before.remaining
   pub output : begun.output ≡ before.output
   pub log : begun.has_log ≡ is_some line.log
-  pub runs : Runs line.options architecture (is_some line.log) past begun after outcome
+  pub runs : Runs line.options architecture (is_some line.log) past line.told begun after outcome
 
 -- or one that does not begin, and writes nothing
 abbrev pub RunsLine : CommandLine → View → View → Outcome → Type 0

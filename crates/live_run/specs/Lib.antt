@@ -3,4 +3,5 @@ pub mod Headings
 pub mod Limits
 pub mod Lines
 pub mod Outcomes
+pub mod Retelling
 pub mod Runs

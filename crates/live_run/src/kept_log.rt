@@ -1,6 +1,7 @@
 //! The file of a log.
 ghost use Rattle.std.specs.Prelude.{◌≢◌, IfErr};
 
+use crate::differing::write_difference;
 use crate::log_lock::LockLog;
 use crate::outcome::Outcome;
 use crate::streams::is_stream;
@@ -8,11 +9,14 @@ use dialogue::{FailedDevice, FileLog, Log};
 use line_text::{ReadError, Source, StdSource, read_all};
 use std::alloc::Global;
 use std::fs::{File, OpenFile, OpenOptions};
-use std::io::{self, Read, Take, Write};
+use std::io::{self, Eprint, Read, Take, Write};
 use std::rt::Files;
 
 /// The number of bytes that are read at a time.
 const CHUNK: usize = 65_536;
+
+/// More bytes than the first line of a log has.
+const MAX_FIRST: u64 = 256;
 
 /// A log that is open: what it kept before, and the log for what comes.
 pub struct KeptLog<F: Read + Write + OpenFile + Drop> {
@@ -22,7 +26,7 @@ pub struct KeptLog<F: Read + Write + OpenFile + Drop> {
 
 /// Opens the log at that path, which begins with that line, and locks it. A last line without its
 /// end is cut off. A new log gets the first line.
-pub(crate) fn open_log<H: Files + AllocGlobal>(
+pub(crate) fn open_log<H: Files + AllocGlobal + Eprint>(
     rt: &H,
     path: &str,
     first_line: &[u8],
@@ -81,7 +85,7 @@ fn part_of<H: Files>(rt: &H, path: &str, length: u64) -> io::Result<StdSource<Ta
 
 /// The length of a log's whole lines, the first of which must be that line. A file that has no
 /// whole line must be a beginning of it.
-fn length_to_keep<H: Files + AllocGlobal>(
+fn length_to_keep<H: Files + AllocGlobal + Eprint>(
     rt: &H,
     path: &str,
     length: u64,
@@ -94,6 +98,8 @@ fn length_to_keep<H: Files + AllocGlobal>(
         Err(_) => return Err(Outcome::LogUnreadable),
     };
     if !first_line.starts_with(head.as_slice()) {
+        drop(head);
+        report_difference(rt, path, first_line);
         return Err(Outcome::LogDiffers);
     }
     if head.len() < first_line.len() {
@@ -102,6 +108,17 @@ fn length_to_keep<H: Files + AllocGlobal>(
     match part_of(rt, path, length) {
         Ok(mut part) => Ok(whole_length(rt.alloc(), &mut part)?),
         Err(_) => Err(Outcome::LogUnreadable),
+    }
+}
+
+/// Writes to standard error in what the first line of a file is another one.
+fn report_difference<H: Files + AllocGlobal + Eprint>(rt: &H, path: &str, first_line: &[u8]) {
+    let Ok(mut part) = part_of(rt, path, MAX_FIRST) else {
+        return;
+    };
+    if let Ok(head) = read_all(rt.alloc(), &mut part) {
+        write_difference(rt, first_line, head.as_slice());
+        drop(head);
     }
 }
 

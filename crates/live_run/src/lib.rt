@@ -6,11 +6,13 @@
 //! - [`run_line`] serves as a command line says. [`Outcome`] says how a service ended.
 //! - [`log_at`] opens a log, as what it kept and what comes ([`KeptLog`]).
 //! - [`LockLog`] keeps a log to one service at a time.
+//! - [`is_told`] says the replies to which of the log's lines are written at a start.
 //! - [`say_ready`] says that a service is ready.
 //! - [`WholeLines`] is an input that tells of a last line without its end.
 #![tactic(auto)]
 
 mod beginning;
+mod differing;
 mod kept_log;
 mod log_lock;
 mod options;
@@ -18,6 +20,7 @@ mod outcome;
 mod program;
 mod reading;
 mod ready;
+mod retelling;
 mod serving;
 mod streams;
 mod whole_lines;
@@ -30,5 +33,6 @@ pub use outcome::Outcome;
 pub use program::{log_at, read_architecture, run_line};
 pub use reading::read_options;
 pub use ready::say_ready;
+pub use retelling::is_told;
 pub use serving::serve;
 pub use whole_lines::{NO_END, WholeLines};

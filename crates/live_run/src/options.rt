@@ -16,7 +16,7 @@ pub const RESULTS_VERSION: u32 = 1;
 /// What follows the options in the help.
 const HELP: &str = "\
 A line of input is a request; NAME is 1 to 32 letters, digits and `_`:
-  op admit NAME WIDTH | evict NAME | move NAME OFFSET | list | owners | echo WORDS
+  op admit NAME WIDTH | evict NAME | move NAME OFFSET | list | owners | echo WORDS | end
   op step NAME N | take NAME | put JOB, without workers
   @NAME upload | change, then lines `@NAME ..` with a BLIF netlist, and a line `@NAME .`
   @NAME pack | place SEED EFFORT | route | wait | cancel | withdraw
@@ -85,6 +85,13 @@ pub(crate) const PROGRAM: Program = Program {
             value_name: "FILE",
             help: "Keeps the input in FILE before it is answered, and goes on from it at the start",
             takes: Takes::Text,
+            default: None,
+        },
+        OptionWord {
+            name: "told",
+            value_name: "N",
+            help: "At a start, writes the replies to the log's lines after line N again",
+            takes: Takes::Long,
             default: None,
         },
         OptionWord {
@@ -193,6 +200,8 @@ pub struct CommandLine<'a> {
     pub options: Options,
     pub arch: &'a str,
     pub log: Option<&'a str>,
+    /// The number of a line of the log. At a start the replies to the lines after it are written.
+    pub told: Option<u64>,
     /// 0 to 16.
     pub workers: u32,
     /// Whether the service says when it is ready.

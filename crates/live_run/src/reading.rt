@@ -1,6 +1,7 @@
 //! The command line that words give.
-ghost use Rattle.std.specs.Prelude.{IfOk};
-ghost use Rattle.live_run.specs.Lines.{IsLineOf};
+ghost use Rattle.std.specs.Prelude.{MatchResult, Option, ℕ};
+ghost use Rattle.live_run.specs.Lines.{AreOptionsOf, IsToldOf};
+ghost use Rattle.live_run.specs.declared.options.Options.{Options};
 
 use crate::options::{CommandLine, Options, PROGRAM};
 use clap::Error;
@@ -12,11 +13,13 @@ const BEYOND: &str = "a number is beyond its limits";
 
 const NO_ARCH: &str = "--arch FILE is missing";
 
+const NO_LOG: &str = "--told N needs --log FILE";
+
 /// The options that these words give, the first being the program's name. An error is clap's; a
 /// request for help is one.
 pub fn read_options<'a, S: AsStr>(alloc: Global, words: &'a [S]) -> Result<CommandLine<'a>, Error> {
     let given = read_words(alloc, &PROGRAM, words)?;
-    let line = line_of(&given);
+    let line = CommandLine::of(&given);
     drop(given);
     match line {
         Ok(line) => Ok(line),
@@ -24,23 +27,52 @@ pub fn read_options<'a, S: AsStr>(alloc: Global, words: &'a [S]) -> Result<Comma
     }
 }
 
-/// The command line that the options give, or why they are refused.
-fn line_of<'a>(given: &Given<'a>) -> Result<CommandLine<'a>, &'static str>
-    ensures { IfOk result (IsLineOf given.now) }
+impl<'a> CommandLine<'a> {
+    ghost use Rattle.std.specs.Prelude.{MatchResult};
+    ghost use Rattle.live_run.specs.Lines.{IsLineOf};
+    ghost use Rattle.live_run.specs.declared.options.CommandLine.{CommandLine};
+
+    /// The command line that the options give, or why they are refused.
+    fn of(given: &Given<'a>) -> Result<Self, &'static str>
+        ensures { MatchResult result (IsLineOf given.now)
+            (λ _. (line : CommandLine) → IsLineOf given.now line → ⊥) }
+    {
+        let told = told_of(given)?;
+        let log = given.text("log");
+        if told.is_some() && log.is_none() {
+            return Err(NO_LOG);
+        }
+        Ok(CommandLine {
+            options: options_of(given)?,
+            arch: given.text("arch").ok_or(NO_ARCH)?,
+            log,
+            told,
+            workers: given.number("workers")?,
+            ready: given.is_given("ready"),
+        })
+    }
+}
+
+/// The sizes that the options give, and what a tenancy's journal may hold.
+fn options_of(given: &Given<'_>) -> Result<Options, &'static str>
+    ensures { MatchResult result (AreOptionsOf given.now)
+        (λ _. (options : Options) → AreOptionsOf given.now options → ⊥) }
 {
     let tracks = given.number("tracks")?;
     let columns = given.number("columns")?;
     let rows = given.number("rows")?;
     let options = Options::new(tracks, columns, rows).ok_or(BEYOND)?;
     let tenant_memory = given.number("tenant-memory")?;
-    let options = options.with_tenant_memory(tenant_memory).ok_or(BEYOND)?;
-    let workers = given.number("workers")?;
-    let log = given.text("log");
-    Ok(CommandLine {
-        options,
-        arch: given.text("arch").ok_or(NO_ARCH)?,
-        log,
-        workers,
-        ready: given.is_given("ready"),
-    })
+    options.with_tenant_memory(tenant_memory).ok_or(BEYOND)
+}
+
+/// The line of the log after which replies are written, if the options give one.
+fn told_of(given: &Given<'_>) -> Result<Option<u64>, &'static str>
+    ensures { MatchResult result (IsToldOf given.now)
+        (λ _. (told : Option ℕ) → IsToldOf given.now told → ⊥) }
+{
+    match given.text("told") {
+        Some(_) => Ok(Some(given.long_number("told")?)),
+        None => Ok(None),
+    }
 }

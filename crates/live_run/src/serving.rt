@@ -1,16 +1,17 @@
 //! The service, from an architecture to the end of its input.
-ghost use Rattle.std.specs.Prelude.{◌≡◌, is_some, MatchResult, OnOk};
+ghost use Rattle.std.specs.Prelude.{◌≡◌, is_some, Option, ℕ, MatchResult};
 ghost use Rattle.arch_file.specs.Arch.{IsArch};
 ghost use Rattle.service_core.specs.Kept.{IsDevice};
 ghost use Rattle.line_service.specs.Conversation.{IsConversation};
 ghost use Rattle.live_input.specs.Serving.{AnswersLine, begins, is_ready, state_in};
-ghost use Rattle.live_run.specs.Runs.{ClosesAs, Replays, Runs, RunsFrom, past_of};
+ghost use Rattle.live_run.specs.Runs.{ClosesAs, Runs, RunsFrom, past_of};
 
 use crate::options::CommandLine;
 use crate::outcome::Outcome;
 use crate::ready::say_ready;
+use crate::retelling::retell;
 use arch_file::{ArchError, read_arch};
-use dialogue::{Dialogue, Replay};
+use dialogue::Dialogue;
 use line_feed::LineFeed;
 use line_service::ConversationEnd;
 use line_text::Source;
@@ -22,8 +23,9 @@ use std::io::Eprint;
 use std::sync::Wait;
 
 /// Serves the lines of a dialogue as they come, over a device of that architecture. If there is a
-/// log, its lines are served before, and their replies are dropped; and texts that are open at the
-/// input's end stay open for a run that goes on from the log. Else each such text is refused.
+/// log, its lines are served before: the replies to those after the command line's line `told` are
+/// written, the others are dropped. Texts that are open at the input's end then stay open for a run
+/// that goes on from the log. Without a log each such text is refused.
 pub fn serve<H: Wait + AllocGlobal + Eprint, P: Source + Drop, D: Dialogue>(
     rt: &H,
     line: &CommandLine<'_>,
@@ -32,7 +34,7 @@ pub fn serve<H: Wait + AllocGlobal + Eprint, P: Source + Drop, D: Dialogue>(
     dialogue: &mut D,
 ) -> Outcome
     ensures { Runs line.now.options architecture.now (is_some past) (past_of P.remaining past)
-        (D.view dialogue.old) (D.view dialogue.new) result }
+        line.now.told (D.view dialogue.old) (D.view dialogue.new) result }
 {
     match read_arch(rt.alloc(), architecture, line.options.tracks) {
         Ok(arch) => {
@@ -58,13 +60,13 @@ fn serve_device<H: Wait + AllocGlobal + Eprint, P: Source + Drop, D: Dialogue>(
     requires { IsDevice device }
     ensures { MatchResult result
         (λ outcome. RunsFrom (begins device) (is_some past) (past_of P.remaining past)
-        (D.view dialogue.old) (D.view dialogue.new) outcome)
+        line.now.told (D.view dialogue.old) (D.view dialogue.new) outcome)
         (λ _. D.view dialogue.new ≡ D.view dialogue.old) }
 {
     let graph = device_graph(rt.alloc(), &device)?;
     let core = Service::with_text_limit(rt.alloc(), device, line.options.text_limit())?;
     let mut lines = LiveLines::new(rt.alloc(), &graph, core);
-    let outcome = serve_past(rt, line.ready, &mut lines, past, dialogue);
+    let outcome = serve_past(rt, line, &mut lines, past, dialogue);
     lines.close();
     Ok(outcome)
 }
@@ -73,51 +75,31 @@ fn serve_device<H: Wait + AllocGlobal + Eprint, P: Source + Drop, D: Dialogue>(
 /// says that it is ready, if that is wanted.
 fn serve_past<H: Wait + AllocGlobal + Eprint, P: Source + Drop, D: Dialogue>(
     rt: &H,
-    ready: bool,
+    line: &CommandLine<'_>,
     lines: &mut LiveLines<'_>,
     past: Option<P>,
     dialogue: &mut D,
 ) -> Outcome
     requires { is_ready lines.old }
     ensures { RunsFrom (state_in lines.old) (is_some past) (past_of P.remaining past)
-        (D.view dialogue.old) (D.view dialogue.new) result }
+        line.now.told (D.view dialogue.old) (D.view dialogue.new) result }
 {
     let mut number = 1;
     match past {
-        Some(past) => match replay(rt, lines, past, &mut number) {
+        Some(past) => match retell(rt, lines, past, line.told, dialogue, &mut number) {
             Ok(()) => {
-                say_ready(rt, ready);
+                say_ready(rt, line.ready);
                 Outcome::of(talk(rt, lines, dialogue, &mut number))
             }
             Err(outcome) => outcome,
         },
         None => {
-            say_ready(rt, ready);
+            say_ready(rt, line.ready);
             match talk(rt, lines, dialogue, &mut number) {
                 ConversationEnd::Done => close_texts(lines, dialogue),
                 end => Outcome::of(end),
             }
         }
-    }
-}
-
-/// Serves the lines of a log, and drops their replies.
-fn replay<H: Wait + AllocGlobal, P: Source + Drop>(
-    rt: &H,
-    lines: &mut LiveLines<'_>,
-    past: P,
-    number: &mut u64,
-) -> Result<(), Outcome>
-    requires { is_ready lines.old }
-    ensures ready { OnOk result (is_ready lines.new) }
-    ensures replays { Replays (P.remaining past) (state_in lines.old) number.old result
-        (state_in lines.new) number.new }
-{
-    let mut replay = Replay::new(past);
-    match talk(rt, lines, &mut replay, number) {
-        ConversationEnd::Done => Ok(()),
-        ConversationEnd::NoMemory => Err(Outcome::NoMemory),
-        ConversationEnd::Stopped(_) | ConversationEnd::TooManyLines => Err(Outcome::LogUnreadable),
     }
 }
 

@@ -24,8 +24,8 @@ use Rattle.rtrb.specs.declared.producer.Producer.{Producer}
 use Rattle.live_threads.specs.declared.letters.InputEnd.{InputEnd}
 use Rattle.live_threads.specs.declared.letters.InputEnd.TheVariants.{Done as InputDone, Failed, NoMemory as NoInputMemory}
 use Rattle.live_threads.specs.Fed.{AreFirst, AreReadLines, PutsLines}
-use Rattle.live_threads.specs.Ends.{IsResumed, IsWhole, Resumes, RunsInput, RunsService, ServesInput, StopsResuming, empty_on}
-use Rattle.live_threads.specs.Replays.{ArePuts, Replays, put_line}
+use Rattle.live_threads.specs.Ends.{IsResumed, IsWhole, PutsSome, Resumes, RunsInput, RunsService, ServesInput, StopsResuming, empty_on}
+use Rattle.live_threads.specs.Replays.{ArePuts, Replays, StopsReplay, put_line}
 use Rattle.live_threads.specs.Serving.{HasStopped, IsServed}
 use Rattle.live_threads.specs.Taken.{ClosesAs, ClosesTexts, CutsClosing, EndsServing, StopsClosing, StopsServing, TakesLines, cut_lines, lines_of}
 use Rattle.live_threads.proofs.ServedLemmas.{served_stops, served_then}
@@ -87,12 +87,13 @@ stopped_not : (device : FailedDevice) → Stopped device ≢ Done
 stopped_not device is = absurd (cc)
 
 -- a service of which more lines were read is one that stopped
-pub service_stopped : (log : Option (Option (List ℕ))) (empty : LiveState) (before after : View) (lines : List (List ℕ)) (outcome : Outcome) → RunsService log empty before lines after outcome → RunsService log empty before lines after (Stopped Input)
-service_stopped log empty before after lines outcome (inl (bad, told)) = inl (stopped_not Input, told)
-service_stopped log empty before after lines outcome (inr s) = inr (record {
+pub service_stopped : (told : Option ℕ) (log : Option (Option (List ℕ))) (empty : LiveState) (before after : View) (lines : List (List ℕ)) (outcome : Outcome) → RunsService told log empty before lines after outcome → RunsService told log empty before lines after (Stopped Input)
+service_stopped told log empty before after lines outcome (inl (bad, stops)) = inl (stopped_not Input, stops)
+service_stopped told log empty before after lines outcome (inr s) = inr (record {
   begun = s.begun;
   first = s.first;
   put = s.put;
+  retold = s.retold;
   begins = s.begins;
   mid = s.mid;
   resumed = s.resumed;
@@ -123,12 +124,16 @@ ends_later a b u v w lines outcome first e = later outcome e
     later NoMemory e = stops_later e
 
 -- lines that put jobs were kept, and then the service stopped
-pub resumed_stops : (put : List ℕ) (before mid : View) → ArePuts put → IsResumed put before mid → StopsResuming true before mid
+pub resumed_stops : (put : List ℕ) (before mid : View) → ArePuts put → IsResumed put before mid → PutsSome before mid
 resumed_stops [] before mid puts same = inl same
 resumed_stops (byte ∷ put) before mid (jobs, is) happens =
     let all : List ℕ = flat_map put_line jobs in
     let P : List ℕ → Type 0 = λ bytes. Happens before mid (Kept bytes ∷ []) in
     inr (jobs, length all, subst P (is ∙ sym (take_all (length all) all (omega arith))) happens)
+
+-- a log was served, and then the service stopped
+pub log_stops : (told : Option ℕ) (empty : LiveState) (log : Option (List ℕ)) (before mid after : View) → StopsReplay told empty log before mid → PutsSome mid after → StopsResuming told (Some log) empty before after
+log_stops told empty log before mid after stops puts = (mid, stops, puts)
 
 -- they were kept
 pub puts_resumed : (put : List ℕ) (before mid : View) → 0 < length put → Happens before mid (Kept put ∷ []) → IsResumed put before mid
@@ -140,7 +145,7 @@ pub none_resumed : (put : List ℕ) (before mid : View) → put ≡ [] → mid �
 none_resumed put before mid none same = let P : List ℕ → Type 0 = λ p. IsResumed p before mid in subst P (sym none) same
 
 -- or the log failed
-pub puts_stopped : (before mid : View) (put : List ℕ) (fault : FailedDevice) → ArePuts put → Fails before mid fault Kept put → StopsResuming true before mid
+pub puts_stopped : (before mid : View) (put : List ℕ) (fault : FailedDevice) → ArePuts put → Fails before mid fault Kept put → PutsSome before mid
 puts_stopped before mid put fault (jobs, is) fails = let P : List ℕ → Type 0 = λ bytes. Happens before mid (Kept (take fails.count bytes) ∷ []) in inr (jobs, fails.count, subst P is fails.happens)
 
 -- of an error two things hold
@@ -149,27 +154,27 @@ err_and (Ok x) A B a b = tt
 err_and (Err e) A B a b = (a, b)
 
 -- a machine over a live service that has served no line
-pub resumes_none : (empty : LiveState) (machine : MachineState) (view : View) → machine ≡ begins_with empty 1 → Resumes None empty machine view view
-resumes_none empty machine view is = record { begun = empty; first = 1; put = []; begins = (refl, refl, refl); machine_is = is; resumed = refl }
+pub resumes_none : (told : Option ℕ) (empty : LiveState) (machine : MachineState) (view : View) → machine ≡ begins_with empty 1 → Resumes told None empty machine view view
+resumes_none told empty machine view is = record { begun = empty; first = 1; put = []; retold = view; begins = (refl, refl, refl, refl); machine_is = is; resumed = refl }
 
 -- and one that goes on from a log
-pub resumes_log : (log : Option (List ℕ)) (empty begun : LiveState) (next first : ℕ) (put : List ℕ) (new machine : MachineState) (before mid : View) → Replays empty log begun next put → IsResumed put before mid → first ≡ next → new ≡ begins_with begun first → machine ≡ new → Resumes (Some log) empty machine before mid
-resumes_log log empty begun next first put new machine before mid replays resumed same is made = record { begun = begun; first = next; put = put; begins = replays; machine_is = made ∙ (is ∙ ap (begins_with begun) same); resumed = resumed }
+pub resumes_log : (told : Option ℕ) (log : Option (List ℕ)) (empty begun : LiveState) (next first : ℕ) (put : List ℕ) (new machine : MachineState) (before retold mid : View) → Replays told empty log before begun next put retold → IsResumed put retold mid → first ≡ next → new ≡ begins_with begun first → machine ≡ new → Resumes told (Some log) empty machine before mid
+resumes_log told log empty begun next first put new machine before retold mid replays resumed same is made = record { begun = begun; first = next; put = put; retold = retold; begins = replays; machine_is = made ∙ (is ∙ ap (begins_with begun) same); resumed = resumed }
 
 -- what holds of a machine that was made
-pub ok_resumes : (log : Option (Option (List ℕ))) (empty : LiveState) (before mid : View) (result : Result Machine Outcome) (new : MachineState) → IfOk result (λ m. machine_of m ≡ new) → ((machine : MachineState) → machine ≡ new → Resumes log empty machine before mid) → IfOk result (λ m. Resumes log empty (machine_of m) before mid)
-ok_resumes log empty before mid (Ok m) new is makes = makes (machine_of m) is
-ok_resumes log empty before mid (Err outcome) new is makes = tt
+pub ok_resumes : (told : Option ℕ) (log : Option (Option (List ℕ))) (empty : LiveState) (before mid : View) (result : Result Machine Outcome) (new : MachineState) → IfOk result (λ m. machine_of m ≡ new) → ((machine : MachineState) → machine ≡ new → Resumes told log empty machine before mid) → IfOk result (λ m. Resumes told log empty (machine_of m) before mid)
+ok_resumes told log empty before mid (Ok m) new is makes = makes (machine_of m) is
+ok_resumes told log empty before mid (Err outcome) new is makes = tt
 
 -- over a core that has admitted no tenancy
-pub runs_on : (log : Option (Option (List ℕ))) (service : ServiceState) (graph : Basis) (live : LiveState) (before : View) (lines : List (List ℕ)) (after : View) (outcome : Outcome) → live ≡ begins_on service graph → RunsService log (without_workers live) before lines after outcome → RunsService log (empty_on service graph) before lines after outcome
-runs_on log service graph live before lines after outcome is runs = let P : LiveState → Type 0 = λ l. RunsService log (without_workers l) before lines after outcome in subst P is runs
+pub runs_on : (told : Option ℕ) (log : Option (Option (List ℕ))) (service : ServiceState) (graph : Basis) (live : LiveState) (before : View) (lines : List (List ℕ)) (after : View) (outcome : Outcome) → live ≡ begins_on service graph → RunsService told log (without_workers live) before lines after outcome → RunsService told log (empty_on service graph) before lines after outcome
+runs_on told log service graph live before lines after outcome is runs = let P : LiveState → Type 0 = λ l. RunsService told log (without_workers l) before lines after outcome in subst P is runs
 
 -- a service that goes on from there
-pub runs_service : (log : Option (Option (List ℕ))) (empty : LiveState) (machine : MachineState) (before mid after : View) (lines : List (List ℕ)) (outcome : Outcome) → Resumes log empty machine before mid → EndsServing machine mid lines after outcome → RunsService log empty before lines after outcome
-runs_service log empty machine before mid after lines outcome r ends =
+pub runs_service : (told : Option ℕ) (log : Option (Option (List ℕ))) (empty : LiveState) (machine : MachineState) (before mid after : View) (lines : List (List ℕ)) (outcome : Outcome) → Resumes told log empty machine before mid → EndsServing machine mid lines after outcome → RunsService told log empty before lines after outcome
+runs_service told log empty machine before mid after lines outcome r ends =
     let P : MachineState → Type 0 = λ m. EndsServing m mid lines after outcome in
-    inr (record { begun = r.begun; first = r.first; put = r.put; begins = r.begins; mid = mid; resumed = r.resumed; ends = subst P r.machine_is ends })
+    inr (record { begun = r.begun; first = r.first; put = r.put; retold = r.retold; begins = r.begins; mid = mid; resumed = r.resumed; ends = subst P r.machine_is ends })
 
 -- what was handed over is the beginning of the input
 all_first : (bytes : List ℕ) (end : Option InputEnd) (lines : List (List ℕ)) → AreReadLines (Some bytes) end lines → AreFirst (kept_lines bytes) lines
@@ -202,22 +207,22 @@ serves_first (Some bytes) end put taken (Stopped device) read first all = first_
 serves_first (Some bytes) end put taken TooManyLines read first all = first_of_first _ put taken (all_first bytes end put read) first
 serves_first (Some bytes) end put taken NoMemory read first all = first_of_first _ put taken (all_first bytes end put read) first
 
-other_outcome : (log : Option (Option (List ℕ))) (empty : LiveState) (before after : View) (lines : List (List ℕ)) (outcome result : Outcome) → (result ≡ outcome) ⊎ (result ≡ Stopped Input) → RunsService log empty before lines after outcome → RunsService log empty before lines after result
-other_outcome log empty before after lines outcome result (inl same) runs = let P : Outcome → Type 0 = λ o. RunsService log empty before lines after o in subst P (sym same) runs
-other_outcome log empty before after lines outcome result (inr stopped) runs = let P : Outcome → Type 0 = λ o. RunsService log empty before lines after o in subst P (sym stopped) (service_stopped log empty before after lines outcome runs)
+other_outcome : (told : Option ℕ) (log : Option (Option (List ℕ))) (empty : LiveState) (before after : View) (lines : List (List ℕ)) (outcome result : Outcome) → (result ≡ outcome) ⊎ (result ≡ Stopped Input) → RunsService told log empty before lines after outcome → RunsService told log empty before lines after result
+other_outcome told log empty before after lines outcome result (inl same) runs = let P : Outcome → Type 0 = λ o. RunsService told log empty before lines after o in subst P (sym same) runs
+other_outcome told log empty before after lines outcome result (inr stopped) runs = let P : Outcome → Type 0 = λ o. RunsService told log empty before lines after o in subst P (sym stopped) (service_stopped told log empty before after lines outcome runs)
 
 -- what was put into a ring and what was taken from it are the lines of one input
-pub runs_input : {A G M : Type 0} (log : Option (Option (List ℕ))) (empty : LiveState) (before after : View) (input : Option (List ℕ)) (end : Option InputEnd) (outcome result : Outcome) (p q : Producer (Vec ℕ A) G M) (c d : Consumer (Vec ℕ A) G M) →
+pub runs_input : {A G M : Type 0} (told : Option ℕ) (log : Option (Option (List ℕ))) (empty : LiveState) (before after : View) (input : Option (List ℕ)) (end : Option InputEnd) (outcome result : Outcome) (p q : Producer (Vec ℕ A) G M) (c d : Consumer (Vec ℕ A) G M) →
     sent p ≡ [] → received c ≡ [] →
-    PutsLines p q (λ fed. AreReadLines input end fed) → TakesLines c d (λ heard. RunsService log empty before heard after outcome) →
+    PutsLines p q (λ fed. AreReadLines input end fed) → TakesLines c d (λ heard. RunsService told log empty before heard after outcome) →
     AreFirst (sent q) (received d) → (result ≡ Done → IsWhole (sent q) (received d) end outcome) → (result ≡ outcome) ⊎ (result ≡ Stopped Input) →
-    RunsInput log empty before input after result
-runs_input log empty before after input end outcome result p q c d none nothing puts takes first done other = record {
+    RunsInput told log empty before input after result
+runs_input told log empty before after input end outcome result p q c d none nothing puts takes first done other = record {
   lines = lines_of takes.batches;
   all = serves_first input end (lines_of puts.batches) (lines_of takes.batches) result puts.held (taken_lines puts.batches takes.batches own_first) (λ is.
       let w = done is in
       (w.1, ap lines_of (own w.0)));
-  runs = other_outcome log empty before after (lines_of takes.batches) outcome result other takes.held;
+  runs = other_outcome told log empty before after (lines_of takes.batches) outcome result other takes.held;
 }
   where
     taken_is : received d ≡ takes.batches

@@ -1,6 +1,6 @@
 -- Where a log leads.
-use Rattle.std.proofs.Common.{◌≡◌, inl, inr, ℕ, ◌+◌, List, [], ◌∷◌, ◌++◌, Bool, true, false, not, ◌&&◌, Option, refl, sym, ap, subst, ◌∙◌, arith, append-nil}
-use Rattle.std.specs.Prelude.{IfOk, OnOk, Result, Ok, Err}
+use Rattle.std.proofs.Common.{◌≡◌, inl, inr, ℕ, ◌+◌, List, [], ◌∷◌, ◌++◌, Bool, true, false, not, ◌&&◌, Option, Some, None, refl, sym, ap, subst, ◌∙◌, arith, append-nil, append_assoc}
+use Rattle.std.specs.Prelude.{IfOk, IfSome, OnErr, OnOk, Result, Ok, Err}
 use Rattle.std.specs.List.{flat_map}
 use Rattle.std.proofs.lemmas.Grind.{flat_map-append}
 use Rattle.std.specs.Io.KnownBytes.{Consumes, IsAtEnd}
@@ -12,12 +12,16 @@ use Rattle.line_service.specs.Conversation.{AreAnswered}
 use Rattle.line_service.proofs.TalkLemmas.{answered_append}
 use Rattle.live_lines.specs.Live.{Asked, LiveState, asked_of}
 use Rattle.live_lines.specs.Live.Asked.{Echoes, NoForm, Nothing, Operates, Says}
-use Rattle.live_input.specs.Serving.{AnswersLine}
+use Rattle.live_input.specs.Serving.{AnswersLine, kept_lines}
 use Rattle.live_machine.specs.Machine.{is_busy, is_by_hand, is_outside}
 use Rattle.live_machine.specs.Workers.{IsHome, NeedNotWait, without_workers}
-use Rattle.live_threads.specs.Fed.{Fed}
-use Rattle.live_threads.specs.Replays.{ArePuts, IsServable, LeadsTo, PutsHeld, Replays, ReplaysSome, move_no_job, moves_job, put_line}
-use Rattle.live_threads.proofs.FedLemmas.{cut_is_line, fed_line, fed_none, fed_piece, fed_read, fed_whole}
+use Rattle.live_threads.specs.Fed.{AreFirst, Fed}
+use Rattle.live_threads.specs.Replays.{ArePuts, CutsLine, HasReply, IsServable, LeadsFrom, LeadsTo, PutsHeld, Replays, ReplaysSome, ServesLine, StopsLine, StopsReplay, move_no_job, moves_job, put_line}
+use Rattle.live_run.specs.Retelling.{IsRetold, Retells, TellsPart, text_told}
+use Rattle.live_run.proofs.RetellLemmas.{retold_none, retold_then}
+use Rattle.dialogue.specs.History.{View}
+use Rattle.line_feed.proofs.CutLemmas.{kept_none}
+use Rattle.live_threads.proofs.FedLemmas.{cut_is_line, fed_first, fed_line, fed_none, fed_piece, fed_read, fed_whole}
 use Rattle.line_service.proofs.LineLemmas.{both_lines}
 
 -- what workers have is no part of what a line is answered, if they have nothing that it needs
@@ -57,26 +61,29 @@ served_alone laws old new number line reply asked is none can answers = by asked
     by (Says name said) is none (inr home) = laws.said old new number line reply name said is home answers
 
 -- no line leads nowhere
-pub leads_none : (old : LiveState) (number next taken : ℕ) → next ≡ number → LeadsTo old number taken [] old next taken
-leads_none old number next taken same = record { text = []; leads = λ is none. ((refl, refl), omega (arith, same), none) }
+pub leads_none : (told : Option ℕ) (old : LiveState) (number next taken : ℕ) → next ≡ number → LeadsTo told old number taken [] [] old next taken
+leads_none told old number next taken same = λ is none. ((refl, refl), omega (arith, same), none)
 
 not_true : (b : Bool) → not b ≡ true → b ≡ false
 not_true true is = absurd (cc)
 not_true false is = refl
 
--- a line
-pub leads_line : (laws : HomeLaws) (old at after new : LiveState) (number next taken took : ℕ) (line reply : List ℕ) → kept_of line ≡ line → without_workers at ≡ without_workers old → (taken ≡ 0 → IsServable at (asked_of line) line) → AnswersLine at number line reply after →
-    without_workers new ≡ without_workers after → next ≡ number + 1 → (moves_job (asked_of line) ≡ false → took ≡ taken) → LeadsTo (without_workers old) number taken (line ∷ []) (without_workers new) next took
-leads_line laws old at after new number next taken took line reply cut before can answers later counted same = record {
-  text = reply ++ [];
-  leads = λ is free.
-      let none : moves_job (asked_of line) ≡ false = not_true (moves_job (asked_of line)) (and_parts (not (moves_job (asked_of line))) true is).0 in
-      let alone = served_alone laws at after number line reply (asked_of line) refl none (can free) answers in
-      let P : LiveState → Type 0 = λ s. AnswersLine s number line reply (without_workers after) in
-      let Q : LiveState → Type 0 = λ s. AnswersLine (without_workers old) number line reply s in
-      let R : List ℕ → Type 0 = λ l. AnswersLine (without_workers old) number l reply (without_workers new) in
-      ((reply, without_workers new, [], subst R (sym cut) (subst Q (sym later) (subst P before alone)), (refl, refl), refl), counted, same none ∙ free);
-}
+-- the reply to a line, as without workers
+pub reply_line : (laws : HomeLaws) (old at after new : LiveState) (number taken took : ℕ) (line reply : List ℕ) → without_workers at ≡ without_workers old → (taken ≡ 0 → IsServable at (asked_of line) line) → AnswersLine at number line reply after →
+    without_workers new ≡ without_workers after → (moves_job (asked_of line) ≡ false → took ≡ taken) → HasReply (without_workers old) number taken line reply (without_workers new) took
+reply_line laws old at after new number taken took line reply before can answers later same = λ none free.
+    let alone = served_alone laws at after number line reply (asked_of line) refl none (can free) answers in
+    let P : LiveState → Type 0 = λ s. AnswersLine s number line reply (without_workers after) in
+    let Q : LiveState → Type 0 = λ s. AnswersLine (without_workers old) number line reply s in
+    (subst Q (sym later) (subst P before alone), same none ∙ free)
+
+-- a line leads on
+pub leads_line : (told : Option ℕ) (old new : LiveState) (number next taken took : ℕ) (line reply text : List ℕ) → kept_of line ≡ line → HasReply old number taken line reply new took → next ≡ number + 1 → text ≡ text_told told number reply → LeadsTo told old number taken (line ∷ []) text new next took
+leads_line told old new number next taken took line reply text cut has counted is_text = λ is free.
+    let none : moves_job (asked_of line) ≡ false = not_true (moves_job (asked_of line)) (and_parts (not (moves_job (asked_of line))) true is).0 in
+    let h = has none free in
+    let R : List ℕ → Type 0 = λ l. Retells told old number l text new in
+    ((text, new, [], subst R (sym cut) (record { reply = reply; answered = h.0; text_is = is_text }), (refl, refl), sym (append-nil text)), counted, h.1)
 
 none_parts : (lines more : List (List ℕ)) → move_no_job (lines ++ more) ≡ true → (move_no_job lines ≡ true) × (move_no_job more ≡ true)
 none_parts [] more is = (refl, is)
@@ -86,64 +93,129 @@ none_parts (line ∷ lines) more is =
     (and_from _ _ parts.0 rest.0, rest.1)
 
 -- lines after lines
-pub leads_then : (old mid new : LiveState) (number middle next taken between took : ℕ) (lines more : List (List ℕ)) → LeadsTo old number taken lines mid middle between → LeadsTo mid middle between more new next took → LeadsTo old number taken (lines ++ more) new next took
-leads_then old mid new number middle next taken between took lines more first second = record {
-  text = first.text ++ second.text;
-  leads = λ is free.
-      let parts = none_parts lines more is in
-      let one = first.leads parts.0 free in
-      let two = second.leads parts.1 one.2 in
-      let P : ℕ → Type 0 = λ n. AreAnswered AnswersLine mid n more second.text new in
-      (answered_append AnswersLine old mid new number lines more first.text second.text one.0 (subst P one.1 two.0), omega (arith, one.1, two.1, length-append lines more), two.2);
-}
+pub leads_then : (told : Option ℕ) (old mid new : LiveState) (number middle next taken between took : ℕ) (lines more : List (List ℕ)) (text reply : List ℕ) → LeadsTo told old number taken lines text mid middle between → LeadsTo told mid middle between more reply new next took → LeadsTo told old number taken (lines ++ more) (text ++ reply) new next took
+leads_then told old mid new number middle next taken between took lines more text reply first second = λ is free.
+    let parts = none_parts lines more is in
+    let one = first parts.0 free in
+    let two = second parts.1 one.2 in
+    let P : ℕ → Type 0 = λ n. AreAnswered (Retells told) mid n more reply new in
+    (answered_append (Retells told) old mid new number lines more text reply one.0 (subst P one.1 two.0), omega (arith, one.1, two.1, length-append lines more), two.2)
 
 -- the first line of a log comes
-pub some_none : (begun : LiveState) (input : Option (List ℕ)) (ahead kept : List ℕ) (next taken : ℕ) → ahead ≡ [] → IsKept kept [] → next ≡ 1 → taken ≡ 0 → ReplaysSome begun input input ahead kept begun next taken
-some_none begun input ahead kept next taken none line first free =
-    let P : ℕ → Type 0 = λ t. LeadsTo begun 1 0 [] begun next t in
-    record { fed = []; is_fed = fed_none input ahead kept none line; leads = subst P (sym free) (leads_none begun 1 next 0 first) }
+pub some_none : (told : Option ℕ) (begun : LiveState) (input : Option (List ℕ)) (ahead kept : List ℕ) (view : View) (next taken : ℕ) → ahead ≡ [] → IsKept kept [] → next ≡ 1 → taken ≡ 0 → ReplaysSome told begun input input ahead kept view begun next taken view
+some_none told begun input ahead kept view next taken none line first free =
+    let P : ℕ → Type 0 = λ t. LeadsTo told begun 1 0 [] [] begun next t in
+    record { fed = []; is_fed = fed_none input ahead kept none line; text = []; leads = subst P (sym free) (leads_none told begun 1 next 0 first); retold = retold_none told view }
 
 -- a line of it is whole, and was served
-pub some_line : (begun : LiveState) (input now : Option (List ℕ)) (ahead kept rest after cleared : List ℕ) (mid new : LiveState) (middle next taken took : ℕ) → ReplaysSome begun input now ahead kept mid middle taken → TakesPiece ahead kept true rest after → IsKept cleared [] → LeadsTo mid middle taken (after ∷ []) new next took → ReplaysSome begun input now rest cleared new next took
-some_line begun input now ahead kept rest after cleared mid new middle next taken took s p none leads = record {
+pub some_line : (told : Option ℕ) (begun : LiveState) (input now : Option (List ℕ)) (ahead kept rest after cleared : List ℕ) (before : View) (mid new : LiveState) (middle next taken took : ℕ) (between last : View) → ReplaysSome told begun input now ahead kept before mid middle taken between → TakesPiece ahead kept true rest after → IsKept cleared [] → ServesLine told mid middle taken after between new next took last → ReplaysSome told begun input now rest cleared before new next took last
+some_line told begun input now ahead kept rest after cleared before mid new middle next taken took between last s p none serves = record {
   fed = s.fed ++ after ∷ [];
   is_fed = fed_line input now ahead kept rest after cleared s.fed s.is_fed p none;
-  leads = leads_then begun mid new 1 middle next 0 taken took s.fed (after ∷ []) s.leads leads;
+  text = s.text ++ serves.text;
+  leads = leads_then told begun mid new 1 middle next 0 taken took s.fed (after ∷ []) s.text serves.text s.leads serves.leads;
+  retold = retold_then told before between last s.text serves.text s.retold serves.retold;
 }
 
-pub some_cut : (begun : LiveState) (input now : Option (List ℕ)) (ahead kept rest after : List ℕ) (mid : LiveState) (middle taken : ℕ) → ReplaysSome begun input now ahead kept mid middle taken → TakesPiece ahead kept true rest after → kept_of after ≡ after
-some_cut begun input now ahead kept rest after mid middle taken s p =
+pub some_cut : (told : Option ℕ) (begun : LiveState) (input now : Option (List ℕ)) (ahead kept rest after : List ℕ) (before : View) (mid : LiveState) (middle taken : ℕ) (between : View) → ReplaysSome told begun input now ahead kept before mid middle taken between → TakesPiece ahead kept true rest after → kept_of after ≡ after
+some_cut told begun input now ahead kept rest after before mid middle taken between s p =
     let g = s.is_fed in
     (cut_is_line (g.begun ++ p.piece) after (p.kept g.begun g.line) (both_lines g.begun p.piece g.is_begun p.one)).kept
 
 -- more of it is read
-pub some_read : (begun : LiveState) (input now later : Option (List ℕ)) (ahead kept rest after bytes line : List ℕ) (mid : LiveState) (middle taken : ℕ) → ReplaysSome begun input now ahead kept mid middle taken → TakesPiece ahead kept false rest after → Consumes now later bytes → line ≡ after → ReplaysSome begun input later bytes line mid middle taken
-some_read begun input now later ahead kept rest after bytes line mid middle taken s p reads same =
+pub some_read : (told : Option ℕ) (begun : LiveState) (input now later : Option (List ℕ)) (ahead kept rest after bytes line : List ℕ) (before : View) (mid : LiveState) (middle taken : ℕ) (between : View) → ReplaysSome told begun input now ahead kept before mid middle taken between → TakesPiece ahead kept false rest after → Consumes now later bytes → line ≡ after → ReplaysSome told begun input later bytes line before mid middle taken between
+some_read told begun input now later ahead kept rest after bytes line before mid middle taken between s p reads same =
     let F : List ℕ → Type 0 = λ l. Fed input later bytes l s.fed in
     record {
       fed = s.fed;
       is_fed = subst F (sym same) (fed_read input now later rest after bytes s.fed p.rest.1 (fed_piece input now ahead kept rest after s.fed s.is_fed p) reads);
+      text = s.text;
       leads = s.leads;
+      retold = s.retold;
     }
 
+from_first : (told : Option ℕ) (begun : LiveState) (lines : List (List ℕ)) (text : List ℕ) (new : LiveState) (next taken : ℕ) → LeadsTo told begun 1 0 lines text new next taken → LeadsFrom told begun lines text new
+from_first told begun lines text new next taken leads = λ is. (leads is refl).0
+
 -- all of it was served, and the jobs that the operator held were put
-pub replayed : (begun : LiveState) (input now : Option (List ℕ)) (ahead kept : List ℕ) (mid new : LiveState) (middle next taken : ℕ) (put : List ℕ) → ahead ≡ [] → IsAtEnd now → ReplaysSome begun input now ahead kept mid middle taken → PutsHeld mid middle taken new next put → Replays begun input new next put
-replayed begun input now ahead kept mid new middle next taken put none at s p = record {
+pub replayed : (told : Option ℕ) (begun : LiveState) (input now : Option (List ℕ)) (ahead kept : List ℕ) (before : View) (mid new : LiveState) (middle next taken : ℕ) (put : List ℕ) (after : View) → ahead ≡ [] → IsAtEnd now → ReplaysSome told begun input now ahead kept before mid middle taken after → PutsHeld mid middle taken new next put → Replays told begun input before new next put after
+replayed told begun input now ahead kept before mid new middle next taken put after none at s p = record {
   lines = s.fed;
   all = fed_whole input now ahead kept s.fed none s.is_fed at;
   jobs = p.puts.0;
   put_is = p.puts.1;
-  text = s.leads.text;
+  text = s.text;
   leads = λ is.
-      let w = s.leads.leads is refl in
+      let w = s.leads is refl in
       let n = p.none w.2 in
-      let P : LiveState → Type 0 = λ l. AreAnswered AnswersLine begun 1 s.fed s.leads.text l in
-      (subst P (sym n.0) w.0, n.1 ∙ w.1, n.2);
+      let P : LiveState → Type 0 = λ l. AreAnswered (Retells told) begun 1 s.fed s.text l in
+      subst P (sym n.0) w.0;
+  counts = λ is.
+      let w = s.leads is refl in
+      let n = p.none w.2 in
+      (n.1 ∙ w.1, n.2);
+  retold = s.retold;
 }
 
+-- nothing more is written
+pub some_stops : (told : Option ℕ) (begun : LiveState) (input now : Option (List ℕ)) (ahead kept : List ℕ) (before : View) (mid : LiveState) (middle taken : ℕ) (after : View) → ReplaysSome told begun input now ahead kept before mid middle taken after → StopsReplay told begun input before after
+some_stops told begun input now ahead kept before mid middle taken after s = record {
+  lines = s.fed;
+  first = fed_first input now ahead kept s.fed s.is_fed;
+  text = s.text;
+  new = mid;
+  leads = from_first told begun s.fed s.text mid middle taken s.leads;
+  said = s.text;
+  unsaid = [];
+  cut = sym (append-nil s.text);
+  retold = s.retold;
+}
+
+some_part : (told : Option ℕ) (begun : LiveState) (input now : Option (List ℕ)) (ahead kept rest after : List ℕ) (before : View) (mid : LiveState) (middle taken : ℕ) (between last : View) → ReplaysSome told begun input now ahead kept before mid middle taken between → TakesPiece ahead kept true rest after → CutsLine told mid middle taken after between last → StopsReplay told begun input before last
+some_part told begun input now ahead kept rest after before mid middle taken between last s p c = record {
+  lines = s.fed ++ after ∷ [];
+  first = fed_first input now rest [] (s.fed ++ after ∷ []) (fed_line input now ahead kept rest after [] s.fed s.is_fed p (sym kept_none));
+  text = s.text ++ c.text;
+  new = c.new;
+  leads = from_first told begun (s.fed ++ after ∷ []) (s.text ++ c.text) c.new c.next c.took (leads_then told begun mid c.new 1 middle c.next 0 taken c.took s.fed (after ∷ []) s.text c.text s.leads c.leads);
+  said = s.text ++ c.part.said;
+  unsaid = c.part.unsaid;
+  cut = ap (λ t. s.text ++ t) c.part.cut ∙ sym (append_assoc s.text c.part.said c.part.unsaid);
+  retold = retold_then told before between last s.text c.part.said s.retold c.part.retold;
+}
+
+-- a line was not served, or only a beginning of its reply was written
+pub some_fails : (told : Option ℕ) (begun : LiveState) (input now : Option (List ℕ)) (ahead kept rest after : List ℕ) (before : View) (mid : LiveState) (middle taken : ℕ) (between last : View) → ReplaysSome told begun input now ahead kept before mid middle taken between → TakesPiece ahead kept true rest after → StopsLine told mid middle taken after between last → StopsReplay told begun input before last
+some_fails told begun input now ahead kept rest after before mid middle taken between last s p (inl same) =
+    let P : View → Type 0 = λ v. StopsReplay told begun input before v in
+    subst P (sym same) (some_stops told begun input now ahead kept before mid middle taken between s)
+some_fails told begun input now ahead kept rest after before mid middle taken between last s p (inr c) = some_part told begun input now ahead kept rest after before mid middle taken between last s p c
+
+-- no line was served
+pub none_stops : (told : Option ℕ) (begun : LiveState) (input : Option (List ℕ)) (view : View) → StopsReplay told begun input view view
+none_stops told begun input view = some_stops told begun input input [] [] view begun 1 0 view (some_none told begun input [] [] view 1 0 refl (sym kept_none) refl refl)
+
+-- all lines were, and then the service stopped
+pub replay_stops : (told : Option ℕ) (begun : LiveState) (log : Option (List ℕ)) (before : View) (new : LiveState) (next : ℕ) (put : List ℕ) (after : View) → Replays told begun log before new next put after → StopsReplay told begun log before after
+replay_stops told begun log before new next put after r = record {
+  lines = r.lines;
+  first = all_are_first log r.lines r.all;
+  text = r.text;
+  new = new;
+  leads = r.leads;
+  said = r.text;
+  unsaid = [];
+  cut = sym (append-nil r.text);
+  retold = r.retold;
+}
+  where
+    all_are_first : (input : Option (List ℕ)) (lines : List (List ℕ)) → IfSome input (λ bytes. lines ≡ kept_lines bytes) → IfSome input (λ bytes. AreFirst (kept_lines bytes) lines)
+    all_are_first None lines all = tt
+    all_are_first (Some bytes) lines all = ([], sym all ∙ sym (append-nil lines))
+
 -- the lines after a log put jobs
-pub puts_of : (begun : LiveState) (log : Option (List ℕ)) (new : LiveState) (next : ℕ) (put : List ℕ) → Replays begun log new next put → ArePuts put
-puts_of begun log new next put r = (r.jobs, r.put_is)
+pub puts_of : (told : Option ℕ) (begun : LiveState) (log : Option (List ℕ)) (before : View) (new : LiveState) (next : ℕ) (put : List ℕ) (after : View) → Replays told begun log before new next put after → ArePuts put
+puts_of told begun log before new next put after r = (r.jobs, r.put_is)
 
 -- one more line puts a job
 pub puts_push : (text line more : List ℕ) (job : ℕ) → ArePuts text → line ≡ put_line job → more ≡ text ++ line → ArePuts more
@@ -152,16 +224,20 @@ puts_push text line more job (jobs, is) one all = (
   all ∙ (ap (λ t. t ++ line) is ∙ (ap (λ l. flat_map put_line jobs ++ l) (one ∙ sym (append-nil (put_line job))) ∙ sym (flat_map-append put_line jobs (job ∷ [])))),
 )
 
-pub ok_so : {T E : Type 0} (result : Result T E) (P Q : Type 0) → (P → Q) → OnOk result P → OnOk result Q
-ok_so (Ok x) P Q so p = so p
-ok_so (Err e) P Q so p = tt
+pub err_so : {T E : Type 0} {P : Type 0} (result : Result T E) → P → OnErr result P
+err_so (Ok x) p = tt
+err_so (Err e) p = p
 
 pub if_ok_so : {T E : Type 0} (result : Result T E) (P Q : T → Type 0) → ((x : T) → P x → Q x) → IfOk result P → IfOk result Q
 if_ok_so (Ok x) P Q so p = so x p
 if_ok_so (Err e) P Q so p = tt
 
--- a line, if what comes after it is made
-pub ok_line : {T E : Type 0} (result : Result T E) (laws : HomeLaws) (old at after new : LiveState) (number next taken took : ℕ) (line reply : List ℕ) → kept_of line ≡ line → without_workers at ≡ without_workers old → (taken ≡ 0 → IsServable at (asked_of line) line) → AnswersLine at number line reply after →
-    OnOk result (without_workers new ≡ without_workers after) → next ≡ number + 1 → (moves_job (asked_of line) ≡ false → OnOk result (took ≡ taken)) → OnOk result (LeadsTo (without_workers old) number taken (line ∷ []) (without_workers new) next took)
-ok_line (Ok x) laws old at after new number next taken took line reply cut before can answers later counted same = leads_line laws old at after new number next taken took line reply cut before can answers later counted same
-ok_line (Err e) laws old at after new number next taken took line reply cut before can answers later counted same = tt
+-- a line that was served
+pub ok_serves : {T E : Type 0} (result : Result T E) (told : Option ℕ) (old new : LiveState) (number next taken took : ℕ) (line reply : List ℕ) (before after : View) → kept_of line ≡ line → HasReply old number taken line reply new took → next ≡ number + 1 → OnOk result (IsRetold told before after (text_told told number reply)) → OnOk result (ServesLine told old number taken line before new next took after)
+ok_serves (Ok x) told old new number next taken took line reply before after cut has counted retold = record { text = text_told told number reply; leads = leads_line told old new number next taken took line reply (text_told told number reply) cut has counted refl; retold = retold }
+ok_serves (Err e) told old new number next taken took line reply before after cut has counted retold = tt
+
+-- and one of whose reply a beginning was written
+pub err_cuts : {T E : Type 0} (result : Result T E) (told : Option ℕ) (old new : LiveState) (number next taken took : ℕ) (line reply : List ℕ) (before after : View) → kept_of line ≡ line → HasReply old number taken line reply new took → next ≡ number + 1 → OnErr result (TellsPart told before after (text_told told number reply)) → OnErr result (StopsLine told old number taken line before after)
+err_cuts (Ok x) told old new number next taken took line reply before after cut has counted part = tt
+err_cuts (Err e) told old new number next taken took line reply before after cut has counted part = inr (record { text = text_told told number reply; new = new; next = next; took = took; leads = leads_line told old new number next taken took line reply (text_told told number reply) cut has counted refl; part = part })

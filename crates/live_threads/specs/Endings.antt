@@ -46,15 +46,15 @@ pub record RunsThreads (line : CommandLine) (input output : Option (List ℕ)) (
   pub has_log : begun.has_log ≡ is_some line.log
   pub log : Option (Option (List ℕ))
   pub is_log : is_some log ≡ is_some line.log
-  pub runs : RunsInput log (empty_on (empty_service (device_of line.options arch)) (own_graph (device_of line.options arch))) begun input after outcome
+  pub runs : RunsInput line.told log (empty_on (empty_service (device_of line.options arch)) (own_graph (device_of line.options arch))) begun input after outcome
 
 -- private: the device of that architecture
 abbrev pub IsDeviceOf : Options → List ℕ → Device → Type 0
 IsDeviceOf options architecture device = (arch : Arch) × (arch_of architecture options.tracks ≡ Ok arch) × (device ≡ device_of options arch)
 
 -- private: a service over that device, or one that does not begin
-abbrev pub RunsOver : Option (Option (List ℕ)) → Device → View → Option (List ℕ) → Option View → Outcome → Type 0
-RunsOver log device before input after outcome = RunsOpened log (empty_on (empty_service device) (own_graph device)) before input after outcome
+abbrev pub RunsOver : Option ℕ → Option (Option (List ℕ)) → Device → View → Option (List ℕ) → Option View → Outcome → Type 0
+RunsOver told log device before input after outcome = RunsOpened told log (empty_on (empty_service device) (own_graph device)) before input after outcome
 
 -- or one that does not begin
 abbrev pub RunsThreaded : CommandLine → Option (List ℕ) → Option (List ℕ) → Option View → Outcome → Type 0

@@ -1,11 +1,11 @@
 //! The thread that serves, from the log to the end.
-ghost use Rattle.std.specs.Prelude.{◌≡◌, ◌≢◌, [], Some, true, is_some, option_map, IfErr, IfOk, OnOk};
+ghost use Rattle.std.specs.Prelude.{◌≡◌, ◌≢◌, [], Some, option_map, IfErr, IfOk, OnOk};
 ghost use Rattle.live_input.specs.Serving.{is_ready, state_in};
 ghost use Rattle.live_machine.specs.Parts.{IsReady, machine_of};
 ghost use Rattle.live_machine.specs.Workers.{without_workers};
 ghost use Rattle.live_run.specs.declared.outcome.Outcome.TheVariants.{Done};
 ghost use Rattle.live_threads.specs.Outlet.{view_of};
-ghost use Rattle.live_threads.specs.Ends.{IsResumed, Resumes, RunsService, StopsResuming, empty_on};
+ghost use Rattle.live_threads.specs.Ends.{IsResumed, PutsSome, Resumes, RunsService, StopsResuming, empty_on};
 ghost use Rattle.live_threads.specs.Replays.{ArePuts};
 ghost use Rattle.live_threads.specs.Taken.{TakesLines};
 
@@ -32,6 +32,8 @@ use strips::DeviceGraph;
 pub(crate) struct Opened<P: Source + Drop, W: Sink + Drop, L: Log + Drop> {
     pub(crate) service: Service,
     pub(crate) past: Option<P>,
+    /// The number of a line of the log. The replies to the lines after it are written.
+    pub(crate) told: Option<u64>,
     pub(crate) devices: Devices<W, L>,
 }
 
@@ -77,7 +79,7 @@ impl<P: Source + Drop, W: Sink + Drop, L: Log + Drop> Promise<ServerEnd<W, L>>
     ghost use Rattle.live_threads.specs.Taken.{TakesLines};
 
     ghost kept_by = { λ p r. TakesLines p.lines.value r.lines (λ heard.
-        RunsService (option_map P.remaining p.opened.value.past)
+        RunsService p.opened.value.told (option_map P.remaining p.opened.value.past)
         (empty_on p.opened.value.service p.graph.value)
         (view_of W.contents W.has_failed L.kept L.has_failed p.opened.value.devices) heard
         (view_of W.contents W.has_failed L.kept L.has_failed r.devices) r.outcome) };
@@ -92,19 +94,20 @@ pub(crate) fn serve_opened<
 >(site: Site<'_, H>, opened: Opened<P, W, L>, lines: Consumer<Vec<u8>>) -> ServerEnd<W, L>
     requires { opened.service.histories ≡ [] }
     ensures { TakesLines lines result.lines (λ heard.
-        RunsService (option_map P.remaining opened.past) (empty_on opened.service site.entry.graph.now)
+        RunsService opened.told (option_map P.remaining opened.past) (empty_on opened.service site.entry.graph.now)
         (view_of W.contents W.has_failed L.kept L.has_failed opened.devices) heard
         (view_of W.contents W.has_failed L.kept L.has_failed result.devices) result.outcome) }
 {
     let Opened {
         service,
         past,
+        told,
         devices,
     } = opened;
     let mut devices = devices;
     let mut lines = lines;
     let live = LiveLines::new(site.rt.alloc(), site.graph, service);
-    let outcome = serve_resumed(site, live, past, &mut lines, &mut devices);
+    let outcome = serve_resumed(site, live, past, told, &mut lines, &mut devices);
     site.crew.close(site.rt);
     ServerEnd {
         lines,
@@ -119,15 +122,16 @@ fn serve_resumed<H: Wait + AllocGlobal + Eprint, P: Source + Drop, O: Outlet>(
     site: Site<'_, H>,
     live: LiveLines<'_>,
     past: Option<P>,
+    told: Option<u64>,
     lines: &mut Consumer<Vec<u8>>,
     outlet: &mut O,
 ) -> Outcome
     requires { is_ready live }
-    ensures { TakesLines lines.old lines.new (λ heard. RunsService (option_map P.remaining past)
+    ensures { TakesLines lines.old lines.new (λ heard. RunsService told (option_map P.remaining past)
         (without_workers (state_in live.entry)) (O.view outlet.old) heard (O.view outlet.new)
         result) }
 {
-    match resume(site, live, past, outlet) {
+    match resume(site, live, past, told, outlet) {
         Ok(machine) => {
             say_ready(site.rt, site.ready);
             serve_machine(site.rt, site.crew, lines, machine, outlet)
@@ -136,24 +140,26 @@ fn serve_resumed<H: Wait + AllocGlobal + Eprint, P: Source + Drop, O: Outlet>(
     }
 }
 
-/// The machine after the lines of the log, if there is one.
+/// The machine after the lines of the log, if there is one. The replies to those after the line
+/// `told` are written.
 fn resume<'g, H: Wait + AllocGlobal, P: Source + Drop, O: Outlet>(
     site: Site<'g, H>,
     live: LiveLines<'g>,
     past: Option<P>,
+    told: Option<u64>,
     outlet: &mut O,
 ) -> Result<Machine<'g>, Outcome>
     requires { is_ready live }
     ensures ready { IfOk result IsReady }
-    ensures resumes { IfOk result (λ machine. Resumes (option_map P.remaining past)
+    ensures resumes { IfOk result (λ machine. Resumes told (option_map P.remaining past)
         (without_workers (state_in live.entry)) (machine_of machine) (O.view outlet.old)
         (O.view outlet.new)) }
     ensures none { IfErr result (λ outcome. (outcome ≢ Done)
-        × StopsResuming (is_some (option_map P.remaining past)) (O.view outlet.old)
-        (O.view outlet.new)) }
+        × StopsResuming told (option_map P.remaining past) (without_workers (state_in live.entry))
+        (O.view outlet.old) (O.view outlet.new)) }
 {
     match past {
-        Some(past) => resume_log(site, live, past, outlet),
+        Some(past) => resume_log(site, live, past, told, outlet),
         None => Ok(Machine::new(site.rt.alloc(), live, 1)),
     }
 }
@@ -163,17 +169,19 @@ fn resume_log<'g, H: Wait + AllocGlobal, P: Source + Drop, O: Outlet>(
     site: Site<'g, H>,
     live: LiveLines<'g>,
     past: P,
+    told: Option<u64>,
     outlet: &mut O,
 ) -> Result<Machine<'g>, Outcome>
     requires { is_ready live }
     ensures ready { IfOk result IsReady }
-    ensures resumes { IfOk result (λ machine. Resumes (Some (P.remaining past))
+    ensures resumes { IfOk result (λ machine. Resumes told (Some (P.remaining past))
         (without_workers (state_in live.entry)) (machine_of machine) (O.view outlet.old)
         (O.view outlet.new)) }
     ensures none { IfErr result (λ outcome. (outcome ≢ Done)
-        × StopsResuming true (O.view outlet.old) (O.view outlet.new)) }
+        × StopsResuming told (Some (P.remaining past)) (without_workers (state_in live.entry))
+        (O.view outlet.old) (O.view outlet.new)) }
 {
-    let (live, resumed) = replay(site, live, past)?;
+    let (live, resumed) = replay(site, live, past, told, outlet)?;
     match keep_more(outlet, resumed) {
         Ok(next) => with_steps(Machine::new(site.rt.alloc(), live, next)),
         Err(outcome) => {
@@ -190,7 +198,7 @@ fn keep_more<O: Outlet>(outlet: &mut O, resumed: Resumed) -> Result<u64, Outcome
     ensures resumed { OnOk result (IsResumed resumed.more.items (O.view outlet.old)
         (O.view outlet.new)) }
     ensures none { IfErr result (λ outcome. (outcome ≢ Done)
-        × StopsResuming true (O.view outlet.old) (O.view outlet.new)) }
+        × PutsSome (O.view outlet.old) (O.view outlet.new)) }
 {
     let Resumed { next, more } = resumed;
     if more.is_empty() {

@@ -1,15 +1,17 @@
 //! The lines of a log, served again, while workers make its steps.
-ghost use Rattle.std.specs.Prelude.{◌≡◌, ◌≢◌, ◌+◌, ◌∷◌, [], ◌<◌, ◌^◌, false, IfErr, IfOk, OnOk};
+ghost use Rattle.std.specs.Prelude.{◌≡◌, ◌≢◌, ◌+◌, ◌∷◌, [], ◌<◌, ◌^◌, false, IfErr, IfOk, OnErr, OnOk};
 ghost use Rattle.live_input.specs.Serving.{is_ready, state_in};
 ghost use Rattle.live_lines.specs.Live.{asked_of as what_asks, asks};
 ghost use Rattle.live_machine.specs.Workers.{without_workers};
-ghost use Rattle.live_threads.specs.Replays.{IsServable, LeadsTo, PutsHeld, Replays, moves_job, put_line};
+ghost use Rattle.live_threads.specs.Replays.{HasReply, IsServable, PutsHeld, Replays, ServesLine, StopsLine, StopsReplay, moves_job, put_line};
+ghost use Rattle.live_run.specs.Retelling.{IsRetold, TellsPart, text_told};
 ghost use Rattle.line_feed.specs.Feed.{ahead_of, line_of};
 ghost use Rattle.line_feed.specs.Pieces.{IsKept, kept_of};
 
 mod jobs;
 
 use crate::crew::Site;
+use crate::outlet::Outlet;
 use dialogue::{Dialogue, Replay};
 use itoa::Buffer;
 use line_feed::LineFeed;
@@ -18,7 +20,7 @@ use line_text::Source;
 use live_input::LiveLines;
 use live_lines::{LineRequest, asked_of};
 use live_machine::{says_wait, workers_law};
-use live_run::Outcome;
+use live_run::{Outcome, is_told};
 use script_text::OperatorLine;
 use std::alloc::{AllocError, AllocGlobal};
 use std::mem;
@@ -48,22 +50,27 @@ struct Replayed<'g, R> {
     next: u64,
 }
 
-/// Serves the lines of a log, and drops their replies. Jobs that the operator holds afterwards are
-/// put, each by a line of its own: with workers he can't put them. If it fails, the live service is
-/// closed.
-pub(crate) fn replay<'g, P: Source + Drop, R: Wait + AllocGlobal>(
+/// Serves the lines of a log. The replies to those after the line `told` are written, the others
+/// are dropped. Jobs that the operator holds afterwards are put, each by a line of its own: with
+/// workers he can't put them. If it fails, the live service is closed.
+pub(crate) fn replay<'g, P: Source + Drop, R: Wait + AllocGlobal, O: Outlet>(
     site: Site<'g, R>,
     lines: LiveLines<'g>,
     past: P,
+    told: Option<u64>,
+    outlet: &mut O,
 ) -> Result<(LiveLines<'g>, Resumed), Outcome>
     requires { is_ready lines }
     ensures ready { IfOk result (λ r. is_ready r.0) }
-    ensures leads { IfOk result (λ r. Replays (without_workers (state_in lines.entry))
-        (P.remaining past) (without_workers (state_in r.0)) r.1.next r.1.more.items) }
+    ensures leads { IfOk result (λ r. Replays told (without_workers (state_in lines.entry))
+        (P.remaining past) (O.view outlet.old) (without_workers (state_in r.0)) r.1.next
+        r.1.more.items (O.view outlet.new)) }
     ensures none { IfErr result (λ outcome. outcome ≢ Outcome.Done) }
+    ensures stops { OnErr result (StopsReplay told (without_workers (state_in lines.entry))
+        (P.remaining past) (O.view outlet.old) (O.view outlet.new)) }
 {
     let mut replayed = Replayed::new(site, lines);
-    let served = replayed.serve_past(past);
+    let served = replayed.serve_past(past, told, outlet);
     let (lines, next) = replayed.into_parts();
     match served {
         Ok(more) => Ok((lines, Resumed { next, more })),
@@ -71,6 +78,28 @@ pub(crate) fn replay<'g, P: Source + Drop, R: Wait + AllocGlobal>(
             lines.close();
             Err(outcome)
         }
+    }
+}
+
+/// Writes the reply to the line of that number, if it is one of the later ones.
+fn tell_reply<O: Outlet>(
+    outlet: &mut O,
+    told: Option<u64>,
+    number: u64,
+    reply: Vec<u8>,
+) -> Result<(), Outcome>
+    ensures told { OnOk result (IsRetold told (O.view outlet.old) (O.view outlet.new)
+        (text_told told number reply.items)) }
+    ensures none { IfErr result (λ outcome. outcome ≢ Outcome.Done) }
+    ensures part { OnErr result (TellsPart told (O.view outlet.old) (O.view outlet.new)
+        (text_told told number reply.items)) }
+{
+    if !is_told(told, number) {
+        return Ok(());
+    }
+    match outlet.tell(reply.as_slice()) {
+        Ok(()) => Ok(()),
+        Err(device) => Err(Outcome::Stopped(device)),
     }
 }
 
@@ -109,30 +138,40 @@ impl<'g, R: Wait + AllocGlobal> Replayed<'g, R> {
         (lines, next)
     }
 
-    /// Serves the lines of a log. Returns lines that were served after them.
-    fn serve_past<P: Source + Drop>(&mut self, past: P) -> Result<Vec<u8>, Outcome>
+    /// Serves the lines of a log, and writes the replies to those after the line `told`. Returns
+    /// lines that were served after them.
+    fn serve_past<P: Source + Drop, O: Outlet>(
+        &mut self,
+        past: P,
+        told: Option<u64>,
+        outlet: &mut O,
+    ) -> Result<Vec<u8>, Outcome>
         requires ready { is_ready self.old.lines }
         requires none { self.old.taken ≡ 0 }
         requires first { self.old.next ≡ 1 }
         ensures ready { OnOk result (is_ready self.new.lines) }
-        ensures leads { IfOk result (λ more. Replays (without_workers (state_in self.old.lines))
-            (P.remaining past) (without_workers (state_in self.new.lines)) self.new.next
-            more.items) }
+        ensures leads { IfOk result (λ more. Replays told (without_workers (state_in self.old.lines))
+            (P.remaining past) (O.view outlet.old) (without_workers (state_in self.new.lines))
+            self.new.next more.items (O.view outlet.new)) }
         ensures none { IfErr result (λ outcome. outcome ≢ Outcome.Done) }
+        ensures stops { OnErr result (StopsReplay told (without_workers (state_in self.old.lines))
+            (P.remaining past) (O.view outlet.old) (O.view outlet.new)) }
     {
         let mut source = Replay::new(past);
         match LineFeed::new(self.site.rt.alloc()) {
-            Ok(mut feed) => self.serve_log(&mut feed, &mut source),
+            Ok(mut feed) => self.serve_log(&mut feed, &mut source, told, outlet),
             Err(_) => Err(Outcome::NoMemory),
         }
     }
 
     /// Serves the lines of a dialogue up to its end, takes all jobs home, and puts those that the
     /// operator holds. Returns the lines that put them.
-    fn serve_log<D: Dialogue>(
+    fn serve_log<D: Dialogue, O: Outlet>(
         &mut self,
         feed: &mut LineFeed,
         source: &mut D,
+        told: Option<u64>,
+        outlet: &mut O,
     ) -> Result<Vec<u8>, Outcome>
         requires ready { is_ready self.old.lines }
         requires ahead { ahead_of feed.old ≡ [] }
@@ -140,13 +179,16 @@ impl<'g, R: Wait + AllocGlobal> Replayed<'g, R> {
         requires none { self.old.taken ≡ 0 }
         requires first { self.old.next ≡ 1 }
         ensures ready { OnOk result (is_ready self.new.lines) }
-        ensures leads { IfOk result (λ more. Replays (without_workers (state_in self.old.lines))
-            (D.view source.old).remaining (without_workers (state_in self.new.lines)) self.new.next more.items) }
+        ensures leads { IfOk result (λ more. Replays told (without_workers (state_in self.old.lines))
+            (D.view source.old).remaining (O.view outlet.old) (without_workers (state_in self.new.lines))
+            self.new.next more.items (O.view outlet.new)) }
         ensures none { IfErr result (λ outcome. outcome ≢ Outcome.Done) }
+        ensures stops { OnErr result (StopsReplay told (without_workers (state_in self.old.lines))
+            (D.view source.old).remaining (O.view outlet.old) (O.view outlet.new)) }
     {
         for _ in self.site.rt.forever() {
             if feed.take_piece() {
-                self.serve(feed.line())?;
+                self.serve(feed.line(), told, outlet)?;
                 feed.begin_line();
                 continue;
             }
@@ -177,34 +219,45 @@ impl<'g, R: Wait + AllocGlobal> Replayed<'g, R> {
         }
     }
 
-    /// Serves a line, cut to the bytes that are kept of it.
-    fn serve(&mut self, line: &[u8]) -> Result<(), Outcome>
+    /// Serves a line, cut to the bytes that are kept of it, and writes its reply if it is one of
+    /// the later ones.
+    fn serve<O: Outlet>(
+        &mut self,
+        line: &[u8],
+        told: Option<u64>,
+        outlet: &mut O,
+    ) -> Result<(), Outcome>
         requires ready { is_ready self.old.lines }
         requires cut { kept_of line.now ≡ line.now }
         ensures ready { OnOk result (is_ready self.new.lines) }
-        ensures leads { OnOk result (LeadsTo (without_workers (state_in self.old.lines))
-            self.old.next self.old.taken (line.now ∷ [])
-            (without_workers (state_in self.new.lines)) self.new.next self.new.taken) }
+        ensures serves { OnOk result (ServesLine told (without_workers (state_in self.old.lines))
+            self.old.next self.old.taken line.now (O.view outlet.old)
+            (without_workers (state_in self.new.lines)) self.new.next self.new.taken
+            (O.view outlet.new)) }
         ensures none { IfErr result (λ outcome. outcome ≢ Outcome.Done) }
+        ensures stops { OnErr result (StopsLine told (without_workers (state_in self.old.lines))
+            self.old.next self.old.taken line.now (O.view outlet.old) (O.view outlet.new)) }
     {
-        if self.next == u64::MAX {
+        let number = self.next;
+        if number == u64::MAX {
             return Err(Outcome::TooManyLines);
         }
         match self.answer(line) {
-            Ok(()) => Ok(()),
+            Ok(reply) => tell_reply(outlet, told, number, reply),
             Err(_) => Err(Outcome::NoMemory),
         }
     }
 
     /// Answers a line, after the job that it may need has come home.
-    fn answer(&mut self, line: &[u8]) -> Result<(), AllocError>
+    fn answer(&mut self, line: &[u8]) -> Result<Vec<u8>, AllocError>
         requires ready { is_ready self.old.lines }
         requires cut { kept_of line.now ≡ line.now }
         requires next { self.old.next + 1 < 2 ^ 64 }
         ensures ready { OnOk result (is_ready self.new.lines) }
-        ensures leads { OnOk result (LeadsTo (without_workers (state_in self.old.lines))
-            self.old.next self.old.taken (line.now ∷ [])
-            (without_workers (state_in self.new.lines)) self.new.next self.new.taken) }
+        ensures has_reply { IfOk result (λ reply.
+            HasReply (without_workers (state_in self.old.lines)) self.old.next self.old.taken
+            line.now reply.items (without_workers (state_in self.new.lines)) self.new.taken) }
+        ensures next { OnOk result (self.new.next ≡ self.old.next + 1) }
     {
         workers_law();
         let asked = asked_of(self.site.rt.alloc(), line)?;
@@ -212,8 +265,13 @@ impl<'g, R: Wait + AllocGlobal> Replayed<'g, R> {
         let reply = self.lines.answer(self.next, line)?;
         self.next += 1;
         let has_taken = reply.starts_with(b"op ok job ");
-        drop(reply);
-        self.note(asked, has_taken)
+        match self.note(asked, has_taken) {
+            Ok(()) => Ok(reply),
+            Err(error) => {
+                drop(reply);
+                Err(error)
+            }
+        }
     }
 
     /// Waits until the job that a line may need is home.

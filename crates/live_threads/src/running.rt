@@ -51,7 +51,7 @@ pub(crate) fn serve_with_workers<
     reader: S,
 ) -> RunEnd<W, L>
     requires { opened.service.histories ≡ [] }
-    ensures { RunsOpened (option_map P.remaining opened.past) (empty_on opened.service graph.now)
+    ensures { RunsOpened opened.told (option_map P.remaining opened.past) (empty_on opened.service graph.now)
         (view_of W.contents W.has_failed L.kept L.has_failed opened.devices) (S.remaining reader)
         (option_map (view_of W.contents W.has_failed L.kept L.has_failed) result.devices) result.outcome }
 {
@@ -115,7 +115,7 @@ fn run_threads<
     requires pair { IsPair input.producer lines }
     requires sent { sent input.producer ≡ [] }
     requires received { received lines ≡ [] }
-    ensures { RunsOpened (option_map P.remaining opened.past) (empty_on opened.service site.entry.graph.now)
+    ensures { RunsOpened opened.told (option_map P.remaining opened.past) (empty_on opened.service site.entry.graph.now)
         (view_of W.contents W.has_failed L.kept L.has_failed opened.devices) (S.remaining input.reader)
         (option_map (view_of W.contents W.has_failed L.kept L.has_failed) result.devices) result.outcome }
 {
@@ -127,7 +127,7 @@ fn run_threads<
             requires pair { IsPair input.producer lines }
             requires sent { sent input.producer ≡ [] }
             requires received { received lines ≡ [] }
-            ensures { RunsOpened (option_map P.remaining opened.past)
+            ensures { RunsOpened opened.told (option_map P.remaining opened.past)
                 (empty_on opened.service site.entry.graph.now)
                 (view_of W.contents W.has_failed L.kept L.has_failed opened.devices)
                 (S.remaining input.reader)
@@ -157,7 +157,7 @@ fn run_in<
     requires pair { IsPair input.producer lines }
     requires sent { sent input.producer ≡ [] }
     requires received { received lines ≡ [] }
-    ensures { RunsOpened (option_map P.remaining opened.past) (empty_on opened.service site.entry.graph.now)
+    ensures { RunsOpened opened.told (option_map P.remaining opened.past) (empty_on opened.service site.entry.graph.now)
         (view_of W.contents W.has_failed L.kept L.has_failed opened.devices) (S.remaining input.reader)
         (option_map (view_of W.contents W.has_failed L.kept L.has_failed) result.devices) result.outcome }
 {
@@ -169,7 +169,7 @@ fn run_in<
     let promise = ServesOpened::of(&opened, &lines, site.graph);
     let serve = move || -> ServerEnd<W, L>
         requires { opened.service.histories ≡ [] }
-        ensures { TakesLines lines result.lines (λ heard. RunsService (option_map P.remaining opened.past)
+        ensures { TakesLines lines result.lines (λ heard. RunsService opened.told (option_map P.remaining opened.past)
             (empty_on opened.service site.entry.graph.now)
             (view_of W.contents W.has_failed L.kept L.has_failed opened.devices) heard
             (view_of W.contents W.has_failed L.kept L.has_failed result.devices)

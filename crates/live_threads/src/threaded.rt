@@ -110,7 +110,7 @@ fn device_of(alloc: Global, line: &CommandLine<'_>, architecture: &[u8]) -> Resu
 }
 
 /// Opens the log of a command line, if it names one.
-fn open_streams<H: Files + AllocGlobal, W: Sink + Drop>(
+fn open_streams<H: Files + AllocGlobal + Eprint, W: Sink + Drop>(
     rt: &H,
     line: &CommandLine<'_>,
     architecture: &[u8],
@@ -161,7 +161,7 @@ fn run_device<
 where
     H::File: LockLog + Send,
     requires { IsDevice device }
-    ensures { RunsOver (option_map (⟦<StdSource<Take<H::File>> as Source>⟧.remaining) streams.past) device
+    ensures { RunsOver line.now.told (option_map (⟦<StdSource<Take<H::File>> as Source>⟧.remaining) streams.past) device
         (⟦<Devices<W, FileLog<H::File>> as Outlet>⟧.view streams.devices) (S.remaining reader)
         (option_map (⟦<Devices<W, FileLog<H::File>> as Outlet>⟧.view) result.devices)
         result.outcome }
@@ -176,6 +176,7 @@ where
             let opened = Opened {
                 service,
                 past,
+                told: line.told,
                 devices,
             };
             serve_with_workers(rt, line, &graph, opened, reader)

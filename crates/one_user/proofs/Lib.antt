@@ -18,3 +18,4 @@ mod LastPass
 mod Placings
 mod Bases
 mod TooFew
+mod PinnedRuns

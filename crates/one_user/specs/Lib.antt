@@ -11,3 +11,4 @@ pub mod RoutingEnds
 pub mod PlacedRuns
 pub mod Crowding
 pub mod CrowdingText
+pub mod Pinned

@@ -14,11 +14,13 @@ ghost use Rattle.pathfinder.specs.Routings.{IsAfter};
 ghost use Rattle.rr_graph.specs.Graph.{graph_of};
 ghost use Rattle.one_user.specs.Crowding.{AreCrowdedNodes, IsCrowdingOf};
 ghost use Rattle.one_user.specs.Placing.{IsPlacing, IsPlacingOf};
+ghost use Rattle.one_user.specs.Pinned.{IsWholeRun};
 ghost use Rattle.one_user.specs.PlacedRuns.{EndsWith, IsRunOn, IsRunWith, nets_on_device};
 ghost use Rattle.one_user.specs.RoutingEnds.{IsLastIteration};
 
 use crate::counts::{Counted, count};
 use crate::crowding::{Crowding, crowded_nodes};
+use crate::left_run::run_left;
 use crate::outcome::Run;
 use crate::placed_run::run_with_routes;
 use crate::placing::{PlacingEnd, place_netlist};
@@ -176,6 +178,27 @@ impl OwnDevice {
             end => {
                 drop(end);
                 Ok(None)
+            }
+        }
+    }
+
+    /// Routes placed blocks, which may be packed for another number of tracks. Fails with
+    /// [`AllocError`] if memory runs out.
+    pub(crate) fn run_whole(&self, placing: &Placing) -> Result<Run, AllocError>
+        requires { placing.now.strip ≡ self.now.strip }
+        ensures { IfOk result (IsWholeRun self.now placing.now) }
+    {
+        let LastIteration { end, number } = self.route(placing)?;
+        match end {
+            IterEnd::Done(routes) => {
+                let run = self.run_by(placing, &routes, number);
+                drop(routes);
+                run
+            }
+            end => {
+                let run = run_left(self.alloc, placing, &end);
+                drop(end);
+                run
             }
         }
     }

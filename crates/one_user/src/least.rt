@@ -46,10 +46,10 @@ pub struct DevicePlan<'a> {
 
 /// The number of tracks that is tried first.
 #[derive(Clone, Copy)]
-struct FirstTry {
-    tracks: u32,
+pub(crate) struct FirstTry {
+    pub(crate) tracks: u32,
     /// The nets for which fewer tracks are too few.
-    crossing: Crossing,
+    pub(crate) crossing: Crossing,
 }
 
 /// Routes a netlist with more and more tracks, until it is routed; the netlist may be refused. It
@@ -115,7 +115,11 @@ fn least_for<T: Sink>(
 /// The least number of tracks with which each net that crosses the busiest column has a wire over
 /// it, at least 1 and at most one more than a channel may have. Fails with [`AllocError`] if memory
 /// runs out.
-fn first_try(alloc: Global, plan: DevicePlan<'_>, placing: &Placing) -> Result<FirstTry, AllocError>
+pub(crate) fn first_try(
+    alloc: Global,
+    plan: DevicePlan<'_>,
+    placing: &Placing,
+) -> Result<FirstTry, AllocError>
     requires { IsWithin 1 plan.columns MAX_COLUMNS }
     ensures { IfOk result (IsFirstTry plan.entry placing.now) }
 {
@@ -171,7 +175,7 @@ fn try_with(
 }
 
 /// Packs and places a netlist for all numbers of tracks, or returns why it is refused.
-fn place_with(
+pub(crate) fn place_with(
     alloc: Global,
     plan: DevicePlan<'_>,
     request: Request<'_>,
@@ -188,7 +192,7 @@ fn place_with(
 }
 
 /// Writes the line of a try with a number of tracks, with its end.
-fn tell_try<W: Sink>(sink: &mut W, tracks: u32, end: &str) -> Result<(), Failed> {
+pub(crate) fn tell_try<W: Sink>(sink: &mut W, tracks: u32, end: &str) -> Result<(), Failed> {
     write_parts(
         sink,
         &[
@@ -202,7 +206,7 @@ fn tell_try<W: Sink>(sink: &mut W, tracks: u32, end: &str) -> Result<(), Failed>
 }
 
 /// Writes the line of the numbers of tracks that are too few, if there are such.
-fn tell_too_few<W: Sink>(sink: &mut W, first: FirstTry) -> Result<(), Failed>
+pub(crate) fn tell_too_few<W: Sink>(sink: &mut W, first: FirstTry) -> Result<(), Failed>
     requires { 1 ≤ first.tracks }
 {
     let FirstTry { tracks, crossing } = first;

@@ -13,6 +13,8 @@
 //! - [`least_tracks`] finds the least number of tracks with which a netlist is routed. It searches
 //!   upward, since a circuit that is routed with some number of tracks may be left unrouted with a
 //!   larger one.
+//! - [`run_pinned`] and [`least_pinned`] do the same for a netlist with pins: the pads that are
+//!   named have the places that are wanted.
 //!
 //! `Outcomes` in `specs/` defines the outcome of a netlist, as a function of the single user's
 //! definition. [`same_files`] is the law that connects it with the service: a tenancy that has the
@@ -26,8 +28,10 @@ mod device;
 mod figures;
 mod law;
 mod least;
+mod left_run;
 mod outcome;
 mod passes;
+mod pinned;
 mod placed_run;
 mod placing;
 mod routing_end;
@@ -44,4 +48,5 @@ pub use figures::{Figures, PackedCounts};
 pub use law::{places_for_all_tracks, same_files};
 pub use least::{DevicePlan, Least, crowding_with, least_tracks, run_with};
 pub use outcome::{Files, FlowOutcome, Run, Unrouted};
+pub use pinned::{PinnedEnd, least_pinned, run_pinned};
 pub use table::write_figures;

@@ -1,11 +1,12 @@
 //! The lines of a script that are acts.
-ghost use Rattle.std.specs.Prelude.{◌≡◌, ◌+◌, ◌<◌, ◌≤◌, ◌^◌, length, IfSome};
+ghost use Rattle.std.specs.Prelude.{◌≡◌, ◌+◌, ◌<◌, ◌++◌, ◌∷◌, ◌^◌, ℕ, List, IfOk, drop, length, map};
+ghost use Rattle.script_replies.specs.ScriptLines.{asked_from, begins_text, begins_text_by, is_skipped, is_skipped_by, lines_asked, numbered};
+ghost use Rattle.sessions.specs.Items.{begins_text as line_begins};
 
-use line_text::{skip_blanks, split_line};
-use script_text::{Act, cut_text};
-use sessions::{SessionLine, SessionRefusal, without_cr};
+use line_text::{skip_blanks, split_line, split_word};
+use script_text::is_name;
+use sessions::{LineForm, is_point, line_form, without_cr};
 use std::alloc::{AllocError, Global};
-use tenant_slot::Command;
 
 /// A line of a script that is an act, without its line end. The text of an upload isn't part of it.
 #[derive(Clone, Copy)]
@@ -15,101 +16,107 @@ pub struct ScriptLine<'t> {
     pub text: &'t [u8],
 }
 
-/// A script from the line of that number on.
-#[derive(Clone, Copy)]
-struct Place<'t> {
-    number: usize,
-    rest: &'t [u8],
-}
-
-/// Returns the lines of the acts of a script whose first line has that number, in order. Fails with
-/// [`AllocError`] if memory runs out.
-pub fn script_lines<'t>(
+/// Returns the lines of a script whose first line has that number, in order, without comments,
+/// empty lines and the texts of uploads. In a script without a faulty line each of them is an act.
+/// Fails with [`AllocError`] if memory runs out.
+pub fn script_lines(
     alloc: Global,
-    text: &'t [u8],
+    text: &[u8],
     number: usize,
-    acts: &[Act<&'t [u8]>],
-) -> Result<Vec<ScriptLine<'t>>, AllocError>
+) -> Result<Vec<ScriptLine<'_>>, AllocError>
     requires { number + length text.now < 2 ^ 64 }
+    ensures { IfOk result (λ lines. map numbered lines.items ≡ lines_asked number text.now) }
 {
     let mut lines = Vec::new(alloc);
-    let mut place = Place { number, rest: text };
-    for act in acts {
-        let Some((line, behind)) = asking_line(place) else {
-            return Ok(lines);
-        };
-        lines.push(line)?;
-        place = if has_text(act) {
-            after_text(behind)
-        } else {
-            behind
-        };
+    let mut number = number;
+    let mut rest = text;
+    let mut is_in_text = false;
+    while !rest.is_empty() {
+        let (line, later) = split_line(rest);
+        is_in_text = take_line(&mut lines, number, is_in_text, line)?;
+        number += 1;
+        rest = later;
     }
     Ok(lines)
 }
 
-/// The next line that is an act, and the rest after it.
-fn asking_line(place: Place<'_>) -> Option<(ScriptLine<'_>, Place<'_>)>
-    requires { place.number + length place.rest.now < 2 ^ 64 }
-    ensures { IfSome result (λ found. found.1.number + length found.1.rest.now < 2 ^ 64) }
+/// Adds a line if it is one of the lines to return. Returns whether the next one is in a text.
+fn take_line<'t>(
+    lines: &mut Vec<ScriptLine<'t>>,
+    number: usize,
+    is_in_text: bool,
+    line: &'t [u8],
+) -> Result<bool, AllocError>
+    ensures { IfOk result (λ within. (rest : List (List ℕ)) →
+        map numbered lines.new.items ++ asked_from (number + 1) within rest
+        ≡ map numbered lines.old.items ++ asked_from number is_in_text (line.now ∷ rest)) }
 {
-    let mut number = place.number;
-    let mut rest = place.rest;
-    while !rest.is_empty() {
-        let (line, behind) = split_line(rest);
-        let text = without_cr(line);
-        if !is_skipped(text) {
-            let line = ScriptLine { number, text };
-            let number = number + 1;
-            return Some((
-                line,
-                Place {
-                    number,
-                    rest: behind,
-                },
-            ));
-        }
-        number += 1;
-        rest = behind;
+    let text = without_cr(line);
+    if is_in_text {
+        return Ok(!is_point(text));
     }
-    None
-}
-
-/// Returns whether a line is no act: it has no words, or is a comment.
-fn is_skipped(line: &[u8]) -> bool {
-    matches!(skip_blanks(line).first(), None | Some(b'#'))
-}
-
-/// Returns whether a text follows the line of an act.
-fn has_text(act: &Act<&[u8]>) -> bool {
-    match act {
-        Act::Operator(_) => false,
-        Act::Session(_, line) => begins_text(line),
+    if is_skipped(text) {
+        return Ok(false);
     }
+    lines.push(ScriptLine { number, text })?;
+    Ok(begins_text(text))
 }
 
-/// Returns whether a text follows a session's line.
-fn begins_text(line: &SessionLine) -> bool {
-    matches!(
-        line,
-        SessionLine::Command(Command::Upload(_) | Command::Change(_))
-            | SessionLine::Refused(SessionRefusal::UnfinishedUpload)
-    )
-}
-
-/// The rest after the text at the start; empty if no line ends the text.
-fn after_text(place: Place<'_>) -> Place<'_>
-    requires { place.number + length place.rest.now < 2 ^ 64 }
-    ensures { result.number + length result.rest.now < 2 ^ 64 }
+/// Whether a line has no words, or is a comment.
+fn is_skipped(line: &[u8]) -> bool
+    ensures { result ≡ is_skipped line.now }
 {
-    match cut_text(place.rest, place.number) {
-        Some(cut) => Place {
-            number: cut.number,
-            rest: cut.rest,
-        },
-        None => Place {
-            number: place.number,
-            rest: &[],
-        },
+    let (first, _) = split_word(skip_blanks(line));
+    is_skipped_by(first)
+}
+
+/// Whether a line with this first word is skipped.
+fn is_skipped_by(first: &[u8]) -> bool
+    ensures { result ≡ is_skipped_by first.now }
+{
+    first.is_empty() || first[0] == b'#'
+}
+
+/// Whether a text follows a line.
+fn begins_text(line: &[u8]) -> bool
+    ensures { result ≡ begins_text line.now }
+{
+    let (first, rest) = split_word(skip_blanks(line));
+    begins_text_by(first, after_blank(rest))
+}
+
+/// Whether a text follows a line with this first word and this rest.
+fn begins_text_by(first: &[u8], rest: &[u8]) -> bool
+    ensures { result ≡ begins_text_by first.now rest.now }
+{
+    if first.is_empty() {
+        return false;
+    }
+    if first[0] != b'@' || !is_name(&first[1..]) {
+        return false;
+    }
+    let form = line_form(rest);
+    let begins = begins(&form);
+    drop(form);
+    begins
+}
+
+/// Whether a session's line of this form begins a text.
+fn begins(form: &LineForm) -> bool
+    ensures { result ≡ line_begins form.now }
+{
+    match form {
+        LineForm::Begins(_) => true,
+        LineForm::Asks(_) => false,
+    }
+}
+
+/// The bytes after the blank that they begin with.
+fn after_blank(bytes: &[u8]) -> &[u8]
+    ensures { result.now ≡ drop 1 bytes.now }
+{
+    match bytes.split_first() {
+        Some((_, rest)) => rest,
+        None => bytes,
     }
 }

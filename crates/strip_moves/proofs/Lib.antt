@@ -1,1 +1,3 @@
 mod AcceptedMoves
+mod Rooms
+mod Settling

@@ -1,9 +1,12 @@
 //! Moves that join the gaps between strips.
-ghost use Rattle.std.specs.Prelude.{◌≡◌, ◌+◌, ◌≤◌, All, IfOk, IfSome, IsTrue, MatchOption, Ok};
+ghost use Rattle.std.specs.Prelude.{◌≡◌, ◌≢◌, ◌↔◌, ◌+◌, ◌<◌, ◌≤◌, ℕ, All, IfOk, IfSome, IsSome, IsTrue, MatchOption, OnOk, Ok, get_or, length};
+ghost use Rattle.std.specs.List.{AllPairs};
 ghost use Rattle.grid.specs.declared.TheConstants.{MAX_COLUMNS};
-ghost use Rattle.strips.specs.Plan.{AreApart, HasRoomFor, IsParted, with_moved};
+ghost use Rattle.strips.specs.declared.placed_strip.PlacedStrip.{PlacedStrip};
+ghost use Rattle.strips.specs.Plan.{AreApart, HasRoomFor, IsLaidOut, IsParted, strip_of, with_moved};
 ghost use Rattle.device_report.specs.Widest.{IsWidest};
-ghost use Rattle.strip_moves.specs.Moves.{AreAccepted, IsJoining, IsMoved};
+ghost use Rattle.strip_moves.specs.Moves.{AreAccepted, AreLeftmost, CannotMove, IsJoining, IsMoved};
+ghost use Rattle.strip_moves.specs.Settled.{IsSettled};
 
 use device_report::Room;
 use std::alloc::{AllocError, Global};
@@ -34,7 +37,8 @@ pub fn joining_moves(
     strips: &[PlacedStrip],
 ) -> Result<Option<Joining>, AllocError>
     requires { columns ≤ MAX_COLUMNS }
-    ensures { IfOk result (λ found. IfSome found
+    ensures { IfOk result (λ found. MatchOption found
+        (IsLaidOut (record { columns = columns; strips = strips.now }) → ⊥)
         (IsJoining (record { columns = columns; strips = strips.now }))) }
 {
     if !are_inside(columns, strips) {
@@ -51,7 +55,8 @@ pub fn joining_moves(
 /// Whether each strip is within the device.
 fn are_inside(columns: u32, strips: &[PlacedStrip]) -> bool
     requires { columns ≤ MAX_COLUMNS }
-    ensures { IsTrue result → All (λ s. s.offset + s.width ≤ MAX_COLUMNS) strips.now }
+    ensures inside { IsTrue result ↔ All (λ s. s.offset + s.width ≤ columns) strips.now }
+    ensures near { IsTrue result → All (λ s. s.offset + s.width ≤ MAX_COLUMNS) strips.now }
 {
     strips
         .iter()
@@ -62,7 +67,10 @@ fn are_inside(columns: u32, strips: &[PlacedStrip]) -> bool
 fn plan_of(columns: u32, strips: &[PlacedStrip]) -> Option<StripPlan>
     requires columns { columns ≤ MAX_COLUMNS }
     requires strips { All (λ s. s.offset + s.width ≤ MAX_COLUMNS) strips.now }
-    ensures { IfSome result (λ plan. plan ≡ record { columns = columns; strips = strips.now }) }
+    ensures strips { IfSome result (λ plan. plan
+        ≡ record { columns = columns; strips = strips.now }) }
+    ensures laid_out { MatchOption result
+        (IsLaidOut (record { columns = columns; strips = strips.now }) → ⊥) IsLaidOut }
 {
     let mut plan = StripPlan::new(columns);
     for place in 0..strips.len() {
@@ -80,7 +88,7 @@ fn has_room(plan: &StripPlan, columns: u32, strips: &[PlacedStrip], strip: Place
     requires plan { plan.now ≡ record { columns = columns; strips = strips.now } }
     requires strip { strip.offset + strip.width ≤ MAX_COLUMNS }
     requires strips { All (λ s. s.offset + s.width ≤ MAX_COLUMNS) strips.now }
-    ensures { IsTrue result → HasRoomFor plan.now strip }
+    ensures { IsTrue result ↔ HasRoomFor plan.now strip }
 {
     if plan.is_full() || strip.width == 0 || columns < strip.offset + strip.width {
         return false;
@@ -95,7 +103,7 @@ fn has_room(plan: &StripPlan, columns: u32, strips: &[PlacedStrip], strip: Place
 fn is_apart_from_all(strips: &[PlacedStrip], strip: PlacedStrip) -> bool
     requires strip { strip.offset + strip.width ≤ MAX_COLUMNS }
     requires strips { All (λ s. s.offset + s.width ≤ MAX_COLUMNS) strips.now }
-    ensures { IsTrue result → All (λ s. AreApart s strip) strips.now }
+    ensures { IsTrue result ↔ All (λ s. AreApart s strip) strips.now }
 {
     strips.iter().all(|s| {
         s.offset + s.width < strip.offset || strip.offset + strip.width < s.offset
@@ -109,7 +117,10 @@ fn moves_on(
     columns: u32,
     strips: &[PlacedStrip],
 ) -> Result<Vec<StripMove>, AllocError>
-    ensures { IfOk result (λ moves. AreAccepted plan.old moves.items plan.new) }
+    requires plan { plan.old ≡ record { columns = columns; strips = strips.now } }
+    requires laid_out { IsLaidOut (record { columns = columns; strips = strips.now }) }
+    ensures accepted { IfOk result (λ moves. AreAccepted plan.old moves.items plan.new) }
+    ensures leftmost { OnOk result (AreLeftmost plan.new) }
 {
     let mut moves = Vec::new(alloc);
     for offset in 0..columns {
@@ -122,9 +133,12 @@ fn moves_on(
 
 /// Moves the strip that was at that offset as far to the left as it can.
 fn move_strip_at(plan: &mut StripPlan, strips: &[PlacedStrip], offset: u32) -> Option<StripMove>
-    ensures { MatchOption result (plan.new ≡ plan.old) (IsMoved plan.old plan.new) }
+    requires apart { AllPairs AreApart strips.now }
+    requires settled { IsSettled strips.now plan.old offset }
+    ensures moved { MatchOption result (plan.new ≡ plan.old) (IsMoved plan.old plan.new) }
+    ensures settled { IsSettled strips.now plan.new (offset + 1) }
 {
-    let strip = strips.iter().find(|strip| strip.offset == offset)?;
+    let strip = strip_at(strips, offset)?;
     let to = move_left(plan, strip.id, offset)?;
     Some(StripMove {
         id: strip.id,
@@ -132,14 +146,30 @@ fn move_strip_at(plan: &mut StripPlan, strips: &[PlacedStrip], offset: u32) -> O
     })
 }
 
+/// The strip at that offset.
+fn strip_at(strips: &[PlacedStrip], offset: u32) -> Option<PlacedStrip>
+    ensures { MatchOption result (All (λ s. s.offset ≢ offset) strips.now) (λ strip. (i : ℕ)
+        × (i < length strips.now) × ((d : PlacedStrip) → get_or strips.now i d ≡ strip)
+        × (strip.offset ≡ offset)) }
+{
+    for place in 0..strips.len() {
+        if strips[place].offset == offset {
+            return Some(strips[place]);
+        }
+    }
+    None
+}
+
 /// Moves a strip to the least offset below that one which is accepted; `None`, and nothing is
 /// moved, if none is.
 fn move_left(plan: &mut StripPlan, id: u32, below: u32) -> Option<u32>
-    ensures { MatchOption result (plan.new ≡ plan.old) (λ offset.
-        IsParted (with_moved plan.old id offset) × (plan.new ≡ with_moved plan.old id offset)) }
+    requires { IsSome (strip_of plan.old.strips id) }
+    ensures { MatchOption result ((plan.new ≡ plan.old) × CannotMove plan.old id below) (λ offset.
+        IsParted (with_moved plan.old id offset) × (plan.new ≡ with_moved plan.old id offset)
+        × CannotMove plan.old id offset) }
 {
     for offset in 0..below {
-        if plan.offset(id).is_some() && plan.move_to(id, offset).is_ok() {
+        if plan.move_to(id, offset).is_ok() {
             return Some(offset);
         }
     }

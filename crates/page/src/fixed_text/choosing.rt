@@ -8,6 +8,7 @@ const say = text => { $('said').textContent = text; };
 // Where the page is: the tenancy, and what of it is picked.
 function addressNow() {
   if (!now) return '';
+  if (onPath) return pathAddress();
   if (now.nets[picked]) return netAddress(now.nets[picked].name);
   return now.blocks[chosen] ? blockAddress(now.blocks[chosen].name) : address(now.name);
 }
@@ -20,21 +21,26 @@ function setAddress() {
 function titleNow() {
   if (!now) return columns ? 'fpgad: device of ' + count(columns, 'column') : 'fpgad';
   const net = now.nets[picked], block = now.blocks[chosen];
-  return 'fpgad: ' + now.name + (net ? ', net ' + net.name : block ? ', ' + blockText(block) : '');
+  return 'fpgad: ' + now.name + (onPath ? ', longest path' : net ? ', net ' + net.name : block ? ', ' + blockText(block) : '');
 }
-// Picks a net or a block by its number, or nothing by -1. It is framed unless it was picked in the drawing.
-function pick(net, block, isFramed) {
-  [picked, chosen, spot, found] = [net, block, null, null];
-  const item = now.nets[net] || now.blocks[block];
-  $('q').value = item ? item.name : '';
-  $('framed').disabled = !item;
-  say(now.nets[net] ? 'net found' : item ? 'block found' : '');
+const choose = (net, block) => { [picked, chosen, onPath, spot, found] = [net, block, null, null, null]; };
+// Shows what has been chosen, in its frame if that is asked for.
+function showChosen(isFramed) {
+  $('framed').disabled = !now.nets[picked] && !now.blocks[chosen] && !onPath;
   document.title = titleNow();
   canvas.setAttribute('aria-label', 'layout of ' + document.title.slice('fpgad: '.length));
   tell();
-  if (item && isFramed) frameNow();
+  if (isFramed) frameNow();
   redraw();
   setAddress();
+}
+// Picks a net or a block by its number, or nothing by -1. It is framed unless it was picked in the drawing.
+function pick(net, block, isFramed) {
+  choose(net, block);
+  const item = now.nets[net] || now.blocks[block];
+  $('q').value = item ? item.name : '';
+  say(now.nets[net] ? 'net found' : item ? 'block found' : '');
+  showChosen(item && isFramed);
 }
 // Finds a net, a block or a BLE by its name; or lists the nets and blocks that have the text.
 function search(text) {
@@ -57,7 +63,7 @@ function show(i) {
   if (now) now.grid = null;
   now = tenancies[i];
   now.grid = buildGrid(now);
-  [picked, chosen, spot, found] = [-1, -1, null, null];
+  choose(-1, -1);
   $('tenancy').value = String(i);
   for (const button of $('device').querySelectorAll('button')) button.setAttribute('aria-pressed', String(button.dataset.name === now.name));
   const names = new Set([...now.nets, ...now.blocks].map(item => item.name));
@@ -71,7 +77,7 @@ function show(i) {
 const decode = part => {
   try { return decodeURIComponent(part); } catch { return part; }
 };
-// Opens what an address names: `#TENANCY`, `#TENANCY/NET` or `#TENANCY/block/BLOCK`.
+// Opens what an address names: `#TENANCY`, `#TENANCY/NET`, `#TENANCY/block/BLOCK` or `#TENANCY/path/longest`.
 function openAddress(hash) {
   const parts = hash.slice(1).split('/'), i = tenancies.findIndex(t => t.name === decode(parts[0]));
   if (i < 0) return say(parts[0] ? 'no tenancy is called ' + decode(parts[0]) : '');
@@ -80,6 +86,7 @@ function openAddress(hash) {
     const block = now.blocks.findIndex(other => other.name === decode(parts[2]));
     if (block >= 0) return pick(-1, block, true);
   }
+  if (parts.length === 3 && parts[1] === 'path' && now.path.length) return showPath();
   const name = parts.slice(1).map(decode).join('/');
   if (!name) pick(-1, -1, false); else if (now.byName.has(name)) pick(now.byName.get(name), -1, true); else findLater(name);
 }

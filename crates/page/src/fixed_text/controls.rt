@@ -78,7 +78,7 @@ function toggleHeat() {
 }
 const MOVES = { ArrowLeft: [-1, 0], ArrowRight: [1, 0], ArrowUp: [0, -1], ArrowDown: [0, 1] };
 const KEYS = {
-  '+': () => zoomBy(1.25), '=': () => zoomBy(1.25), '-': () => zoomBy(0.8), 0: whole, f: frameNow, c: toggleHeat,
+  '+': () => zoomBy(1.25), '=': () => zoomBy(1.25), '-': () => zoomBy(0.8), 0: whole, f: frameNow, c: toggleHeat, p: togglePath,
   Escape: () => { if (now) pick(-1, -1, false); }, '/': () => $('q').focus(),
 };
 document.onkeydown = e => {

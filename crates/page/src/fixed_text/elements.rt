@@ -23,9 +23,9 @@ macro_rules! elements_text {
 <p><i style='background:var(--output);border-style:double;border-width:3px'></i>output pad</p>
 <p><i style='border:0;height:3px;background:linear-gradient(90deg,var(--net0),var(--net1),var(--net2),var(--net3))'></i>
 nets: colours only tell neighbours apart; the pointer shows a name</p>
-<p><i style='border:0;height:5px;background:var(--picked)'></i>the picked net</p>
-<p><i style='background:var(--driver)'>D</i>its driver</p>
-<p><i style='background:var(--reader);border-radius:9px'>R</i>its readers</p>
+<p><i style='border:0;height:5px;background:var(--picked)'></i>the picked net, or the longest path</p>
+<p><i style='background:var(--driver)'>D</i>its driver; of the longest path the start</p>
+<p><i style='background:var(--reader);border-radius:9px'>R</i>its readers; of the path each further stop, by its number</p>
 <p><i style='background:var(--use0)'></i>channel: up to 20 % of its tracks used</p>
 <p><i style='background:var(--use1)'></i>up to 40 %</p>
 <p><i style='background:var(--use2)'></i>up to 60 %</p>
@@ -33,7 +33,7 @@ nets: colours only tell neighbours apart; the pointer shows a name</p>
 <p><i style='background:var(--use4)'></i>above 80 %</p>
 <p><i style='background:var(--use4);border:3px solid var(--ink)'></i>full</p>
 <p>Far out, channels are shown in place of wires.</p>
-<p id='keys'>Arrows move. + and - zoom. 0 shows the whole strip. F frames what is picked. C shows congestion. / searches. Esc picks nothing.</p>
+<p id='keys'>Arrows move. + and - zoom. 0 shows the whole strip. F frames what is picked. C shows congestion, P the longest path. / searches. Esc picks nothing.</p>
 </details></aside></main>
 "#)
     };

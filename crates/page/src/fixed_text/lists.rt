@@ -88,6 +88,7 @@ function tellFigures(t) {
     const most = fullestChannel(t), wires = [...t.use.values()].reduce((sum, channel) => sum + channel.tracks.size, 0);
     tell('wire length ' + wires);
     tell(most ? placeButton(channelText(most), channelArea(most)) : 'no channel is used');
+    if (t.path.length) tell(pathButton(t));
   }
   $('side').append(rows);
 }
@@ -146,6 +147,7 @@ function tell() {
   if (now) {
     tellFound();
     tellPicked(now);
+    tellPath(now);
     $('side').append(make('h2', now.name));
     tellFigures(now);
     tellOveruse(now);

@@ -86,12 +86,17 @@ function whole() {
 function pickedBox() {
   const t = now, points = [];
   if (!t || !t.isPlaced) return null;
+  const reach = { line(x0, y0, x1, y1) { points.push([x0, y0], [x1, y1]); }, dot() {} };
   const add = block => { if (block) { const [x, y, width, height] = box(t, block); points.push([x, y], [x + width, y + height]); } };
   if (t.nets[picked]) {
     const net = t.nets[picked];
     add(t.blocks[net.driver]);
     for (const i of net.readers) add(t.blocks[i]);
-    traceNet(t, net, { line(x0, y0, x1, y1) { points.push([x0, y0], [x1, y1]); }, dot() {} });
+    traceNet(t, net, reach);
+  }
+  if (onPath) {
+    for (const stop of t.path) add(stopBlock(t, stop));
+    for (const way of onPath) traceNet(t, way, reach);
   }
   add(t.blocks[chosen]);
   if (!points.length) return null;

@@ -46,20 +46,20 @@ function writeUse(ctx, t, channel) {
   ctx.fillStyle = paint.ink;
   ctx.fillText(text, left0, base);
 }
-// A mark of fixed size: a square with D for a driver, a disc with R for a reader. Close by it is in the corner of its block.
-function writeMark(ctx, t, block, isDriver) {
+// A mark of fixed size: a square with D for a driver, a disc with R for a reader or with a stop's number. Close by it is in the corner of its block.
+function writeMark(ctx, t, block, isDriver, label = isDriver ? 'D' : 'R') {
   const [x, y, width, height] = box(t, block), isLarge = width * view.zoom > 34;
   const a = isLarge ? windowX(x + width) - 10 : windowX(x + width / 2), b = isLarge ? windowY(y) - 10 : windowY(y + height / 2);
   if (!isInWindow(a, b)) return;
   ctx.beginPath();
-  if (isDriver) ctx.rect(a - 8, b - 8, 16, 16); else ctx.arc(a, b, 7, 0, 7);
+  if (isDriver) ctx.rect(a - 8, b - 8, 16, 16); else ctx.ellipse(a, b, Math.max(7, LETTER * label.length / 2 + 2), 7, 0, 0, 7);
   ctx.fillStyle = isDriver ? paint.driver : paint.reader;
   ctx.fill();
   ctx.lineWidth = 2;
   ctx.strokeStyle = paint.paper;
   ctx.stroke();
   ctx.fillStyle = paint.paper;
-  ctx.fillText(isDriver ? 'D' : 'R', a - 3, b + 4);
+  ctx.fillText(label, a - LETTER * label.length / 2, b + 4);
 }
 // Straight dashed lines from the driver of a net without wires to its readers.
 function writeFlight(ctx, t, net) {
@@ -78,7 +78,14 @@ function writeFlight(ctx, t, net) {
   ctx.stroke();
   ctx.setLineDash([]);
 }
-// Writes the names that fit, and the marks of the picked net, onto the scene.
+// The numbers of a path's stops; the last stop that is in a block stands.
+function writeStops(ctx, t) {
+  t.path.forEach((stop, i) => {
+    const block = stopBlock(t, stop), isFirst = stop.word === 'from';
+    if (block) writeMark(ctx, t, block, isFirst, isFirst ? 'D' : String(i));
+  });
+}
+// Writes the names that fit, and the marks of the picked net or of the path, onto the scene.
 function writeNames(t) {
   const ctx = scene.pen, net = t.nets[picked];
   ctx.setTransform(ratio(), 0, 0, ratio(), 0, 0);
@@ -89,8 +96,9 @@ function writeNames(t) {
     for (const i of tile.blocks) if (t.blocks[i].kind === 'clb') writeCluster(ctx, t, t.blocks[i]); else writePad(ctx, t, t.blocks[i]);
     if (!hasWires) for (const channel of tile.channels) writeUse(ctx, t, channel);
   });
-  if (!net) return;
   ctx.font = 'bold 10px monospace';
+  if (onPath) writeStops(ctx, t);
+  if (!net) return;
   writeFlight(ctx, t, net);
   for (const i of net.readers) if (t.blocks[i]) writeMark(ctx, t, t.blocks[i], false);
   if (t.blocks[net.driver]) writeMark(ctx, t, t.blocks[net.driver], true);

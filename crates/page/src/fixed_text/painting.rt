@@ -42,7 +42,7 @@ function paintPlace(t, tile, x, y) {
   for (const i of tile.blocks) paintBlock(t, i);
 }
 function paintChannel(t, channel) {
-  const share = useOf(t, channel), isPale = picked >= 0 && !heat;
+  const share = useOf(t, channel), isPale = isDimmed() && !heat;
   const colour = isPale ? ink.empty : ink.use[Math.min(4, Math.max(0, Math.ceil(share * 5) - 1))];
   const x = left(t, channel.x), y = left(t, channel.y);
   const area = channel.kind === 'CHANX' ? [x, y + 1, 1, gap(t)] : [x + 1, y, gap(t), 1];
@@ -50,16 +50,16 @@ function paintChannel(t, channel) {
   if (share >= 1 && !isPale) frameBox(...area, Math.ceil(2 * ratio()), ink.ink);
 }
 function paintWires(t, tile) {
-  const width = Math.max(1, Math.round(0.02 * view.zoom * ratio())), all = tile.lines, dots = tile.dots, isPicked = picked >= 0;
+  const width = Math.max(1, Math.round(0.02 * view.zoom * ratio())), all = tile.lines, dots = tile.dots, isDim = isDimmed();
   for (let i = 0; i < all.length; i += 5) {
-    const colour = isPicked ? ink.dim : ink.nets[all[i + 4] % ink.nets.length];
+    const colour = isDim ? ink.dim : ink.nets[all[i + 4] % ink.nets.length];
     drawLine(all[i], all[i + 1], all[i + 2], all[i + 3], width, colour);
   }
   if (view.zoom < 25) return;
   const half = Math.max(1, Math.round(0.022 * view.zoom * ratio()));
   for (let i = 0; i < dots.length; i += 3) {
     const x = pixelX(dots[i]), y = pixelY(dots[i + 1]);
-    fillPixels(x - half, y - half, x + half, y + half, isPicked ? ink.dim : ink.nets[dots[i + 2] % ink.nets.length]);
+    fillPixels(x - half, y - half, x + half, y + half, isDim ? ink.dim : ink.nets[dots[i + 2] % ink.nets.length]);
   }
 }
 function paintNet(t, net, width, colour) {
@@ -86,6 +86,7 @@ function paintScene() {
       if (hasWires) paintWires(t, tile); else for (const channel of tile.channels) paintChannel(t, channel);
     });
     if (t.nets[picked]) paintPicked(t, t.nets[picked]);
+    for (const way of onPath || []) paintPicked(t, way);
     if (spot) frameBox(spot[0] - 0.06, spot[1] - 0.06, spot[2] - spot[0] + 0.12, spot[3] - spot[1] + 0.12, Math.ceil(2 * ratio()), ink.ink);
   }
   scene.pen.setTransform(1, 0, 0, 1, 0, 0);

@@ -37,6 +37,7 @@ function readTenancy(name, kinds) {
   if (isRouted) for (const net of nets) followNet(t, net);
   t.byName = new Map(nets.map((net, i) => [net.name, i]));
   t.state = stateOf(name);
+  t.path = isRouted ? readPath(kinds.get('path') || '') : [];
   t.overuse = lines(kinds.get('overuse') || '').filter(line => line);
   t.clusters = blocks.filter(block => block.kind === 'clb').length;
   return t;

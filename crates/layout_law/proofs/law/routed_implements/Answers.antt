@@ -5,7 +5,7 @@ use Rattle.tenant_slot.specs.SingleUser.{run}
 use Rattle.layout_law.proofs.law.routed_implements.Goals as goal
 
 pub returns-clause-results : goal.returns-clause-results
-returns-clause-results c = λ arch strip events known size texts is.
+returns-clause-results c = λ arch strip events known size is.
     let laws : Laws = record {
       within = c.laws_of_places.ensures.within;
       apart = c.laws_of_places.ensures.apart;
@@ -20,10 +20,10 @@ returns-clause-results c = λ arch strip events known size texts is.
       place_printed = c.printed_results.ensures.place;
       route_printed = c.printed_results.ensures.route;
     } in
-    routed_implements laws arch strip known size texts events is
+    routed_implements laws arch strip known size events is
 
 pub returns-clause-files : goal.returns-clause-files
-returns-clause-files c = λ arch strip events known size texts is.
+returns-clause-files c = λ arch strip events known size is.
     let laws : Laws = record {
       within = c.laws_of_places.ensures.within;
       apart = c.laws_of_places.ensures.apart;
@@ -38,4 +38,4 @@ returns-clause-files c = λ arch strip events known size texts is.
       place_printed = c.printed_results.ensures.place;
       route_printed = c.printed_results.ensures.route;
     } in
-    files_implement laws (run arch strip events).0 is (routed_implements laws arch strip known size texts events is)
+    files_implement laws (run arch strip events).0 is (routed_implements laws arch strip known size events is)

@@ -1,6 +1,7 @@
 use Rattle.strip_moves.specs.Moves.{AreAccepted}
+use Rattle.strip_moves.specs.Settled.{IsSettled}
 use Rattle.strip_moves.proofs.joining.moves_on.Given as goal
 
--- the moves so far are accepted
+-- the moves so far are accepted, and the strips before this offset are moved
 abbrev pub invariant-loop-offset : goal.invariant-loop-offset
-invariant-loop-offset l = AreAccepted l.fn.plan l.moves.items l.plan
+invariant-loop-offset l = AreAccepted l.fn.plan l.moves.items l.plan × IsSettled l.strips l.plan l.offset

@@ -1,0 +1,9 @@
+use Rattle.std.proofs.Common.{take}
+use Rattle.std.specs.List.{flat_map}
+use Rattle.line_text.specs.Writing.{TakesAll}
+use Rattle.completions.specs.Shells.{fish_name}
+use Rattle.completions.proofs.fish.write_fish_names.Given as goal
+
+-- the ones before this one are written
+abbrev pub invariant-loop-tool : goal.invariant-loop-tool
+invariant-loop-tool g l = TakesAll g.K.Sink.contents g.K.Sink.has_failed l.initial.sink l.sink (flat_map fish_name (take l.tool-index l.tools))

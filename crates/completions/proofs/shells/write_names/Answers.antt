@@ -1,0 +1,15 @@
+use Rattle.std.proofs.Common.{ℕ, List, [], Bor, None}
+use Rattle.std.proofs.lemmas.Option.{slice_get-get_or}
+use Rattle.line_text.proofs.WritingLemmas.{part_loop, writes_part}
+use Rattle.option_words.specs.declared.declared.OptionWord.{OptionWord}
+use Rattle.option_words.specs.declared.declared.Program.{Program}
+use Rattle.completions.specs.Shells.{name_word}
+use Rattle.completions.proofs.shells.write_names.Goals as goal
+
+pub returns-in_err-write_name : goal.returns-in_err-write_name
+returns-in_err-write_name g c =
+    let none : Bor (List ℕ) = record { ref_ptr = (0, 0); now = [] } in
+    let words : Bor (List OptionWord) = record { ref_ptr = (0, 0); now = [] } in
+    let empty : Program = record { name = none; about = none; after_help = none; options = words } in
+    writes_part _ c.from_residual.ensures.0
+    (part_loop name_word _ c.loop-tool.tool-index _ (slice_get-get_or _ _ empty c.loop-tool-test.true) c.loop-tool.invariant c.in_err-write_name.ensures)

@@ -1,0 +1,236 @@
+//! The tools and their options, for shells and for the manual.
+use crate::errand::{LAYOUTS, OTHERS, ROUTES, TOOLBOX, VIEWS};
+use completions::{write_cases, write_fish_names, write_fish_options, write_names, write_page};
+use desk_common::Outcome;
+use line_text::{Failed, Sink, write_all};
+use option_words::{Given, OptionWord, Program, Takes};
+
+const NO_SHELL: &str = "give bash, zsh or fish";
+
+/// The tool that prints a completion script.
+pub(crate) const COMPLETION: Program = Program {
+    name: "completion",
+    about: "Prints a script that completes the names of tools and options in a shell",
+    after_help: "\
+bash: source <(fpgad_desk completion bash)
+zsh: fpgad_desk completion zsh > FOLDER/_fpgad_desk, with a FOLDER of $fpath
+fish: fpgad_desk completion fish > ~/.config/fish/completions/fpgad_desk.fish",
+    options: &[OptionWord {
+        name: "shell",
+        value_name: "SHELL",
+        help: "bash, zsh or fish",
+        takes: Takes::Alone,
+        default: None,
+    }],
+};
+
+/// The tool that prints a page of the manual.
+pub(crate) const MANUAL: Program = Program {
+    name: "man",
+    about: "Prints a page of the manual with all tools and their options",
+    after_help: "Example: fpgad_desk man > fpgad_desk.1; man ./fpgad_desk.1",
+    options: &[],
+};
+
+/// What is printed of the tools.
+#[derive(Clone, Copy)]
+pub(crate) enum ToolsForm {
+    /// A completion script.
+    Bash,
+    Zsh,
+    Fish,
+    /// A page of the manual, in roff.
+    Manual,
+}
+
+/// The script for the shell that is given, or why the words are refused.
+pub(crate) fn shell_of(given: &Given<'_>) -> Result<ToolsForm, &'static str> {
+    match given.text("shell").unwrap_or("") {
+        "bash" => Ok(ToolsForm::Bash),
+        "zsh" => Ok(ToolsForm::Zsh),
+        "fish" => Ok(ToolsForm::Fish),
+        _ => Err(NO_SHELL),
+    }
+}
+
+/// Prints the tools and their options.
+pub(crate) fn print_tools<W: Sink>(form: ToolsForm, writer: &mut W) -> Outcome {
+    let written = match form {
+        ToolsForm::Bash => write_bash(writer),
+        ToolsForm::Zsh => write_zsh(writer),
+        ToolsForm::Fish => write_fish(writer),
+        ToolsForm::Manual => write_manual(writer),
+    };
+    Outcome::of_writing(written)
+}
+
+/// Writes the script for bash.
+fn write_bash<W: Sink>(writer: &mut W) -> Result<(), Failed> {
+    write_all(writer, BASH_NAMES)?;
+    write_tool_names(writer)?;
+    write_all(writer, BASH_CASES)?;
+    write_all_cases(writer)?;
+    write_all(writer, BASH_END)
+}
+
+/// Writes the script for zsh.
+fn write_zsh<W: Sink>(writer: &mut W) -> Result<(), Failed> {
+    write_all(writer, ZSH_NAMES)?;
+    write_tool_names(writer)?;
+    write_all(writer, ZSH_CASES)?;
+    write_all_cases(writer)?;
+    write_all(writer, ZSH_END)
+}
+
+/// Writes the names of all tools.
+fn write_tool_names<W: Sink>(writer: &mut W) -> Result<(), Failed> {
+    write_names(writer, TOOLBOX.tools)
+}
+
+/// Writes a case for each tool.
+fn write_all_cases<W: Sink>(writer: &mut W) -> Result<(), Failed> {
+    write_view_cases(writer)?;
+    write_route_cases(writer)?;
+    write_layout_cases(writer)?;
+    write_other_cases(writer)
+}
+
+fn write_view_cases<W: Sink>(writer: &mut W) -> Result<(), Failed> {
+    write_cases(writer, VIEWS.tools)
+}
+
+fn write_route_cases<W: Sink>(writer: &mut W) -> Result<(), Failed> {
+    write_cases(writer, ROUTES.tools)
+}
+
+fn write_layout_cases<W: Sink>(writer: &mut W) -> Result<(), Failed> {
+    write_cases(writer, LAYOUTS.tools)
+}
+
+fn write_other_cases<W: Sink>(writer: &mut W) -> Result<(), Failed> {
+    write_cases(writer, OTHERS)
+}
+
+/// Writes the script for fish.
+fn write_fish<W: Sink>(writer: &mut W) -> Result<(), Failed> {
+    write_tool_lines(writer)?;
+    write_view_lines(writer)?;
+    write_route_lines(writer)?;
+    write_layout_lines(writer)?;
+    write_other_lines(writer)
+}
+
+fn write_tool_lines<W: Sink>(writer: &mut W) -> Result<(), Failed> {
+    write_fish_names(writer, TOOLBOX.tools)
+}
+
+fn write_view_lines<W: Sink>(writer: &mut W) -> Result<(), Failed> {
+    write_fish_options(writer, VIEWS.tools)
+}
+
+fn write_route_lines<W: Sink>(writer: &mut W) -> Result<(), Failed> {
+    write_fish_options(writer, ROUTES.tools)
+}
+
+fn write_layout_lines<W: Sink>(writer: &mut W) -> Result<(), Failed> {
+    write_fish_options(writer, LAYOUTS.tools)
+}
+
+fn write_other_lines<W: Sink>(writer: &mut W) -> Result<(), Failed> {
+    write_fish_options(writer, OTHERS)
+}
+
+/// Writes the page of the manual.
+fn write_manual<W: Sink>(writer: &mut W) -> Result<(), Failed> {
+    write_all(writer, PAGE_HEAD)?;
+    write_other_sections(writer)?;
+    write_route_sections(writer)?;
+    write_layout_sections(writer)?;
+    write_view_sections(writer)
+}
+
+fn write_view_sections<W: Sink>(writer: &mut W) -> Result<(), Failed> {
+    write_page(writer, VIEWS.tools)
+}
+
+fn write_route_sections<W: Sink>(writer: &mut W) -> Result<(), Failed> {
+    write_page(writer, ROUTES.tools)
+}
+
+fn write_layout_sections<W: Sink>(writer: &mut W) -> Result<(), Failed> {
+    write_page(writer, LAYOUTS.tools)
+}
+
+fn write_other_sections<W: Sink>(writer: &mut W) -> Result<(), Failed> {
+    write_page(writer, OTHERS)
+}
+
+/// The script for bash, up to the names of the tools.
+const BASH_NAMES: &[u8] = b"\
+# Completes the tools and options of fpgad_desk in bash: source <(fpgad_desk completion bash)
+_fpgad_desk() {
+  local word=${COMP_WORDS[COMP_CWORD]} options=
+  if [ \"$COMP_CWORD\" -eq 1 ]; then
+    COMPREPLY=($(compgen -W '";
+
+/// From there to the options of each tool.
+const BASH_CASES: &[u8] = b"help --help --version' -- \"$word\"))
+    return
+  fi
+  case ${COMP_WORDS[1]} in
+";
+
+/// What comes after them.
+const BASH_END: &[u8] = b"  esac
+  case $word in
+    -*) COMPREPLY=($(compgen -W \"$options --help\" -- \"$word\")) ;;
+    *) COMPREPLY=($(compgen -f -- \"$word\")) ;;
+  esac
+}
+complete -o filenames -F _fpgad_desk fpgad_desk
+";
+
+/// The script for zsh, up to the names of the tools.
+const ZSH_NAMES: &[u8] = b"\
+#compdef fpgad_desk
+# Completes the tools and options of fpgad_desk in zsh.
+_fpgad_desk() {
+  local options=
+  if (( CURRENT == 2 )); then
+    compadd -- ";
+
+/// From there to the options of each tool.
+const ZSH_CASES: &[u8] = b"help --help --version
+    return
+  fi
+  case $words[2] in
+";
+
+/// What comes after them.
+const ZSH_END: &[u8] = b"  esac
+  if [[ $PREFIX == -* ]]; then
+    compadd -- ${=options} --help
+  else
+    _files
+  fi
+}
+compdef _fpgad_desk fpgad_desk
+";
+
+/// The page of the manual, up to the sections of the tools.
+const PAGE_HEAD: &[u8] = b"\
+.TH fpgad_desk 1
+.SH NAME
+fpgad_desk \\- tools for fpgad: they write its scripts and read its output
+.SH SYNOPSIS
+.B fpgad_desk
+.I TOOL
+[options]
+.PP
+.B fpgad_desk help
+.I TOOL
+.SH STATUS
+0 done; 1 a file could not be read or written, files found a refused line, or check or configure
+found that the files do not implement the netlist; 2 the command line is wrong; 3 the input is
+wrong (standard error names the line); 4 out of memory
+";

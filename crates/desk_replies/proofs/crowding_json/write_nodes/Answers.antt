@@ -1,0 +1,14 @@
+use Rattle.std.proofs.Common.{◌≡◌, ◌∙◌, Some, ap, sym}
+use Rattle.std.specs.List.{slice_get}
+use Rattle.std.proofs.lemmas.Option.{slice_get-get_or}
+use Rattle.json.specs.Tree.{json_tokens}
+use Rattle.json_text.proofs.Tokens.{one_more}
+use Rattle.desk_replies.specs.ReportJson.{node_json}
+use Rattle.desk_replies.proofs.crowding_json.write_nodes.Goals as goal
+
+pub loop-crowded-preserved : goal.loop-crowded-preserved
+loop-crowded-preserved c =
+    let xs = c.args.nodes.now in
+    let at = c.loop-crowded.crowded-index in
+    let here : slice_get xs at ≡ Some c.crowded-item.result = slice_get-get_or _ _ c.crowded-item.result c.loop-crowded-test.true ∙ ap Some (sym c.crowded-item.is) in
+    one_more (λ one. json_tokens (node_json c.args.crowding.now.packed one)) xs at c.crowded-item.result c.args.pen.now c.loop-crowded.pen c.write_node.new.pen here c.loop-crowded.invariant c.in_ok-write_node.ensures

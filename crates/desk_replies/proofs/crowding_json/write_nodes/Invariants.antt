@@ -1,0 +1,9 @@
+use Rattle.std.proofs.Common.{◌≡◌, ◌++◌, take}
+use Rattle.std.specs.List.{flat_map}
+use Rattle.json.specs.Tree.{json_tokens}
+use Rattle.desk_replies.specs.ReportJson.{node_json}
+use Rattle.desk_replies.proofs.crowding_json.write_nodes.Given as goal
+
+-- the ones before this one are written
+abbrev pub invariant-loop-crowded : goal.invariant-loop-crowded
+invariant-loop-crowded l = l.pen ≡ l.initial.pen ++ flat_map (λ one. json_tokens (node_json l.crowding.packed one)) (take l.crowded-index l.nodes)

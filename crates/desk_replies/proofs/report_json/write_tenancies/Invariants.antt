@@ -1,0 +1,9 @@
+use Rattle.std.proofs.Common.{◌≡◌, ◌++◌, take}
+use Rattle.std.specs.List.{flat_map}
+use Rattle.json.specs.Tree.{json_tokens}
+use Rattle.desk_replies.specs.ReportJson.{tenancy_json}
+use Rattle.desk_replies.proofs.report_json.write_tenancies.Given as goal
+
+-- the ones before this one are written
+abbrev pub invariant-loop-one : goal.invariant-loop-one
+invariant-loop-one l = l.pen ≡ l.initial.pen ++ flat_map (λ one. json_tokens (tenancy_json one)) (take l.one-index l.facts)

@@ -1,0 +1,8 @@
+use Rattle.std.proofs.Common.{◌≡◌, ◌++◌, take}
+use Rattle.std.specs.List.{flat_map}
+use Rattle.json_text.specs.Values.{member_of, member_tokens}
+use Rattle.json_text.proofs.pen.JsonPen.members.Given as goal
+
+-- the members before this one are written
+abbrev pub invariant-loop-one : goal.invariant-loop-one
+invariant-loop-one l = l.self ≡ l.initial.self ++ flat_map (λ one. member_tokens (member_of one)) (take l.one-index l.members)

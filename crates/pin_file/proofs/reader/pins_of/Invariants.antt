@@ -1,0 +1,8 @@
+use Rattle.std.proofs.Common.{◌≡◌, [], drop}
+use Rattle.pin_file.specs.PinFiles.{pins_after}
+use Rattle.pin_file.specs.Reading.{pins_read}
+use Rattle.pin_file.proofs.reader.pins_of.Given as goal
+
+-- the lines that are left go on from the pins so far
+abbrev pub invariant-loop-number : goal.invariant-loop-number
+invariant-loop-number l = pins_after [] l.lines ≡ pins_after (pins_read l.pins.items) (drop l.number l.lines)

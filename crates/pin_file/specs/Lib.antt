@@ -1,0 +1,2 @@
+pub mod PinFiles
+pub mod Reading

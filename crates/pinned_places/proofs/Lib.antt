@@ -1,0 +1,7 @@
+mod Named
+mod Steps
+mod Started
+mod Exchanged
+mod MetPins
+mod AllExchanged
+mod Examples

@@ -1,0 +1,16 @@
+use Rattle.std.proofs.Common.{◌≡◌, ◌∙◌, sym, arith, length}
+use Rattle.std.proofs.lemmas.List.{length-map}
+use Rattle.cluster.specs.Blocks.{blocks_of}
+use Rattle.cluster.specs.Keys.{key_of, keys_of}
+use Rattle.cluster.specs.declared.block.Block.TheVariants.{Cluster}
+use Rattle.pinned_places.specs.Pads.{is_pad_named}
+use Rattle.pinned_places.proofs.Named.{first_at, nowhere}
+use Rattle.pinned_places.proofs.pads.pad_number.Goals as goal
+
+pub returns-then-is_pad_named : goal.returns-then-is_pad_named
+returns-then-is_pad_named c = sym (first_at (is_pad_named c.args.name.now) (keys_of c.args.packed.now) c.loop-block.block _ c.loop-block.invariant c.key.ensures (sym c.if-is_pad_named.ensures))
+
+pub returns : goal.returns
+returns c =
+    sym (nowhere (is_pad_named c.args.name.now) (keys_of c.args.packed.now) c.loop-block.block (key_of c.args.packed.now (Cluster 0)) c.loop-block.invariant
+    (omega (arith, length-map (blocks_of c.args.packed.now) (key_of c.args.packed.now), c.block_count-block-end.ensures, c.loop-block-test.false)))

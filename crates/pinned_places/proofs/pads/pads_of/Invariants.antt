@@ -1,0 +1,8 @@
+use Rattle.std.proofs.Common.{◌≡◌, [], drop}
+use Rattle.pin_file.specs.Reading.{pins_read}
+use Rattle.pinned_places.specs.Pads.{pads_after}
+use Rattle.pinned_places.proofs.pads.pads_of.Given as goal
+
+-- the pins that are left go on from the pads so far
+abbrev pub invariant-loop-pin : goal.invariant-loop-pin
+invariant-loop-pin l = pads_after l.packed l.strip [] (pins_read l.pins) ≡ pads_after l.packed l.strip l.pads.items (drop l.pin-index (pins_read l.pins))

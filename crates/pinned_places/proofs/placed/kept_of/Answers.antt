@@ -1,0 +1,27 @@
+use Rattle.std.proofs.Common.{◌≡◌, ◌≢◌, ◌∙◌, ◌<◌, length, get_or, slice_get, arith, ap, subst, sym}
+use Rattle.std.specs.Prelude.{AllPairs}
+use Rattle.std.specs.List.{zip}
+use Rattle.std.proofs.lemmas.Option.{slice_get-get_or}
+use Rattle.cluster.specs.Clusters.{PackedCircuit}
+use Rattle.cluster.specs.Blocks.{blocks_of}
+use Rattle.cluster.specs.Keys.{keys_of}
+use Rattle.kept_places.specs.Table.{entries_of}
+use Rattle.strip_place.proofs.Keeping.{gathered, gathered_all, kept_exact}
+use Rattle.pinned_places.proofs.Started.{keys_distinct}
+use Rattle.pinned_places.proofs.placed.kept_of.Goals as goal
+
+pub loop-block-preserved : goal.loop-block-preserved
+loop-block-preserved c =
+    ap entries_of c.in_ok-push.ensures.items
+    ∙ gathered c.args.packed.now c.args.places.now c.loop-block.block c.loop-block.entries.items _ c.loop-block.invariant c.key.ensures (slice_get-get_or c.args.places.now c.loop-block.block _ (omega (arith, c.requires, c.block_count-block-end.ensures, c.loop-block-test.true)))
+
+pub of-requires : goal.of-requires
+of-requires c =
+    let packed = c.args.packed.now in
+    let all = gathered_all packed c.args.places.now c.loop-block.block c.loop-block.entries.items (omega (arith, c.block_count-block-end.ensures, c.loop-block-test.false)) c.loop-block.invariant in
+    keys_distinct packed c.args.places.now c.loop-block.entries.items c.requires (c.laws_of_packing.ensures packed c.circuit.ensures.lawful).keys all
+
+pub returns : goal.returns
+returns c =
+    let all = gathered_all c.args.packed.now c.args.places.now c.loop-block.block c.loop-block.entries.items (omega (arith, c.block_count-block-end.ensures, c.loop-block-test.false)) c.loop-block.invariant in
+    kept_exact c.args.packed.now c.args.places.now c.loop-block.entries.items c.of.result all c.of.ensures

@@ -1,0 +1,8 @@
+use Rattle.std.proofs.Common.{◌≡◌, take}
+use Rattle.std.specs.List.{zip}
+use Rattle.cluster.specs.Keys.{keys_of}
+use Rattle.kept_places.specs.Table.{entries_of}
+use Rattle.pinned_places.proofs.placed.kept_of.Given as goal
+
+abbrev pub invariant-loop-block : goal.invariant-loop-block
+invariant-loop-block l = entries_of l.entries.items ≡ take l.block (zip (keys_of l.packed) l.places)
