@@ -1,13 +1,15 @@
 """Over which text an edit was refused: the sums that `edits/ledger.txt` has, one line an edit.
 
-An edit's sum is of its own text, of its crate's src, specs and proofs, and of what the crates below state: their specs, and their sources
-without the functions' bodies and without private functions. So a body that changes below asks for nothing. Comments and empty lines count nowhere."""
+An edit's sum is of its own text, of its crate's src, specs and proofs, and of what the crates below state, as far as the crate's text reaches
+it by name (`wrong_bodies.reach`): definitions of specs, and sources without the functions' bodies and without private functions. So a body
+that changes below asks for nothing, nor does a statement that the crate cannot name. Comments and empty lines count nowhere."""
 import fcntl
 import hashlib
 import os
 import re
 
 from wrong_bodies.edits import BLOCK, FUNCTION, TOP, crates, edits_of, read
+from wrong_bodies.reach import TRAIT, Reach, file_of, source_parts, spec_parts
 
 LEDGER = f"{TOP}/edits/ledger.txt"
 
@@ -46,29 +48,47 @@ def stated(lines):
     return kept
 
 
-def texts(top, crate, *parts):
+def files(top, crate, *parts):
+    """The paths and lines of a crate's files; comments are taken out."""
     for part in parts:
         for at, folders, names in os.walk(f"{top}/crates/{crate}/{part}"):
             folders.sort()
             for name in sorted(names):
-                yield os.path.relpath(f"{at}/{name}", f"{top}/crates/{crate}"), code(read(f"{at}/{name}"))
+                lines = [line for line in read(f"{at}/{name}").split("\n") if not line.strip().startswith(("//", "--"))]
+                yield os.path.relpath(f"{at}/{name}", f"{top}/crates/{crate}"), lines
+
+
+def texts(top, crate, *parts):
+    for path, lines in files(top, crate, *parts):
+        yield path, code("\n".join(lines))
 
 
 def crate_sums(top=TOP):
-    """For each crate the sum of what its edits rest on, beside their own text."""
-    uses = crates(top)
-    below, says = {}, {}
+    """For each crate with edits the sum of what they rest on, beside their own text."""
+    uses, below = crates(top), {}
 
     def under(name):
         if name not in below:
-            below[name] = sorted({it for use in uses[name] for it in (use, *under(use))})
+            below[name] = {it for use in uses[name] for it in (use, *under(use))}
         return below[name]
 
+    sources = {name: list(files(top, name, "src")) for name in uses}
+    traits = {found[1] for each in sources.values() for _, lines in each for found in map(TRAIT.match, lines) if found}
+    parts = []
     for name in uses:
-        sources = [(path, stated(lines)) for path, lines in texts(top, name, "src")]
-        says[name] = sum_of(*texts(top, name, "specs"), *sources)
-    own = {name: sum_of(*texts(top, name, "src", "specs", "proofs")) for name in uses}
-    return {name: sum_of(own[name], [(it, says[it]) for it in under(name)]) for name in uses}
+        for _, lines in files(top, name, "specs"):
+            parts += spec_parts(name, lines)
+        for _, lines in sources[name]:
+            parts += source_parts(name, traits, stated(lines))
+    reach, sums = Reach(parts, {name: under(name) for name in uses}), {}
+    for name in uses:
+        if edits_of(name, top):
+            named = set()
+            for path, lines in files(top, name, "src", "specs", "proofs"):
+                named |= file_of(name, lines, path.endswith(".rt")).names("\n".join(lines))
+            said = sorted((it.crate, it.text) for it in reach.of(named, under(name)))
+            sums[name] = sum_of(*texts(top, name, "src", "specs", "proofs"), said)
+    return sums
 
 
 def sum_of_edit(edit, sums):

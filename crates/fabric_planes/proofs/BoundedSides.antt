@@ -15,7 +15,8 @@ use Rattle.fabric_planes.specs.Pins.{AreByPlace}
 use Rattle.fabric_planes.specs.SideBounds.{AreFew, AreLow, ArePinBounds, AreSidesBounded, IsSideBounded}
 use Rattle.fabric_planes.specs.Sides.{is_on_side}
 use Rattle.fabric_planes.specs.declared.side_bounds.PinBounds.{PinBounds}
-use Rattle.fabric_planes.proofs.Priced.{by_place_low, track_low}
+use Rattle.fabric_planes.proofs.Priced.{by_place_low}
+use Rattle.fabric_planes.proofs.Strips.{track_low}
 
 -- the prices of a place are in the table
 pub row_fits : (place places tracks : ℕ) → place * tracks < places * tracks → place * tracks + tracks ≤ places * tracks

@@ -1,15 +1,15 @@
 -- The wires of a row have consecutive numbers, track by track, and places in their order.
 use Rattle.std.proofs.Common.{◌≡◌, ℕ, zero, suc, ◌+◌, ◌<◌, ◌≤◌, refl, sym, ap, ◌∙◌, subst, inl, inr, arith, true}
-use Rattle.std.proofs.lemmas.Bool.{cases_eq, cases_lt, eq-eqb}
+use Rattle.std.proofs.lemmas.Bool.{cases_eq, cases_lt}
 use Rattle.rr_graph.specs.declared.node.NodeKind.{NodeKind}
 use Rattle.rr_graph.specs.declared.node.NodeKind.TheVariants.{Source, Sink, Opin, Ipin, ChanX, ChanY}
 use Rattle.rr_graph.specs.declared.node.Node.{Node}
 use Rattle.rr_graph.specs.Node.{IsBefore, rank_of}
 use Rattle.rr_graph.specs.Geometry.{IsWire, is_node}
 use Rattle.rr_graph.specs.Graph.{Basis, IsBasis, graph_of, make_node}
-use Rattle.fabric_planes.specs.Layout.{Terminals, place_of, place_count, shows}
-use Rattle.fabric_planes.proofs.Ends.{level_facts, upright_facts, level_there, upright_there}
-use Rattle.fabric_planes.proofs.Strips.{lawful, low, place_order, before_number}
+use Rattle.fabric_planes.specs.Layout.{Terminals, place_of, place_count}
+use Rattle.fabric_planes.proofs.Wires.{level_facts, upright_facts, level_there, upright_there}
+use Rattle.fabric_planes.proofs.Strips.{lawful, low, place_order, before_number, wire_shows}
 
 before_column : (a b : Node) → IsBefore a b → a.x ≤ b.x
 before_column a b (inl l) = omega (arith, l)
@@ -105,22 +105,14 @@ module _ {basis : Basis} (is : IsBasis basis) where
   pub first_of : (number : ℕ) → number < (graph_of basis).count → IsWire (node number).kind → IsFirstOf basis number (node number)
   first_of number b w = first_by (node number).kind (node number).x (node number).y (node number).n number w b refl
 
-  wire_shown : (kind : NodeKind) (t : Terminals) (v : Node) (track : ℕ) → IsWire kind → v.n ≡ track → shows basis.strip t track kind v ≡ true
-  wire_shown Source t v track w e = absurd w
-  wire_shown Sink t v track w e = absurd w
-  wire_shown Opin t v track w e = absurd w
-  wire_shown Ipin t v track w e = absurd w
-  wire_shown ChanX t v track w e = eq-eqb v.n track e
-  wire_shown ChanY t v track w e = eq-eqb v.n track e
-
   -- wires of a track have places in their order
   pub wires_order : (i j : ℕ) → i < j → j < (graph_of basis).count → IsWire (node i).kind → IsWire (node j).kind → (node i).n ≡ (node j).n → place_of basis (node i) < place_of basis (node j)
   wires_order i j l b wi wj e =
       let t : Terminals = record { source = node i; sink = node i } in
-      place_order is t (node j).n i j l (omega (arith, l, b)) b (wire_shown (node i).kind t (node i) (node j).n wi e) (wire_shown (node j).kind t (node j) (node j).n wj refl) ((lawful is).ordered i j l b)
+      place_order is t (node j).n i j l (omega (arith, l, b)) b (wire_shows basis.strip t (node j).n (node i).kind (node i) wi e) (wire_shows basis.strip t (node j).n (node j).kind (node j) wj refl) ((lawful is).ordered i j l b)
 
   -- wires have places of the plane
   pub wire_low : (i : ℕ) → i < (graph_of basis).count → IsWire (node i).kind → place_of basis (node i) < place_count basis
   wire_low i b w =
       let t : Terminals = record { source = node i; sink = node i } in
-      low is t (node i).n i b (wire_shown (node i).kind t (node i) (node i).n w refl)
+      low is t (node i).n i b (wire_shows basis.strip t (node i).n (node i).kind (node i) w refl)

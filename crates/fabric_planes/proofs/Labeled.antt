@@ -1,5 +1,5 @@
 -- A graph with labeled nodes consists of the planes of its tracks.
-use Rattle.std.proofs.Common.{◌≡◌, ℕ, zero, suc, refl, ◌^◌, ◌<◌, ◌≤◌, ◌⊎◌, List, [], ◌∷◌, length, get_or, arith, ◌∙◌, inl, inr, sym, ap, subst, Bool, true, ◌&&◌}
+use Rattle.std.proofs.Common.{◌≡◌, ℕ, refl, ◌^◌, ◌<◌, ◌≤◌, List, [], ◌∷◌, length, get_or, arith, ◌∙◌, inl, inr, sym, ap, subst, Bool, true, ◌&&◌}
 use Rattle.std.specs.Prelude.{◌==◌, filter, Contains}
 use Rattle.std.specs.List.{range_with_len}
 use Rattle.std.proofs.lemmas.Bool.{and_parts, and_from, cases_Bool, cases_eq, cases_lt, eqb-true, eq-eqb, lt-ltb, ltb-true, false≢true}
@@ -10,31 +10,17 @@ use Rattle.std.proofs.lemmas.List.Sums.{passes_at_first, position_or_len_is}
 use Rattle.least_path.specs.Graph.{IsLawful, AreNodes}
 use Rattle.plane_search.specs.Planes.{IsFamily, IsPlane, IsPlace}
 use Rattle.fabric_planes.specs.Labels.{Labels, AreLabels, node_at, is_there, places_of, plane_of, family_of}
-
--- ---- members of lists
-
-contains_cases : {X : Type 0} (x y : X) (xs : List X) → Contains (x ∷ xs) y → (x ≡ y) ⊎ Contains xs y
-contains_cases x y xs (zero, b, e) = inl e
-contains_cases x y xs (suc k, b, e) = inr (k, omega arith, e)
-
-contains_first : {X : Type 0} (x : X) (xs : List X) → Contains (x ∷ xs) x
-contains_first x xs = (0, omega arith, refl)
-
-contains_further : {X : Type 0} (x y : X) (xs : List X) → Contains xs y → Contains (x ∷ xs) y
-contains_further x y xs c = (suc c.0, omega (arith, c.1), c.2)
-
-contains_none : {X : Type 0} (y : X) → Contains [] y → ⊥
-contains_none y (k, b, e) = omega (arith, b)
+use Rattle.fabric_planes.proofs.Spans.{in_cases, in_first, in_further, in_none}
 
 -- the place of a node that is shown is among the places
 pub has_place : (l : Labels) (track : ℕ) (nodes : List ℕ) (node : ℕ) → Contains nodes node → l.is_shown track node ≡ true → Contains (places_of l track nodes) (l.place node)
-has_place l track [] node c s = absurd (contains_none node c)
+has_place l track [] node c s = absurd (in_none node c)
 has_place l track (x ∷ xs) node c s = elim (cases_Bool (l.is_shown track x)) [
-  | inl is ↦ rw is (elim (contains_cases x node xs c) [
-    | inl e ↦ subst (Contains (l.place x ∷ places_of l track xs)) (ap l.place e) (contains_first (l.place x) (places_of l track xs))
-    | inr rest ↦ contains_further (l.place x) (l.place node) (places_of l track xs) (has_place l track xs node rest s)
+  | inl is ↦ rw is (elim (in_cases x node xs c) [
+    | inl e ↦ subst (Contains (l.place x ∷ places_of l track xs)) (ap l.place e) (in_first (l.place x) (places_of l track xs))
+    | inr rest ↦ in_further (l.place x) (l.place node) (places_of l track xs) (has_place l track xs node rest s)
   ])
-  | inr isn't ↦ rw isn't (elim (contains_cases x node xs c) [
+  | inr isn't ↦ rw isn't (elim (in_cases x node xs c) [
     | inl e ↦ absurd (false≢true (sym isn't ∙ (ap (l.is_shown track) e ∙ s)))
     | inr rest ↦ has_place l track xs node rest s
   ])
@@ -48,13 +34,13 @@ pub record IsPlaceOf (l : Labels) (track : ℕ) (nodes : List ℕ) (place : ℕ)
   pub is : l.place node ≡ place
 
 place_further : (l : Labels) (track x : ℕ) (xs : List ℕ) (place : ℕ) → IsPlaceOf l track xs place → IsPlaceOf l track (x ∷ xs) place
-place_further l track x xs place p = record { node = p.node; contained = contains_further x p.node xs p.contained; shown = p.shown; is = p.is }
+place_further l track x xs place p = record { node = p.node; contained = in_further x p.node xs p.contained; shown = p.shown; is = p.is }
 
 pub place_has : (l : Labels) (track : ℕ) (nodes : List ℕ) (place : ℕ) → Contains (places_of l track nodes) place → IsPlaceOf l track nodes place
-place_has l track [] place c = absurd (contains_none place c)
+place_has l track [] place c = absurd (in_none place c)
 place_has l track (x ∷ xs) place c = elim (cases_Bool (l.is_shown track x)) [
-  | inl is ↦ elim (contains_cases (l.place x) place (places_of l track xs) (rw is at c)) [
-    | inl e ↦ record { node = x; contained = contains_first x xs; shown = is; is = e }
+  | inl is ↦ elim (in_cases (l.place x) place (places_of l track xs) (rw is at c)) [
+    | inl e ↦ record { node = x; contained = in_first x xs; shown = is; is = e }
     | inr rest ↦ place_further l track x xs place (place_has l track xs place rest)
   ]
   | inr isn't ↦ place_further l track x xs place (place_has l track xs place (rw isn't at c))

@@ -5,9 +5,7 @@ mod Strips
 mod Nearer
 mod Crossing
 mod Spans
-mod Ends
-mod Bases
-mod Listed
+mod Wires
 mod PlaneEnds
 mod PinSides
 mod PinLists
@@ -18,7 +16,6 @@ mod PinsRowed
 mod PinAparts
 mod Consecutive
 mod Told
-mod Classes
 mod Found
 mod Differences
 mod SideWays
@@ -49,9 +46,7 @@ mod OwnPins
 mod BoundedSides
 mod FarWires
 mod ShownPins
-mod ArrivalSteps
-mod ArrivalSites
-mod ArrivalColumns
-mod Arrivals
 mod ArrivalNumbers
 pub mod NetSearches
+mod Alike
+mod StepRows

@@ -8,8 +8,7 @@ use Rattle.std.proofs.lemmas.List.Elements.{Contains-append_left, Contains-appen
 use Rattle.rr_graph.specs.declared.node.NodeKind.{NodeKind}
 use Rattle.rr_graph.specs.declared.node.NodeKind.TheVariants.{Source, Sink, Opin, Ipin, ChanX, ChanY}
 use Rattle.rr_graph.specs.declared.node.Node.{Node}
-use Rattle.rr_graph.specs.Geometry.{IsWire, is_node}
-use Rattle.rr_graph.proofs.Columns.{member_small, member_of}
+use Rattle.rr_graph.specs.Geometry.{IsWire}
 use Rattle.rr_graph.specs.Graph.{Basis, IsBasis, graph_of}
 use Rattle.least_path.specs.LowerBound.{IsLowerBound}
 use Rattle.plane_search.specs.Planes.{Family, IsPlaneBound}
@@ -20,10 +19,10 @@ use Rattle.fabric_planes.specs.Labels.{node_at, family_of}
 use Rattle.fabric_planes.specs.Layout.{Terminals, place_of, place_count, shows, labels_of, planes_of, IsNetSearch}
 use Rattle.fabric_planes.specs.Pins.{IsShownPin, ArePins}
 use Rattle.fabric_planes.specs.Starts.{AreSomeStarts}
-use Rattle.fabric_planes.specs.Tables.{AreFirsts, IsNearby}
+use Rattle.fabric_planes.specs.Tables.{AreFirsts}
 use Rattle.fabric_planes.proofs.Labeled.{at_place, has_place, place_has}
 use Rattle.fabric_planes.proofs.Numbers.{same_shows, listed_there}
-use Rattle.fabric_planes.proofs.Strips.{lawful, are_labels, node_column, node_slot}
+use Rattle.fabric_planes.proofs.Strips.{are_labels}
 
 -- a test says whether it holds
 match_test : (b : Bool) → MatchBool b (b ≡ true) (b ≡ true → ⊥)
@@ -53,13 +52,6 @@ module _ {basis : Basis} (is : IsBasis basis) (t : Terminals) (cost : ℕ → �
 
   abbrev IsShown : ℕ → ℕ → Type 0
   IsShown track number = IsShownIn basis t cost starts goal track number
-
-  -- a node's fields are within their limits
-  pub near : (number : ℕ) → number < (graph_of basis).count → (v : Node) → v ≡ node number → IsNearby v
-  near number b v e =
-      let h : is_node basis.arch basis.strip v ≡ true = subst (λ (v : Node). is_node basis.arch basis.strip v ≡ true) (sym e) ((lawful is).nodes number b) in
-      let small = member_small basis.arch basis.strip is.arch is.strip (member_of v.kind v.y v.n) (node_slot basis v h) in
-      record { x = omega (arith, node_column basis v h, is.strip.width.1); y = omega (arith, small.0); n = omega (arith, small.1) }
 
   -- ---- pins that are listed
 

@@ -13,14 +13,6 @@ low_still sides pins others cost falls low = record {
   left = λ on. omega (arith, falls.left, low.left on);
 }
 
-pub low_under : (sides : Sides) (pins : PinBounds) (cost more : ℕ) → cost ≤ more → AreLow sides pins cost → AreLow sides pins more
-low_under sides pins cost more le low = record {
-  top = λ on. omega (arith, le, low.top on);
-  bottom = λ on. omega (arith, le, low.bottom on);
-  right = λ on. omega (arith, le, low.right on);
-  left = λ on. omega (arith, le, low.left on);
-}
-
 -- ---- all sides
 
 pub by_four : (P : ℕ → Type 0) → P 0 → P 1 → P 2 → P 3 → (side : ℕ) → side < 4 → P side

@@ -1,6 +1,6 @@
 -- A search over a net's planes is one over the whole graph.
-use Rattle.std.proofs.Common.{◌≡◌, ℕ, ◌<◌, List, [], ◌∷◌}
-use Rattle.std.specs.List.{All, Contains}
+use Rattle.std.proofs.Common.{ℕ, ◌<◌, List, [], ◌∷◌}
+use Rattle.std.specs.List.{All}
 use Rattle.std.proofs.lemmas.List.Elements.{All-nil, All-cons, All-contains}
 use Rattle.least_path.specs.Graph.{Graph, AreNodes, IsLawful}
 use Rattle.least_path.specs.Path.{Leads, IsPath}

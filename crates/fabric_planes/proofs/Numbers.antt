@@ -1,7 +1,7 @@
 -- What is at a place of a plane, as the tables tell it.
 use Rattle.std.proofs.Common.{◌≡◌, ℕ, ◌+◌, ◌*◌, ◌<◌, ◌≤◌, ◌⊎◌, List, length, refl, sym, ap, ◌∙◌, subst, inl, inr, arith, true, false}
 use Rattle.std.specs.Prelude.{Contains, slice_index, slice_index_or}
-use Rattle.std.proofs.lemmas.Bool.{cases_Bool, cases_eq, cases_lt, eq-eqb, false≢true}
+use Rattle.std.proofs.lemmas.Bool.{cases_Bool, cases_eq, cases_lt, false≢true}
 use Rattle.rr_graph.specs.declared.node.NodeKind.{NodeKind}
 use Rattle.rr_graph.specs.declared.node.NodeKind.TheVariants.{Source, Sink, Opin, Ipin, ChanX, ChanY}
 use Rattle.rr_graph.specs.declared.node.Node.{Node}
@@ -10,18 +10,20 @@ use Rattle.rr_graph.specs.Graph.{Basis, IsBasis, graph_of, make_node}
 use Rattle.rr_graph.proofs.FewNodes.{few_nodes}
 use Rattle.plane_search.specs.Planes.{IsPlace}
 use Rattle.fabric_planes.specs.declared.pins.PinAt.{PinAt}
+use Rattle.fabric_planes.specs.declared.steps.Steps.{Steps}
 use Rattle.fabric_planes.specs.Differences.{IsPinPlace}
 use Rattle.fabric_planes.specs.Labels.{is_there, node_at, family_of}
 use Rattle.fabric_planes.specs.Laid.{IsWireOf}
 use Rattle.fabric_planes.specs.Layout.{Terminals, pins_of, level_at, stride_of, in_column, offset_of, place_of, place_count, shows, labels_of, planes_of, IsNetSearch}
 use Rattle.fabric_planes.specs.Pins.{IsShownPin, ArePins, ArePrices}
-use Rattle.fabric_planes.specs.Tables.{IsFirstAt, AreFirsts, AreClasses, NO_WIRE, NO_CLASS}
+use Rattle.fabric_planes.specs.Steps.{AreSteps, NO_CLASS}
+use Rattle.fabric_planes.specs.Tables.{IsFirstAt, AreFirsts, NO_WIRE}
 use Rattle.fabric_planes.proofs.Bounded.{IsShownThere, shown_there}
-use Rattle.fabric_planes.proofs.Ends.{level_facts, upright_facts, level_there, upright_there}
-use Rattle.fabric_planes.proofs.Found.{first_for, told_at, same_offset}
+use Rattle.fabric_planes.proofs.Wires.{level_facts, upright_facts, level_there, upright_there}
+use Rattle.fabric_planes.proofs.Found.{cases_wire, first_for, firsts_cases, told_at, same_offset}
 use Rattle.fabric_planes.proofs.Labeled.{shown_at, at_place, there_of}
 use Rattle.fabric_planes.proofs.Offsets.{columns_apart}
-use Rattle.fabric_planes.proofs.Strips.{lawful, are_labels, wire_row}
+use Rattle.fabric_planes.proofs.Strips.{lawful, are_labels, wire_row, wire_shows}
 
 -- the offset of a wire is not one of a pin
 wire_offset : (basis : Basis) (kind : NodeKind) (v : Node) → IsWire kind → level_at basis ≤ offset_of basis kind v
@@ -32,7 +34,7 @@ wire_offset basis Ipin v w = absurd w
 wire_offset basis ChanX v w = omega arith
 wire_offset basis ChanY v w = omega arith
 
-wire_stride : (basis : Basis) (kind : NodeKind) (v : Node) → IsWire kind → v.y ≤ basis.strip.rows → offset_of basis kind v < stride_of basis
+pub wire_stride : (basis : Basis) (kind : NodeKind) (v : Node) → IsWire kind → v.y ≤ basis.strip.rows → offset_of basis kind v < stride_of basis
 wire_stride basis Source v w b = absurd w
 wire_stride basis Sink v w b = absurd w
 wire_stride basis Opin v w b = absurd w
@@ -41,7 +43,7 @@ wire_stride basis ChanX v w b = omega (arith, b)
 wire_stride basis ChanY v w b = omega (arith, b)
 
 -- the wire of each track at the place of a wire
-each_track : (basis : Basis) (kind : NodeKind) (x y n m : ℕ) → IsWire kind → m < basis.arch.tracks → is_node basis.arch basis.strip (make_node x kind y n) ≡ true → is_node basis.arch basis.strip (make_node x kind y m) ≡ true
+pub each_track : (basis : Basis) (kind : NodeKind) (x y n m : ℕ) → IsWire kind → m < basis.arch.tracks → is_node basis.arch basis.strip (make_node x kind y n) ≡ true → is_node basis.arch basis.strip (make_node x kind y m) ≡ true
 each_track basis Source x y n m w l h = absurd w
 each_track basis Sink x y n m w l h = absurd w
 each_track basis Opin x y n m w l h = absurd w
@@ -57,22 +59,6 @@ same_shows strip t track other Opin v n s = s
 same_shows strip t track other Ipin v n s = s
 same_shows strip t track other ChanX v n s = absurd (n tt)
 same_shows strip t track other ChanY v n s = absurd (n tt)
-
-track_shows : (strip : _) (t : Terminals) (track : ℕ) (kind : NodeKind) (v : Node) → IsWire kind → v.n ≡ track → shows strip t track kind v ≡ true
-track_shows strip t track Source v w e = absurd w
-track_shows strip t track Sink v w e = absurd w
-track_shows strip t track Opin v w e = absurd w
-track_shows strip t track Ipin v w e = absurd w
-track_shows strip t track ChanX v w e = eq-eqb v.n track e
-track_shows strip t track ChanY v w e = eq-eqb v.n track e
-
-cases_wire : (kind : NodeKind) → IsWire kind ⊎ (IsWire kind → ⊥)
-cases_wire Source = inr (λ w. w)
-cases_wire Sink = inr (λ w. w)
-cases_wire Opin = inr (λ w. w)
-cases_wire Ipin = inr (λ w. w)
-cases_wire ChanX = inl tt
-cases_wire ChanY = inl tt
 
 module _ {basis : Basis} (is : IsBasis basis) where
   abbrev node : ℕ → Node
@@ -97,18 +83,22 @@ module _ {basis : Basis} (is : IsBasis basis) where
         ]
       ]
 
-  first_wire : (place number : ℕ) → IsFirstAt basis place number → IsWireOf basis place number
+  pub first_wire : (place number : ℕ) → IsFirstAt basis place number → IsWireOf basis place number
   first_wire place number at = record { wire = record { within = at.within; wire = at.first.wire }; is_at = at.is_at }
 
   -- the table has a number for the place of a wire, and none for that of a pin
   pub number_some : (firsts : List ℕ) → AreFirsts basis firsts → (place number : ℕ) → IsWireOf basis place number → slice_index firsts place ≡ NO_WIRE → ⊥
   number_some firsts told place number w e =
-      omega (arith, told_at is (λ number. number) NO_WIRE firsts told place number w, (first_for is place number w).at.within, few_nodes basis is, e)
+      omega (arith, told_at is firsts told place number w, (first_for is place number w).at.within, few_nodes basis is, e)
 
   number_none : (firsts : List ℕ) → AreFirsts basis firsts → (place x offset : ℕ) → place < place_count basis → IsPinPlace basis x offset → place ≡ in_column basis x offset → slice_index firsts place ≡ NO_WIRE
-  number_none firsts told place x offset b pin at = told.others place b (λ number l first.
-      let w = first_wire place number first in
-      wire_or_pin place number x offset w (wire_row is number w.wire.within w.wire.wire) pin at)
+  number_none firsts told place x offset b pin at = elim (firsts_cases is firsts told place b) [
+    | inl none ↦ none
+    | inr first ↦
+        let number : ℕ = slice_index firsts place in
+        let w = first_wire place number first in
+        absurd (wire_or_pin place number x offset w (wire_row is number w.wire.within w.wire.wire) pin at)
+  ]
 
   module _ (t : Terminals) (cost : ℕ → ℕ) (starts : List ℕ) (goal : ℕ) (search : IsNetSearch basis cost starts goal t) (firsts : List ℕ) (told : AreFirsts basis firsts) where
     -- a wire of the track is at the place
@@ -124,7 +114,7 @@ module _ {basis : Basis} (is : IsBasis basis) where
     wire_shown_at track place number w n =
         let l = labels_of basis cost starts goal t in
         let are = are_labels is cost starts goal t search in
-        let shown = track_shows basis.strip t track (node number).kind (node number) w.wire.wire n in
+        let shown = wire_shows basis.strip t track (node number).kind (node number) w.wire.wire n in
         record {
           number = number;
           wire = w;
@@ -189,22 +179,16 @@ module _ {basis : Basis} (is : IsBasis basis) where
 
     -- the table has a number for the place, so a wire is there
     pub wire_there : (track place : ℕ) → track < basis.arch.tracks → place < place_count basis → (slice_index firsts place ≡ NO_WIRE → ⊥) → IsWireThere track place
-    wire_there track place few b some = elim (cases_Bool (is_there (labels_of basis cost starts goal t) track place)) [
-      | inl there ↦ elim (there_cases track place there b) [
-        | inl w ↦ w
-        | inr p ↦ absurd (some p.none)
-      ]
-      | inr nothing ↦ absurd (some (told.others place b (λ number l first. false≢true (sym nothing ∙ (other_track track place number few (first_wire place number first)).there))))
+    wire_there track place few b some = elim (firsts_cases is firsts told place b) [
+      | inl none ↦ absurd (some none)
+      | inr first ↦ other_track track place (slice_index firsts place) few (first_wire place (slice_index firsts place) first)
     ]
 
     -- the table has a class for the place, so a wire is there
-    pub class_there : (classes : List ℕ) → AreClasses basis classes → (track place : ℕ) → track < basis.arch.tracks → place < place_count basis → (slice_index classes place ≡ NO_CLASS → ⊥) → IsWireThere track place
-    class_there classes tells track place few b some = elim (cases_Bool (is_there (labels_of basis cost starts goal t) track place)) [
-      | inl there ↦ elim (there_cases track place there b) [
-        | inl w ↦ w
-        | inr p ↦ absurd (some (tells.others place b (λ number l first. number_some firsts told place number (first_wire place number first) p.none)))
-      ]
-      | inr nothing ↦ absurd (some (tells.others place b (λ number l first. false≢true (sym nothing ∙ (other_track track place number few (first_wire place number first)).there))))
+    pub class_there : (steps : Steps) → AreSteps basis steps → (track place : ℕ) → track < basis.arch.tracks → place < place_count basis → (slice_index steps.classes.items place ≡ NO_CLASS → ⊥) → IsWireThere track place
+    class_there steps are track place few b some = elim (firsts_cases is firsts told place b) [
+      | inl none ↦ absurd (some (are.others place b (λ first at. number_some firsts told place first (first_wire place first at) none)))
+      | inr first ↦ other_track track place (slice_index firsts place) few (first_wire place (slice_index firsts place) first)
     ]
 
     -- the table has no number for the place, so if something is there, it is a pin

@@ -1,5 +1,5 @@
 -- The tracks that an output pin meets on a side, as the table tells them.
-use Rattle.std.proofs.Common.{◌≡◌, ℕ, ◌+◌, ◌-◌, ◌*◌, ◌<◌, ◌≤◌, List, length, take, drop, refl, Some, ap, ◌∙◌, subst, arith, Bool, true, false, sym}
+use Rattle.std.proofs.Common.{◌≡◌, ℕ, ◌+◌, ◌-◌, ◌*◌, ◌<◌, ◌≤◌, List, length, take, drop, ap, ◌∙◌, subst, arith, Bool, true, false, sym}
 use Rattle.std.specs.Prelude.{All, slice_index}
 use Rattle.std.specs.List.{range_with_len}
 use Rattle.std.proofs.lemmas.Nat.{mul-add-lt, row_fits}
@@ -7,36 +7,20 @@ use Rattle.std.proofs.lemmas.List.{get_or-take, get_or-drop}
 use Rattle.std.proofs.lemmas.List.Elements.{All-map, All-take, All-drop}
 use Rattle.std.proofs.lemmas.List.FromFn.{length-map-range_with_len, get_or-map-range_with_len}
 use Rattle.rr_graph.specs.declared.node.NodeKind.{NodeKind}
-use Rattle.rr_graph.specs.declared.node.NodeKind.TheVariants.{Source, Sink, Opin, Ipin, ChanX, ChanY}
+use Rattle.rr_graph.specs.declared.node.NodeKind.TheVariants.{Opin}
 use Rattle.rr_graph.specs.declared.node.Node.{Node}
-use Rattle.rr_graph.specs.Geometry.{IsWire, is_node, meets}
-use Rattle.rr_graph.specs.Graph.{Basis, IsBasis, graph_of, make_node}
-use Rattle.fabric_planes.specs.Layout.{pins_of, track_by}
+use Rattle.rr_graph.specs.Geometry.{is_node, meets}
+use Rattle.rr_graph.specs.Graph.{Basis, make_node}
+use Rattle.fabric_planes.specs.Layout.{pins_of}
 use Rattle.fabric_planes.specs.PinRows.{is_met, site_of, apart_entry, apart_if, aparts}
 use Rattle.fabric_planes.specs.Sides.{IsAtSide}
 use Rattle.fabric_planes.proofs.PinEnds.{IsOutput, output_facts}
 use Rattle.fabric_planes.proofs.PinRowsAt.{apart_at}
-use Rattle.fabric_planes.specs.Ways.{IsWireAt}
 use Rattle.fabric_planes.proofs.PinSides.{met_at, site_few, site_met}
-use Rattle.fabric_planes.proofs.Strips.{wire_low}
 
 if_few : (met : Bool) → apart_if met ≤ 20000
 if_few true = omega arith
 if_few false = omega arith
-
-of_track : (kind : NodeKind) (n : ℕ) → IsWire kind → track_by kind n ≡ Some n
-of_track Source n w = absurd w
-of_track Sink n w = absurd w
-of_track Opin n w = absurd w
-of_track Ipin n w = absurd w
-of_track ChanX n w = refl
-of_track ChanY n w = refl
-
--- a wire is of a track
-pub track_low : {basis : Basis} → IsBasis basis → (number : ℕ) → IsWireAt basis number → ((graph_of basis).node number).n < basis.arch.tracks
-track_low {basis} is number w =
-    let v = (graph_of basis).node number in
-    wire_low is number v.n w.within (of_track v.kind v.n w.wire)
 
 module _ (basis : Basis) where
   abbrev table : List ℕ

@@ -8,15 +8,15 @@ use Rattle.rr_graph.specs.declared.node.Node.{Node}
 use Rattle.rr_graph.specs.Geometry.{IsWire, is_node, is_slot, is_pad_row, is_block_row, is_block_number, sides_at, meets_track, flexibility_of, meets, joins}
 use Rattle.rr_graph.specs.Graph.{Basis, IsBasis, graph_of, make_node}
 use Rattle.rr_graph.proofs.Unique.{same_rising}
+use Rattle.fabric_planes.specs.Ends.{shown_ends}
 use Rattle.fabric_planes.specs.Layout.{Terminals, pins_of, band_of, level_at, upright_at, stride_of, in_column, offset_of, place_of, shows, IsNetSearch}
-use Rattle.fabric_planes.specs.PinRows.{beside, is_met, departures}
+use Rattle.fabric_planes.specs.PinRows.{beside, is_met, departures, places_from}
 use Rattle.fabric_planes.specs.Sides.{IsAtSide, is_on_side, side_kind, rows_less, columns_less}
-use Rattle.fabric_planes.specs.Steps.{places_from}
-use Rattle.fabric_planes.proofs.Ends.{level_there, upright_there}
+use Rattle.fabric_planes.proofs.Wires.{level_there, upright_there}
 use Rattle.fabric_planes.proofs.PinSides.{top_row, right_row, left_row, side_row, met_meets, met_by}
-use Rattle.fabric_planes.proofs.PlaneEnds.{shown_ends, end_back, end_shown, shown_rise, wire_shown}
+use Rattle.fabric_planes.proofs.PlaneEnds.{end_back, end_shown, shown_rise}
 use Rattle.fabric_planes.proofs.Spans.{Span, span_if, span_moved, span_rises, in_if, in_others, if_cases, in_map, map_in, in_none}
-use Rattle.fabric_planes.proofs.Strips.{slot_facts}
+use Rattle.fabric_planes.proofs.Strips.{slot_facts, wire_shows}
 
 -- an output pin leads to wires
 output_joins : (basis : Basis) (t : Terminals) (track : ℕ) (kind : NodeKind) (pin wire : Node) → joins basis.arch basis.strip Opin kind pin wire ≡ true → shows basis.strip t track kind wire ≡ true → (meets basis.arch basis.strip pin wire ≡ true) × (wire.n ≡ track)
@@ -39,6 +39,13 @@ side_wire : (side : ℕ) → IsWire (side_kind side)
 side_wire side = elim (cases_Bool (nat_lt side 2)) [
   | inl level ↦ rw level tt
   | inr upright ↦ rw upright tt
+]
+
+-- at most one column less
+pub column_few : (side x : ℕ) → 1 ≤ x → columns_less side ≤ x
+column_few side x l = elim (cases_Bool (side == 3)) [
+  | inl left ↦ rw left l
+  | inr other ↦ rw other (omega arith)
 ]
 
 module _ (basis : Basis) where
@@ -81,12 +88,6 @@ module _ (basis : Basis) where
       let other = left_row basis.arch basis.strip pin on in
       upright_there basis (pin.x - 1) (pin.y - 0) track (record { to = omega (arith, is.to); from = omega (arith, other.0); row = omega (arith, is.row, other.1); track = low })
   beside_there pin (suc (suc (suc (suc more)))) track is few low on = absurd (omega (arith, few))
-
-  column_few : (side x : ℕ) → 1 ≤ x → columns_less side ≤ x
-  column_few side x l = elim (cases_Bool (side == 3)) [
-    | inl left ↦ rw left l
-    | inr other ↦ rw other (omega arith)
-  ]
 
   -- ---- the places of these wires
 
@@ -171,16 +172,16 @@ module _ (basis : Basis) where
 
   module _ (is : IsBasis basis) (t : Terminals) (cost : ℕ → ℕ) (starts : List ℕ) (goal : ℕ) (search : IsNetSearch basis cost starts goal t) where
     pub output_ends : (i x y n track : ℕ) → i < (graph_of basis).count → (graph_of basis).node i ≡ make_node x Opin y n → IsOutput (make_node x Opin y n) → track < basis.arch.tracks
-        → shown_ends basis t is cost starts goal search track i ≡ places_from ((x + 1) * stride_of basis + y) (row_of (make_node x Opin y n) track)
+        → shown_ends basis t track i ≡ places_from ((x + 1) * stride_of basis + y) (row_of (make_node x Opin y n) track)
     output_ends i x y n track within e o low =
         let pin : Node = make_node x Opin y n in
         let base : ℕ = base_of pin in
-        let ends = shown_ends basis t is cost starts goal search track i in
+        let ends = shown_ends basis t track i in
         let f : ℕ → ℕ = λ (step : ℕ). step + base in
-        same_rising ends (places_from base (row_of pin track)) (shown_rise basis t is cost starts goal search i within track)
+        same_rising ends (places_from base (row_of pin track)) (shown_rise is t i within track)
         (span_rises (0 + base) (2 * stride_of basis + base) (places_from base (row_of pin track)) (span_moved base 0 (2 * stride_of basis) (row_of pin track) (row_span pin track)))
         (λ place c.
-        let s = end_shown basis t is cost starts goal search i within track place c in
+        let s = end_shown is t i within track place c in
         let b = (graph_of basis).node s.end in
         let h : joins basis.arch basis.strip Opin b.kind pin b ≡ true = subst (λ (v : Node). joins basis.arch basis.strip v.kind b.kind v b ≡ true) e s.joined in
         let j = output_joins basis t track b.kind pin b h s.shown in
@@ -197,5 +198,5 @@ module _ (basis : Basis) where
         let at : IsAtSide pin s.side b.kind b.x b.y = record { few = s.few; kind_is = refl; column = omega (arith, column); row = omega (arith, row) } in
         let wire : IsWire b.kind = side_wire s.side in
         let h : joins basis.arch basis.strip Opin b.kind pin b ≡ true = joins_wire basis b.kind pin b wire (met_meets basis.arch basis.strip pin s.side track s.few column s.is_met) in
-        let back = end_back basis t is cost starts goal search i within track b (beside_there pin s.side track o s.few low on) (subst (λ (v : Node). joins basis.arch basis.strip v.kind b.kind v b ≡ true) (sym e) h) (wire_shown basis t is cost starts goal search b.kind b wire) in
+        let back = end_back is t i within track b (beside_there pin s.side track o s.few low on) (subst (λ (v : Node). joins basis.arch basis.strip v.kind b.kind v b ≡ true) (sym e) h) (wire_shows basis.strip t track b.kind b wire refl) in
         subst (Contains ends) (sym (step_place pin b s.side at) ∙ (ap f s.is ∙ found.2)) back)

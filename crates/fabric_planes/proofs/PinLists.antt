@@ -5,7 +5,7 @@ use Rattle.std.specs.List.{range_with_len}
 use Rattle.std.proofs.lemmas.Bool.{cases_Bool}
 use Rattle.std.proofs.lemmas.List.{append_assoc}
 use Rattle.std.proofs.lemmas.List.FromFn.{map-range_with_len_more}
-use Rattle.fabric_planes.specs.Steps.{with_if}
+use Rattle.fabric_planes.specs.PinRows.{with_if}
 
 filtered_next : (test : ℕ → Bool) (f : ℕ → ℕ) (low count : ℕ) → map f (filter test (range_with_len low (suc count))) ≡ map f (filter test (range_with_len low count)) ++ with_if (test (low + count)) (f (low + count)) []
 filtered_next test f low zero =

@@ -7,28 +7,19 @@ use Rattle.rr_graph.specs.declared.node.NodeKind.TheVariants.{Source, Sink, Opin
 use Rattle.rr_graph.specs.declared.node.Node.{Node}
 use Rattle.rr_graph.specs.Geometry.{IsWire, is_node, is_slot, is_pad_row, is_block_row}
 use Rattle.rr_graph.specs.Graph.{Basis, IsBasis, graph_of, make_node}
-use Rattle.rr_graph.proofs.Columns.{member_small, member_of}
 use Rattle.fabric_planes.specs.declared.pins.PinAt.{PinAt}
 use Rattle.fabric_planes.specs.Labels.{plane_of, family_of}
+use Rattle.fabric_planes.specs.Ends.{shown_ends}
 use Rattle.fabric_planes.specs.Layout.{Terminals, pins_of, band_of, stride_of, place_of, shows, labels_of, planes_of, IsNetSearch, level_at}
 use Rattle.fabric_planes.specs.PinRows.{is_met, departures, sink_row, output_at, site_of, pin_rows, first_row, rows_per_track, rise_of}
 use Rattle.fabric_planes.specs.Pins.{IsShownPin, HasEnds, ends_in}
-use Rattle.fabric_planes.specs.Tables.{IsNearby}
-use Rattle.fabric_planes.proofs.Labeled.{at_place, there_of}
 use Rattle.fabric_planes.proofs.Numbers.{same_shows}
 use Rattle.fabric_planes.proofs.PinEnds.{output_facts, output_ends}
 use Rattle.fabric_planes.proofs.PinRowsAt.{rows_long, rows_few, index_low, departures_at, pad_at}
 use Rattle.fabric_planes.proofs.PinSides.{site_few, site_met}
-use Rattle.fabric_planes.proofs.PlaneEnds.{shown_ends}
+use Rattle.fabric_planes.proofs.PlaneEnds.{plane_shows}
 use Rattle.fabric_planes.proofs.SourceEnds.{source_row, source_ends, input_ends, sink_ends}
-use Rattle.fabric_planes.proofs.Strips.{lawful, are_labels, node_column, node_slot}
-
--- a node's fields are within their limits
-pub node_near : {basis : Basis} → IsBasis basis → (i : ℕ) → i < (graph_of basis).count → (v : Node) → v ≡ (graph_of basis).node i → IsNearby v
-node_near {basis} is i b v e =
-    let h : is_node basis.arch basis.strip v ≡ true = subst (λ (v : Node). is_node basis.arch basis.strip v ≡ true) (sym e) ((lawful is).nodes i b) in
-    let small = member_small basis.arch basis.strip is.arch is.strip (member_of v.kind v.y v.n) (node_slot basis v h) in
-    record { x = omega (arith, node_column basis v h, is.strip.width.1); y = omega (arith, small.0); n = omega (arith, small.1) }
+use Rattle.fabric_planes.proofs.Strips.{lawful, node_slot}
 
 module _ (basis : Basis) where
   abbrev T : ℕ
@@ -56,7 +47,7 @@ module _ (basis : Basis) where
     -- the rows are the ends that the planes show
     record IsRowed (i : ℕ) (kind : NodeKind) (v : Node) : Type 0 where
       within : (track : ℕ) → track < T → first_row basis kind v + rows_per_track kind * track < length (pin_rows basis)
-      ends : (track : ℕ) → track < T → ends_in (pin_rows basis) (first_row basis kind v + rows_per_track kind * track) ((v.x + 1) * stride_of basis + rise_of kind v) ≡ shown_ends basis t is cost starts goal search track i
+      ends : (track : ℕ) → track < T → ends_in (pin_rows basis) (first_row basis kind v + rows_per_track kind * track) ((v.x + 1) * stride_of basis + rise_of kind v) ≡ shown_ends basis t track i
 
     abbrev moved : ℕ → List ℕ → List ℕ
     moved base row = map (λ end. end + base) row
@@ -129,14 +120,6 @@ module _ (basis : Basis) where
     per_track_few ChanX = omega arith
     per_track_few ChanY = omega arith
 
-    plane_shows : (i track : ℕ) → i < (graph_of basis).count → shows basis.strip t track ((graph_of basis).node i).kind ((graph_of basis).node i) ≡ true
-        → (plane_of (labels_of basis cost starts goal t) track).ends (place_of basis ((graph_of basis).node i)) ≡ shown_ends basis t is cost starts goal search track i
-    unfolding labels_of shown_ends
-    plane_shows i track b s =
-        let l = labels_of basis cost starts goal t in
-        let are = are_labels is cost starts goal t search in
-        rw (there_of l are track i b s, at_place l are track i b s) refl
-
     -- a pin as it is made
     pub record IsMade (pin : PinAt) (v : Node) : Type 0 where
       pub place : pin.place ≡ place_of basis v
@@ -160,6 +143,6 @@ module _ (basis : Basis) where
               ap (λ (k : ℕ). ends_in (pin_rows basis) k pin.base) (at track)
               ∙ (ap (ends_in (pin_rows basis) (first_row basis v.kind v + rows_per_track v.kind * track)) made.base
               ∙ (r.ends track l
-              ∙ (sym (plane_shows i track shown.within (same_shows basis.strip t 0 track v.kind v shown.no_wire shown.shown))
+              ∙ (sym (plane_shows is t cost starts goal search i track shown.within (same_shows basis.strip t 0 track v.kind v shown.no_wire shown.shown))
               ∙ ap (plane_of (labels_of basis cost starts goal t) track).ends (sym made.place))));
         }

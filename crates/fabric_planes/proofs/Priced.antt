@@ -15,8 +15,8 @@ use Rattle.fabric_planes.specs.Prices.{IsSpot, IsRepriced}
 use Rattle.fabric_planes.specs.Ways.{IsWireAt}
 use Rattle.fabric_planes.proofs.Consecutive.{wires_order}
 use Rattle.fabric_planes.proofs.Found.{place_low}
-use Rattle.fabric_planes.proofs.Strips.{wire_low}
-use Rattle.fabric_planes.proofs.Untold.{on_track, within}
+use Rattle.fabric_planes.proofs.Strips.{track_low}
+use Rattle.fabric_planes.proofs.Untold.{within}
 
 -- ---- an index tells the track and the place
 
@@ -87,7 +87,7 @@ module _ {basis : Basis} (is : IsBasis basis) where
   -- the index of a wire's price
   pub spot_low : (number : ℕ) → IsWireAt basis number → (node number).n * places + place_of basis (node number) < basis.arch.tracks * places
   spot_low number w = within basis.arch.tracks places (node number).n (place_of basis (node number))
-      (wire_low is number (node number).n w.within (on_track (node number).kind (node number).n w.wire)) (place_below number w)
+      (track_low is number w) (place_below number w)
 
   -- no other wire's price is there
   spot_apart : (number : ℕ) (spot : PriceAt) (k place : ℕ) → IsSpot basis number spot → IsWireOf basis place k → (k ≡ number → ⊥) → (node k).n * places + place ≡ spot.by_track → ⊥
@@ -149,18 +149,15 @@ module _ {basis : Basis} (is : IsBasis basis) where
   abbrev tracks : ℕ
   tracks = basis.arch.tracks
 
-  pub track_low : (number : ℕ) → IsWireAt basis number → (node number).n < tracks
-  track_low number w = wire_low is number (node number).n w.within (on_track (node number).kind (node number).n w.wire)
-
   -- the index of a wire's price
   pub by_place_low : (number : ℕ) → IsWireAt basis number → place_of basis (node number) * tracks + (node number).n < places * tracks
-  by_place_low number w = within places tracks (place_of basis (node number)) (node number).n (place_below number w) (track_low number w)
+  by_place_low number w = within places tracks (place_of basis (node number)) (node number).n (place_below number w) (track_low is number w)
 
   -- no other wire's price is there
   by_place_apart : (number : ℕ) (spot : PriceAt) (k place : ℕ) → IsSpot basis number spot → IsWireOf basis place k → (k ≡ number → ⊥) → place * tracks + (node k).n ≡ spot.by_place → ⊥
   by_place_apart number spot k place s w other e =
-      let lk = track_low k w.wire in
-      let ln = track_low number s.wire in
+      let lk = track_low is k w.wire in
+      let ln = track_low is number s.wire in
       let f = e ∙ s.is_by_place in
       other (same_wire k number w.wire s.wire
       (same_place tracks place (place_of basis (node number)) (node k).n (node number).n lk ln f)

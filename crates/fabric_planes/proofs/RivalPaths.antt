@@ -30,7 +30,8 @@ use Rattle.fabric_planes.proofs.Joins.{IsReached}
 use Rattle.fabric_planes.proofs.NetRoads.{is_track}
 use Rattle.fabric_planes.proofs.PinPaths.{from_source}
 use Rattle.fabric_planes.proofs.SideWays.{along_side}
-use Rattle.fabric_planes.proofs.StartLists.{pin_in, wire_in, wire_cases}
+use Rattle.fabric_planes.proofs.Found.{cases_wire}
+use Rattle.fabric_planes.proofs.StartLists.{pin_in, wire_in}
 use Rattle.fabric_planes.proofs.Strips.{lawful, edge_reached, together_spot}
 
 -- a head in place of another with the same start, pin, place and track
@@ -135,7 +136,7 @@ module _ {basis : Basis} (is : IsBasis basis) where
     -- the bounds from all starts
     pub all_starts : (head : Head) (net : NetStarts) (bounds : List ℕ) → HasStarts basis starts net → ((number : ℕ) → Contains net.pins.items number → AreRivalsFrom basis cost F t head number bounds)
         → ((wire : StartWire) → Contains net.wires.items wire → AreRivalsFrom basis cost F t head wire.number bounds) → (number : ℕ) → Contains starts number → AreRivalsFrom basis cost F t head number bounds
-    all_starts head net bounds has pins wires number c = elim (wire_cases (node number).kind) [
+    all_starts head net bounds has pins wires number c = elim (cases_wire (node number).kind) [
       | inl w ↦
           (let found = wire_in basis starts net has number c w in
           subst (λ (v : ℕ). AreRivalsFrom basis cost F t head v bounds) found.2 (wires found.0 found.1))

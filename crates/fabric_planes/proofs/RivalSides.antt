@@ -1,10 +1,7 @@
 -- Bounds of the paths over an output pin that come before a known path.
 use Rattle.std.proofs.Common.{◌≡◌, ℕ, ◌<◌, ◌≤◌, List, refl, sym, ◌∙◌, subst, arith}
 use Rattle.std.specs.Prelude.{slice_index}
-use Rattle.rr_graph.specs.declared.node.NodeKind.{NodeKind}
-use Rattle.rr_graph.specs.declared.node.NodeKind.TheVariants.{Source, Sink, Opin, Ipin, ChanX, ChanY}
 use Rattle.rr_graph.specs.declared.node.Node.{Node}
-use Rattle.rr_graph.specs.Geometry.{IsWire}
 use Rattle.rr_graph.specs.Graph.{Basis, IsBasis, graph_of}
 use Rattle.plane_search.specs.Planes.{Family}
 use Rattle.fabric_planes.specs.Aheads.{AreSides}
@@ -12,26 +9,13 @@ use Rattle.fabric_planes.specs.Bounds.{IsMetAt, IsOutput, IsRow, IsWireBound}
 use Rattle.fabric_planes.specs.Layout.{place_of}
 use Rattle.fabric_planes.specs.RivalBounds.{head_over, IsLead}
 use Rattle.fabric_planes.specs.Rivals.{ComesFirst}
-use Rattle.fabric_planes.specs.Ways.{IsWireAt}
 use Rattle.fabric_planes.specs.declared.rival_bounds.Lead.{Lead}
 use Rattle.fabric_planes.specs.declared.rivals.Head.{Head}
-use Rattle.fabric_planes.proofs.Strips.{IsSlot, lawful, slot_facts, node_slot, together_parts}
-
--- the number of a wire is that of a track
-slot_track : (basis : Basis) (kind : NodeKind) (v : Node) → IsWire kind → IsSlot basis kind v → v.n < basis.arch.tracks
-slot_track basis Source v w s = absurd w
-slot_track basis Sink v w s = absurd w
-slot_track basis Opin v w s = absurd w
-slot_track basis Ipin v w s = absurd w
-slot_track basis ChanX v w s = s.1
-slot_track basis ChanY v w s = s.1
+use Rattle.fabric_planes.proofs.Strips.{together_parts, track_low}
 
 module _ {basis : Basis} (is : IsBasis basis) where
   abbrev node : ℕ → Node
   node = (graph_of basis).node
-
-  pub wire_few : (wire : ℕ) → IsWireAt basis wire → (node wire).n < basis.arch.tracks
-  wire_few wire w = slot_track basis (node wire).kind (node wire) w.wire (slot_facts basis (node wire).kind (node wire) (node_slot basis (node wire) ((lawful is).nodes wire w.within)))
 
   -- the wire is at the place of the side
   pub met_place : (source pin : Node) (sides : List ℕ) (side wire : ℕ) → AreSides basis source sides → IsOutput basis source pin → IsMetAt basis pin side wire → slice_index sides side ≡ place_of basis (node wire)
@@ -45,7 +29,7 @@ module _ {basis : Basis} (is : IsBasis basis) where
       → ((track : ℕ) → track < tracks → ComesFirst (record { start = lead.start; pin = lead.pin; place = slice_index sides side; track = track; cost = 0 }) head → track < count)
       → IsMetAt basis (node lead.pin) side wire → ComesFirst (head_over basis lead.start lead.pin wire) head → (node wire).n < count
   over_first source sides lead head side count tracks wire are is_lead many all met first =
-      all (node wire).n (omega (arith, many, wire_few wire met.wire_is))
+      all (node wire).n (omega (arith, many, track_low is wire met.wire_is))
       (subst (λ (p : ℕ). ComesFirst (record { start = lead.start; pin = lead.pin; place = p; track = (node wire).n; cost = 0 }) head) (sym (met_place source (node lead.pin) sides side wire are is_lead.output met)) first)
 
   module _ (cost : ℕ → ℕ) (f : Family) where

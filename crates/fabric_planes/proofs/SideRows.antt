@@ -11,7 +11,7 @@ use Rattle.fabric_planes.specs.Laid.{IsWireOf}
 use Rattle.fabric_planes.specs.Layout.{Terminals, place_of, planes_of, IsNetSearch}
 use Rattle.fabric_planes.specs.Ways.{IsWireAt}
 use Rattle.fabric_planes.proofs.Bounded.{far_low, side_low}
-use Rattle.fabric_planes.proofs.RivalSides.{wire_few}
+use Rattle.fabric_planes.proofs.Strips.{track_low}
 use Rattle.fabric_planes.proofs.WireBounds.{By, fars_near, sharp_low, wire_bound}
 
 -- a row of a table
@@ -29,7 +29,7 @@ module _ {basis : Basis} (is : IsBasis basis) (t : Terminals) (cost : ℕ → �
   pub met_bound : (more wire price apart ahead r : ℕ) → IsWireAt basis wire → price ≤ cost wire → apart ≡ 0 → r ≤ ahead + (price + (apart + more)) → ((sum : ℕ) → By basis t.sink pins lasts wire sum → ahead ≤ sum)
       → IsWireBound basis cost (planes_of basis cost starts goal t) more wire r
   met_bound more wire price apart ahead r w cheap none le low way leads =
-      let bound = wire_bound is t cost starts goal search pins lasts bounds (node wire).n (place_of basis (node wire)) wire ahead (wire_few is wire w) (record { wire = w; is_at = refl }) refl low way leads in
+      let bound = wire_bound is t cost starts goal search pins lasts bounds (node wire).n (place_of basis (node wire)) wire ahead (track_low is wire w) (record { wire = w; is_at = refl }) refl low way leads in
       omega (arith, bound, cheap, none, le)
 
   module _ (more wire price apart r : ℕ) (w : IsWireAt basis wire) (cheap : price ≤ cost wire) (none : apart ≡ 0) (sides : List ℕ) (are : AreSides basis t.sink sides) (place : ℕ) (at : place ≡ place_of basis (node wire)) where
@@ -41,7 +41,7 @@ module _ {basis : Basis} (is : IsBasis basis) (t : Terminals) (cost : ℕ → �
         → r ≤ min (slice_index pins end) (slice_index least (node wire).n) + 1 + (price + (apart + more)) → IsWireBound basis cost (planes_of basis cost starts goal t) more wire r
     near_met end least low few here le =
         met_bound more wire price apart (min (slice_index pins end) (slice_index least (node wire).n) + 1) r w cheap none le
-        (λ sum by. side_low basis t.sink pins lasts least sides (node wire).n end place wire sum (min (slice_index pins end) (slice_index least (node wire).n) + 1) are low (wire_few is wire w) few here of refl by refl)
+        (λ sum by. side_low basis t.sink pins lasts least sides (node wire).n end place wire sum (min (slice_index pins end) (slice_index least (node wire).n) + 1) are low (track_low is wire w) few here of refl by refl)
 
     -- the wire is at none
     pub far_met : (top bottom right left : List ℕ) → AreFars basis t.sink 0 top → AreFars basis t.sink 1 bottom → AreFars basis t.sink 2 right → AreFars basis t.sink 3 left
@@ -60,4 +60,4 @@ module _ {basis : Basis} (is : IsBasis basis) (t : Terminals) (cost : ℕ → �
       → limit ≤ slice_index least (node wire).n → most < more + 1 + slice_index aheads place + limit → IsWireBound basis cost (planes_of basis cost starts goal t) more wire (most + 1)
   far_dear more wire place most limit aheads least w at are low some few dear =
       met_bound more wire 1 0 (slice_index aheads place + slice_index least (node wire).n) (most + 1) w (search.costs.some wire w.within) refl (omega (arith, few, dear))
-      (λ sum by. far_low basis t.sink pins lasts least aheads (node wire).n place wire sum are low (wire_few is wire w) some (record { wire = w; is_at = sym at }) refl by)
+      (λ sum by. far_low basis t.sink pins lasts least aheads (node wire).n place wire sum are low (track_low is wire w) some (record { wire = w; is_at = sym at }) refl by)

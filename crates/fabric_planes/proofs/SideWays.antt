@@ -43,7 +43,7 @@ along_side sides pin sink ChanY x y ex ey h =
     ]
 
 -- what a wire and a pin that join say
-wire_meets : (arch : _) (strip : _) (kind : NodeKind) (wire pin : Node) → IsWire kind → joins arch strip kind Ipin wire pin ≡ true → wire.kind ≡ kind → meets arch strip pin wire ≡ true
+pub wire_meets : (arch : _) (strip : _) (kind : NodeKind) (wire pin : Node) → IsWire kind → joins arch strip kind Ipin wire pin ≡ true → wire.kind ≡ kind → meets arch strip pin wire ≡ true
 wire_meets arch strip Source wire pin w h e = absurd w
 wire_meets arch strip Sink wire pin w h e = absurd w
 wire_meets arch strip Opin wire pin w h e = absurd w

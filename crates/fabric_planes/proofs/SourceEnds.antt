@@ -10,10 +10,10 @@ use Rattle.rr_graph.specs.Geometry.{is_node, is_slot, is_pad_row, is_block_row, 
 use Rattle.rr_graph.specs.Graph.{Basis, IsBasis, graph_of, make_node}
 use Rattle.rr_graph.proofs.Listing.{contains_range, range_contains}
 use Rattle.rr_graph.proofs.Unique.{same_rising}
+use Rattle.fabric_planes.specs.Ends.{shown_ends}
 use Rattle.fabric_planes.specs.Layout.{Terminals, pins_of, stride_of, in_column, offset_of, place_of, is_same_spot, shows, IsNetSearch}
-use Rattle.fabric_planes.specs.PinRows.{block_outputs, pad_output, sink_row}
-use Rattle.fabric_planes.specs.Steps.{places_from}
-use Rattle.fabric_planes.proofs.PlaneEnds.{shown_ends, end_back, end_shown, shown_rise}
+use Rattle.fabric_planes.specs.PinRows.{block_outputs, pad_output, sink_row, places_from}
+use Rattle.fabric_planes.proofs.PlaneEnds.{end_back, end_shown, shown_rise}
 use Rattle.fabric_planes.proofs.Spans.{Span, span_filter, span_range, span_moved, span_rises, in_first, in_cases, in_map, map_in, in_none}
 use Rattle.fabric_planes.proofs.Strips.{lawful, slot_facts, node_slot, spot_itself, together_parts, together_spot}
 
@@ -141,7 +141,7 @@ module _ (basis : Basis) where
 
   module _ (is : IsBasis basis) (t : Terminals) (cost : ℕ → ℕ) (starts : List ℕ) (goal : ℕ) (search : IsNetSearch basis cost starts goal t) where
     abbrev ends_at : ℕ → ℕ → List ℕ
-    ends_at track i = shown_ends basis t is cost starts goal search track i
+    ends_at track i = shown_ends basis t track i
 
     abbrev node : ℕ → Node
     node = (graph_of basis).node
@@ -154,10 +154,10 @@ module _ (basis : Basis) where
         let f : ℕ → ℕ = λ (step : ℕ). step + base in
         let r = source_rises y n in
         let there : is_node basis.arch basis.strip a ≡ true = subst (λ (v : Node). is_node basis.arch basis.strip v ≡ true) e ((lawful is).nodes i within) in
-        same_rising (ends_at track i) (places_from base (source_row y n)) (shown_rise basis t is cost starts goal search i within track)
+        same_rising (ends_at track i) (places_from base (source_row y n)) (shown_rise is t i within track)
         (span_rises (r.0 + base) (r.1 + base) (places_from base (source_row y n)) (span_moved base r.0 r.1 (source_row y n) r.2))
         (λ place c.
-        let s = end_shown basis t is cost starts goal search i within track place c in
+        let s = end_shown is t i within track place c in
         let b = node s.end in
         let h : joins basis.arch basis.strip Source b.kind a b ≡ true = subst (λ (v : Node). joins basis.arch basis.strip v.kind b.kind v b ≡ true) e s.joined in
         let j = source_joins basis b.kind a b h in
@@ -172,7 +172,7 @@ module _ (basis : Basis) where
         let parts = and_parts (nat_le x basis.strip.width) ((nat_le 1 x || false) && is_slot basis.arch basis.strip Source y n) there in
         let b_there : is_node basis.arch basis.strip b ≡ true = and_from (nat_le x basis.strip.width) ((nat_le 1 x || false) && is_slot basis.arch basis.strip Opin y o.pin) parts.0
         (and_from (nat_le 1 x || false) (is_slot basis.arch basis.strip Opin y o.pin) (and_parts (nat_le 1 x || false) (is_slot basis.arch basis.strip Source y n) parts.1).0 o.slot) in
-        let back = end_back basis t is cost starts goal search i within track b b_there (subst (λ (v : Node). joins basis.arch basis.strip v.kind Opin v b ≡ true) (sym e) together) (together_spot basis.strip a t.source b shown together) in
+        let back = end_back is t i within track b b_there (subst (λ (v : Node). joins basis.arch basis.strip v.kind Opin v b ≡ true) (sym e) together) (together_spot basis.strip a t.source b shown together) in
         subst (Contains (ends_at track i)) (sym (output_place x b refl refl) ∙ (ap f o.is ∙ found.2)) back)
 
     pub input_ends : (i x y n track : ℕ) → i < (graph_of basis).count → node i ≡ make_node x Ipin y n → is_together basis.strip (make_node x Ipin y n) t.sink ≡ true
@@ -184,10 +184,10 @@ module _ (basis : Basis) where
         let row : List ℕ = sink_row (stride_of basis) in
         let at : ℕ = stride_of basis + 1 in
         let terminals = search.terminals in
-        same_rising (ends_at track i) (places_from base row) (shown_rise basis t is cost starts goal search i within track)
+        same_rising (ends_at track i) (places_from base row) (shown_rise is t i within track)
         (span_rises (at + base) (at + base + 1) (places_from base row) (omega arith, omega arith))
         (λ place c.
-        let s = end_shown basis t is cost starts goal search i within track place c in
+        let s = end_shown is t i within track place c in
         let b = node s.end in
         let h : joins basis.arch basis.strip Ipin b.kind a b ≡ true = subst (λ (v : Node). joins basis.arch basis.strip v.kind b.kind v b ≡ true) e s.joined in
         let j = input_joins basis b.kind a b h in
@@ -201,15 +201,15 @@ module _ (basis : Basis) where
         let b_there : is_node basis.arch basis.strip b ≡ true = subst (λ (v : Node). is_node basis.arch basis.strip v ≡ true) terminals.goal_is ((lawful is).nodes goal terminals.goal_within) in
         let joined : joins basis.arch basis.strip Ipin b.kind a b ≡ true = subst (λ (k : NodeKind). joins basis.arch basis.strip Ipin k a b ≡ true) (sym terminals.kind) shown in
         let seen : shows basis.strip t track b.kind b ≡ true = subst (λ (k : NodeKind). shows basis.strip t track k b ≡ true) (sym terminals.kind) (spot_itself b t.sink refl) in
-        let back = end_back basis t is cost starts goal search i within track b b_there (subst (λ (v : Node). joins basis.arch basis.strip v.kind b.kind v b ≡ true) (sym e) joined) seen in
+        let back = end_back is t i within track b b_there (subst (λ (v : Node). joins basis.arch basis.strip v.kind b.kind v b ≡ true) (sym e) joined) seen in
         subst (Contains (ends_at track i)) (sym (sink_place x b terminals.kind p.0) ∙ (ap f is_first ∙ found.2)) back)
 
     pub sink_ends : (i x y n track : ℕ) → i < (graph_of basis).count → node i ≡ make_node x Sink y n → ends_at track i ≡ []
     sink_ends i x y n track within e =
-        same_rising (ends_at track i) [] (shown_rise basis t is cost starts goal search i within track)
+        same_rising (ends_at track i) [] (shown_rise is t i within track)
         (λ k b. absurd (omega (arith, b)))
         (λ place c.
-        let s = end_shown basis t is cost starts goal search i within track place c in
+        let s = end_shown is t i within track place c in
         let b = node s.end in
         absurd (sink_joins basis b.kind (make_node x Sink y n) b (subst (λ (v : Node). joins basis.arch basis.strip v.kind b.kind v b ≡ true) e s.joined)))
         (λ place c. absurd (in_none place c))

@@ -4,7 +4,7 @@ use Rattle.std.specs.Prelude.{Contains, filter, slice_index}
 use Rattle.std.specs.List.{range_with_len}
 use Rattle.std.specs.List.Sorted.{IsStrictlyIncreasing}
 use Rattle.std.proofs.lemmas.Bool.{cases_Bool}
-use Rattle.fabric_planes.specs.Steps.{with_if, places_from}
+use Rattle.fabric_planes.specs.PinRows.{with_if, places_from}
 
 -- the numbers rise, from `low` on and below `high`
 abbrev pub Span : ℕ → ℕ → List ℕ → Type 0
@@ -15,22 +15,9 @@ pub span_lower : (low mid high : ℕ) (xs : List ℕ) → low ≤ mid → Span m
 span_lower low mid high [] l s = omega (arith, l, s)
 span_lower low mid high (x ∷ xs) l s = (omega (arith, l, s.0), s.1)
 
-pub span_upper : (low mid high : ℕ) (xs : List ℕ) → mid ≤ high → Span low mid xs → Span low high xs
-span_upper low mid high [] l s = omega (arith, l, s)
-span_upper low mid high (x ∷ xs) l s = (s.0, span_upper (x + 1) mid high xs l s.1)
-
-pub span_append : (low mid high : ℕ) (xs ys : List ℕ) → Span low mid xs → Span mid high ys → Span low high (xs ++ ys)
-span_append low mid high [] ys s t = span_lower low mid high ys s t
-span_append low mid high (x ∷ xs) ys s t = (s.0, span_append (x + 1) mid high xs ys s.1 t)
-
 pub span_if : (there : Bool) (x low high : ℕ) (xs : List ℕ) → low ≤ x → Span (x + 1) high xs → Span low high (with_if there x xs)
 span_if true x low high xs l s = (l, s)
 span_if false x low high xs l s = span_lower low (x + 1) high xs (omega (arith, l)) s
-
--- the bounds of a span are in order
-pub span_order : (low high : ℕ) (xs : List ℕ) → Span low high xs → low ≤ high
-span_order low high [] s = s
-span_order low high (x ∷ xs) s = omega (arith, s.0, span_order (x + 1) high xs s.1)
 
 pub span_moved : (base low high : ℕ) (xs : List ℕ) → Span low high xs → Span (low + base) (high + base) (places_from base xs)
 span_moved base low high [] s = omega (arith, s)
@@ -84,10 +71,6 @@ in_left (x ∷ xs) ys v c = elim (in_cases x v xs c) [
   | inl e ↦ subst (Contains (x ∷ (xs ++ ys))) e (in_first x (xs ++ ys))
   | inr rest ↦ in_further x v (xs ++ ys) (in_left xs ys v rest)
 ]
-
-pub in_right : (xs ys : List ℕ) (v : ℕ) → Contains ys v → Contains (xs ++ ys) v
-in_right [] ys v c = c
-in_right (x ∷ xs) ys v c = in_further x v (xs ++ ys) (in_right xs ys v c)
 
 pub in_either : (xs ys : List ℕ) (v : ℕ) → Contains (xs ++ ys) v → Contains xs v ⊎ Contains ys v
 in_either [] ys v c = inr c

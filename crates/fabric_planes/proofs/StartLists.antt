@@ -40,14 +40,6 @@ wire_false Ipin n = refl
 wire_false ChanX n = absurd (n tt)
 wire_false ChanY n = absurd (n tt)
 
-pub wire_cases : (kind : NodeKind) → IsWire kind ⊎ (IsWire kind → ⊥)
-wire_cases Source = inr (λ w. w)
-wire_cases Sink = inr (λ w. w)
-wire_cases Opin = inr (λ w. w)
-wire_cases Ipin = inr (λ w. w)
-wire_cases ChanX = inl tt
-wire_cases ChanY = inl tt
-
 -- ---- filtered lists
 
 cases_in : (x y : ℕ) (xs : List ℕ) → Contains (x ∷ xs) y → (x ≡ y) ⊎ Contains xs y

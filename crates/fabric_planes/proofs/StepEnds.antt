@@ -1,59 +1,47 @@
--- The ends of a wire that is not at a side of the sink's block or pad.
-use Rattle.std.proofs.Common.{◌≡◌, ℕ, ◌+◌, ◌-◌, ◌*◌, ◌<◌, ◌≤◌, List, [], ◌++◌, length, get_or, map, refl, sym, ap, ◌∙◌, subst, inl, inr, arith}
+-- The ends of the edges of the places of a net's planes, as the tables list them.
+use Rattle.std.proofs.Common.{◌≡◌, ℕ, ◌+◌, ◌-◌, ◌*◌, ◌<◌, ◌≤◌, List, [], length, get_or, map, refl, sym, ap, ◌∙◌, subst, inl, inr, arith, true}
 use Rattle.std.specs.Prelude.{slice_index, slice_index_or, slice_get, Some, Contains}
 use Rattle.std.proofs.lemmas.Option.{get_or_from_slice_get}
 use Rattle.std.specs.List.Sorted.{IsNonDecreasing, IsStrictlyIncreasing}
-use Rattle.std.proofs.lemmas.Bool.{cases_Bool, cases_eq}
-use Rattle.std.proofs.lemmas.List.{map-append, length-map, get_or-map, get_or_default}
+use Rattle.std.proofs.lemmas.Bool.{and_parts, cases_Bool, cases_eq}
+use Rattle.std.proofs.lemmas.List.{length-map, get_or-map, get_or_default}
 use Rattle.std.proofs.lemmas.List.Kept.{AllPairs-from_increasing}
+use Rattle.rr_graph.specs.declared.node.NodeKind.{NodeKind}
+use Rattle.rr_graph.specs.declared.node.NodeKind.TheVariants.{Ipin}
 use Rattle.rr_graph.specs.declared.node.Node.{Node}
-use Rattle.rr_graph.specs.Geometry.{sides_at}
-use Rattle.rr_graph.specs.Graph.{Basis, IsBasis, graph_of}
+use Rattle.rr_graph.specs.Geometry.{joins, sides_at, runs_along, meets_track, flexibility_of}
+use Rattle.rr_graph.specs.Graph.{Basis, IsBasis, graph_of, make_node}
 use Rattle.fabric_planes.specs.Aheads.{AreAheads}
+use Rattle.fabric_planes.specs.Ends.{shown_ends, row_of, base_of}
 use Rattle.fabric_planes.specs.Labels.{is_there, node_at, plane_of, family_of}
 use Rattle.fabric_planes.specs.Laid.{IsWireOf}
-use Rattle.fabric_planes.specs.Layout.{Terminals, place_of, place_count, stride_of, band_of, labels_of, planes_of, IsNetSearch}
-use Rattle.fabric_planes.specs.Steps.{around_of, first_steps, second_steps, steps_from, base_of, places_from, firsts_from, seconds_from, pin_at, pin_places, are_pins_first, wire_ends}
+use Rattle.fabric_planes.specs.Layout.{Terminals, place_of, place_count, stride_of, shows, labels_of, planes_of, IsNetSearch}
 use Rattle.fabric_planes.specs.Pins.{IsAside, ArePins, AreArrivals, HaveEnds}
 use Rattle.fabric_planes.specs.Sides.{IsAtSide}
+use Rattle.fabric_planes.specs.Steps.{AreSteps, NO_CLASS, step_view}
 use Rattle.fabric_planes.specs.declared.pins.PinAt.{PinAt}
-use Rattle.fabric_planes.specs.Tables.{AreFirsts, AreClasses, NO_CLASS}
-use Rattle.fabric_planes.proofs.Ends.{places_rise}
+use Rattle.fabric_planes.specs.declared.steps.Steps.{Steps}
+use Rattle.fabric_planes.specs.Tables.{AreFirsts}
+use Rattle.fabric_planes.proofs.Alike.{IsEnd, on_track, tracks_alike, wire_row_moved}
+use Rattle.fabric_planes.proofs.Found.{IsFirstFor, first_for}
 use Rattle.fabric_planes.proofs.Labeled.{shown_at}
-use Rattle.fabric_planes.proofs.Strips.{lawful, are_labels}
-use Rattle.fabric_planes.proofs.Listed.{met_along, no_pins}
 use Rattle.fabric_planes.proofs.Nearer.{no_wires}
+use Rattle.fabric_planes.proofs.NetRoads.{tracks_of}
 use Rattle.fabric_planes.proofs.Numbers.{IsWireThere, there_cases, none_listed}
-use Rattle.fabric_planes.proofs.Found.{class_told, class_low}
-use Rattle.fabric_planes.proofs.PlaneEnds.{plane_ends}
-use Rattle.fabric_planes.proofs.SideWays.{along_side}
+use Rattle.fabric_planes.proofs.PlaneEnds.{plane_shows, shown_rise}
+use Rattle.fabric_planes.proofs.SideWays.{along_side, wire_meets}
+use Rattle.fabric_planes.proofs.StepRows.{class_some}
+use Rattle.fabric_planes.proofs.Strips.{are_labels, together_parts, wire_shows}
 
 module _ (basis : Basis) (sink : Node) where
   abbrev node : ℕ → Node
   node = (graph_of basis).node
-
-  -- such a wire meets no pin of the sink
-  far_pins : (place number : ℕ) → IsWireOf basis place number → IsAside basis sink place → pin_places basis sink (node number) ≡ []
-  far_pins place number w aside = no_pins basis sink (node number) (λ n met.
-      let sides = sides_at basis.arch basis.strip (pin_at sink n) in
-      let along = along_side sides (pin_at sink n) sink (node number).kind (node number).x (node number).y refl refl (met_along basis sink (node number) n met) in
-      aside along.side number w along.at)
 
   -- a place before which wires are ahead is not at a side
   pub is_aside : (aheads : List ℕ) → AreAheads basis sink aheads → (place : ℕ) → (slice_index aheads place ≡ 0 → ⊥) → IsAside basis sink place
   is_aside aheads are place some = λ side number w at.
       let none : slice_index aheads place ≤ 0 = subst (λ d. slice_index aheads place ≤ d) (no_wires (node number)) (are.wires place number side number w w.wire at) in
       some (omega (arith, none))
-
-  -- without pins the ends are the steps
-  step_places : (wire : Node) → pin_places basis sink wire ≡ [] → places_from (base_of basis wire) (steps_from basis wire) ≡ wire_ends basis sink wire
-  step_places wire none =
-      let e : places_from (base_of basis wire) (steps_from basis wire) ≡ firsts_from basis wire ++ seconds_from basis wire =
-      map-append (λ (step : ℕ). step + base_of basis wire) (first_steps (stride_of basis) (band_of basis) (around_of basis wire.kind wire.x wire.y) wire.kind) (second_steps (stride_of basis) (band_of basis) (around_of basis wire.kind wire.x wire.y) wire.kind) in
-      elim (cases_Bool (are_pins_first sink wire.kind wire.x)) [
-        | inl first ↦ rw first (e ∙ sym (ap (λ (pins : List ℕ). pins ++ (firsts_from basis wire ++ seconds_from basis wire)) none))
-        | inr later ↦ rw later (e ∙ sym (ap (λ (pins : List ℕ). firsts_from basis wire ++ (pins ++ seconds_from basis wire)) none))
-      ]
 
 -- numbers that rise after a base is added to each rise before
 pub rising_before : (base : ℕ) (list xs : List ℕ) → map (λ end. end + base) list ≡ xs → IsStrictlyIncreasing xs → IsNonDecreasing list
@@ -70,35 +58,46 @@ rising_before base list xs e rises i j d le b =
 
 module _ {basis : Basis} (is : IsBasis basis) (t : Terminals) (cost : ℕ → ℕ) (starts : List ℕ) (goal : ℕ) (search : IsNetSearch basis cost starts goal t) (firsts : List ℕ) (told : AreFirsts basis firsts) where
   -- the ends of a wire, by its place
-  pub ends_there : (track place : ℕ) (w : IsWireThere is t cost starts goal search firsts told track place) → ((planes_of basis cost starts goal t).plane track).ends place ≡ wire_ends basis t.sink ((graph_of basis).node w.number)
+  ends_there : (track place : ℕ) (w : IsWireThere is t cost starts goal search firsts told track place) → ((planes_of basis cost starts goal t).plane track).ends place ≡ shown_ends basis t track w.number
   unfolding family_of
   ends_there track place w =
-      subst (λ (p : ℕ). ((plane_of (labels_of basis cost starts goal t) track).ends p) ≡ wire_ends basis t.sink ((graph_of basis).node w.number)) w.wire.is_at
-      (subst (λ (k : ℕ). ((plane_of (labels_of basis cost starts goal t) k).ends (place_of basis ((graph_of basis).node w.number))) ≡ wire_ends basis t.sink ((graph_of basis).node w.number)) w.track_is
-      (plane_ends basis t is cost starts goal search w.number w.wire.wire.within w.wire.wire.wire))
-
-  pub steps_are : (track place base : ℕ) (list : List ℕ) (w : IsWireThere is t cost starts goal search firsts told track place) → IsAside basis t.sink place
-      → base ≡ place - 2 * stride_of basis → list ≡ steps_from basis ((graph_of basis).node w.number)
-      → map (λ end. end + base) list ≡ ((planes_of basis cost starts goal t).plane track).ends place
-  steps_are track place base list w aside b e =
       let wire = (graph_of basis).node w.number in
-      let same : base ≡ base_of basis wire = b ∙ ap (λ (p : ℕ). p - 2 * stride_of basis) (sym w.wire.is_at) in
+      subst (λ (p : ℕ). ((plane_of (labels_of basis cost starts goal t) track).ends p) ≡ shown_ends basis t track w.number) w.wire.is_at
+      (plane_shows is t cost starts goal search w.number track w.wire.wire.within (wire_shows basis.strip t track wire.kind wire w.wire.wire.wire w.track_is))
+
+  -- a wire that is not at a side meets no pin of the sink
+  no_pins : (track place number : ℕ) → IsWireOf basis place number → IsAside basis t.sink place → (q : Node) → IsEnd is t track number q → q.kind ≡ Ipin → ⊥
+  no_pins track place number w aside q e pin =
+      let wire = (graph_of basis).node number in
+      let met = wire_meets basis.arch basis.strip wire.kind wire q w.wire.wire (subst (λ (k : NodeKind). joins basis.arch basis.strip wire.kind k wire q ≡ true) pin e.joined) refl in
+      let own = together_parts basis.strip q t.sink (subst (λ (k : NodeKind). shows basis.strip t track k q ≡ true) pin e.shown) in
+      let sides = sides_at basis.arch basis.strip q in
+      let runs = (and_parts (runs_along sides q wire.kind wire.x wire.y) (meets_track (flexibility_of basis.arch basis.strip q) basis.arch.tracks q.n wire.n) met).0 in
+      let along = along_side sides q t.sink wire.kind wire.x wire.y own.0 own.1 runs in
+      aside along.side number w along.at
+
+  -- the steps of a wire that is not at a side
+  pub steps_are : (track place base : ℕ) (list : List ℕ) (w : IsWireThere is t cost starts goal search firsts told track place) → track < basis.arch.tracks → IsAside basis t.sink place
+      → base ≡ place - 2 * stride_of basis → (f : IsFirstFor is place w.number) → list ≡ row_of basis (step_view ((graph_of basis).node f.first)) f.first
+      → map (λ end. end + base) list ≡ ((planes_of basis cost starts goal t).plane track).ends place
+  steps_are track place base list w few aside b f e =
+      let first = (graph_of basis).node f.first in
+      let wire = (graph_of basis).node w.number in
+      let same : base ≡ base_of basis w.number = b ∙ ap (λ (p : ℕ). p - 2 * stride_of basis) (sym w.wire.is_at) in
+      let to : wire ≡ on_track track first = ap (make_node wire.x wire.kind wire.y) w.track_is ∙ sym (ap (on_track track) f.same) in
       ap (λ (steps : List ℕ). map (λ end. end + base) steps) e
-      ∙ (ap (λ (v : ℕ). map (λ end. end + v) (steps_from basis wire)) same
-      ∙ (step_places basis t.sink wire (far_pins basis t.sink place w.number w.wire aside) ∙ sym (ends_there track place w)))
+      ∙ (ap (λ (v : ℕ). map (λ end. end + v) (row_of basis (step_view first) f.first)) same
+      ∙ (wire_row_moved is (step_view first) t track f.first w.number f.at.within w.wire.wire.within
+      (tracks_alike is t track f.first w.number f.at.within w.wire.wire.within few f.at.first.wire f.at.first.first to (no_pins track place w.number w.wire aside))
+      ∙ sym (ends_there track place w)))
 
   -- the ends of each place rise
   pub plane_rises : (track place : ℕ) → IsStrictlyIncreasing (((planes_of basis cost starts goal t).plane track).ends place)
-  unfolding family_of labels_of
-  plane_rises track place =
-      let l = labels_of basis cost starts goal t in
-      let are = are_labels is cost starts goal t search in
-      elim (cases_Bool (is_there l track place)) [
-        | inl there ↦ rw there (
-            let s = shown_at l are track place there in
-            places_rise l are track ((graph_of basis).ends (node_at l track place)) ((lawful is).increasing (node_at l track place) s.within) (λ j c. (((lawful is).pairs (node_at l track place) j s.within).0 c).0))
-        | inr nothing ↦ rw nothing (λ k b. absurd (omega (arith, b)))
-      ]
+  unfolding family_of labels_of shown_ends
+  plane_rises track place = elim (cases_Bool (is_there (labels_of basis cost starts goal t) track place)) [
+    | inl there ↦ rw there (shown_rise is t (node_at (labels_of basis cost starts goal t) track place) (shown_at (labels_of basis cost starts goal t) (are_labels is cost starts goal t search) track place there).within track)
+    | inr nothing ↦ rw nothing (λ k b. absurd (omega (arith, b)))
+  ]
 
   -- the row of a wire at a side
   pub arrivals_are : (track place side base : ℕ) (rows : List (List ℕ)) (row_firsts list : List ℕ) (w : IsWireThere is t cost starts goal search firsts told track place) → AreArrivals basis t.sink rows row_firsts
@@ -112,32 +111,25 @@ module _ {basis : Basis} (is : IsBasis basis) (t : Terminals) (cost : ℕ → �
       sym (get_or_from_slice_get rows (first + track) list [] got) ∙ ap (λ (n : ℕ). slice_index_or rows (first + n) []) (sym w.track_is) in
       ap (λ (xs : List ℕ). map (λ end. end + base) xs) row
       ∙ (ap (λ (v : ℕ). map (λ end. end + v) (slice_index_or rows (first + wire.n) [])) same
-      ∙ (are.ends side w.number w.wire.wire at ∙ sym (ends_there track place w)))
-
-  pub tracks_are : (planes_of basis cost starts goal t).tracks ≡ basis.arch.tracks
-  unfolding family_of labels_of
-  tracks_are = refl
+      ∙ (are.ends t refl side w.number w.wire.wire at ∙ (ap (λ (k : ℕ). shown_ends basis t k w.number) w.track_is ∙ sym (ends_there track place w))))
 
   -- the row of a pin
   pub pin_within : (rows : List (List ℕ)) (pins : List PinAt) → HaveEnds (planes_of basis cost starts goal t) rows pins → (track : ℕ) (pin : PinAt) → track < basis.arch.tracks → Contains pins pin → pin.row + pin.per_track * track < length rows
-  pin_within rows pins have track pin few c = (have pin c).within track (subst (λ (n : ℕ). track < n) (sym tracks_are) few)
+  pin_within rows pins have track pin few c = (have pin c).within track (subst (λ (n : ℕ). track < n) (sym (tracks_of basis cost starts goal t)) few)
 
   pub pin_ends_are : (rows : List (List ℕ)) (pins : List PinAt) → HaveEnds (planes_of basis cost starts goal t) rows pins → (track place : ℕ) (pin : PinAt) (list : List ℕ) → track < basis.arch.tracks → Contains pins pin → pin.place ≡ place
       → slice_get rows (pin.row + pin.per_track * track) ≡ Some list → map (λ end. end + pin.base) list ≡ ((planes_of basis cost starts goal t).plane track).ends place
   pin_ends_are rows pins have track place pin list few c at got =
       ap (λ (xs : List ℕ). map (λ end. end + pin.base) xs) (sym (get_or_from_slice_get rows (pin.row + pin.per_track * track) list [] got))
-      ∙ ((have pin c).ends track (subst (λ (n : ℕ). track < n) (sym tracks_are) few) ∙ ap ((planes_of basis cost starts goal t).plane track).ends at)
+      ∙ ((have pin c).ends track (subst (λ (n : ℕ). track < n) (sym (tracks_of basis cost starts goal t)) few) ∙ ap ((planes_of basis cost starts goal t).plane track).ends at)
 
   -- nothing is at the place
-  pub no_ends : (pins : List PinAt) → ArePins basis t pins → (classes : List ℕ) → AreClasses basis classes → (track place : ℕ) → place < place_count basis → slice_index classes place ≡ NO_CLASS
+  pub no_ends : (pins : List PinAt) → ArePins basis t pins → (steps : Steps) → AreSteps basis steps → (track place : ℕ) → place < place_count basis → slice_index steps.classes.items place ≡ NO_CLASS
       → ((k : ℕ) (d : PinAt) → k < length pins → (slice_index_or pins k d).place ≡ place → ⊥) → [] ≡ ((planes_of basis cost starts goal t).plane track).ends place
   unfolding family_of
-  no_ends pins are_pins classes tells track place b none unlisted = elim (cases_Bool (is_there (labels_of basis cost starts goal t) track place)) [
+  no_ends pins are_pins steps are track place b none unlisted = elim (cases_Bool (is_there (labels_of basis cost starts goal t) track place)) [
     | inl there ↦ absurd (elim (there_cases is t cost starts goal search firsts told track place there b) [
-      | inl w ↦
-          let class = class_told is classes tells place w.number w.wire in
-          let low = class_low is w.number in
-          omega (arith, class, low, none)
+      | inl w ↦ class_some is steps are place (first_for is place w.number w.wire).first (first_for is place w.number w.wire).at none
       | inr p ↦ none_listed is t cost starts goal search firsts told pins are_pins track place unlisted p
     ])
     | inr nothing ↦ rw nothing refl

@@ -13,7 +13,7 @@ use Rattle.rr_graph.specs.declared.node.Node.{Node}
 use Rattle.rr_graph.specs.Node.{IsBefore, rank_of}
 use Rattle.rr_graph.specs.Geometry.{IsWire, is_node, is_slot, is_chan_y, is_pad_row, is_block_row, is_block_number, is_together}
 use Rattle.rr_graph.specs.Graph.{Basis, IsBasis, IsRoutingGraph, graph_of}
-use Rattle.rr_graph.proofs.Columns.{get_within, same_kind}
+use Rattle.rr_graph.proofs.Columns.{get_within, same_kind, member_small, member_of}
 use Rattle.rr_graph.proofs.Definition.{definition_lawful}
 use Rattle.rr_graph.proofs.FewEnds.{ends_few}
 use Rattle.rr_graph.proofs.FewNodes.{few_nodes}
@@ -23,6 +23,8 @@ use Rattle.least_path.specs.Path.{Leads}
 use Rattle.plane_search.specs.Planes.{IsFamily}
 use Rattle.fabric_planes.specs.Labels.{AreLabels}
 use Rattle.fabric_planes.specs.Layout.{Terminals, pins_of, stride_of, place_count, offset_of, place_of, is_same_spot, shows, track_by, graph_at, labels_of, planes_of, AreCosts, IsStart, AreTerminals, IsNetSearch}
+use Rattle.fabric_planes.specs.Tables.{IsNearby}
+use Rattle.fabric_planes.specs.Ways.{IsWireAt}
 use Rattle.fabric_planes.proofs.Labeled.{is_family}
 use Rattle.fabric_planes.proofs.Joins.{IsReached, reached}
 use Rattle.fabric_planes.proofs.Offsets.{low_of, high_of, below_stride, kinds_apart, columns_apart, place_below}
@@ -46,6 +48,12 @@ together_parts strip a b h =
 -- what is together with a node is together with one at the same spot
 pub together_spot : (strip : Strip) (a b c : Node) → is_same_spot a b ≡ true → is_together strip a c ≡ true → is_together strip b c ≡ true
 together_spot strip a b c s h = let e = spot_parts a b s in rw (sym e.0, sym e.1, sym e.2) h
+
+-- the wires of a track are shown
+pub wire_shows : (strip : Strip) (t : Terminals) (track : ℕ) (kind : NodeKind) (v : Node) → IsWire kind → v.n ≡ track → shows strip t track kind v ≡ true
+wire_shows strip t track ChanX v w e = eq-eqb v.n track e
+wire_shows strip t track ChanY v w e = eq-eqb v.n track e
+wire_shows strip t track _ v w e = absurd w
 
 -- ---- nodes
 
@@ -337,18 +345,19 @@ module _ {basis : Basis} (is : IsBasis basis) where
 
   -- ---- all
 
-  pub wire_low : (i track : ℕ) → i < (graph_of basis).count → track_by (node i).kind (node i).n ≡ Some track → track < basis.arch.tracks
-  wire_low i track b e =
-      let w = track_number (node i).kind (node i).n track e in
-      subst (λ v. v < basis.arch.tracks) w.1 (number_low (node i).kind (node i) w.0 (slot_facts basis (node i).kind (node i) (node_slot basis (node i) (lawful.nodes i b))))
+  -- the number of a wire is that of a track
+  pub track_low : (i : ℕ) → IsWireAt basis i → (node i).n < basis.arch.tracks
+  track_low i w = number_low (node i).kind (node i) w.wire (slot_facts basis (node i).kind (node i) (node_slot basis (node i) (lawful.nodes i w.within)))
     where
       number_low : (kind : NodeKind) (v : Node) → IsWire kind → IsSlot basis kind v → v.n < basis.arch.tracks
-      number_low Source v w s = absurd w
-      number_low Sink v w s = absurd w
-      number_low Opin v w s = absurd w
-      number_low Ipin v w s = absurd w
       number_low ChanX v w s = s.1
       number_low ChanY v w s = s.1
+      number_low _ v w s = absurd w
+
+  wire_low : (i track : ℕ) → i < (graph_of basis).count → track_by (node i).kind (node i).n ≡ Some track → track < basis.arch.tracks
+  wire_low i track b e =
+      let w = track_number (node i).kind (node i).n track e in
+      subst (λ (v : ℕ). v < basis.arch.tracks) w.1 (track_low i (record { within = b; wire = w.0 }))
 
   graph_lawful : (cost : ℕ → ℕ) → AreCosts basis cost → IsLawful (graph_at basis cost)
   graph_lawful cost costs = record {
@@ -400,3 +409,10 @@ module _ {basis : Basis} (is : IsBasis basis) where
       row_low Ipin v w s = absurd w
       row_low ChanX v w s = s.0
       row_low ChanY v w s = s.0
+
+-- a node's fields are within their limits
+pub node_near : {basis : Basis} → IsBasis basis → (i : ℕ) → i < (graph_of basis).count → (v : Node) → v ≡ (graph_of basis).node i → IsNearby v
+node_near {basis} is i b v e =
+    let h : is_node basis.arch basis.strip v ≡ true = subst (λ (v : Node). is_node basis.arch basis.strip v ≡ true) (sym e) ((lawful is).nodes i b) in
+    let small = member_small basis.arch basis.strip is.arch is.strip (member_of v.kind v.y v.n) (node_slot basis v h) in
+    record { x = omega (arith, node_column basis v h, is.strip.width.1); y = omega (arith, small.0); n = omega (arith, small.1) }

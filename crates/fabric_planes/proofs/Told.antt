@@ -1,22 +1,23 @@
--- Tables that tell something of each place of a wire.
+-- The table of the first wires of places, one node after another.
 use Rattle.std.proofs.Common.{◌≡◌, ℕ, ◌+◌, ◌<◌, List, set, replicate, sym, ap, ◌∙◌, subst, inl, inr, arith}
+use Rattle.std.specs.Prelude.{slice_index}
 use Rattle.std.proofs.lemmas.Bool.{cases_eq}
 use Rattle.std.proofs.lemmas.List.{get_or-set_same, get_or-set_other, length-set, get_or-replicate, length-replicate}
 use Rattle.rr_graph.specs.Graph.{Basis, IsBasis, graph_of}
 use Rattle.fabric_planes.specs.Layout.{place_of, place_count}
-use Rattle.fabric_planes.specs.Tables.{IsFirstWire, IsFirstAt, AreToldBelow}
+use Rattle.fabric_planes.specs.Tables.{IsFirstWire, IsFirstAt, AreFirstsBelow, NO_WIRE}
 use Rattle.fabric_planes.proofs.Consecutive.{wires_order}
 
-module _ (basis : Basis) (value : ℕ → ℕ) (none : ℕ) where
-  pub told_none : AreToldBelow basis value none 0 (replicate {A = ℕ} (place_count basis) none)
+module _ (basis : Basis) where
+  pub told_none : AreFirstsBelow basis 0 (replicate {A = ℕ} (place_count basis) NO_WIRE)
   told_none = record {
-    long = length-replicate (place_count basis) none;
+    long = length-replicate (place_count basis) NO_WIRE;
     wires = λ place number l at. absurd (omega (arith, l));
-    others = λ place b nothing. get_or-replicate (place_count basis) place none 0 b;
+    others = λ place b nothing. get_or-replicate (place_count basis) place NO_WIRE 0 b;
   }
 
   -- the node is no wire of the first track
-  pub told_skip : (count : ℕ) (table : List ℕ) → AreToldBelow basis value none count table → (IsFirstWire ((graph_of basis).node count) → ⊥) → AreToldBelow basis value none (count + 1) table
+  pub told_skip : (count : ℕ) (table : List ℕ) → AreFirstsBelow basis count table → (IsFirstWire ((graph_of basis).node count) → ⊥) → AreFirstsBelow basis (count + 1) table
   told_skip count table told other = record {
     long = told.long;
     wires = λ place number l at. elim (cases_eq number count) [
@@ -27,22 +28,23 @@ module _ (basis : Basis) (value : ℕ → ℕ) (none : ℕ) where
   }
 
   -- one more wire of the first track
-  pub told_more : IsBasis basis → (count place : ℕ) (table : List ℕ) (v : ℕ) → AreToldBelow basis value none count table → IsFirstAt basis place count → place < place_count basis → v ≡ value count
-      → AreToldBelow basis value none (count + 1) (set table place v)
-  told_more is count place table v told at b e = record {
-    long = length-set table place v ∙ told.long;
-    wires = λ p number l found. elim (cases_eq number count) [
-      | inl same ↦
-          let here : p ≡ place = sym found.is_at ∙ (ap (λ k. place_of basis ((graph_of basis).node k)) same ∙ at.is_at) in
-          rw (here, same) (get_or-set_same table place v 0 (omega (arith, b, told.long)) ∙ e)
-      | inr before ↦
-          let less : number < count = omega (arith, l, before) in
-          let order = wires_order is number count less at.within found.first.wire at.first.wire (found.first.first ∙ sym at.first.first) in
-          let apart : p ≡ place → ⊥ = λ q. omega (arith, order, found.is_at, at.is_at, q) in
-          get_or-set_other table place p v 0 apart ∙ told.wires p number less found
-    ];
-    others = λ p c nothing. elim (cases_eq p place) [
-      | inl same ↦ absurd (nothing count (omega arith) (subst (λ q. IsFirstAt basis q count) (sym same) at))
-      | inr apart ↦ get_or-set_other table place p v 0 apart ∙ told.others p c (λ number l found. nothing number (omega (arith, l)) found)
-    ];
-  }
+  pub told_more : IsBasis basis → (count place : ℕ) (table : List ℕ) → AreFirstsBelow basis count table → IsFirstAt basis place count → place < place_count basis → AreFirstsBelow basis (count + 1) (set table place count)
+  told_more is count place table told at b =
+      let here : slice_index (set table place count) place ≡ count = get_or-set_same table place count 0 (omega (arith, b, told.long)) in
+      record {
+        long = length-set table place count ∙ told.long;
+        wires = λ p number l found. elim (cases_eq number count) [
+          | inl same ↦
+              let own : p ≡ place = sym found.is_at ∙ (ap (λ k. place_of basis ((graph_of basis).node k)) same ∙ at.is_at) in
+              ap (slice_index (set table place count)) own ∙ (here ∙ sym same)
+          | inr before ↦
+              let less : number < count = omega (arith, l, before) in
+              let order = wires_order is number count less at.within found.first.wire at.first.wire (found.first.first ∙ sym at.first.first) in
+              let apart : p ≡ place → ⊥ = λ q. omega (arith, order, found.is_at, at.is_at, q) in
+              get_or-set_other table place p count 0 apart ∙ told.wires p number less found
+        ];
+        others = λ p c nothing. elim (cases_eq p place) [
+          | inl same ↦ absurd (nothing count (omega arith) (subst (λ (q : ℕ). IsFirstAt basis q count) (sym same) at))
+          | inr apart ↦ get_or-set_other table place p count 0 apart ∙ told.others p c (λ number l found. nothing number (omega (arith, l)) found)
+        ];
+      }

@@ -16,7 +16,8 @@ use Rattle.fabric_planes.specs.Laid.{IsWireOf}
 use Rattle.fabric_planes.specs.Layout.{Terminals, place_of, shows, planes_of, IsNetSearch}
 use Rattle.fabric_planes.specs.Starts.{AddsWires, AreSomeStarts, HasStarts, IsStartOf, IsStartWire, KeepsStarts}
 use Rattle.fabric_planes.proofs.ListedStarts.{IsShownIn, entry_of, entry_start, below, place_kept, place_last}
-use Rattle.fabric_planes.proofs.StartLists.{pin_in, wire_from, wire_in, wire_of, wire_of_start, wire_cases}
+use Rattle.fabric_planes.proofs.Found.{cases_wire}
+use Rattle.fabric_planes.proofs.StartLists.{pin_in, wire_from, wire_in, wire_of, wire_of_start}
 use Rattle.fabric_planes.proofs.WireBounds.{wire_shown}
 
 -- a wire is shown in its own track's plane alone
@@ -93,7 +94,7 @@ module _ (basis : Basis) (t : Terminals) (cost : ℕ → ℕ) (starts : List ℕ
     bounded = some.bounded;
     all = λ entry c.
         let s = entry_start is t cost starts goal search track entry c in
-        elim (wire_cases (node s.number).kind) [
+        elim (cases_wire (node s.number).kind) [
           | inr n ↦ inl (subst (Contains (places_of list)) s.at (kept (place_of basis (node s.number)) (pins s.number (pin_in basis starts net has s.number s.contained n) s.shown)))
           | inl w ↦
               let (wire, inside, e) = wire_in basis starts net has s.number s.contained w in

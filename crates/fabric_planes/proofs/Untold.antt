@@ -1,26 +1,14 @@
 -- Prices of which none is told.
-use Rattle.std.proofs.Common.{◌≡◌, ℕ, ◌+◌, ◌*◌, ◌<◌, ◌≤◌, List, length, refl, ap, ◌∙◌, arith}
+use Rattle.std.proofs.Common.{◌≡◌, ℕ, ◌+◌, ◌*◌, ◌<◌, ◌≤◌, List, length, ap, ◌∙◌, arith}
 use Rattle.std.specs.Prelude.{slice_index}
 use Rattle.std.proofs.Math.ListN.{replicate}
 use Rattle.std.proofs.lemmas.List.{length-replicate, get_or-replicate}
 use Rattle.std.proofs.lemmas.Nat.{mul-le}
-use Rattle.rr_graph.specs.declared.node.NodeKind.{NodeKind}
-use Rattle.rr_graph.specs.declared.node.NodeKind.TheVariants.{Source, Sink, Opin, Ipin, ChanX, ChanY}
-use Rattle.rr_graph.specs.Geometry.{IsWire}
-use Rattle.std.specs.Prelude.{Some}
 use Rattle.rr_graph.specs.Graph.{Basis, IsBasis, graph_of}
-use Rattle.fabric_planes.specs.Layout.{place_count, track_by}
+use Rattle.fabric_planes.specs.Layout.{place_count}
 use Rattle.fabric_planes.specs.Pins.{ArePrices}
 use Rattle.fabric_planes.proofs.Found.{place_low}
-use Rattle.fabric_planes.proofs.Strips.{wire_low}
-
-pub on_track : (kind : NodeKind) (n : ℕ) → IsWire kind → track_by kind n ≡ Some n
-on_track Source n w = absurd w
-on_track Sink n w = absurd w
-on_track Opin n w = absurd w
-on_track Ipin n w = absurd w
-on_track ChanX n w = refl
-on_track ChanY n w = refl
+use Rattle.fabric_planes.proofs.Strips.{track_low}
 
 pub within : (tracks places track place : ℕ) → track < tracks → place < places → track * places + place < tracks * places
 within tracks places track place t p =
@@ -35,6 +23,6 @@ untold basis is cost count prices long same =
     record {
       long = ap (λ (xs : List ℕ). length xs) same ∙ length-replicate {A = ℕ} count 255 ∙ long;
       told = λ place number w none. absurd (none (at ((graph_of basis).node number).n place
-          (wire_low is number ((graph_of basis).node number).n w.wire.within (on_track ((graph_of basis).node number).kind ((graph_of basis).node number).n w.wire.wire)) (place_low is place number w)));
+          (track_low is number w.wire) (place_low is place number w)));
       others = λ track place t p none. at track place t p;
     }

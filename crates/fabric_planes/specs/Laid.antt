@@ -5,19 +5,17 @@ use Rattle.fabric_planes.specs.declared.layout.Layout.{Layout}
 use Rattle.fabric_planes.specs.ArrivalRows.{AreArrivalRows}
 use Rattle.fabric_planes.specs.Layout.{band_of, stride_of, place_of}
 use Rattle.fabric_planes.specs.PinRows.{ArePinRows}
-use Rattle.fabric_planes.specs.Tables.{IsShapeOf, AreFirsts, AreClasses, all_steps}
+use Rattle.fabric_planes.specs.Tables.{IsShapeOf, AreFirsts}
 use Rattle.fabric_planes.specs.declared.distances.Target.TheVariants.{Level, Upright, Block}
 use Rattle.fabric_planes.specs.Differences.{far_table}
-use Rattle.fabric_planes.specs.ArrivalRows.{AreArrivalRows}
-use Rattle.fabric_planes.specs.PinRows.{ArePinRows}
+use Rattle.fabric_planes.specs.Steps.{AreSteps}
 use Rattle.fabric_planes.specs.Ways.{IsWireAt}
 
 -- the tables are those of the strip
 pub record IsLayout (basis : Basis) (layout : Layout) : Type 0 where
   pub shape : IsShapeOf basis layout.shape
   pub firsts : AreFirsts basis layout.firsts.items
-  pub classes : AreClasses basis layout.classes.items
-  pub steps : layout.steps ≡ all_steps (stride_of basis) (band_of basis)
+  pub steps : AreSteps basis layout.steps
   pub to_level : layout.to_level.items ≡ far_table Level (basis.strip.width + 3) (band_of basis) (stride_of basis)
   pub to_upright : layout.to_upright.items ≡ far_table Upright (basis.strip.width + 3) (band_of basis) (stride_of basis)
   pub to_block : layout.to_block.items ≡ far_table Block (basis.strip.width + 3) (band_of basis) (stride_of basis)

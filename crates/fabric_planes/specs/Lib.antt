@@ -4,6 +4,7 @@ pub mod Distances
 pub mod Ways
 pub mod Sides
 pub mod Sizes
+pub mod Ends
 pub mod Steps
 pub mod Tables
 pub mod Laid

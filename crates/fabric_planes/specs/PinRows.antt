@@ -11,7 +11,14 @@ use Rattle.rr_graph.specs.Graph.{Basis, make_node}
 use Rattle.fabric_planes.specs.declared.pin_rows.PinRows.{PinRows}
 use Rattle.fabric_planes.specs.Layout.{pins_of, band_of, level_at}
 use Rattle.fabric_planes.specs.Sides.{is_on_side, side_kind, rows_less, columns_less}
-use Rattle.fabric_planes.specs.Steps.{with_if}
+
+-- the number before others, if there is one
+abbrev pub with_if : Bool → ℕ → List ℕ → List ℕ
+with_if there number others = if there then number ∷ others else others
+
+-- the numbers, each with a base added
+abbrev pub places_from : ℕ → List ℕ → List ℕ
+places_from base steps = map (λ step. step + base) steps
 
 -- the wire of a track at a side of the pin's block or pad
 abbrev pub beside : Node → ℕ → ℕ → Node

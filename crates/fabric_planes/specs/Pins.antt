@@ -4,7 +4,7 @@ use Rattle.rr_graph.specs.declared.node.Node.{Node}
 use Rattle.rr_graph.specs.Geometry.{IsWire}
 use Rattle.plane_search.specs.Planes.{Family}
 use Rattle.fabric_planes.specs.Sides.{IsAtSide}
-use Rattle.fabric_planes.specs.Steps.{wire_ends}
+use Rattle.fabric_planes.specs.Ends.{shown_ends}
 use Rattle.fabric_planes.specs.Ways.{IsWireAt}
 use Rattle.rr_graph.specs.Graph.{Basis, graph_of}
 use Rattle.fabric_planes.specs.declared.pins.PinAt.{PinAt}
@@ -51,13 +51,14 @@ pub record AreByPlace (basis : Basis) (cost : ℕ → ℕ) (prices : List ℕ) :
   pub long : length prices ≡ place_count basis * basis.arch.tracks
   pub low : (place number : ℕ) → IsWireOf basis place number → slice_index prices (place * basis.arch.tracks + ((graph_of basis).node number).n) ≤ cost number
 
--- For each side the rows from this one on are the ends of its wires.
+-- For each side the rows from this one on are the ends of its wires, in the planes of each net with
+-- this sink.
 pub record AreArrivals (basis : Basis) (sink : Node) (rows : List (List ℕ)) (firsts : List ℕ) : Type 0 where
   pub four : length firsts ≡ 4
   pub few : (side : ℕ) → side < 4 → slice_index firsts side ≤ 2 ^ 32
   pub within : (side track : ℕ) → side < 4 → track < basis.arch.tracks → slice_index firsts side + track < length rows
-  pub ends : (side number : ℕ) → IsWireAt basis number → IsAtSide sink side ((graph_of basis).node number).kind ((graph_of basis).node number).x ((graph_of basis).node number).y
-      → ends_in rows (slice_index firsts side + ((graph_of basis).node number).n) (place_of basis ((graph_of basis).node number) - 2 * stride_of basis) ≡ wire_ends basis sink ((graph_of basis).node number)
+  pub ends : (t : Terminals) → t.sink ≡ sink → (side number : ℕ) → IsWireAt basis number → IsAtSide sink side ((graph_of basis).node number).kind ((graph_of basis).node number).x ((graph_of basis).node number).y
+      → ends_in rows (slice_index firsts side + ((graph_of basis).node number).n) (place_of basis ((graph_of basis).node number) - 2 * stride_of basis) ≡ shown_ends basis t ((graph_of basis).node number).n number
 
 -- no wire at the place is at a side of the sink's block or pad
 abbrev pub IsAside : Basis → Node → ℕ → Type 0

@@ -1,21 +1,18 @@
 //! The rows of the ends of the wires at the sides of blocks and pads.
-ghost use Rattle.std.specs.Prelude.{◌≡◌, ◌≤◌, ◌<◌, ◌+◌, ◌++◌, ◌^◌, true, map, filter, IfOk, OnOk};
-ghost use Rattle.std.specs.List.{range_with_len};
+ghost use Rattle.std.specs.Prelude.{◌≡◌, ◌≤◌, ◌<◌, ◌^◌, true, IfOk, OnOk};
 ghost use Rattle.grid.specs.Sizes.{IsStripSize};
 ghost use Rattle.rr_graph.specs.Graph.{Basis};
 ghost use Rattle.rr_graph.specs.Geometry.{is_node};
 ghost use Rattle.rr_graph.specs.declared.node.NodeKind.TheVariants.{Sink};
-ghost use Rattle.fabric_planes.specs.ArrivalRows.{site_of, sink_at, wire_beside, ends_of, arrival_by, arrival_at, first_pin, row_of, row_count, first_row};
-ghost use Rattle.fabric_planes.specs.Steps.{is_met_pin};
-ghost use Rattle.fabric_planes.specs.Tables.{IsShapeOf, IsNearby};
+ghost use Rattle.fabric_planes.specs.ArrivalRows.{AddsRow, arrival_at, column_of, first_row, index_of, row_count, sink_at, site_of, wire_beside};
 ghost use Rattle.fabric_planes.specs.Pins.{AreArrivals};
+ghost use Rattle.fabric_planes.specs.Tables.{IsShapeOf};
 
-use crate::around::Around;
+use crate::ends::{View, add_ends};
 use crate::shape::Shape;
-use crate::steps::{add_firsts, add_seconds};
 use grid::Strip;
 use rows::Rows;
-use rr_graph::{Node, NodeKind, StripGraph, is_together, meets};
+use rr_graph::{Node, NodeKind, StripGraph};
 use std::alloc::{AllocError, Global};
 
 /// The number of a pad or of a block's row: first the pads below, then those above, then the rows.
@@ -31,11 +28,11 @@ fn site_of(strip: Strip, sink: Node) -> usize
     }
 }
 
-/// The sink of the pad or block of column 1 with this number.
-fn sink_at(strip: Strip, site: u32) -> Node
+/// The sink of the pad or block of a column with this number.
+fn sink_at(strip: Strip, x: u32, site: u32) -> Node
     requires size { IsStripSize strip }
     requires few { site < 2 ^ 20 }
-    ensures { result ≡ sink_at strip site }
+    ensures { result ≡ sink_at strip x site }
 {
     let (y, n) = if site < strip.io_rat {
         (0, site)
@@ -44,12 +41,27 @@ fn sink_at(strip: Strip, site: u32) -> Node
     } else {
         (site - 2 * strip.io_rat + 1, 0)
     };
-    Node {
-        x: 1,
-        kind: NodeKind::Sink,
-        y,
-        n,
+    let kind = NodeKind::Sink;
+    Node { x, kind, y, n }
+}
+
+/// The number of the column that has the rows of a column: the first, the second, the last, or the
+/// third one for all others.
+fn index_of(width: u32, x: u32) -> u32
+    ensures { result ≡ index_of width x }
+{
+    if x == width {
+        return 3;
     }
+    x.saturating_sub(1).min(2)
+}
+
+/// The column with such a number.
+fn column_of(width: u32, index: u32) -> u32
+    requires { index < 4 }
+    ensures { result ≡ column_of width index }
+{
+    if index == 3 { width } else { index + 1 }
 }
 
 /// The wire of a track at a side of a sink's block or pad.
@@ -69,117 +81,11 @@ fn wire_beside(sink: Node, side: u32, track: u32) -> Node
     }
 }
 
-/// A number for whether there are wires to the left and to the right.
-fn ends_of(around: Around) -> u32
-    ensures value { result ≡ ends_of around }
-    ensures few { result < 4 }
-{
-    around.left as u32 + 2 * around.right as u32
-}
-
-/// A wire at a side of a block or pad.
+/// A wire at a side of a block or pad, and what its row lists.
 #[derive(Clone, Copy)]
 struct Arrival {
-    sink: Node,
-    side: u32,
+    view: View,
     wire: Node,
-    around: Around,
-}
-
-/// A wire at a side, by whether there are wires to the left and to the right.
-fn arrival_by(shape: Shape, sink: Node, side: u32, wire: Node, ends: u32) -> Arrival
-    ensures { (basis : Basis) → IsShapeOf basis shape →
-        result ≡ arrival_by basis sink side wire ends }
-{
-    let around = shape.around(wire);
-    Arrival {
-        sink,
-        side,
-        wire,
-        around: Around {
-            left: ends % 2 == 1,
-            right: ends / 2 == 1,
-            below: around.below,
-            above: around.above,
-        },
-    }
-}
-
-/// Whether the input pin with this number meets the wire.
-fn is_met_pin<G: StripGraph>(graph: &G, sink: Node, wire: Node, n: u32) -> bool
-    ensures { result ≡ is_met_pin (G.basis graph.now) sink wire n }
-{
-    graph.laws();
-    let strip = graph.strip();
-    let pin = Node {
-        x: sink.x,
-        kind: NodeKind::Ipin,
-        y: sink.y,
-        n,
-    };
-    is_together(strip, pin, sink)
-        && meets(graph.arch(), strip, pin, wire)
-        && graph.number(pin).is_some()
-}
-
-/// Appends the steps to the pins that meet the wire.
-fn add_pins<G: StripGraph>(
-    steps: &mut Vec<u32>,
-    graph: &G,
-    arrival: Arrival,
-    first: u32,
-    pins: u32,
-) -> Result<(), AllocError>
-    requires first { first ≤ 10000 }
-    requires pins { pins ≤ 153 }
-    ensures { IfOk result (λ _. steps.new.items ≡ steps.old.items ++ map (λ n. first + n)
-        (filter (is_met_pin (G.basis graph.now) arrival.sink arrival.wire)
-        (range_with_len 0 pins))) }
-{
-    for n in 0..pins {
-        if is_met_pin(graph, arrival.sink, arrival.wire, n) {
-            steps.push(first + n)?;
-        }
-    }
-    Ok(())
-}
-
-/// By how much the place of an input pin is more than its number, counted from the place two
-/// columns before the wire's.
-fn first_pin(shape: Shape, side: u32, wire: Node) -> u32
-    requires { IsNearby wire }
-    ensures few { result ≤ 10000 }
-    ensures value { (basis : Basis) → IsShapeOf basis shape →
-        result ≡ first_pin basis side wire }
-{
-    let columns = 2 + (side == 3) as usize;
-    let pins = columns * shape.stride() + (2 + shape.pins as usize);
-    pins.saturating_sub(shape.offset(wire)) as u32
-}
-
-/// Appends the ends of a wire at a side, less the place two columns before it.
-fn add_ends<G: StripGraph>(
-    steps: &mut Vec<u32>,
-    graph: &G,
-    shape: Shape,
-    arrival: Arrival,
-) -> Result<(), AllocError>
-    requires shape { IsShapeOf (G.basis graph.now) shape }
-    requires near { IsNearby arrival.wire }
-    ensures { IfOk result (λ _. steps.new.items ≡ steps.old.items
-        ++ row_of (G.basis graph.now) arrival) }
-{
-    let (around, kind) = (arrival.around, arrival.wire.kind);
-    let (stride, band) = (shape.stride() as u32, shape.band() as u32);
-    let first = first_pin(shape, arrival.side, arrival.wire);
-    if arrival.side == 2 {
-        add_pins(steps, graph, arrival, first, shape.pins)?;
-        add_firsts(steps, around, kind, stride, band)?;
-    } else {
-        add_firsts(steps, around, kind, stride, band)?;
-        add_pins(steps, graph, arrival, first, shape.pins)?;
-    }
-    add_seconds(steps, around, kind, stride, band)
 }
 
 /// What the row with this number is for.
@@ -192,9 +98,35 @@ fn arrival_at<G: StripGraph>(graph: &G, shape: Shape, number: u32) -> Arrival
     let (tracks, strip) = (shape.tracks, graph.strip());
     let by_side = number / tracks;
     let (side, track) = (by_side % 4, number % tracks);
-    let sink = sink_at(strip, by_side / 4 / 4);
-    let wire = wire_beside(sink, side, track);
-    arrival_by(shape, sink, side, wire, by_side / 4 % 4)
+    let node = sink_at(
+        strip,
+        column_of(strip.width, by_side / 4 % 4),
+        by_side / 4 / 4,
+    );
+    Arrival {
+        view: View { track, node },
+        wire: wire_beside(node, side, track),
+    }
+}
+
+/// Adds the row of a wire, an empty one if the strip doesn't have the wire.
+fn add_row<G: StripGraph>(
+    rows: &mut Rows,
+    graph: &G,
+    shape: Shape,
+    arrival: Arrival,
+    list: &mut Vec<u32>,
+) -> Result<(), AllocError>
+    requires { IsShapeOf (G.basis graph.now) shape }
+    ensures { IfOk result (λ _. AddsRow (G.basis graph.now) arrival rows.old rows.new) }
+{
+    graph.laws();
+    list.clear();
+    match graph.number(arrival.wire) {
+        Some(wire) => add_ends(list, graph, shape, arrival.view, wire)?,
+        None => (),
+    }
+    rows.push(list)
 }
 
 /// The number of rows.
@@ -213,8 +145,8 @@ fn first_row(strip: Strip, shape: Shape, sink: Node, side: u32) -> usize
     ensures { (basis : Basis) → IsShapeOf basis shape → strip ≡ basis.strip →
         result ≡ first_row basis sink side }
 {
-    let ends = ends_of(shape.around(wire_beside(sink, side, 0))) as usize;
-    ((site_of(strip, sink) * 4 + ends) * 4 + side as usize) * shape.tracks as usize
+    let column = index_of(strip.width, sink.x) as usize;
+    ((site_of(strip, sink) * 4 + column) * 4 + side as usize) * shape.tracks as usize
 }
 
 /// The rows of the ends of the wires at the sides of blocks and pads. They are made once for a
@@ -239,11 +171,10 @@ impl ArrivalRows {
         graph.laws();
         let count = row_count(graph, shape);
         let mut rows = Rows::new(alloc);
-        let mut steps = Vec::new(alloc);
+        let mut list = Vec::new(alloc);
         for number in 0..count {
-            steps.clear();
-            add_ends(&mut steps, graph, shape, arrival_at(graph, shape, number))?;
-            rows.push(&steps)?;
+            let arrival = arrival_at(graph, shape, number);
+            add_row(&mut rows, graph, shape, arrival, &mut list)?;
         }
         Ok(ArrivalRows { rows })
     }

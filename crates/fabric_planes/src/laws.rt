@@ -5,9 +5,8 @@ ghost use Rattle.rr_graph.specs.Graph.{graph_of};
 ghost use Rattle.rr_graph.specs.declared.node.NodeKind.TheVariants.{Sink};
 ghost use Rattle.least_path.specs.Path.{IsPath, Leads};
 ghost use Rattle.plane_search.specs.Planes.{IsFamily};
-ghost use Rattle.fabric_planes.specs.Layout.{Terminals, AreCosts, IsNetSearch, graph_at, place_of, planes_of};
+ghost use Rattle.fabric_planes.specs.Layout.{Terminals, AreCosts, IsNetSearch, graph_at, planes_of};
 ghost use Rattle.fabric_planes.specs.Sides.{AreSideBounds, IsBySide, IsFromPin, IsFromWire, IsStartKind};
-ghost use Rattle.fabric_planes.specs.Steps.{wire_ends};
 ghost use Rattle.fabric_planes.specs.Ways.{IsWireAt, IsWayOver};
 
 use rr_graph::one_graph;
@@ -28,17 +27,6 @@ pub fn ways_law()
         IsBasis basis → AreCosts basis cost → ((graph_of basis).node goal).kind ≡ Sink →
         IsWireAt basis from → Leads (graph_at basis cost) goal from rest →
         IsWayOver basis cost goal from rest }
-{}
-
-/// In its track's plane, a wire leads to the wires around it, and to the pins of the sink's block
-/// or pad that it meets.
-pub fn ends_law()
-    ensures { (basis : Basis) (cost : ℕ → ℕ) (starts : List ℕ) (goal : ℕ) (t : Terminals)
-        (wire : ℕ) →
-        IsBasis basis → IsNetSearch basis cost starts goal t → IsWireAt basis wire →
-        ((planes_of basis cost starts goal t).plane ((graph_of basis).node wire).n).ends
-        (place_of basis ((graph_of basis).node wire))
-        ≡ wire_ends basis t.sink ((graph_of basis).node wire) }
 {}
 
 /// Lower bounds of ways from a wire to a sink, by the sides at which they may end.

@@ -2,22 +2,18 @@
 ghost use Rattle.std.specs.Prelude.{◌≡◌, ◌<◌, ◌≤◌, true, IfOk};
 ghost use Rattle.std.specs.Bool.{MatchBool};
 ghost use Rattle.rr_graph.specs.Graph.{graph_of};
-ghost use Rattle.fabric_planes.specs.Tables.{IsShapeOf, IsFirstWire, AreFirsts, AreClasses};
+ghost use Rattle.fabric_planes.specs.Tables.{IsShapeOf, IsFirstWire, AreFirsts};
 
 use crate::arrival_rows::ArrivalRows;
 use crate::distances::{Target, far_table};
 use crate::pin_rows::PinRows;
 use crate::shape::Shape;
-use crate::steps::{class_by, steps_of};
-use rows::Rows;
+use crate::steps::Steps;
 use rr_graph::{Node, NodeKind, StripGraph};
 use std::alloc::{AllocError, Global};
 
 /// In a table by place: no wire is here.
 pub(crate) const NO_WIRE: u32 = u32::MAX;
-
-/// In a table of classes: no wire is here.
-pub(crate) const NO_CLASS: u8 = 255;
 
 /// Whether the node is a wire of the first track.
 fn is_first_wire(node: Node) -> bool
@@ -44,21 +40,6 @@ fn firsts_of<G: StripGraph>(alloc: Global, graph: &G, shape: Shape) -> Result<Ve
     Ok(firsts)
 }
 
-/// For each place the class of its wires.
-fn classes_of<G: StripGraph>(alloc: Global, graph: &G, shape: Shape) -> Result<Vec<u8>, AllocError>
-    requires { IsShapeOf (G.basis graph.now) shape }
-    ensures { IfOk result (λ classes. AreClasses (G.basis graph.now) classes.items) }
-{
-    let mut classes = Vec::from_elem(alloc, NO_CLASS, shape.places())?;
-    for number in 0..graph.count() {
-        let node = graph.node(number);
-        if is_first_wire(node) {
-            classes[shape.place(node)] = class_by(node.kind, shape.around(node)) as u8;
-        }
-    }
-    Ok(classes)
-}
-
 /// Where the wires of a strip are in its planes, and how they lead to each other. It is made once
 /// for a graph.
 #[derive(Drop)]
@@ -66,10 +47,8 @@ pub struct Layout {
     pub(crate) shape: Shape,
     /// For each place the number of its first wire.
     pub(crate) firsts: Vec<u32>,
-    /// For each place the class of its wires.
-    pub(crate) classes: Vec<u8>,
-    /// For each class its steps.
-    pub(crate) steps: Rows,
+    /// The ends of the wires that are at no side of a sink's block or pad.
+    pub(crate) steps: Steps,
     /// The distances to a horizontal wire, by difference of places.
     pub(crate) to_level: Vec<u8>,
     /// The same to a vertical wire, and to the nearest wire of a block.
@@ -90,8 +69,7 @@ impl Layout {
     {
         let shape = Shape::new(graph);
         let firsts = firsts_of(alloc, graph, shape)?;
-        let classes = classes_of(alloc, graph, shape)?;
-        let steps = steps_of(alloc, shape)?;
+        let steps = Steps::new(alloc, graph, shape, &firsts)?;
         let to_level = far_table(alloc, shape, Target::Level)?;
         let to_upright = far_table(alloc, shape, Target::Upright)?;
         let to_block = far_table(alloc, shape, Target::Block)?;
@@ -100,7 +78,6 @@ impl Layout {
         Ok(Layout {
             shape,
             firsts,
-            classes,
             steps,
             to_level,
             to_upright,

@@ -14,13 +14,13 @@
 #![tactic(auto)]
 
 mod aheads;
-mod around;
 mod arrival_rows;
 mod bound_rows;
 mod bounded_planes;
 mod bounds;
 mod costs;
 mod distances;
+mod ends;
 mod fars;
 mod kept_layout;
 mod known_rivals;
@@ -47,13 +47,12 @@ mod strip_planes;
 mod untold_prices;
 mod wire_bounds;
 
-pub use around::Around;
 pub use bounded_planes::BoundedPlanes;
 pub use bounds::Bounds;
 pub use costs::NodeCosts;
 pub use kept_layout::KeptLayout;
 pub use labels::labels_law;
-pub use laws::{ends_law, paths_law, planes_law, sides_law, ways_law};
+pub use laws::{paths_law, planes_law, sides_law, ways_law};
 pub use layout::Layout;
 pub use net_planes::NetPlanes;
 pub use net_search::{NetSearch, Wanted};

@@ -1,11 +1,12 @@
 //! The ends of the edges from the places of a net's planes.
 ghost use Rattle.std.specs.Prelude.{◌≡◌, ◌+◌, ◌<◌, ℕ, map, slice_index};
 ghost use Rattle.std.specs.List.Sorted.{IsNonDecreasing};
+ghost use Rattle.fabric_planes.specs.Steps.{NO_CLASS};
 ghost use Rattle.fabric_planes.specs.Layout.{place_count, planes_of};
 
 use crate::costs::NodeCosts;
-use crate::layout::NO_CLASS;
 use crate::net_planes::NetPlanes;
+use crate::steps::NO_CLASS;
 use least_path::Ends;
 use rr_graph::StripGraph;
 
@@ -14,7 +15,7 @@ impl<G: StripGraph, C: NodeCosts> NetPlanes<'_, G, C> {
     fn arrival_ends(&self, track: usize, place: usize, side: usize) -> Ends<'_>
         requires track { track < (G.basis self.now.strip.graph.now).arch.tracks }
         requires place { place < place_count (G.basis self.now.strip.graph.now) }
-        requires wire { slice_index self.now.strip.layout.now.classes.items place ≡ 255 → ⊥ }
+        requires wire { slice_index self.now.strip.layout.now.steps.classes.items place ≡ NO_CLASS → ⊥ }
         requires side { side < 4 }
         requires at { slice_index self.now.sides.now side ≡ place }
         ensures value { map (λ end. end + result.base) result.list.now
@@ -34,7 +35,7 @@ impl<G: StripGraph, C: NodeCosts> NetPlanes<'_, G, C> {
     fn ends_of_pin(&self, track: usize, place: usize) -> Ends<'_>
         requires track { track < (G.basis self.now.strip.graph.now).arch.tracks }
         requires place { place < place_count (G.basis self.now.strip.graph.now) }
-        requires no_wire { slice_index self.now.strip.layout.now.classes.items place ≡ 255 }
+        requires no_wire { slice_index self.now.strip.layout.now.steps.classes.items place ≡ NO_CLASS }
         ensures value { map (λ end. end + result.base) result.list.now
             ≡ ((planes_of (G.basis self.now.strip.graph.now) (C.costs self.now.costs.now)
             self.now.starts.now self.now.goal
@@ -63,7 +64,7 @@ impl<G: StripGraph, C: NodeCosts> NetPlanes<'_, G, C> {
         ensures rising { IsNonDecreasing result.list.now }
     {
         self.strip.graph.laws();
-        if self.strip.layout.classes[place] == NO_CLASS {
+        if self.strip.layout.steps.classes[place] == NO_CLASS {
             return self.ends_of_pin(track, place);
         }
         match self.side_of(place) {
@@ -85,7 +86,7 @@ impl<G: StripGraph, C: NodeCosts> NetPlanes<'_, G, C> {
         ensures rising { IsNonDecreasing result.list.now }
     {
         self.strip.graph.laws();
-        if self.strip.layout.classes[place] == NO_CLASS {
+        if self.strip.layout.steps.classes[place] == NO_CLASS {
             return self.ends_of_pin(track, place);
         }
         self.step_ends(track, place)

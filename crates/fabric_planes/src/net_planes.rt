@@ -7,6 +7,7 @@ ghost use Rattle.plane_search.specs.Planes.{IsPlace};
 ghost use Rattle.least_path.specs.LowerBound.{IsLowerBound};
 ghost use Rattle.fabric_planes.specs.Differences.{IsPinPlace};
 ghost use Rattle.fabric_planes.specs.Laid.{IsWireOf};
+ghost use Rattle.fabric_planes.specs.Steps.{NO_CLASS};
 ghost use Rattle.fabric_planes.specs.Layout.{IsNetSearch, in_column, place_of, place_count, planes_of, stride_of};
 ghost use Rattle.fabric_planes.specs.Sides.{IsBySide};
 ghost use Rattle.fabric_planes.specs.declared.pins.PinAt.{PinAt};
@@ -245,7 +246,7 @@ impl<G: StripGraph, C: NodeCosts> NetPlanes<'_, G, C> {
     pub(crate) fn step_ends(&self, track: usize, place: usize) -> Ends<'_>
         requires track { track < (G.basis self.now.strip.graph.now).arch.tracks }
         requires place { place < place_count (G.basis self.now.strip.graph.now) }
-        requires wire { slice_index self.now.strip.layout.now.classes.items place ≡ 255 → ⊥ }
+        requires wire { slice_index self.now.strip.layout.now.steps.classes.items place ≡ NO_CLASS → ⊥ }
         requires aside { IsAside (G.basis self.now.strip.graph.now) self.now.sink place }
         ensures value { map (λ end. end + result.base) result.list.now
             ≡ ((planes_of (G.basis self.now.strip.graph.now) (C.costs self.now.costs.now)

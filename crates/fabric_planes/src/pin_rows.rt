@@ -6,7 +6,7 @@ ghost use Rattle.rr_graph.specs.declared.node.NodeKind.TheVariants.{Opin};
 ghost use Rattle.rr_graph.specs.Geometry.{IsWire, is_block_number, is_node, meets};
 ghost use Rattle.rr_graph.specs.Graph.{Basis, graph_of};
 ghost use Rattle.fabric_planes.specs.Layout.{Terminals, IsNetSearch, place_of, planes_of};
-ghost use Rattle.fabric_planes.specs.PinRows.{beside, is_met, departures, departure_row, block_outputs, pad_output, rows_by, first_row, rows_per_track, rise_of, row_at, site_of, apart_entry, aparts};
+ghost use Rattle.fabric_planes.specs.PinRows.{with_if, beside, is_met, departures, departure_row, block_outputs, pad_output, rows_by, first_row, rows_per_track, rise_of, row_at, site_of, apart_entry, aparts};
 ghost use Rattle.fabric_planes.specs.Pins.{HasEnds, IsShownPin};
 ghost use Rattle.fabric_planes.specs.Sides.{IsAtSide, is_on_side, rows_less, columns_less};
 ghost use Rattle.fabric_planes.specs.Tables.{IsShapeOf, IsNearby};
@@ -14,7 +14,6 @@ ghost use Rattle.fabric_planes.specs.Ways.{IsWireAt};
 
 use crate::pins::PinAt;
 use crate::shape::Shape;
-use crate::steps::add_if;
 use arch_file::{Arch, PinClass, Sides};
 use grid::Strip;
 use rows::Rows;
@@ -23,6 +22,16 @@ use std::alloc::{AllocError, Global};
 
 /// For a track that an output pin does not meet: more than costs count.
 const APART: u16 = 20000;
+
+/// Appends the number if there is one.
+fn add_if(list: &mut Vec<u32>, there: bool, number: u32) -> Result<(), AllocError>
+    ensures { IfOk result (λ _. list.new.items ≡ list.old.items ++ with_if there number []) }
+{
+    if there {
+        list.push(number)?;
+    }
+    Ok(())
+}
 
 /// Whether a pin with these sides is on a side.
 fn is_on(sides: Sides, side: u32) -> bool

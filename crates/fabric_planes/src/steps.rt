@@ -1,165 +1,147 @@
-//! The steps from wires to the wires around them.
-ghost use Rattle.std.specs.Prelude.{◌≡◌, ◌+◌, ◌-◌, ◌*◌, ◌<◌, ◌≤◌, ◌++◌, [], IfOk};
-ghost use Rattle.rr_graph.specs.Graph.{Basis};
-ghost use Rattle.fabric_planes.specs.Steps.{around_of, with_if, first_steps, second_steps};
-ghost use Rattle.fabric_planes.specs.Tables.{IsShapeOf, class_by, around_in, kind_in, steps_in, all_steps};
+//! The steps from wires to the wires that they meet.
+ghost use Rattle.std.specs.Prelude.{◌≡◌, ◌↔◌, ◌+◌, ◌<◌, ◌≤◌, Some, IsTrue, IfOk, OnOk, length, slice_get};
+ghost use Rattle.rr_graph.specs.Graph.{graph_of};
+ghost use Rattle.fabric_planes.specs.Layout.{place_count};
+ghost use Rattle.fabric_planes.specs.Steps.{AreStepsBelow, KeepsRows};
+ghost use Rattle.fabric_planes.specs.Tables.{IsShapeOf, IsFirstAt, AreFirsts};
 
-use crate::around::Around;
+use crate::ends::{View, add_ends};
+use crate::layout::NO_WIRE;
 use crate::shape::Shape;
 use rows::Rows;
-use rr_graph::{Node, NodeKind};
+use rr_graph::{Node, StripGraph};
 use std::alloc::{AllocError, Global};
 
-/// The number of classes of wires.
-const CLASSES: u32 = 32;
+/// In a table of classes: no wire is here.
+pub(crate) const NO_CLASS: u16 = u16::MAX;
 
-impl Shape {
-    /// Where there are wires around a wire.
-    pub(crate) fn around(self, wire: Node) -> Around
-        ensures { (basis : Basis) → IsShapeOf basis self →
-            result ≡ around_of basis wire.kind wire.x wire.y }
+/// Whether the lists have the same numbers.
+fn is_same(list: &[u32], other: &[u32]) -> bool
+    ensures { IsTrue result ↔ (list.now ≡ other.now) }
+{
+    list == other
+}
+
+/// The number of the row with these numbers. It is added if there is none.
+fn number_of(rows: &mut Rows, list: &[u32]) -> Result<usize, AllocError>
+    ensures kept { OnOk result (KeepsRows rows.old rows.new) }
+    ensures few { OnOk result (length rows.new ≤ length rows.old + 1) }
+    ensures row { IfOk result (λ number. slice_get rows.new number ≡ Some list.now) }
+{
+    for number in 0..rows.len() {
+        if is_same(rows.row(number), list) {
+            return Ok(number);
+        }
+    }
+    let number = rows.len();
+    rows.push(list)?;
+    Ok(number)
+}
+
+/// The steps from wires to the wires that they meet. They are made once for a graph.
+#[derive(Drop)]
+pub struct Steps {
+    /// For each place the class of its wires: the number of their row.
+    pub(crate) classes: Vec<u16>,
+    /// For each class the places of the wires that a wire meets, less the place two columns before
+    /// its own.
+    pub(crate) rows: Rows,
+}
+
+impl Steps {
+    ghost use Rattle.fabric_planes.specs.Steps.{AreSteps};
+
+    /// Sets the class of the wires at a place, by the first of them. Wires between the second
+    /// column and the last one have the class of the wires one column before.
+    fn set_class<G: StripGraph>(
+        &mut self,
+        graph: &G,
+        shape: Shape,
+        place: usize,
+        first: usize,
+        list: &mut Vec<u32>,
+    ) -> Result<(), AllocError>
+        requires shape { IsShapeOf (G.basis graph.now) shape }
+        requires first { IsFirstAt (G.basis graph.now) place first }
+        requires below { AreStepsBelow (G.basis graph.now) place self.old }
+        ensures { OnOk result (AreStepsBelow (G.basis graph.now) (place + 1) self.new) }
     {
-        let (first_column, first_row) = match wire.kind {
-            NodeKind::ChanY => (1, 2),
-            _ => (2, 1),
+        graph.laws();
+        let wire = graph.node(first);
+        if 2 < wire.x && wire.x < shape.width {
+            self.classes[place] = self.classes[place - shape.stride()];
+            return Ok(());
+        }
+        // No pin that the wire meets is in that column.
+        let node = Node {
+            x: wire.x + 2,
+            ..wire
         };
-        Around {
-            left: first_column <= wire.x,
-            right: wire.x < self.width,
-            below: first_row <= wire.y,
-            above: wire.y < self.rows,
+        list.clear();
+        add_ends(list, graph, shape, View { track: 0, node }, first)?;
+        self.classes[place] = number_of(&mut self.rows, list)? as u16;
+        Ok(())
+    }
+
+    /// Sets the class of the wires at a place, if there are wires.
+    fn add<G: StripGraph>(
+        &mut self,
+        graph: &G,
+        shape: Shape,
+        firsts: &[u32],
+        place: usize,
+        list: &mut Vec<u32>,
+    ) -> Result<(), AllocError>
+        requires shape { IsShapeOf (G.basis graph.now) shape }
+        requires firsts { AreFirsts (G.basis graph.now) firsts.now }
+        requires place { place < place_count (G.basis graph.now) }
+        requires below { AreStepsBelow (G.basis graph.now) place self.old }
+        ensures { OnOk result (AreStepsBelow (G.basis graph.now) (place + 1) self.new) }
+    {
+        graph.laws();
+        let first = firsts[place];
+        if first == NO_WIRE {
+            return Ok(());
         }
+        self.set_class(graph, shape, place, first as usize, list)
     }
-}
 
-/// The class of a wire.
-pub(crate) fn class_by(kind: NodeKind, around: Around) -> u32
-    ensures value { result ≡ class_by kind around }
-    ensures few { result < 32 }
-{
-    let first = match kind {
-        NodeKind::ChanY => 16,
-        _ => 0,
-    };
-    let columns = around.left as u32 + 2 * around.right as u32;
-    let rows = 4 * around.below as u32 + 8 * around.above as u32;
-    first + (columns + rows)
-}
-
-/// Where there are wires around the wires of a class.
-fn around_in(class: u32) -> Around
-    ensures { result ≡ around_in class }
-{
-    Around {
-        left: class % 2 == 1,
-        right: class / 2 % 2 == 1,
-        below: class / 4 % 2 == 1,
-        above: class / 8 % 2 == 1,
-    }
-}
-
-/// The direction of the wires of a class.
-fn kind_in(class: u32) -> NodeKind
-    ensures { result ≡ kind_in class }
-{
-    if class / 16 == 1 {
-        NodeKind::ChanY
-    } else {
-        NodeKind::ChanX
-    }
-}
-
-/// Appends the number if there is one.
-pub(crate) fn add_if(steps: &mut Vec<u32>, there: bool, number: u32) -> Result<(), AllocError>
-    ensures { IfOk result (λ _. steps.new.items ≡ steps.old.items ++ with_if there number []) }
-{
-    if there {
-        steps.push(number)?;
-    }
-    Ok(())
-}
-
-/// Appends the first steps of a wire.
-pub(crate) fn add_firsts(
-    steps: &mut Vec<u32>,
-    around: Around,
-    kind: NodeKind,
-    stride: u32,
-    band: u32,
-) -> Result<(), AllocError>
-    requires stride { stride ≤ 638 }
-    requires some { 2 ≤ stride }
-    requires band { 4 * band ≤ stride }
-    ensures { IfOk result (λ _. steps.new.items ≡ steps.old.items
-        ++ first_steps stride band around kind) }
-{
-    match kind {
-        NodeKind::ChanY => {
-            add_if(steps, around.left, 2 * stride - 2 * band - 1)?;
-            add_if(steps, around.left, 2 * stride - 2 * band)?;
-            add_if(steps, around.below, 2 * stride - 1)?;
-            add_if(steps, around.above, 2 * stride + 1)
+    /// Sets the classes of all wires.
+    fn fill<G: StripGraph>(
+        &mut self,
+        alloc: Global,
+        graph: &G,
+        shape: Shape,
+        firsts: &[u32],
+    ) -> Result<(), AllocError>
+        requires shape { IsShapeOf (G.basis graph.now) shape }
+        requires firsts { AreFirsts (G.basis graph.now) firsts.now }
+        requires none { AreStepsBelow (G.basis graph.now) 0 self.old }
+        ensures { OnOk result (AreSteps (G.basis graph.now) self.new) }
+    {
+        let mut list = Vec::new(alloc);
+        for place in 0..shape.places() {
+            self.add(graph, shape, firsts, place, &mut list)?;
         }
-        _ => {
-            add_if(steps, around.left, stride)?;
-            add_if(steps, around.below, stride + 2 * band)?;
-            add_if(steps, around.above, stride + 2 * band + 1)
-        }
+        Ok(())
     }
-}
 
-/// Appends the other steps of a wire.
-pub(crate) fn add_seconds(
-    steps: &mut Vec<u32>,
-    around: Around,
-    kind: NodeKind,
-    stride: u32,
-    band: u32,
-) -> Result<(), AllocError>
-    requires stride { stride ≤ 638 }
-    requires some { 2 ≤ stride }
-    requires band { 4 * band ≤ stride }
-    ensures { IfOk result (λ _. steps.new.items ≡ steps.old.items
-        ++ second_steps stride band around kind) }
-{
-    match kind {
-        NodeKind::ChanY => {
-            add_if(steps, around.right, 3 * stride - 2 * band - 1)?;
-            add_if(steps, around.right, 3 * stride - 2 * band)
-        }
-        _ => {
-            add_if(steps, around.below, 2 * stride + 2 * band)?;
-            add_if(steps, around.above, 2 * stride + 2 * band + 1)?;
-            add_if(steps, around.right, 3 * stride)
-        }
+    /// The steps of a strip's wires, by the numbers of the first wires of places.
+    pub(crate) fn new<G: StripGraph>(
+        alloc: Global,
+        graph: &G,
+        shape: Shape,
+        firsts: &[u32],
+    ) -> Result<Self, AllocError>
+        requires shape { IsShapeOf (G.basis graph.now) shape }
+        requires firsts { AreFirsts (G.basis graph.now) firsts.now }
+        ensures { IfOk result (λ steps. AreSteps (G.basis graph.now) steps) }
+    {
+        let mut steps = Steps {
+            classes: Vec::from_elem(alloc, NO_CLASS, shape.places())?,
+            rows: Rows::new(alloc),
+        };
+        steps.fill(alloc, graph, shape, firsts)?;
+        Ok(steps)
     }
-}
-
-/// Appends the steps of the wires of a class.
-fn add_class(steps: &mut Vec<u32>, class: u32, stride: u32, band: u32) -> Result<(), AllocError>
-    requires stride { stride ≤ 638 }
-    requires some { 2 ≤ stride }
-    requires band { 4 * band ≤ stride }
-    ensures { IfOk result (λ _. steps.new.items ≡ steps.old.items ++ steps_in stride band class) }
-{
-    let (around, kind) = (around_in(class), kind_in(class));
-    add_firsts(steps, around, kind, stride, band)?;
-    add_seconds(steps, around, kind, stride, band)
-}
-
-/// The steps of the wires of each class.
-pub(crate) fn steps_of(alloc: Global, shape: Shape) -> Result<Rows, AllocError>
-    ensures { IfOk result (λ rows. rows ≡ all_steps (2 + 2 * shape.pins + 5 * (shape.rows + 2))
-        (shape.rows + 2)) }
-{
-    let stride = shape.stride() as u32;
-    let band = shape.band() as u32;
-    let mut rows = Rows::new(alloc);
-    let mut steps = Vec::new(alloc);
-    for class in 0..CLASSES {
-        steps.clear();
-        add_class(&mut steps, class, stride, band)?;
-        rows.push(&steps)?;
-    }
-    Ok(rows)
 }

@@ -4,7 +4,9 @@ ghost use Rattle.rr_graph.specs.Graph.{graph_of};
 ghost use Rattle.fabric_planes.specs.Layout.{band_of, stride_of, in_column, place_count};
 ghost use Rattle.fabric_planes.specs.Laid.{IsLayout, IsWireOf};
 ghost use Rattle.fabric_planes.specs.Differences.{MOST_FAR, IsPinPlace, IsTargetAt, wires_to, far_table, shift_of};
-ghost use Rattle.fabric_planes.specs.Steps.{steps_from};
+ghost use Rattle.fabric_planes.specs.Ends.{row_of};
+ghost use Rattle.fabric_planes.specs.Steps.{step_view};
+ghost use Rattle.fabric_planes.specs.Tables.{IsFirstAt};
 
 use crate::distances::Target;
 use crate::layout::Layout;
@@ -45,13 +47,14 @@ impl<'a, G: StripGraph> StripPlanes<'a, G> {
     /// The steps of the wires at a place.
     #[inline(always)]
     pub(crate) fn steps(&self, place: usize) -> &[u32]
-        requires { (number : ℕ) × IsWireOf (G.basis self.now.graph.now) place number }
-        ensures { (number : ℕ) → IsWireOf (G.basis self.now.graph.now) place number →
-            result.now ≡ steps_from (G.basis self.now.graph.now)
-            ((graph_of (G.basis self.now.graph.now)).node number) }
+        requires { (first : ℕ) × IsFirstAt (G.basis self.now.graph.now) place first }
+        ensures { (first : ℕ) → IsFirstAt (G.basis self.now.graph.now) place first →
+            result.now ≡ row_of (G.basis self.now.graph.now)
+            (step_view ((graph_of (G.basis self.now.graph.now)).node first)) first }
     {
         self.graph.laws();
-        self.layout.steps.row(self.layout.classes[place] as usize)
+        let steps = &self.layout.steps;
+        steps.rows.row(steps.classes[place] as usize)
     }
 
     /// The table of the distances from a target.

@@ -1,4 +1,2 @@
-mod UnitGraph
-mod Street
 mod Pairs
 mod TwoLanes

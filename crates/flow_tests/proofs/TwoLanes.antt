@@ -71,18 +71,18 @@ number_at k (suc zero) l = refl
 number_at k (suc (suc zero)) l = refl
 number_at k (suc (suc (suc n))) l = absurd (omega (arith, l))
 
-ends_at : (factor k p : ℕ) → k < 2 → p < 4 → (lanes_graph factor).ends (number k p) ≡ map (number k) (steps p)
-ends_at factor zero zero a b = refl
-ends_at factor zero (suc zero) a b = refl
-ends_at factor zero (suc (suc zero)) a b = refl
-ends_at factor zero (suc (suc (suc zero))) a b = refl
-ends_at factor zero (suc (suc (suc (suc n)))) a b = absurd (omega (arith, b))
-ends_at factor (suc zero) zero a b = refl
-ends_at factor (suc zero) (suc zero) a b = refl
-ends_at factor (suc zero) (suc (suc zero)) a b = refl
-ends_at factor (suc zero) (suc (suc (suc zero))) a b = refl
-ends_at factor (suc zero) (suc (suc (suc (suc n)))) a b = absurd (omega (arith, b))
-ends_at factor (suc (suc k)) p a b = absurd (omega (arith, a))
+ends_at : (dear factor k p : ℕ) → k < 2 → p < 4 → (lanes_graph dear factor).ends (number k p) ≡ map (number k) (steps p)
+ends_at dear factor zero zero a b = refl
+ends_at dear factor zero (suc zero) a b = refl
+ends_at dear factor zero (suc (suc zero)) a b = refl
+ends_at dear factor zero (suc (suc (suc zero))) a b = refl
+ends_at dear factor zero (suc (suc (suc (suc n)))) a b = absurd (omega (arith, b))
+ends_at dear factor (suc zero) zero a b = refl
+ends_at dear factor (suc zero) (suc zero) a b = refl
+ends_at dear factor (suc zero) (suc (suc zero)) a b = refl
+ends_at dear factor (suc zero) (suc (suc (suc zero))) a b = refl
+ends_at dear factor (suc zero) (suc (suc (suc (suc n)))) a b = absurd (omega (arith, b))
+ends_at dear factor (suc (suc k)) p a b = absurd (omega (arith, a))
 
 lane_at : (k p : ℕ) → k < 2 → p < 3 → track_of (number k p) ≡ Some k
 lane_at zero zero a b = refl
@@ -120,23 +120,23 @@ not_some k e = cc
 
 -- ---- costs
 
-small : (x : ℕ) → 1 + x % 5 ≤ 2 ^ 36
-small x = omega arith
+small : (dear x : ℕ) → dear ≤ 2 ^ 35 → 1 + dear + x % 5 ≤ 2 ^ 36
+small dear x l = omega (arith, l)
 
-module _ (factor : ℕ) where
+module _ (dear factor : ℕ) (few : dear ≤ 2 ^ 35) where
   f : Family
-  f = lanes factor
+  f = lanes dear factor
 
-  whole_lawful : IsLawful (lanes_graph factor)
+  whole_lawful : IsLawful (lanes_graph dear factor)
   whole_lawful = record {
     few = omega arith;
-    ends_below = λ node b k d l. ends_below node b (get_or ((lanes_graph factor).ends node) k d) (Contains-get_or ((lanes_graph factor).ends node) k d l);
+    ends_below = λ node b k d l. ends_below node b (get_or ((lanes_graph dear factor).ends node) k d) (Contains-get_or ((lanes_graph dear factor).ends node) k d l);
     ends_few = λ node b. omega (arith, few_steps (node / 2), length-map (steps (node / 2)) (number (node % 2)));
     cost_from = λ node b. omega arith;
-    cost_to = λ node b. small (node * factor);
+    cost_to = λ node b. small dear (node * factor) few;
   }
     where
-      ends_below : (node : ℕ) → node < 7 → (x : ℕ) → Contains ((lanes_graph factor).ends node) x → x < 7
+      ends_below : (node : ℕ) → node < 7 → (x : ℕ) → Contains ((lanes_graph dear factor).ends node) x → x < 7
       ends_below node b x c =
           let r = from_map (number (node % 2)) (steps (node / 2)) x c in
           let s = step_in (node / 2) r.0 r.1 in
@@ -145,37 +145,37 @@ module _ (factor : ℕ) where
             | inr h ↦ (let e : r.0 ≡ 3 = omega (arith, h, s.1) in omega (arith, r.2, ap (number (node % 2)) e))
           ]
 
-  lane_lawful : (k : ℕ) → IsLawful (lane factor k)
+  lane_lawful : (k : ℕ) → IsLawful (lane dear factor k)
   lane_lawful k = record {
     few = omega arith;
     ends_below = λ p b i d l. omega (arith, (step_in p (get_or (steps p) i d) (Contains-get_or (steps p) i d l)).1);
     ends_few = λ p b. few_steps p;
     cost_from = λ p b. omega arith;
-    cost_to = λ p b. small (number k p * factor);
+    cost_to = λ p b. small dear (number k p * factor) few;
   }
 
   -- ---- ways
 
-  from_goal : (rest : List ℕ) → Leads (lanes_graph factor) 6 6 rest → rest ≡ []
+  from_goal : (rest : List ℕ) → Leads (lanes_graph dear factor) 6 6 rest → rest ≡ []
   from_goal [] l = refl
   from_goal (x ∷ xs) l = absurd (none_in x l.0)
 
-  on_lane : (rest : List ℕ) (k p : ℕ) → k < 2 → p < 3 → Leads (lanes_graph factor) 6 (number k p) rest → All (IsOn (lanes factor) k) rest
-  on_lane [] k p a b l = All-nil (IsOn (lanes factor) k)
+  on_lane : (rest : List ℕ) (k p : ℕ) → k < 2 → p < 3 → Leads (lanes_graph dear factor) 6 (number k p) rest → All (IsOn (lanes dear factor) k) rest
+  on_lane [] k p a b l = All-nil (IsOn (lanes dear factor) k)
   on_lane (x ∷ xs) k p a b l =
-      let r = from_map (number k) (steps p) x (subst (λ (ends : List ℕ). Contains ends x) (ends_at factor k p a (omega (arith, b))) l.0) in
+      let r = from_map (number k) (steps p) x (subst (λ (ends : List ℕ). Contains ends x) (ends_at dear factor k p a (omega (arith, b))) l.0) in
       let s = step_in p r.0 r.1 in
       elim (cases_lt r.0 3) [
         | inl low ↦
-            (let way : Leads (lanes_graph factor) 6 (number k r.0) xs = subst (λ (v : ℕ). Leads (lanes_graph factor) 6 v xs) (sym r.2) l.1 in
-            let here : IsOn (lanes factor) k x = subst (λ (v : ℕ). IsOn (lanes factor) k v) r.2 (λ other e. same_track (number k r.0) other k e (lane_at k r.0 a low)) in
-            All-cons (IsOn (lanes factor) k) x xs here (on_lane xs k r.0 a low way))
+            (let way : Leads (lanes_graph dear factor) 6 (number k r.0) xs = subst (λ (v : ℕ). Leads (lanes_graph dear factor) 6 v xs) (sym r.2) l.1 in
+            let here : IsOn (lanes dear factor) k x = subst (λ (v : ℕ). IsOn (lanes dear factor) k v) r.2 (λ other e. same_track (number k r.0) other k e (lane_at k r.0 a low)) in
+            All-cons (IsOn (lanes dear factor) k) x xs here (on_lane xs k r.0 a low way))
         | inr high ↦
             (let q : r.0 ≡ 3 = omega (arith, high, s.1) in
             let goal : x ≡ 6 = sym r.2 ∙ ap (number k) q in
-            let way : Leads (lanes_graph factor) 6 6 xs = subst (λ (v : ℕ). Leads (lanes_graph factor) 6 v xs) goal l.1 in
-            let here : IsOn (lanes factor) k x = subst (λ (v : ℕ). IsOn (lanes factor) k v) (sym goal) (λ other e. absurd (not_some other e)) in
-            All-cons (IsOn (lanes factor) k) x xs here (subst (λ (ys : List ℕ). All (IsOn (lanes factor) k) ys) (sym (from_goal xs way)) (All-nil (IsOn (lanes factor) k))))
+            let way : Leads (lanes_graph dear factor) 6 6 xs = subst (λ (v : ℕ). Leads (lanes_graph dear factor) 6 v xs) goal l.1 in
+            let here : IsOn (lanes dear factor) k x = subst (λ (v : ℕ). IsOn (lanes dear factor) k v) (sym goal) (λ other e. absurd (not_some other e)) in
+            All-cons (IsOn (lanes dear factor) k) x xs here (subst (λ (ys : List ℕ). All (IsOn (lanes dear factor) k) ys) (sym (from_goal xs way)) (All-nil (IsOn (lanes dear factor) k))))
       ]
 
   wire_of : (node k : ℕ) → node < 7 → track_of node ≡ Some k → node < 6
@@ -184,11 +184,11 @@ module _ (factor : ℕ) where
     | inr o ↦ omega (arith, b, o)
   ]
 
-  stays : (node k : ℕ) (rest : List ℕ) → node < 7 → track_of node ≡ Some k → Leads (lanes_graph factor) 6 node rest → All (IsOn (lanes factor) k) rest
+  stays : (node k : ℕ) (rest : List ℕ) → node < 7 → track_of node ≡ Some k → Leads (lanes_graph dear factor) 6 node rest → All (IsOn (lanes dear factor) k) rest
   stays node k rest b e l =
       let w = wire_at node (wire_of node k b e) in
       let same : w.track ≡ k = same_track node w.track k (subst (λ (v : ℕ). track_of v ≡ Some w.track) w.is (lane_at w.track w.place w.lane w.wire)) e in
-      subst (λ (j : ℕ). All (IsOn (lanes factor) j) rest) same (on_lane rest w.track w.place w.lane w.wire (subst (λ (v : ℕ). Leads (lanes_graph factor) 6 v rest) (sym w.is) l))
+      subst (λ (j : ℕ). All (IsOn (lanes dear factor) j) rest) same (on_lane rest w.track w.place w.lane w.wire (subst (λ (v : ℕ). Leads (lanes_graph dear factor) 6 v rest) (sym w.is) l))
 
   wires : (node k : ℕ) → node < 7 → track_of node ≡ Some k → k < 2
   wires node k b e =
@@ -214,13 +214,13 @@ module _ (factor : ℕ) where
     | inr high ↦ (let e : p ≡ 3 = omega (arith, high, b) in omega (arith, ap (number k) e))
   ]
 
-  start_node : (k node : ℕ) → Contains (0 ∷ 1 ∷ []) node → IsOn (lanes factor) k node → number k 0 ≡ node
+  start_node : (k node : ℕ) → Contains (0 ∷ 1 ∷ []) node → IsOn (lanes dear factor) k node → number k 0 ≡ node
   start_node k node c on = elim (one_of 0 1 node c) [
-    | inl e ↦ omega (arith, e, (subst (λ (v : ℕ). IsOn (lanes factor) k v) (sym e) on) 0 refl)
-    | inr e ↦ omega (arith, e, (subst (λ (v : ℕ). IsOn (lanes factor) k v) (sym e) on) 1 refl)
+    | inl e ↦ omega (arith, e, (subst (λ (v : ℕ). IsOn (lanes dear factor) k v) (sym e) on) 0 refl)
+    | inr e ↦ omega (arith, e, (subst (λ (v : ℕ). IsOn (lanes dear factor) k v) (sym e) on) 1 refl)
   ]
 
-  is_plane : (k : ℕ) → k < 2 → IsPlane (lanes factor) k
+  is_plane : (k : ℕ) → k < 2 → IsPlane (lanes dear factor) k
   is_plane k a = record {
     lawful = lane_lawful k;
     count = refl;
@@ -230,8 +230,8 @@ module _ (factor : ℕ) where
     within = λ p x. number_below k p a x.within;
     cost = λ p x. refl;
     ends_there = λ p q x c. record { within = omega (arith, (step_in p q c).1); there = refl };
-    sound = λ p q x c. subst (λ (ends : List ℕ). Contains ends (number k q)) (sym (ends_at factor k p a x.within)) (to_map (number k) (steps p) q c);
-    complete = λ p node rest x c on l. from_map (number k) (steps p) node (subst (λ (ends : List ℕ). Contains ends node) (ends_at factor k p a x.within) c);
+    sound = λ p q x c. subst (λ (ends : List ℕ). Contains ends (number k q)) (sym (ends_at dear factor k p a x.within)) (to_map (number k) (steps p) q c);
+    complete = λ p node rest x c on l. from_map (number k) (steps p) node (subst (λ (ends : List ℕ). Contains ends node) (ends_at dear factor k p a x.within) c);
     entries_there = λ entry c. elim (cases 0 entry [] c) [
       | inl e ↦ record { within = omega (arith, e); there = refl }
       | inr n ↦ absurd (none_in entry n)
@@ -243,7 +243,7 @@ module _ (factor : ℕ) where
     entries_complete = λ node rest c on l. (0, first_in 0 [], start_node k node c on);
   }
 
-  pub is_family : IsFamily (lanes factor)
+  pub is_family : IsFamily (lanes dear factor)
   is_family = record {
     lawful = whole_lawful;
     starts = All-cons (λ (v : ℕ). v < 7) 0 (1 ∷ []) (omega arith) (All-cons (λ (v : ℕ). v < 7) 1 [] (omega arith) (All-nil (λ (v : ℕ). v < 7)));
@@ -257,11 +257,11 @@ module _ (factor : ℕ) where
 
   -- ---- bounds
 
-  pub one_at_least : (k p : ℕ) → p < 3 → IsLowerBound (lane factor k) 3 p (Some 1)
+  pub one_at_least : (k p : ℕ) → p < 3 → IsLowerBound (lane dear factor k) 3 p (Some 1)
   one_at_least k p b [] l = absurd (omega (arith, l, b))
-  one_at_least k p b (x ∷ xs) l = omega (arith, sum_by-cons (lane factor k).cost x xs)
+  one_at_least k p b (x ∷ xs) l = omega (arith, sum_by-cons (lane dear factor k).cost x xs)
 
-  pub plane_bound : (k : ℕ) → IsPlaneBound (lanes factor) k 1
+  pub plane_bound : (k : ℕ) → IsPlaneBound (lanes dear factor) k 1
   plane_bound k [] p = absurd p
   plane_bound k (x ∷ xs) p = elim (cases 0 x [] p.0) [
     | inl e ↦ one_at_least k x (omega (arith, e)) xs p.1
@@ -277,10 +277,10 @@ module _ (factor : ℕ) where
   only_start x (zero, b, e) = e
   only_start x (suc k, b, e) = absurd (omega (arith, b))
 
-  pub the_starts : (k most : ℕ) (starts : List Start) → starts ≡ start ∷ [] → AreStarts (lanes factor) k most starts
-  the_starts k most starts is = subst (λ (xs : List Start). AreStarts (lanes factor) k most xs) (sym is) (record {
+  pub the_starts : (k most : ℕ) (starts : List Start) → starts ≡ start ∷ [] → AreStarts (lanes dear factor) k most starts
+  the_starts k most starts is = subst (λ (xs : List Start). AreStarts (lanes dear factor) k most xs) (sym is) (record {
     among = λ x c. subst (λ (v : Start). Contains (0 ∷ []) v.place) (only_start x c) (first_in 0 []);
-    bounded = λ x c. subst (λ (v : Start). IsLowerBound (lane factor k) 3 v.place (Some v.ahead)) (only_start x c) (one_at_least k 0 (omega arith));
+    bounded = λ x c. subst (λ (v : Start). IsLowerBound (lane dear factor k) 3 v.place (Some v.ahead)) (only_start x c) (one_at_least k 0 (omega arith));
     all = λ entry c. inl c;
   })
 
@@ -289,11 +289,11 @@ module _ (factor : ℕ) where
 abbrev along : List ℕ
 along = 0 ∷ 2 ∷ 4 ∷ 6 ∷ []
 
-along_is_path : IsPath (lanes_graph 0) (0 ∷ 1 ∷ []) 6 along
+along_is_path : IsPath (lanes_graph 0 0) (0 ∷ 1 ∷ []) 6 along
 along_is_path = (first_in 0 (1 ∷ []), (first_in 2 (4 ∷ []), (first_in 4 (6 ∷ []), (first_in 6 [], refl))))
 
-pub along_known : (path : Path) → path.nodes.items ≡ along → path.cost ≡ 3 → IsKnown (lanes 0) path
+pub along_known : (path : Path) → path.nodes.items ≡ along → path.cost ≡ 3 → IsKnown (lanes 0 0) path
 along_known path is cost = record {
-  is_path = subst (λ (nodes : List ℕ). IsPath (lanes_graph 0) (0 ∷ 1 ∷ []) 6 nodes) (sym is) along_is_path;
-  cost = subst (λ (nodes : List ℕ). path.cost ≡ cost_of (lanes_graph 0) nodes) (sym is) cost;
+  is_path = subst (λ (nodes : List ℕ). IsPath (lanes_graph 0 0) (0 ∷ 1 ∷ []) 6 nodes) (sym is) along_is_path;
+  cost = subst (λ (nodes : List ℕ). path.cost ≡ cost_of (lanes_graph 0 0) nodes) (sym is) cost;
 }

@@ -16,33 +16,34 @@ number track place = if nat_lt place 3 then 2 * place + track else 6
 abbrev pub track_of : ℕ → Option ℕ
 track_of node = if nat_lt node 6 then Some (node % 2) else None
 
-abbrev pub cost_at : ℕ → ℕ → ℕ
-cost_at factor node = 1 + node * factor % 5
+-- `dear` is part of each cost
+abbrev pub cost_at : ℕ → ℕ → ℕ → ℕ
+cost_at dear factor node = 1 + dear + node * factor % 5
 
-abbrev pub lanes_graph : ℕ → Graph
-lanes_graph factor = record {
+abbrev pub lanes_graph : ℕ → ℕ → Graph
+lanes_graph dear factor = record {
   count = 7;
   ends = λ node. map (number (node % 2)) (steps (node / 2));
-  cost = cost_at factor;
+  cost = cost_at dear factor;
 }
 
-abbrev pub lane : ℕ → ℕ → Graph
-lane factor track = record {
+abbrev pub lane : ℕ → ℕ → ℕ → Graph
+lane dear factor track = record {
   count = 4;
   ends = steps;
-  cost = λ place. cost_at factor (number track place);
+  cost = λ place. cost_at dear factor (number track place);
 }
 
-abbrev pub lanes : ℕ → Family
-lanes factor = record {
-  whole = lanes_graph factor;
+abbrev pub lanes : ℕ → ℕ → Family
+lanes dear factor = record {
+  whole = lanes_graph dear factor;
   starts = 0 ∷ 1 ∷ [];
   goal = 6;
   tracks = 2;
   track_of = track_of;
   places = 4;
   there = λ track place. true;
-  plane = lane factor;
+  plane = lane dear factor;
   number = number;
   entries = λ track. 0 ∷ [];
   exit = 3;

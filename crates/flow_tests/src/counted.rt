@@ -1,7 +1,8 @@
 //! Routing over a window whose reads are counted, by kind.
 //!
-//! An iteration reads the nodes of its window, their numbers and their capacities. It reads edges
-//! only to check whether the paths of the iteration before it are still paths.
+//! An iteration reads the nodes of its window, their numbers and their capacities. The first one
+//! reads edges to make the tables of its window's planes. The others read edges only to check
+//! whether the paths of the iteration before it are still paths.
 ghost use Rattle.std.specs.Prelude.{◌≡◌, ◌<◌, ◌≤◌, length};
 ghost use Rattle.pathfinder.specs.Negotiation.{More};
 ghost use Rattle.pathfinder.specs.PlacedNets.{wiring_of};
@@ -12,6 +13,7 @@ use crate::graphs::NARROW;
 use crate::routings::{begin_routing, finish_in_one, finish_in_two};
 use arch_file::Arch;
 use cluster::SharedPacked;
+use fabric_planes::KeptLayout;
 use fixtures::AND;
 use grid::Strip;
 use pathfinder::{Routes, Routing};
@@ -29,10 +31,7 @@ struct Reads {
     /// The reads of a number by its node, and of the numbers at a place.
     numbers: Cell<u64>,
     capacities: Cell<u64>,
-    /// The reads of a node's edges, by `ends`, `edge` and `ends_towards` together.
     edges: Cell<u64>,
-    /// The reads of what the graph states of the ways to a sink.
-    ways: Cell<u64>,
 }
 
 impl Reads {
@@ -42,19 +41,18 @@ impl Reads {
             numbers: Cell::new(0),
             capacities: Cell::new(0),
             edges: Cell::new(0),
-            ways: Cell::new(0),
         }
     }
 
     /// Returns whether these are the reads of one iteration over `count` nodes: each node at least
-    /// once, numbers and capacities, but no edge and no way.
-    fn are_of_one(&self, count: usize) -> bool {
-        self.have_nodes(count) && self.edges.get() == 0 && self.ways.get() == 0
+    /// once, numbers and capacities, the edges for the tables, but no other edge.
+    fn are_of_one(&self, count: usize, for_tables: u64) -> bool {
+        self.have_nodes(count) && self.edges.get() == for_tables
     }
 
-    /// Returns whether these are the reads of two iterations: the same, and edges.
-    fn are_of_two(&self, count: usize) -> bool {
-        self.have_nodes(count) && self.edges.get() > 0 && self.ways.get() == 0
+    /// Returns whether these are the reads of two iterations: the same, and other edges.
+    fn are_of_two(&self, count: usize, for_tables: u64) -> bool {
+        self.have_nodes(count) && self.edges.get() > for_tables
     }
 
     fn have_nodes(&self, count: usize) -> bool {
@@ -99,31 +97,6 @@ impl StripGraph for Counted<'_> {
     fn ends(&self, node: usize) -> EdgeEnds<'_> {
         note(&self.reads.edges);
         self.window.ends(node)
-    }
-
-    fn edge(&self, node: usize, k: usize) -> Option<usize> {
-        note(&self.reads.edges);
-        self.window.edge(node, k)
-    }
-
-    fn ends_towards(&self, node: usize, place: Node, sink: Node) -> EdgeEnds<'_> {
-        note(&self.reads.edges);
-        self.window.ends_towards(node, place, sink)
-    }
-
-    fn further_to(&self, node: usize, sink: Node) -> Option<u64> {
-        note(&self.reads.ways);
-        self.window.further_to(node, sink)
-    }
-
-    fn further_from(&self, node: Node, sink: Node) -> Option<u64> {
-        note(&self.reads.ways);
-        self.window.further_from(node, sink)
-    }
-
-    fn met_tracks(&self, sink: Node) -> &[bool] {
-        note(&self.reads.ways);
-        self.window.met_tracks(sink)
     }
 
     fn capacity(&self, node: usize) -> u32 {
@@ -183,11 +156,11 @@ impl Case {
     }
 
     /// Returns whether the reads are those of a routing in as many iterations.
-    fn has_reads(self, reads: &Reads, count: usize) -> bool {
+    fn has_reads(self, reads: &Reads, count: usize, for_tables: u64) -> bool {
         if self.has_two {
-            reads.are_of_two(count)
+            reads.are_of_two(count, for_tables)
         } else {
-            reads.are_of_one(count)
+            reads.are_of_one(count, for_tables)
         }
     }
 }
@@ -242,6 +215,23 @@ fn are_found<G: StripGraph>(
     }
 }
 
+/// The number of reads of edges that make the tables of a window's planes; `None` if memory runs
+/// out.
+fn reads_for_tables(alloc: Global, window: &Window<'_>) -> Option<u64> {
+    let reads = Reads::new();
+    let counted = Counted {
+        window: &*window,
+        reads: &reads,
+    };
+    let mut kept = KeptLayout::new();
+    let is_made = kept.layout_of(alloc, &counted).is_ok();
+    drop(kept);
+    if is_made {
+        return Some(reads.edges.get());
+    }
+    None
+}
+
 /// Returns whether the iterations of a routing read from a counted window what they should, and
 /// find these routes.
 fn reads_the_window(
@@ -258,7 +248,11 @@ fn reads_the_window(
         window: &*window,
         reads: &reads,
     };
-    are_found(alloc, &counted, routing, routes, case) && case.has_reads(&reads, counted.count())
+    let is_so = are_found(alloc, &counted, routing, routes, case);
+    match reads_for_tables(alloc, window) {
+        Some(for_tables) => is_so && case.has_reads(&reads, counted.count(), for_tables),
+        None => false,
+    }
 }
 
 /// The routes that a routing over a window itself finds.

@@ -93,32 +93,46 @@ const FROM_WIRE: [Node; 5] = [
     },
 ];
 
-/// Returns whether the wire's edges lead to exactly these nodes.
-fn leads_on(fabric: &Fabric) -> bool {
-    if fabric.number(WIRE).is_none() {
+/// Returns whether the edges of a node lead to exactly these nodes.
+fn leads_to<G: StripGraph>(graph: &G, from: usize, nodes: &[Node]) -> bool {
+    let count = graph.count();
+    if from >= count {
         return false;
     }
-    let mut edges = fabric.edges_from(WIRE);
-    for node in FROM_WIRE.iter() {
-        if edges.next() != Some(*node) {
+    let ends = graph.ends(from);
+    if ends.list.len() != nodes.len() {
+        return false;
+    }
+    for (end, node) in ends.list.iter().zip(nodes.iter()) {
+        let end = ends.base.saturating_add(*end as usize);
+        if end >= count || graph.node(end) != *node {
             return false;
         }
     }
-    edges.next().is_none()
+    true
 }
 
-/// Returns whether a wire carries one net, and the block's sink two.
-fn has_capacities(fabric: &Fabric) -> bool {
-    let sink = node(NodeKind::Sink, 1, 1, 0);
-    fabric.number(WIRE).is_some()
-        && fabric.number(sink).is_some()
-        && fabric.capacity(WIRE) == 1
-        && fabric.capacity(sink) == 2
+/// Returns whether a node has this capacity.
+fn carries<G: StripGraph>(graph: &G, node: Node, nets: u32) -> bool {
+    match graph.number(node) {
+        Some(number) => graph.capacity(number) == nets,
+        None => false,
+    }
+}
+
+/// Returns whether the wire's edges lead to exactly its ends, it carries one net, and the block's
+/// sink two.
+fn has_wire(fabric: &Fabric) -> bool {
+    let leads = match fabric.number(WIRE) {
+        Some(number) => leads_to(fabric, number, &FROM_WIRE),
+        None => false,
+    };
+    leads && carries(fabric, WIRE, 1) && carries(fabric, node(NodeKind::Sink, 1, 1, 0), 2)
 }
 
 /// Returns whether the smallest graph has 29 nodes and 49 pairs, and the wire its edges.
 fn is_smallest(fabric: &Fabric) -> bool {
-    fabric.count() == 29 && pair_count(fabric) == 49 && leads_on(fabric) && has_capacities(fabric)
+    fabric.count() == 29 && pair_count(fabric) == 49 && has_wire(fabric)
 }
 
 fn smallest_graph(alloc: Global) -> bool {
@@ -132,18 +146,9 @@ fn smallest_graph(alloc: Global) -> bool {
     }
 }
 
-/// The sink of the block in column 5.
-const SINK: Node = Node {
-    x: 5,
-    kind: NodeKind::Sink,
-    y: 1,
-    n: 0,
-};
-
-/// Nodes, the least number of nodes after each on a way to the sink, and the number of its edges
-/// that matter on such ways.
-const TOWARDS: [(Node, u64, usize); 3] = [
-    // Three wires, a pin and the sink; of seven ends only the wires matter.
+/// Nodes, the number of their edges, and the number of those that lead to wires.
+const EDGES: [(Node, usize, usize); 3] = [
+    // Two wires of its channel, two of the channels beside the block, two pads and a pin.
     (
         Node {
             x: 2,
@@ -151,10 +156,10 @@ const TOWARDS: [(Node, u64, usize); 3] = [
             y: 0,
             n: 0,
         },
-        5,
+        7,
         4,
     ),
-    // A pin and the sink; all ends matter, since the wire lies beside the block.
+    // The same at the last column, where the channel ends.
     (
         Node {
             x: 5,
@@ -162,8 +167,8 @@ const TOWARDS: [(Node, u64, usize); 3] = [
             y: 0,
             n: 0,
         },
-        2,
         6,
+        3,
     ),
     (
         Node {
@@ -172,26 +177,41 @@ const TOWARDS: [(Node, u64, usize); 3] = [
             y: 0,
             n: 0,
         },
-        6,
+        2,
         2,
     ),
 ];
 
-/// Returns whether a node has these numbers of nodes after it and of edges that matter.
-fn leads_so<G: StripGraph>(graph: &G, from: Node, further: u64, edges: usize) -> bool {
-    match (graph.number(from), graph.number(SINK)) {
-        (Some(number), Some(_)) => {
-            graph.further_to(number, SINK) == Some(further)
-                && graph.ends_towards(number, from, SINK).list.len() == edges
+/// The number of a node's edges that lead to wires.
+fn wire_edges<G: StripGraph>(graph: &G, from: usize) -> usize {
+    let count = graph.count();
+    let mut wires = 0usize;
+    if from < count {
+        let ends = graph.ends(from);
+        for end in ends.list {
+            let end = ends.base.saturating_add(*end as usize);
+            if end < count && matches!(graph.node(end).kind, NodeKind::ChanX | NodeKind::ChanY) {
+                wires = wires.saturating_add(1);
+            }
         }
-        _ => false,
+    }
+    wires
+}
+
+/// Returns whether a node has these numbers of edges.
+fn has_edges<G: StripGraph>(graph: &G, from: Node, edges: usize, wires: usize) -> bool {
+    match graph.number(from) {
+        Some(number) => {
+            graph.ends(number).list.len() == edges && wire_edges(graph, number) == wires
+        }
+        None => false,
     }
 }
 
 /// The number of the first row that is wrong.
 fn first_wrong<G: StripGraph>(graph: &G) -> Option<usize> {
-    for (number, (from, further, edges)) in TOWARDS.iter().enumerate() {
-        if !leads_so(graph, *from, *further, *edges) {
+    for (number, (from, edges, wires)) in EDGES.iter().enumerate() {
+        if !has_edges(graph, *from, *edges, *wires) {
             return Some(number);
         }
     }

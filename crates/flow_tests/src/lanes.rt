@@ -1,6 +1,6 @@
 //! Least paths over two lanes of three wires each. From a wire one comes to the next one or to the
 //! one after it, and from the last two to the goal.
-ghost use Rattle.std.specs.Prelude.{◌≡◌, ◌<◌, IfOk};
+ghost use Rattle.std.specs.Prelude.{◌≡◌, ◌^◌, ◌<◌, ◌≤◌, IfOk};
 ghost use Rattle.plane_search.specs.Planes.{IsKnown};
 ghost use Rattle.flow_tests.specs.Lanes.{lanes};
 
@@ -19,15 +19,17 @@ const GOAL: usize = 6;
 /// The ends of a wire's edges, as differences.
 const STEPS: [u32; 2] = [1, 2];
 
-/// Two lanes, whose nodes cost from 1 to 5, by a rule.
+/// Two lanes, whose nodes cost from 1 to 5 by a rule, and as much more as is said.
 #[derive(Drop)]
 struct Lanes {
+    dear: u64,
     factor: usize,
+    ghost cheap: { dear ≤ 2 ^ 35 },
     ghost small: { factor < 100 },
 }
 
 impl Planes for Lanes {
-    ghost family = { λ l. lanes l.factor };
+    ghost family = { λ l. lanes l.dear l.factor };
 
     ghost is_about = { λ l nodes. Unit {0} };
 
@@ -84,7 +86,7 @@ impl Planes for Lanes {
         } else {
             GOAL
         };
-        (1 + number * self.factor % 5) as u64
+        1 + self.dear + (number * self.factor % 5) as u64
     }
 
     fn at_least(&self, _track: usize, place: usize) -> Option<u64> {
@@ -117,10 +119,11 @@ fn find(lanes: &Lanes, search: &mut PlaneSearch, path: &mut Path) -> Result<bool
 }
 
 /// Whether the least path goes over these nodes at this cost.
-fn finds(alloc: Global, factor: usize, cost: u64, nodes: &[usize]) -> bool
-    requires { factor < 100 }
+fn finds(alloc: Global, dear: u64, factor: usize, cost: u64, nodes: &[usize]) -> bool
+    requires dear { dear ≤ 2 ^ 35 }
+    requires factor { factor < 100 }
 {
-    let lanes = Lanes { factor };
+    let lanes = Lanes { dear, factor };
     let mut search = PlaneSearch::new(alloc);
     let mut path = Path {
         nodes: Vec::new(alloc),
@@ -134,7 +137,7 @@ fn finds(alloc: Global, factor: usize, cost: u64, nodes: &[usize]) -> bool
 
 /// A path over all wires of the first lane, and what it costs if each node costs 1.
 fn long_path(alloc: Global) -> Result<Path, AllocError>
-    ensures { IfOk result (λ path. IsKnown (lanes 0) path) }
+    ensures { IfOk result (λ path. IsKnown (lanes 0 0) path) }
 {
     Ok(Path {
         nodes: vec![in alloc; 0, 2, 4, 6]?,
@@ -144,9 +147,9 @@ fn long_path(alloc: Global) -> Result<Path, AllocError>
 
 /// Whether a search that knows the path makes it the least one.
 fn improves(alloc: Global, path: &mut Path) -> bool
-    requires { IsKnown (lanes 0) path.old }
+    requires { IsKnown (lanes 0 0) path.old }
 {
-    let lanes = Lanes { factor: 0 };
+    let lanes = Lanes { dear: 0, factor: 0 };
     let mut search = PlaneSearch::new(alloc);
     let is_so = search.least_into(&lanes, 2, path) == Ok(()) && is(path, 2, &[0, 2, 6]);
     drop(search);
@@ -165,9 +168,18 @@ fn shortens(alloc: Global) -> bool {
     }
 }
 
+/// Whether the least paths are the same, whatever more each node costs.
+fn finds_at(alloc: Global, dear: u64) -> bool
+    requires { dear ≤ 2 ^ 35 }
+{
+    finds(alloc, dear, 0, 2 * dear + 2, &[0, 2, 6])
+        && finds(alloc, dear, 1, 2 * dear + 3, &[1, 5, 6])
+}
+
 #[test]
 fn least_path_over_lanes(rt: HostRuntime) {
-    assert!(rt; finds(rt.alloc(), 0, 2, &[0, 2, 6]));
-    assert!(rt; finds(rt.alloc(), 1, 3, &[1, 5, 6]));
+    assert!(rt; finds_at(rt.alloc(), 0));
+    assert!(rt; finds_at(rt.alloc(), 32_766));
+    assert!(rt; finds_at(rt.alloc(), 1 << 35));
     assert!(rt; shortens(rt.alloc()));
 }

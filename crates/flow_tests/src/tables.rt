@@ -1,216 +1,287 @@
-//! Least paths over graphs of a few nodes, given by a table or a rule.
-ghost use Rattle.std.specs.Prelude.{◌≡◌, ◌+◌, ◌*◌, ◌^◌, ◌<◌, ◌≤◌, [], ◌∷◌, All, IfOk, length, map, take, drop, slice_index, nat_lt, if◌then◌else◌};
+//! Least paths over a graph of seven nodes, given by a table, and what they cost after Bellman and
+//! Ford. The graph is one plane.
+ghost use Rattle.std.specs.Prelude.{◌≡◌, ◌+◌, ◌*◌, ◌^◌, ◌<◌, ◌≤◌, ℕ, All, OnOk, length, take, drop};
+ghost use Rattle.std.specs.List.Sorted.{IsNonDecreasing};
+ghost use Rattle.plane_search.specs.Starts.{places_of};
+ghost use Rattle.flow_tests.specs.Tables.{pairs, one_plane};
 
-use least_path::{Ends, Path, Roads, Search};
+use least_path::{Ends, Path};
+use plane_search::{PlaneSearch, Planes, Start};
 use std::alloc::{AllocError, Global};
 
-/// A graph whose edges are in a table: two from each node.
+/// A graph whose edges are in a table, two from each node, with two starts and a goal.
 #[derive(Drop)]
-struct Pairs {
+struct Table {
     ends: Vec<u32>,
     costs: Vec<u64>,
-    ghost few: { length costs.items ≤ 2 ^ 23 },
+    starts: Vec<Start>,
+    goal: usize,
+    ghost few: { length costs.items ≤ 2 ^ 22 },
     ghost ends_len: { length ends.items ≡ 2 * length costs.items },
     ghost ends_within: { All (λ end. end < length costs.items) ends.items },
+    ghost rising: { (node : ℕ) → node < length costs.items →
+        IsNonDecreasing (take 2 (drop (2 * node) ends.items)) },
     ghost cost_from: { All (λ cost. 1 ≤ cost) costs.items },
     ghost cost_to: { All (λ cost. cost ≤ 2 ^ 36) costs.items },
+    ghost starts_within: { All (λ start. start.place < length costs.items) starts.items },
+    ghost starts_near: { All (λ start. start.ahead ≡ 0) starts.items },
+    ghost goal_within: { goal < length costs.items },
 }
 
-impl Roads for Pairs {
-    ghost graph = { λ r. record {
-      count = length r.costs.items;
-      ends = λ i. map (λ end. end + 0) (take 2 (drop (2 * i) r.ends.items));
-      cost = λ i. slice_index r.costs.items i;
-    } };
+impl Planes for Table {
+    ghost family = { λ t. one_plane (pairs t.ends.items t.costs.items) (places_of t.starts.items)
+        t.goal };
 
-    fn count(&self) -> usize {
+    ghost is_about = { λ t nodes. Unit {0} };
+
+    fn tracks(&self) -> usize {
+        1
+    }
+
+    fn places(&self) -> usize {
         self.costs.len()
     }
 
-    fn ends(&self, node: usize) -> Ends<'_> {
+    fn list_starts(
+        &self,
+        _track: usize,
+        _most: u64,
+        starts: &mut Vec<Start>,
+    ) -> Result<(), AllocError> {
+        starts.clear();
+        starts.extend_from_slice(&self.starts)?;
+        Ok(())
+    }
+
+    fn exit(&self) -> usize {
+        self.goal
+    }
+
+    fn number(&self, _track: usize, place: usize) -> usize {
+        place
+    }
+
+    fn ends(&self, _track: usize, place: usize) -> Ends<'_> {
         Ends {
-            list: &self.ends[2 * node..2 * node + 2],
+            list: &self.ends[2 * place..2 * place + 2],
             base: 0,
         }
     }
 
-    fn cost(&self, node: usize) -> u64 {
-        self.costs[node]
+    fn cost(&self, _track: usize, place: usize) -> u64 {
+        self.costs[place]
+    }
+
+    fn at_least(&self, _track: usize, _place: usize) -> Option<u64> {
+        Some(0)
+    }
+
+    fn bound(&self, _track: usize) -> u64 {
+        0
+    }
+
+    fn rival_bound(&self, _track: usize) -> u64 {
+        0
     }
 }
 
-/// A one-way street of houses. Its bound knows how many houses are left, and that no way leads
-/// back.
-#[derive(Drop)]
-struct Street {
-    step: Vec<u32>,
-    len: usize,
-    guess: Option<u64>,
-    ghost one: { step.items ≡ 1 ∷ [] },
-    ghost few: { len ≤ 2 ^ 23 },
+/// What differs from one search to the next: the costs of even and of odd nodes, and the ends of
+/// the paths.
+#[derive(Clone, Copy)]
+struct Case {
+    even: u64,
+    odd: u64,
+    first: usize,
+    second: usize,
+    goal: usize,
+    ghost even_from: { 1 ≤ even },
+    ghost even_to: { even ≤ 2 ^ 36 },
+    ghost odd_from: { 1 ≤ odd },
+    ghost odd_to: { odd ≤ 2 ^ 36 },
+    ghost first_within: { first < 7 },
+    ghost second_within: { second < 7 },
+    ghost goal_within: { goal < 7 },
 }
 
-impl Roads for Street {
-    ghost graph = { λ r. record {
-      count = r.len;
-      ends = λ i. if nat_lt (i + 1) r.len then (1 + i) ∷ [] else [];
-      cost = λ i. 2;
-    } };
+/// 0 to 1 or 2, 1 and 2 to 3, 3 to 4 or 5, 4 and 5 to 6, and 6 to itself: by two edges if there is
+/// no choice.
+fn seven_nodes(alloc: Global, case: Case) -> Result<Table, AllocError> {
+    let (even, odd) = (case.even, case.odd);
+    let first = Start {
+        place: case.first,
+        ahead: 0,
+    };
+    let second = Start {
+        place: case.second,
+        ahead: 0,
+    };
+    Ok(Table {
+        ends: vec![in alloc; 1, 2, 3, 3, 3, 3, 4, 5, 6, 6, 6, 6, 6, 6]?,
+        costs: vec![in alloc; even, odd, even, odd, even, odd, even]?,
+        starts: vec![in alloc; first, second]?,
+        goal: case.goal,
+    })
+}
 
-    fn count(&self) -> usize {
-        self.len
-    }
-
-    fn ends(&self, node: usize) -> Ends<'_> {
-        if node + 1 < self.len {
-            Ends {
-                list: self.step.as_slice(),
-                base: node,
+/// Lowers what it costs to reach a node, if that is less over an edge.
+fn relax(table: &Table, reached: &mut Vec<u64>) {
+    for node in 0..table.costs.len() {
+        let before = reached.get(node).copied().unwrap_or(u64::MAX);
+        for end in table.ends[2 * node..2 * node + 2].iter() {
+            let cost = table.costs.get(*end as usize).copied().unwrap_or(0);
+            if let Some(at) = reached.get_mut(*end as usize) {
+                *at = (*at).min(before.saturating_add(cost));
             }
-        } else {
-            Ends { list: &[], base: 0 }
         }
     }
+}
 
-    fn cost(&self, _node: usize) -> u64 {
-        2
-    }
-
-    fn at_least(&self, node: usize, goal: usize) -> Option<u64> {
-        if node <= goal {
-            Some(goal as u64 - node as u64)
-        } else {
-            None
+/// What a least path costs, after Bellman and Ford: the greatest number if there is none.
+fn least_cost(alloc: Global, table: &Table) -> Result<u64, AllocError> {
+    let mut reached = vec![in alloc; u64::MAX; table.costs.len()]?;
+    for start in table.starts.as_slice() {
+        if let Some(at) = reached.get_mut(start.place) {
+            *at = 0;
         }
     }
-
-    fn guess(&self) -> Option<u64> {
-        self.guess
+    for _round in 0..table.costs.len() {
+        relax(table, &mut reached);
     }
+    let least = reached.get(table.goal).copied().unwrap_or(u64::MAX);
+    drop(reached);
+    Ok(least)
 }
 
-/// Returns whether a search found a path of that cost over these nodes.
-fn is(found: Result<Option<Path>, AllocError>, cost: u64, nodes: &[usize]) -> bool {
-    match found {
-        Ok(Some(path)) => {
-            let is_so = path.cost == cost && path.nodes.as_slice() == nodes;
-            drop(path);
-            is_so
-        }
-        _ => false,
+/// Whether a search finds this path, first without a known one and then from it, with what it
+/// costs.
+fn finds_path(
+    table: &Table,
+    search: &mut PlaneSearch,
+    path: &mut Path,
+    nodes: &[usize],
+    cost: u64,
+) -> Result<bool, AllocError> {
+    if search.first_into(table, path)?.is_none() {
+        return Ok(false);
     }
+    if path.cost != cost || path.nodes.as_slice() != nodes {
+        return Ok(false);
+    }
+    search.least_into(table, 1, path)?;
+    Ok(path.cost == cost && path.nodes.as_slice() == nodes)
 }
 
-/// Of ways with equal cost, the least by its nodes, whatever was searched before; and of equally
-/// near starts the least, which may be the goal.
-fn finds_the_least_of_ties(alloc: Global, pairs: &Pairs, search: &mut Search) -> bool
-    requires { length pairs.now.costs.items ≡ 7 }
-{
-    is(
-        search.least_path(alloc, pairs, &[0], 6),
-        4,
-        &[0, 1, 3, 4, 6],
-    ) && is(
-        search.least_path(alloc, pairs, &[0], 6),
-        4,
-        &[0, 1, 3, 4, 6],
-    ) && is(search.least_path(alloc, pairs, &[2, 1, 2], 3), 1, &[1, 3])
-        && is(search.least_path(alloc, pairs, &[4, 3], 3), 0, &[3])
+/// Whether a search finds these nodes, or no path if there are none.
+fn is_found(
+    table: &Table,
+    search: &mut PlaneSearch,
+    path: &mut Path,
+    nodes: &[usize],
+    cost: u64,
+) -> Result<bool, AllocError> {
+    if nodes.is_empty() {
+        return Ok(cost == u64::MAX && search.first_into(table, path)?.is_none());
+    }
+    finds_path(table, search, path, nodes, cost)
 }
 
-/// A goal that no path reaches, and a search without starts.
-fn finds_none(alloc: Global, pairs: &Pairs, search: &mut Search) -> bool
-    requires { length pairs.now.costs.items ≡ 7 }
-{
-    matches!(search.least_path(alloc, pairs, &[5, 6, 3], 0), Ok(None))
-        && matches!(search.least_path(alloc, pairs, &[], 3), Ok(None))
+/// Whether the least path of a table goes over these nodes.
+fn is_least(
+    alloc: Global,
+    table: &Table,
+    search: &mut PlaneSearch,
+    nodes: &[usize],
+) -> Result<bool, AllocError> {
+    let cost = least_cost(alloc, table)?;
+    let mut path = Path {
+        nodes: Vec::new(alloc),
+        cost: 0,
+    };
+    let found = is_found(table, search, &mut path, nodes, cost);
+    drop(path);
+    found
 }
 
-/// Returns whether edges are returned one by one.
-fn tells_edges(pairs: &Pairs) -> bool
-    requires { length pairs.now.costs.items ≡ 7 }
-{
-    pairs.edge(0, 1) == Some(1) && pairs.edge(0, 2).is_none()
-}
-
-/// 0 to 2 or 1, 1 and 2 to 3 (1 by two edges), 3 to 5 or 4, 4 and 5 to 6, which has no edges.
-fn seven_nodes(alloc: Global) -> Result<Pairs, AllocError>
-    ensures { IfOk result (λ pairs. length pairs.costs.items ≡ 7) }
-{
-    Ok(Pairs {
-        ends: vec![in alloc; 2, 1, 3, 3, 3, 3, 5, 4, 6, 6, 6, 6, 6, 6]?,
-        costs: vec![in alloc; 1, 1, 1, 1, 1, 1, 1]?,
-    })
-}
-
-fn ties(alloc: Global) -> bool {
-    match seven_nodes(alloc) {
-        Ok(pairs) => {
-            let mut search = Search::new(alloc);
-            let is_so = finds_the_least_of_ties(alloc, &pairs, &mut search)
-                && finds_none(alloc, &pairs, &mut search)
-                && tells_edges(&pairs);
-            drop(search);
-            drop(pairs);
-            is_so
+/// Whether the least path goes over these nodes, or there is none if there are none.
+fn finds(alloc: Global, search: &mut PlaneSearch, case: Case, nodes: &[usize]) -> bool {
+    match seven_nodes(alloc, case) {
+        Ok(table) => {
+            let found = is_least(alloc, &table, search, nodes);
+            drop(table);
+            found == Ok(true)
         }
         Err(_) => false,
     }
 }
 
-/// A street of nine houses, with a guess of what a path costs.
-fn nine_houses(alloc: Global, guess: Option<u64>) -> Result<Street, AllocError>
-    ensures { IfOk result (λ street. street.len ≡ 9) }
+/// A case with the same cost for each node.
+fn even_case(cost: u64, first: usize, second: usize, goal: usize) -> Case
+    requires from { 1 ≤ cost }
+    requires to { cost ≤ 2 ^ 36 }
+    requires first { first < 7 }
+    requires second { second < 7 }
+    requires goal { goal < 7 }
 {
-    Ok(Street {
-        step: vec![in alloc; 1]?,
-        len: 9,
-        guess,
-    })
-}
-
-/// Returns whether the path is the way from the nearest house, and stays unchanged if there is no
-/// way.
-fn goes_along(street: &Street, search: &mut Search, path: &mut Path) -> bool
-    requires { street.now.len ≡ 9 }
-{
-    search.least_into(street, &[1, 3, 8], 5, path) == Ok(true)
-        && path.cost == 4
-        && path.nodes.as_slice() == [3, 4, 5].as_slice()
-        && search.least_into(street, &[6, 8], 5, path) == Ok(false)
-        && search.least_into(street, &[6, 8], 7, path) == Ok(true)
-        && path.nodes.as_slice() == [6, 7].as_slice()
-}
-
-fn along_the_street(alloc: Global, guess: Option<u64>) -> bool {
-    match nine_houses(alloc, guess) {
-        Ok(street) => {
-            let mut search = Search::new(alloc);
-            let mut path = Path {
-                nodes: Vec::new(alloc),
-                cost: 0,
-            };
-            let is_so = goes_along(&street, &mut search, &mut path);
-            drop(path);
-            drop(search);
-            drop(street);
-            is_so
-        }
-        Err(_) => false,
+    Case {
+        even: cost,
+        odd: cost,
+        first,
+        second,
+        goal,
     }
 }
 
-/// A guess below the cost of a path, equal to it, above it, and above what a search can count.
-fn whatever_is_guessed(alloc: Global) -> bool {
-    along_the_street(alloc, None)
-        && along_the_street(alloc, Some(3))
-        && along_the_street(alloc, Some(4))
-        && along_the_street(alloc, Some(9))
-        && along_the_street(alloc, Some(u64::MAX))
+/// Of ways with equal cost, the least by its nodes, whatever was searched before; of equally near
+/// starts the least, which may be the goal; and a goal that no path reaches.
+fn finds_the_least_of_ties(alloc: Global, search: &mut PlaneSearch, cost: u64) -> bool
+    requires from { 1 ≤ cost }
+    requires to { cost ≤ 2 ^ 36 }
+{
+    finds(alloc, search, even_case(cost, 0, 0, 6), &[0, 1, 3, 4, 6])
+        && finds(alloc, search, even_case(cost, 2, 1, 3), &[1, 3])
+        && finds(alloc, search, even_case(cost, 4, 3, 3), &[3])
+        && finds(alloc, search, even_case(cost, 5, 6, 0), &[])
+}
+
+/// Over the even nodes, over the odd ones, and from the nearer start, each dear or not.
+fn finds_the_cheaper_way(alloc: Global, search: &mut PlaneSearch, dear: u64) -> bool
+    requires from { 1 < dear }
+    requires to { dear ≤ 2 ^ 36 }
+{
+    let even = Case {
+        even: dear - 1,
+        odd: dear,
+        first: 0,
+        second: 0,
+        goal: 6,
+    };
+    let odd = Case {
+        even: dear,
+        odd: 1,
+        first: 0,
+        second: 0,
+        goal: 6,
+    };
+    finds(alloc, search, even, &[0, 2, 3, 4, 6])
+        && finds(alloc, search, odd, &[0, 1, 3, 5, 6])
+        && finds(alloc, search, even_case(dear, 0, 4, 6), &[4, 6])
+}
+
+/// The same paths if all costs are marked in narrow cells, just not, and by far not.
+fn finds_all(alloc: Global) -> bool {
+    let mut search = PlaneSearch::new(alloc);
+    let is_so = finds_the_least_of_ties(alloc, &mut search, 1)
+        && finds_the_least_of_ties(alloc, &mut search, 16_383)
+        && finds_the_least_of_ties(alloc, &mut search, 16_384)
+        && finds_the_least_of_ties(alloc, &mut search, 1 << 36)
+        && finds_the_cheaper_way(alloc, &mut search, 2)
+        && finds_the_cheaper_way(alloc, &mut search, 1 << 16)
+        && finds_the_cheaper_way(alloc, &mut search, 1 << 36);
+    drop(search);
+    is_so
 }
 
 #[test]
 fn tables(rt: HostRuntime) {
-    assert!(rt; ties(rt.alloc()));
-    assert!(rt; whatever_is_guessed(rt.alloc()));
+    assert!(rt; finds_all(rt.alloc()));
 }

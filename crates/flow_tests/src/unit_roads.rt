@@ -1,61 +1,58 @@
-//! Least paths over the routing graph of a strip, if each node costs one.
-ghost use Rattle.rr_graph.specs.Graph.{graph_of};
+//! Shortest ways over the routing graph of a strip, after Bellman and Ford.
 
 use crate::graphs::{NARROW, fabric_of, node};
 use fixtures::{ARCHITECTURE, ONE_TRACK_A_PIN};
-use least_path::{Ends, Path, Roads, Search};
 use rr_graph::{Fabric, Node, NodeKind, StripGraph};
-use std::alloc::Global;
+use std::alloc::{AllocError, Global};
 
-/// The roads of a strip's routing graph, if each node costs one.
-#[derive(Drop)]
-struct UnitRoads<'a> {
-    fabric: &'a Fabric,
+/// How many edges a way from a node has at least; the greatest number if no way is known.
+fn left_at(left: &[u64], node: usize) -> u64 {
+    left.get(node).copied().unwrap_or(u64::MAX)
 }
 
-impl Roads for UnitRoads<'_> {
-    ghost graph = { λ r. record {
-      count = (graph_of r.fabric.now).count;
-      ends = (graph_of r.fabric.now).ends;
-      cost = λ _. 1;
-    } };
-
-    fn count(&self) -> usize {
-        self.fabric.count()
-    }
-
-    fn ends(&self, node: usize) -> Ends<'_> {
-        let ends = self.fabric.ends(node);
-        Ends {
-            list: ends.list,
-            base: ends.base,
+/// How many edges a way from a node has at least, over one of its edges.
+fn left_over_edge(fabric: &Fabric, left: &[u64], from: usize) -> u64 {
+    let mut least = left_at(left, from);
+    if from < fabric.count() {
+        let ends = fabric.ends(from);
+        for end in ends.list.iter() {
+            let to = (*end as usize).saturating_add(ends.base);
+            least = least.min(left_at(left, to).saturating_add(1));
         }
     }
-
-    fn cost(&self, _node: usize) -> u64 {
-        1
-    }
+    least
 }
 
-/// The least path between two nodes of the graph, if there is one.
-#[derive(Drop)]
-enum Found {
-    Path(Path),
-    NoPath,
-    /// A node does not exist, or memory ran out.
-    Unknown,
+/// How many edges the ways from each node to the goal have at least.
+fn ways_to(alloc: Global, fabric: &Fabric, goal: usize) -> Result<Vec<u64>, AllocError> {
+    let mut left = vec![in alloc; u64::MAX; fabric.count()]?;
+    if let Some(at) = left.get_mut(goal) {
+        *at = 0;
+    }
+    for _round in 0..fabric.count() {
+        for from in 0..fabric.count() {
+            let least = left_over_edge(fabric, &left, from);
+            if let Some(at) = left.get_mut(from) {
+                *at = least;
+            }
+        }
+    }
+    Ok(left)
 }
 
-/// The least path between two nodes of the graph.
-fn path_between(alloc: Global, fabric: &Fabric, from: Node, to: Node) -> Found {
-    let (Some(start), Some(goal)) = (fabric.number(from), fabric.number(to)) else {
-        return Found::Unknown;
-    };
-    match Search::new(alloc).least_path(alloc, &UnitRoads { fabric }, &[start], goal) {
-        Ok(Some(path)) => Found::Path(path),
-        Ok(None) => Found::NoPath,
-        Err(_) => Found::Unknown,
+/// The least node from which a shortest way leads on.
+fn next_node(fabric: &Fabric, left: &[u64], from: usize) -> usize {
+    let mut next = usize::MAX;
+    if from < fabric.count() {
+        let ends = fabric.ends(from);
+        for end in ends.list.iter() {
+            let to = (*end as usize).saturating_add(ends.base);
+            if left_at(left, to).saturating_add(1) == left_at(left, from) {
+                next = next.min(to);
+            }
+        }
     }
+    next
 }
 
 /// The path from the first pad to the block.
@@ -92,13 +89,12 @@ const ACROSS: [Node; 5] = [
     },
 ];
 
-/// Returns whether a path goes over these nodes, and costs one for each except the first.
-fn goes_across(fabric: &Fabric, path: &Path) -> bool {
-    if path.cost != 4 || path.nodes.len() != ACROSS.len() {
-        return false;
-    }
-    for (number, node) in path.nodes.iter().zip(ACROSS.iter()) {
-        if fabric.number(*node) != Some(*number) {
+/// Returns whether the least of the shortest ways goes over these nodes.
+fn goes_across(fabric: &Fabric, left: &[u64], start: usize) -> bool {
+    let mut at = start;
+    for stop in ACROSS[1..].iter() {
+        at = next_node(fabric, left, at);
+        if fabric.number(*stop) != Some(at) {
             return false;
         }
     }
@@ -107,13 +103,16 @@ fn goes_across(fabric: &Fabric, path: &Path) -> bool {
 
 /// Returns whether the least path across is that one.
 fn is_least_across(alloc: Global, fabric: &Fabric) -> bool {
-    match path_between(alloc, fabric, ACROSS[0], ACROSS[4]) {
-        Found::Path(path) => {
-            let is_so = goes_across(fabric, &path);
-            drop(path);
+    let (Some(start), Some(goal)) = (fabric.number(ACROSS[0]), fabric.number(ACROSS[4])) else {
+        return false;
+    };
+    match ways_to(alloc, fabric, goal) {
+        Ok(left) => {
+            let is_so = left_at(&left, start) == 4 && goes_across(fabric, &left, start);
+            drop(left);
             is_so
         }
-        _ => false,
+        Err(_) => false,
     }
 }
 
@@ -121,7 +120,17 @@ fn is_least_across(alloc: Global, fabric: &Fabric) -> bool {
 fn has_no_path(alloc: Global, fabric: &Fabric) -> bool {
     let output = node(NodeKind::Source, 1, 1, 1);
     let pad = node(NodeKind::Sink, 1, 2, 0);
-    matches!(path_between(alloc, fabric, output, pad), Found::NoPath)
+    let (Some(start), Some(goal)) = (fabric.number(output), fabric.number(pad)) else {
+        return false;
+    };
+    match ways_to(alloc, fabric, goal) {
+        Ok(left) => {
+            let is_so = left_at(&left, start) == u64::MAX;
+            drop(left);
+            is_so
+        }
+        Err(_) => false,
+    }
 }
 
 /// Every pin meets every track.

@@ -21,11 +21,11 @@ fn leaving_from(device: &Window<'_>, window: &Window<'_>, offset: u32, from: usi
     let mut leaving = 0usize;
     let count = device.count();
     if from < count && shows(window, offset, device.node(from)) {
-        for k in 0..count {
-            if let Some(end) = device.edge(from, k) {
-                if end < count && !shows(window, offset, device.node(end)) {
-                    leaving = leaving.saturating_add(1);
-                }
+        let ends = device.ends(from);
+        for end in ends.list {
+            let end = ends.base.saturating_add(*end as usize);
+            if end < count && !shows(window, offset, device.node(end)) {
+                leaving = leaving.saturating_add(1);
             }
         }
     }

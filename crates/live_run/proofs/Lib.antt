@@ -2,3 +2,4 @@ mod LineRuns
 mod ReadLemmas
 pub mod RetellLemmas
 mod RunLemmas
+pub mod WholeParts

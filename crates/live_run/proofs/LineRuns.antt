@@ -5,7 +5,7 @@ use Rattle.std.specs.Borrow.{Bor}
 use Rattle.dialogue.specs.History.{View}
 use Rattle.live_run.specs.declared.options.CommandLine.{CommandLine}
 use Rattle.live_run.specs.declared.outcome.Outcome.{Outcome}
-use Rattle.live_run.specs.Commands.{Begins, RunsLine}
+use Rattle.live_run.specs.Commands.{RunsLine}
 use Rattle.live_run.specs.Runs.{Runs}
 
 -- without a log

@@ -1,13 +1,12 @@
 -- The lines of a log, answered again.
-use Rattle.std.proofs.Common.{◌≡◌, ℕ, ◌+◌, List, [], ◌∷◌, ◌++◌, length, take, drop, Bool, true, false, Option, Some, None, Result, Ok, Err, refl, sym, ap, subst, ◌∙◌, arith, append-nil, append_assoc, length-append}
+use Rattle.std.proofs.Common.{◌≡◌, ℕ, ◌+◌, List, [], ◌∷◌, ◌++◌, length, take, drop, Bool, true, false, Option, Some, None, Ok, Err, refl, sym, ap, subst, ◌∙◌, arith, append-nil, append_assoc, length-append}
 use Rattle.std.specs.Prelude.{if◌then◌else◌}
-use Rattle.std.specs.List.{flat_map}
 use Rattle.std.specs.Io.KnownBytes.{Appends, Consumes, IsAtEnd, Keeps}
 use Rattle.std.proofs.KnownBytes.{Appends-nil, Appends-trans}
 use Rattle.std.proofs.lemmas.Grind.{flat_map-append}
 use Rattle.std.proofs.lemmas.List.{take-append-drop}
 use Rattle.dialogue.specs.History.{Event, Fails, Follows, Happens, View, Writes, bytes_kept, bytes_told, kept_in, told_in}
-use Rattle.dialogue.specs.History.Event.{Kept, Told}
+use Rattle.dialogue.specs.History.Event.{Told}
 use Rattle.dialogue.specs.declared.dialogue.FailedDevice.{FailedDevice}
 use Rattle.line_feed.specs.Pieces.{IsKept, TakesPiece, kept_of}
 use Rattle.line_feed.proofs.CutLemmas.{kept_none}
@@ -17,7 +16,7 @@ use Rattle.live_lines.specs.Live.{LiveState}
 use Rattle.live_input.specs.Serving.{AnswersLine}
 use Rattle.live_run.specs.declared.outcome.Outcome.{Outcome}
 use Rattle.live_run.specs.declared.outcome.Outcome.TheVariants.{Done, ArchUnreadable, ArchRefused, LogUnreadable, LogDiffers, LogIsStream, LogInUse, Stopped, TooManyLines, NoMemory}
-use Rattle.live_run.specs.Retelling.{EndsRetelling, IsResumed, IsRetold, Retells, RetellsLine, StopsRetelling, TellsPart, TellsReply, is_told, text_told}
+use Rattle.live_run.specs.Retelling.{EndsRetelling, IsRetold, Retells, RetellsLine, StopsRetelling, TellsPart, TellsReply, is_told, text_told}
 use Rattle.live_run.proofs.ReadLemmas.{IsRead, read_first, read_line, read_more, read_none, read_piece, read_whole}
 
 follows_none : (a : Option (List Event)) → Follows a a []
@@ -132,7 +131,7 @@ line_fails old new number next line reply told before after Done answered tells 
 line_fails old new number next line reply told before after ArchUnreadable answered tells = absurd tells
 line_fails old new number next line reply told before after (ArchRefused fault) answered tells = absurd tells
 line_fails old new number next line reply told before after LogUnreadable answered tells = absurd tells
-line_fails old new number next line reply told before after LogDiffers answered tells = absurd tells
+line_fails old new number next line reply told before after (LogDiffers difference) answered tells = absurd tells
 line_fails old new number next line reply told before after LogIsStream answered tells = absurd tells
 line_fails old new number next line reply told before after LogInUse answered tells = absurd tells
 line_fails old new number next line reply told before after (Stopped fault) answered tells = (text_told told number reply, record { reply = reply; answered = answered; text_is = refl }, tells.0, tells.1)
@@ -234,7 +233,7 @@ some_ends start first input now ahead kept rest after told before number next st
 some_ends start first input now ahead kept rest after told before number next state new mid last LogUnreadable g p l =
     let P : View → Type 0 = λ v. StopsRetelling start first input told before v in
     subst P (sym l) (some_stops start first input now ahead kept told before number state mid g)
-some_ends start first input now ahead kept rest after told before number next state new mid last LogDiffers g p l = absurd l
+some_ends start first input now ahead kept rest after told before number next state new mid last (LogDiffers difference) g p l = absurd l
 some_ends start first input now ahead kept rest after told before number next state new mid last LogIsStream g p l = absurd l
 some_ends start first input now ahead kept rest after told before number next state new mid last LogInUse g p l = absurd l
 some_ends start first input now ahead kept rest after told before number next state new mid last (Stopped fault) g p (text, one, part, failed) =

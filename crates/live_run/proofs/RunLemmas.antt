@@ -1,5 +1,5 @@
 -- A service that goes on from a log, or from nothing.
-use Rattle.std.proofs.Common.{◌≡◌, ℕ, ◌+◌, ◌⊎◌, inl, inr, List, [], ◌∷◌, length, Bool, true, false, Option, Some, None, Result, Ok, Err, refl, sym, ap, subst, ◌∙◌}
+use Rattle.std.proofs.Common.{◌≡◌, ℕ, inl, inr, List, [], true, false, Option, Some, Ok, Err, refl, sym, subst}
 use Rattle.dialogue.specs.History.{View}
 use Rattle.line_feed.proofs.CutLemmas.{kept_none}
 use Rattle.line_service.specs.declared.conversation.ConversationEnd.{ConversationEnd}
@@ -47,7 +47,7 @@ retell_fails past told start mid next before after Done r = absurd r
 retell_fails past told start mid next before after ArchUnreadable r = absurd r
 retell_fails past told start mid next before after (ArchRefused fault) r = absurd r
 retell_fails past told start mid next before after LogUnreadable r = (refl, r)
-retell_fails past told start mid next before after LogDiffers r = absurd r
+retell_fails past told start mid next before after (LogDiffers difference) r = absurd r
 retell_fails past told start mid next before after LogIsStream r = absurd r
 retell_fails past told start mid next before after LogInUse r = absurd r
 retell_fails past told start mid next before after (Stopped fault) r = inl (refl, r.1, r.0)
@@ -72,7 +72,7 @@ closes told start last next before talked after Done c e = record { mid = start;
 closes told start last next before talked after ArchUnreadable c e = absurd (let n = e.0 in cc)
 closes told start last next before talked after (ArchRefused fault) c e = absurd (let n = e.0 in cc)
 closes told start last next before talked after LogUnreadable c e = absurd (let n = e.0 in cc)
-closes told start last next before talked after LogDiffers c e = absurd (let n = e.0 in cc)
+closes told start last next before talked after (LogDiffers difference) c e = absurd (let n = e.0 in cc)
 closes told start last next before talked after LogIsStream c e = absurd (let n = e.0 in cc)
 closes told start last next before talked after LogInUse c e = absurd (let n = e.0 in cc)
 closes told start last next before talked after (Stopped fault) c e = inr (record { mid = start; begun = before; resumes = no_log told start before; end = DoneEnd; last = last; next = next; talked = talked; talks = c; ends = e })

@@ -5,3 +5,4 @@ pub mod Lines
 pub mod Outcomes
 pub mod Retelling
 pub mod Runs
+pub mod WholePart

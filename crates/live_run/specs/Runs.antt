@@ -1,5 +1,5 @@
 -- What a live service writes and keeps, from its architecture to its end.
-use Rattle.std.specs.Prelude.{ℕ, ◌≡◌, ◌+◌, ⊤, ◌⊎◌, Bool, true, false, List, [], ◌∷◌, length, Option, Some, None, Result, Ok, Err, IfSome}
+use Rattle.std.specs.Prelude.{ℕ, ◌≡◌, ◌+◌, ◌⊎◌, Bool, true, false, List, [], ◌∷◌, length, Option, Some, None, Ok, Err}
 use Rattle.arch_file.specs.declared.arch.Arch.{Arch}
 use Rattle.arch_file.specs.Arch.{arch_of}
 use Rattle.dialogue.specs.History.{Fails, Happens, View}
@@ -11,7 +11,7 @@ use Rattle.live_lines.specs.Live.{LiveState}
 use Rattle.live_input.specs.Serving.{AnswersLine, ClosesTexts, begins}
 use Rattle.live_run.specs.declared.options.Options.{Options}
 use Rattle.live_run.specs.declared.outcome.Outcome.{Outcome}
-use Rattle.live_run.specs.declared.outcome.Outcome.TheVariants.{Done, ArchUnreadable, ArchRefused, LogUnreadable, LogDiffers, LogIsStream, LogInUse, Stopped, TooManyLines, NoMemory}
+use Rattle.live_run.specs.declared.outcome.Outcome.TheVariants.{Done, ArchUnreadable, ArchRefused, LogUnreadable, LogDiffers, LogIsStream, LogInUse, Stopped, NoMemory}
 use Rattle.live_run.specs.Limits.{device_of}
 use Rattle.live_run.specs.Outcomes.{outcome_of}
 use Rattle.live_run.specs.Retelling.{IsResumed, StopsRetelling}
@@ -50,7 +50,7 @@ pub record Talks (start : LiveState) (has_log : Bool) (past : Option (List ℕ))
 abbrev pub RunsFrom : LiveState → Bool → Option (List ℕ) → Option ℕ → View → View → Outcome → Type 0
 RunsFrom start has_log past told before after ArchUnreadable = ⊥
 RunsFrom start has_log past told before after (ArchRefused fault) = ⊥
-RunsFrom start has_log past told before after LogDiffers = ⊥
+RunsFrom start has_log past told before after (LogDiffers difference) = ⊥
 RunsFrom start has_log past told before after LogIsStream = ⊥
 RunsFrom start has_log past told before after LogInUse = ⊥
 RunsFrom start has_log past told before after LogUnreadable = (has_log ≡ true) × StopsRetelling start 1 past told before after

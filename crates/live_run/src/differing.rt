@@ -1,7 +1,6 @@
 //! In what a file differs from the log that is wanted.
 use line_text::{skip_blanks, split_line, split_word};
 use std::fmt;
-use std::io::Eprint;
 
 /// What a log's first line names, each before its value.
 const NAMES: [&str; 5] = [
@@ -18,35 +17,45 @@ const MOST_WORDS: u32 = 16;
 /// What the first line of a log begins with.
 const FIRST: &[u8] = b"# fpgad_live ";
 
-/// In what a file differs from a log.
-#[derive(Clone, Copy)]
-enum Difference {
-    /// The first line has another value of that name.
-    Other(&'static str),
+/// In what a file differs from the log that is wanted.
+#[derive(Clone, Copy, PartialEq, Eq)]
+pub enum LogDifference {
     /// The file does not begin as a log does.
     NoLog,
+    /// Whether its first line has another value of `--tracks`, of `--columns`, of `--rows`, of
+    /// `--tenant-memory`, and another architecture.
+    Others([bool; 5]),
 }
 
-impl fmt::Display for Difference {
+impl LogDifference {
+    /// In what a file that begins so differs from a log with that first line.
+    pub(crate) fn of(first_line: &[u8], head: &[u8]) -> Self {
+        let (wanted, _) = split_line(first_line);
+        let (line, _) = split_line(head);
+        if !line.starts_with(FIRST) {
+            return LogDifference::NoLog;
+        }
+        let mut others = [false; 5];
+        for (is_other, name) in others.iter_mut().zip(NAMES.iter()) {
+            *is_other = value_of(wanted, name) != value_of(line, name);
+        }
+        LogDifference::Others(others)
+    }
+}
+
+/// A line for each difference.
+impl fmt::Display for LogDifference {
     fn fmt<W: fmt::Write>(&self, f: &mut fmt::Formatter<W>) -> fmt::Result {
         match self {
-            Difference::Other(name) => write!(f, "log: its first line has another {name}"),
-            Difference::NoLog => write!(f, "log: it does not begin as a log does"),
-        }
-    }
-}
-
-/// Writes to standard error in what a file that begins so differs from a log with that first line.
-pub(crate) fn write_difference<H: Eprint>(rt: &H, first_line: &[u8], head: &[u8]) {
-    let (wanted, _) = split_line(first_line);
-    let (line, _) = split_line(head);
-    if !line.starts_with(FIRST) {
-        let _ = rt.eprintln(Difference::NoLog);
-        return;
-    }
-    for name in NAMES.iter() {
-        if value_of(wanted, name) != value_of(line, name) {
-            let _ = rt.eprintln(Difference::Other(name));
+            LogDifference::NoLog => write!(f, "log: it does not begin as a log does\n"),
+            LogDifference::Others(others) => {
+                for (is_other, name) in others.iter().zip(NAMES.iter()) {
+                    if *is_other {
+                        write!(f, "log: its first line has another {name}\n")?;
+                    }
+                }
+                Ok(())
+            }
         }
     }
 }

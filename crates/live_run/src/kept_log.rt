@@ -1,19 +1,17 @@
 //! The file of a log.
 ghost use Rattle.std.specs.Prelude.{◌≢◌, IfErr};
 
-use crate::differing::write_difference;
+use crate::differing::LogDifference;
 use crate::log_lock::LockLog;
 use crate::outcome::Outcome;
 use crate::streams::is_stream;
+use crate::whole_part::whole_length;
 use dialogue::{FailedDevice, FileLog, Log};
 use line_text::{ReadError, Source, StdSource, read_all};
 use std::alloc::Global;
 use std::fs::{File, OpenFile, OpenOptions};
-use std::io::{self, Eprint, Read, Take, Write};
+use std::io::{self, Read, Take, Write};
 use std::rt::Files;
-
-/// The number of bytes that are read at a time.
-const CHUNK: usize = 65_536;
 
 /// More bytes than the first line of a log has.
 const MAX_FIRST: u64 = 256;
@@ -26,7 +24,7 @@ pub struct KeptLog<F: Read + Write + OpenFile + Drop> {
 
 /// Opens the log at that path, which begins with that line, and locks it. A last line without its
 /// end is cut off. A new log gets the first line.
-pub(crate) fn open_log<H: Files + AllocGlobal + Eprint>(
+pub(crate) fn open_log<H: Files + AllocGlobal>(
     rt: &H,
     path: &str,
     first_line: &[u8],
@@ -85,7 +83,7 @@ fn part_of<H: Files>(rt: &H, path: &str, length: u64) -> io::Result<StdSource<Ta
 
 /// The length of a log's whole lines, the first of which must be that line. A file that has no
 /// whole line must be a beginning of it.
-fn length_to_keep<H: Files + AllocGlobal + Eprint>(
+fn length_to_keep<H: Files + AllocGlobal>(
     rt: &H,
     path: &str,
     length: u64,
@@ -99,8 +97,8 @@ fn length_to_keep<H: Files + AllocGlobal + Eprint>(
     };
     if !first_line.starts_with(head.as_slice()) {
         drop(head);
-        report_difference(rt, path, first_line);
-        return Err(Outcome::LogDiffers);
+        let difference = difference_at(rt, path, first_line)?;
+        return Err(Outcome::LogDiffers(difference));
     }
     if head.len() < first_line.len() {
         return Ok(0);
@@ -111,40 +109,19 @@ fn length_to_keep<H: Files + AllocGlobal + Eprint>(
     }
 }
 
-/// Writes to standard error in what the first line of a file is another one.
-fn report_difference<H: Files + AllocGlobal + Eprint>(rt: &H, path: &str, first_line: &[u8]) {
+/// In what the file at that path differs from a log with that first line.
+fn difference_at<H: Files + AllocGlobal>(
+    rt: &H,
+    path: &str,
+    first_line: &[u8],
+) -> Result<LogDifference, Outcome>
+    ensures { IfErr result (λ outcome. outcome ≢ Outcome.Done) }
+{
     let Ok(mut part) = part_of(rt, path, MAX_FIRST) else {
-        return;
+        return Err(Outcome::LogUnreadable);
     };
-    if let Ok(head) = read_all(rt.alloc(), &mut part) {
-        write_difference(rt, first_line, head.as_slice());
-        drop(head);
-    }
-}
-
-/// The length of the whole lines that are left in a source.
-fn whole_length<S: Source>(alloc: Global, source: &mut S) -> Result<u64, ReadError> {
-    let Ok(mut buffer) = Vec::from_elem(alloc, 0u8, CHUNK) else {
-        return Err(ReadError::NoMemory);
-    };
-    let mut length: u64 = 0;
-    let mut whole: u64 = 0;
-    for _ in 0..u64::MAX {
-        let Ok(count) = source.read(buffer.as_mut_slice()) else {
-            return Err(ReadError::Failed);
-        };
-        if count == 0 {
-            return Ok(whole);
-        }
-        if let Some(place) = last_end(&buffer[..count]) {
-            whole = length.saturating_add(place as u64).saturating_add(1);
-        }
-        length = length.saturating_add(count as u64);
-    }
-    Err(ReadError::Failed)
-}
-
-/// The place of the last LF.
-fn last_end(bytes: &[u8]) -> Option<usize> {
-    bytes.iter().rposition(|byte| *byte == b'\n')
+    let head = read_all(rt.alloc(), &mut part)?;
+    let difference = LogDifference::of(first_line, head.as_slice());
+    drop(head);
+    Ok(difference)
 }

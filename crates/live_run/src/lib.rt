@@ -5,6 +5,7 @@
 //! - [`serve`] serves the lines of a dialogue as they come, after those of a log if there is one.
 //! - [`run_line`] serves as a command line says. [`Outcome`] says how a service ended.
 //! - [`log_at`] opens a log, as what it kept and what comes ([`KeptLog`]).
+//!   [`LogDifference`] says in what a file is another log.
 //! - [`LockLog`] keeps a log to one service at a time.
 //! - [`is_told`] says the replies to which of the log's lines are written at a start.
 //! - [`say_ready`] says that a service is ready.
@@ -24,8 +25,10 @@ mod retelling;
 mod serving;
 mod streams;
 mod whole_lines;
+mod whole_part;
 
 pub use beginning::first_line;
+pub use differing::LogDifference;
 pub use kept_log::KeptLog;
 pub use log_lock::LockLog;
 pub use options::{CommandLine, Options, RESULTS_VERSION};

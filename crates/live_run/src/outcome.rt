@@ -2,6 +2,7 @@
 ghost use Rattle.std.specs.Prelude.{◌≡◌};
 ghost use Rattle.live_run.specs.Outcomes.{outcome_of, status_of};
 
+use crate::differing::LogDifference;
 use arch_file::ArchFault;
 use dialogue::FailedDevice;
 use line_service::ConversationEnd;
@@ -19,7 +20,7 @@ pub enum Outcome {
     /// The log's file can't be opened or read.
     LogUnreadable,
     /// The log does not begin with the line that names the options of this run.
-    LogDiffers,
+    LogDiffers(LogDifference),
     /// The log's file is the standard input, output or error, too.
     LogIsStream,
     /// That device failed.
@@ -39,7 +40,7 @@ impl Outcome {
     {
         match self {
             Outcome::Done => 0,
-            Outcome::LogDiffers | Outcome::LogIsStream => 2,
+            Outcome::LogDiffers(_) | Outcome::LogIsStream => 2,
             Outcome::NoMemory => 4,
             Outcome::ArchUnreadable
             | Outcome::ArchRefused(_)
@@ -72,7 +73,9 @@ impl fmt::Display for Outcome {
             Outcome::ArchRefused(fault) => write!(f, "arch: {fault}"),
             Outcome::LogUnreadable => write!(f, "log: unreadable"),
             Outcome::LogInUse => write!(f, "log: another service uses it"),
-            Outcome::LogDiffers => write!(f, "log: its first line names other options"),
+            Outcome::LogDiffers(difference) => {
+                write!(f, "{difference}log: its first line names other options")
+            }
             Outcome::LogIsStream => write!(f, "log: it is standard input, output or error too"),
             Outcome::Stopped(FailedDevice::Input) => write!(f, "input: failed"),
             Outcome::Stopped(FailedDevice::Log) => write!(f, "log: failed"),

@@ -68,7 +68,7 @@ where
 
 /// Opens the log at that path, of these options and that architecture. A new log gets its first
 /// line.
-pub fn log_at<H: Files + AllocGlobal + Eprint>(
+pub fn log_at<H: Files + AllocGlobal>(
     rt: &H,
     line: &CommandLine<'_>,
     path: &str,

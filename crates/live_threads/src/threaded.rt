@@ -110,7 +110,7 @@ fn device_of(alloc: Global, line: &CommandLine<'_>, architecture: &[u8]) -> Resu
 }
 
 /// Opens the log of a command line, if it names one.
-fn open_streams<H: Files + AllocGlobal + Eprint, W: Sink + Drop>(
+fn open_streams<H: Files + AllocGlobal, W: Sink + Drop>(
     rt: &H,
     line: &CommandLine<'_>,
     architecture: &[u8],

@@ -22,7 +22,8 @@ use Rattle.pathfinder.specs.Routings.{routes_by_node}
 use Rattle.pathfinder.proofs.Steps.{in_first, in_later}
 use Rattle.pathfinder.proofs.Strips.{is_pair}
 use Rattle.pathfinder.proofs.Found.{any_from, occupancy-cons}
-use Rattle.pathfinder.proofs.Growing.{LeastPathLaws, IsWithin}
+use Rattle.pathfinder.specs.Growth.{LeastPathLaws}
+use Rattle.pathfinder.proofs.Growing.{IsWithin}
 use Rattle.pathfinder.proofs.Rounds.{HoldsWithin, beyond, done_sound}
 use Rattle.pathfinder.proofs.NodeNumbers.{number_found, number_there, is_number}
 use Rattle.pathfinder.proofs.ToldTrees.{to_map, from_map, all_mapped, nodes_told, to_nodes, from_nodes, to_pairs, from_pairs, leads_told}

@@ -1,12 +1,12 @@
 -- Rates, node by node.
-use Rattle.std.proofs.Common.{◌≡◌, ℕ, ◌+◌, ◌-◌, ◌*◌, ◌<◌, get_or, List, [], ◌∷◌, ◌++◌, length-append, arith, ap, ◌∙◌, inl, inr}
+use Rattle.std.proofs.Common.{◌≡◌, ℕ, ◌+◌, List, [], ◌∷◌, ◌++◌, length-append, arith, ap, ◌∙◌, inl, inr}
 use Rattle.std.specs.Prelude.{slice_index}
 use Rattle.std.proofs.lemmas.Bool.{cases_lt}
 use Rattle.std.proofs.lemmas.List.{get_or_append_left, get_or_push}
 use Rattle.pathfinder.specs.declared.rate.NodeCost.{NodeCost}
-use Rattle.rr_graph.specs.Graph.{Basis, graph_of}
+use Rattle.rr_graph.specs.Graph.{Basis}
 use Rattle.pathfinder.specs.PlacedNets.{wiring_of}
-use Rattle.pathfinder.specs.Rates.{AreRates, AreRatesBelow}
+use Rattle.pathfinder.specs.Rates.{AreRatesBelow}
 
 pub rates_more : (basis : Basis) (history : List ℕ) (count : ℕ) (rates : List NodeCost) (rate : NodeCost) → AreRatesBelow basis history count rates → rate.factor ≡ 1 + slice_index history count → rate.capacity ≡ (wiring_of basis).capacity count → AreRatesBelow basis history (count + 1) (rates ++ rate ∷ [])
 rates_more basis history count rates rate known f c = record {
@@ -24,10 +24,3 @@ rates_more basis history count rates rate known f c = record {
         ap (λ (r : NodeCost). r.capacity) (get_or_push rates rate d node (known.long ∙ e)) ∙ c ∙ ap (λ k. (wiring_of basis).capacity k) e)
   ];
 }
-
--- the cost of a node, from its rate
-pub rate_cost : (basis : Basis) (history : List ℕ) (rates : List NodeCost) (iterations held node : ℕ) (d : NodeCost) → AreRates basis history rates → node < (graph_of basis).count
-    → (get_or rates node d).factor * (1 + iterations * (held + 1 - (get_or rates node d).capacity)) ≡ (1 + slice_index history node) * (1 + iterations * (held + 1 - (wiring_of basis).capacity node))
-rate_cost basis history rates iterations held node d known few =
-    ap (λ f. f * (1 + iterations * (held + 1 - (get_or rates node d).capacity))) (known.factor node d few)
-    ∙ ap (λ k. (1 + slice_index history node) * (1 + iterations * (held + 1 - k))) (known.capacity node d few)

@@ -1,13 +1,12 @@
 -- Overuse, counted node by node.
-use Rattle.std.proofs.Common.{ℕ, ◌≡◌, ◌+◌, ◌-◌, ◌<◌, ◌≤◌, List, Bool, true, false, Option, Some, None, IfSome, map, [], ◌∷◌, cond, ltb, suc, zero, refl, sym, ap, subst, arith, ◌∙◌, ◌⊎◌, inl, inr}
-use Rattle.std.proofs.Math.Nat.{eq-or-lt_of_le}
+use Rattle.std.proofs.Common.{ℕ, ◌≡◌, ◌+◌, ◌-◌, ◌<◌, List, Bool, true, false, Option, Some, None, IfSome, map, [], ◌∷◌, cond, ltb, suc, zero, refl, sym, ap, subst, arith, ◌∙◌}
 use Rattle.std.proofs.lemmas.Bool.{lt-ltb}
 use Rattle.std.proofs.lemmas.List.Sums.{sum_by-cons}
 use Rattle.std.proofs.lemmas.List.FromFn.{length-map-range_with_len, sum_by-map-range_with_len_more}
 use Rattle.rr_graph.specs.Graph.{Basis, graph_of}
 use Rattle.pathfinder.specs.Negotiation.{Tree, Routed, Standing, More, Done, GaveUp, NoPath, is_feasible, next_routing, routing_with_trees, occupancy, rerouted_trees, accumulated_overuse, routed_after}
 use Rattle.pathfinder.specs.Routings.{IsAfter, RoutingState}
-use Rattle.pathfinder.specs.Overuse.{IsMost, IsOveruse, count_over, over_at, over_in, overuse_at}
+use Rattle.pathfinder.specs.Overuse.{IsMost, IsOveruse, count_over, over_in, overuse_at}
 use Rattle.pathfinder.specs.PlacedNets.{wiring_of}
 use Rattle.std.specs.Prelude.{Result, Ok, Err, count_by, length, option_map, slice_index, ◌==◌, ◌||◌, if◌then◌else◌}
 use Rattle.std.specs.List.{list_any}
@@ -15,9 +14,6 @@ use Rattle.pathfinder.specs.Wiring.{Net, Wiring}
 use Rattle.pathfinder.proofs.Iterations.{none_held}
 use Rattle.pathfinder.specs.Tables.{Tells}
 use Rattle.pathfinder.specs.declared.overuse.Overuse.{Overuse}
-
-below_next : (node count : ℕ) → node < count + 1 → node ≤ count
-below_next node count l = omega (arith, l)
 
 -- one more node
 pub count_more : (over : ℕ → ℕ) (count : ℕ) → count_over over (count + 1) ≡ count_over over count + cond (ltb 0 (over count)) 1 0
@@ -48,30 +44,6 @@ most_same over other count (Some most) same is =
       λ node l. omega (arith, is.2 node l, same node l, here),
       λ node l. (let within : node < count = omega (arith, l, is.0) in omega (arith, is.3 node l, same node within, here)),
     )
-
--- one more node, which is overused by at most as many trees, or by more
-pub most_stays : (over : ℕ → ℕ) (count : ℕ) (most : Option ℕ) → IsMost over count most → over count ≤ over_at over most → IsMost over (count + 1) most
-most_stays over count None is le = λ node l. by node (eq-or-lt_of_le (below_next node count l))
-  where
-    by : (node : ℕ) → (node ≡ count) ⊎ (node < count) → over node ≡ 0
-    by node (inr less) = is node less
-    by node (inl e) = ap over e ∙ omega (arith, le)
-most_stays over count (Some most) is le = (omega (arith, is.0), is.1, λ node l. at node (eq-or-lt_of_le (below_next node count l)), is.3)
-  where
-    at : (node : ℕ) → (node ≡ count) ⊎ (node < count) → over node ≤ over most
-    at node (inr less) = is.2 node less
-    at node (inl e) = omega (arith, ap over e, le)
-
-pub most_changes : (over : ℕ → ℕ) (count : ℕ) (most : Option ℕ) → IsMost over count most → over_at over most < over count → IsMost over (count + 1) (Some count)
-most_changes over count most is more = (omega arith, omega (arith, more), λ node l. at node (eq-or-lt_of_le (below_next node count l)), λ node l. below most is more node l)
-  where
-    below : (most : Option ℕ) → IsMost over count most → over_at over most < over count → (node : ℕ) → node < count → over node < over count
-    below None is more node l = omega (arith, is node l, more)
-    below (Some most) is more node l = omega (arith, is.2 node l, more)
-
-    at : (node : ℕ) → (node ≡ count) ⊎ (node < count) → over node ≤ over count
-    at node (inr less) = (let b = below most is more node less in omega (arith, b))
-    at node (inl e) = omega (arith, ap over e)
 
 -- the overuse, from the table of occupancies
 pub told_overuse : (basis : Basis) (held : List ℕ) (trees : List Tree) → Tells (wiring_of basis) held trees → (node : ℕ) → node < (graph_of basis).count → over_in basis held node ≡ overuse_at (wiring_of basis) trees node

@@ -25,7 +25,7 @@ impl Routing {
         ensures { IsOveruse (G.basis graph.now) self.now.trees result }
     {
         graph.laws();
-        let held = self.held.as_slice();
+        let held = self.state.held.as_slice();
         let counts = Counts { graph, held };
         Overuse {
             nodes: counts.overused_count(),
@@ -37,7 +37,7 @@ impl Routing {
     pub fn net_count(&self) -> usize
         ensures { result ≡ length self.now.trees }
     {
-        self.routes.len()
+        self.state.routes.len()
     }
 
     /// The occupancy of each node by the current trees, by node number.
@@ -46,7 +46,7 @@ impl Routing {
         ensures each { (node : ℕ) → node < length self.now.history →
             slice_index result.now node ≡ occupancy self.now.trees node }
     {
-        self.held.as_slice()
+        self.state.held.as_slice()
     }
 
     /// Returns whether the current tree of a net has the node with this number.
@@ -54,7 +54,7 @@ impl Routing {
         requires { net < length self.now.trees }
         ensures { result ≡ has_node (slice_index_or self.now.trees net []) node }
     {
-        self.routes[net].nodes().contains(&node)
+        self.state.routes[net].nodes().contains(&node)
     }
 }
 

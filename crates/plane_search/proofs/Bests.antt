@@ -163,7 +163,7 @@ less_not_greater : Less ≡ Greater → ⊥
 less_not_greater e = cc
 
 -- Nodes do not come before themselves.
-not_before : (xs : List ℕ) → slice_cmp nat_cmp xs xs ≢ Less
+pub not_before : (xs : List ℕ) → slice_cmp nat_cmp xs xs ≢ Less
 not_before xs less = less_not_greater (sym less ∙ nat_list_cmp_total.antisymm xs xs ∙ ap ordering_reverse less)
 
 -- the known path itself

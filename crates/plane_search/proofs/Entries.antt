@@ -1,94 +1,34 @@
--- Entries in lists.
-use Rattle.std.proofs.Common.{◌≡◌, ℕ, ◌+◌, ◌<◌, refl, List, [], ◌∷◌, ◌++◌, length, get_or, arith, inl, inr, sym, ap, subst}
-use Rattle.std.specs.List.{Contains, swap_remove}
-use Rattle.std.proofs.lemmas.List.Elements.{Contains-append_left, Contains-push_cases, Contains-push, Contains-get_or}
-use Rattle.std.proofs.lemmas.List.Sorted.{IsPermutation-swap_remove, IsPermutation-sym, Contains-permutation, length_permutation}
-use Rattle.plane_search.proofs.Members.{Contains_cases, Contains_further}
-use Rattle.plane_search.specs.Reach.{IsPut, IsAdded, IsRemoved, AreSame}
-use Rattle.plane_search.specs.declared.reach.Open.{Open}
+-- Entries that wait in two lists.
+use Rattle.std.proofs.Common.{◌≡◌, ℕ, ◌<◌, Option, Some, None, IfSome, List, [], ◌∷◌, ◌++◌, length, get_or}
+use Rattle.std.specs.List.{swap_remove}
+use Rattle.std.specs.Option.{option_to_list}
+use Rattle.std.specs.List.Sorted.{IsPermutation}
+use Rattle.std.proofs.lemmas.List.{append_assoc}
+use Rattle.std.proofs.lemmas.List.Sorted.{IsPermutation-sym, IsPermutation-trans, IsPermutation-to_front, IsPermutation-middle, IsPermutation-append_left, IsPermutation-append_right, IsPermutation-swap_remove}
+use Rattle.plane_search.specs.declared.queue.Open.{Open}
 
-length_push : (xs : List Open) (x : Open) → length (xs ++ x ∷ []) ≡ length xs + 1
-length_push [] x = refl
-length_push (y ∷ xs) x = omega (arith, length_push xs x)
+module _ (next later : List (Open ℕ)) (item : Open ℕ) where
+  -- an entry is appended to one of the lists
+  pub put_next : (items : List (Open ℕ)) → items ≡ next ++ item ∷ [] → IsPermutation (item ∷ (next ++ later)) (items ++ later)
+  put_next items is = rw is (IsPermutation-append_left later (item ∷ next) (next ++ item ∷ []) (IsPermutation-sym (next ++ item ∷ []) (item ∷ next) (IsPermutation-to_front next item)))
 
-pub no_entry : {xs : List Open} {item : Open} → xs ≡ [] → Contains xs item → ⊥
-no_entry e c = omega (arith, c.1, ap length e)
+  pub put_later : (items : List (Open ℕ)) → items ≡ later ++ item ∷ [] → IsPermutation (item ∷ (next ++ later)) (next ++ items)
+  put_later items is = rw is
+      (IsPermutation-trans (item ∷ (next ++ later)) (next ++ item ∷ later) (next ++ (later ++ item ∷ []))
+      (IsPermutation-sym (next ++ item ∷ later) (item ∷ (next ++ later)) (IsPermutation-middle next item later))
+      (IsPermutation-append_right next (item ∷ later) (later ++ item ∷ []) (IsPermutation-sym (later ++ item ∷ []) (item ∷ later) (IsPermutation-to_front later item))))
 
--- ---- one entry more
+  -- the last one is taken
+  pub taken : (items : List (Open ℕ)) → items ≡ next ++ item ∷ [] → IsPermutation (items ++ later) (item ∷ (next ++ later))
+  taken items is = rw is (IsPermutation-append_left later (next ++ item ∷ []) (item ∷ next) (IsPermutation-to_front next item))
 
-pub added_next : (next later : List Open) (item : Open) (items : List Open) → items ≡ next ++ item ∷ [] → IsAdded next later item items later
-added_next next later item items e = subst (λ (xs : List Open). IsAdded next later item xs later) (sym e) (record {
-  here = inl (Contains-push next item);
-  kept = λ other has. elim has [ inl c ↦ inl (Contains-append_left next (item ∷ []) other c) | inr c ↦ inr c ];
-  only = λ other has. elim has [
-    | inl c ↦ elim (Contains-push_cases next item other c) [ inl d ↦ inl (inl d) | inr same ↦ inr (sym same) ]
-    | inr c ↦ inl (inr c)
-  ];
-  size = omega (arith, length_push next item);
-})
+  -- an entry is moved from one list to the end of the other
+  pub moved : (index : ℕ) (items : List (Open ℕ)) → index < length later → item ≡ get_or later index item → items ≡ next ++ item ∷ [] → IsPermutation (next ++ later) (items ++ swap_remove later index item)
+  moved index items b at is =
+      let rest = swap_remove later index item in
+      rw (is, append_assoc next (item ∷ []) rest) (IsPermutation-append_right next later (item ∷ rest) (IsPermutation-swap_remove later index item b at))
 
-pub added_later : (next later : List Open) (item : Open) (items : List Open) → items ≡ later ++ item ∷ [] → IsAdded next later item next items
-added_later next later item items e = subst (λ (xs : List Open). IsAdded next later item next xs) (sym e) (record {
-  here = inr (Contains-push later item);
-  kept = λ other has. elim has [ inl c ↦ inl c | inr c ↦ inr (Contains-append_left later (item ∷ []) other c) ];
-  only = λ other has. elim has [
-    | inl c ↦ inl (inl c)
-    | inr c ↦ elim (Contains-push_cases later item other c) [ inl d ↦ inl (inr d) | inr same ↦ inr (sym same) ]
-  ];
-  size = omega (arith, length_push later item);
-})
-
--- ---- one entry less
-
-pub removed_next : (next later : List Open) (item : Open) (items : List Open) → items ≡ next ++ item ∷ [] → IsRemoved items later item next later
-removed_next next later item items e = subst (λ (xs : List Open). IsRemoved xs later item next later) (sym e) (record {
-  here = inl (Contains-push next item);
-  kept = λ other has. elim has [
-    | inl c ↦ elim (Contains-push_cases next item other c) [ inl d ↦ inl (inl d) | inr same ↦ inr (sym same) ]
-    | inr c ↦ inl (inr c)
-  ];
-  only = λ other has. elim has [ inl c ↦ inl (Contains-append_left next (item ∷ []) other c) | inr c ↦ inr c ];
-  size = omega (arith, length_push next item);
-})
-
--- ---- the same entries
-
-pub same_lists : (next later : List Open) → AreSame next later next later
-same_lists next later = record { kept = λ item has. has; only = λ item has. has; size = omega arith }
-
--- an entry is moved from one list to the end of the other
-pub same_moved : (next waiting : List Open) (index : ℕ) (item : Open) (items : List Open) → index < length waiting
-    → item ≡ get_or waiting index item → items ≡ next ++ item ∷ [] → AreSame next waiting items (swap_remove waiting index item)
-same_moved next waiting index item items b is e =
-    let rest = swap_remove waiting index item in
-    let moved = IsPermutation-swap_remove waiting index item b is in
-    subst (λ (xs : List Open). AreSame next waiting xs rest) (sym e) (record {
-      kept = λ other has. elim has [
-        | inl c ↦ inl (Contains-append_left next (item ∷ []) other c)
-        | inr c ↦ elim (Contains_cases item other rest (Contains-permutation waiting (item ∷ rest) other moved c)) [
-          | inl same ↦ inl (subst (λ (x : Open). Contains (next ++ item ∷ []) x) same (Contains-push next item))
-          | inr d ↦ inr d
-        ]
-      ];
-      only = λ other has. elim has [
-        | inl c ↦ elim (Contains-push_cases next item other c) [
-          | inl d ↦ inl d
-          | inr same ↦ inr (subst (λ (x : Open). Contains waiting x) same (subst (λ (x : Open). Contains waiting x) (sym is) (Contains-get_or waiting index item b)))
-        ]
-        | inr c ↦ inr (Contains-permutation (item ∷ rest) waiting other (IsPermutation-sym waiting (item ∷ rest) moved) (Contains_further item other rest c))
-      ];
-      size = omega (arith, length_push next item, length_permutation waiting (item ∷ rest) moved);
-    })
-
-pub same_on : {next later new_next new_later last_next last_later : List Open} → AreSame next later new_next new_later → AreSame new_next new_later last_next last_later → AreSame next later last_next last_later
-same_on first second = record {
-  kept = λ item has. second.kept item (first.kept item has);
-  only = λ item has. first.only item (second.only item has);
-  size = omega (arith, first.size, second.size);
-}
-
--- ---- as the pass does it
-
-pub added_put : {next later new_next new_later : List Open} {item : Open} → IsPut item next later new_next new_later → IsAdded next later item new_next new_later
-added_put {next} {later} {new_next} {new_later} {item} (inl put) = subst (λ (xs : List Open). IsAdded next later item new_next xs) (sym put.1) (added_next next later item new_next put.0)
-added_put {next} {later} {new_next} {new_later} {item} (inr put) = subst (λ (xs : List Open). IsAdded next later item xs new_later) (sym put.0) (added_later next later item new_later put.1)
+-- the last one, if there is one
+pub took : (old next later rest : List (Open ℕ)) (last : Option (Open ℕ)) → IsPermutation old (next ++ later) → next ≡ rest ++ option_to_list last → IfSome last (λ item. IsPermutation old (item ∷ (rest ++ later)))
+took old next later rest None same is = tt
+took old next later rest (Some item) same is = IsPermutation-trans old (next ++ later) (item ∷ (rest ++ later)) same (taken rest later item next is)

@@ -10,4 +10,6 @@ mod Entries
 mod Reaching
 mod Sorting
 mod Bests
+mod Staying
+mod Nearest
 mod Rankings

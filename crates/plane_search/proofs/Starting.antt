@@ -1,5 +1,5 @@
 -- Walks from one start after another, and what they find.
-use Rattle.std.proofs.Common.{◌≡◌, ◌≢◌, ℕ, ◌+◌, ◌^◌, ◌<◌, ◌≤◌, List, [], ◌∷◌, length, map, get_or, arith, ◌∙◌, inl, inr, sym, subst}
+use Rattle.std.proofs.Common.{◌≡◌, ◌≢◌, ℕ, ◌+◌, ◌<◌, ◌≤◌, List, [], ◌∷◌, length, map, get_or, arith, ◌∙◌, inl, inr, sym, subst}
 use Rattle.std.specs.List.{sum_by, All, Contains}
 use Rattle.std.specs.List.Sorted.{IsNonDecreasing}
 use Rattle.std.specs.Ordering.{nat_cmp}
@@ -28,16 +28,16 @@ rising_ends xs list base e is rises len l k b less = elim (cases_lt k e) [
 ]
 
 -- no place was entered yet
-pub nothing_entered : (g : Graph) (goal best : ℕ) (costs : List ℕ) → g.count ≤ length costs → All (λ cost. 2 ^ 16 ≤ cost) costs → IsBetween g goal best costs
-nothing_entered g goal best costs room all = record {
+pub nothing_entered : (g : Graph) (span goal best : ℕ) (costs : List ℕ) → g.count ≤ length costs → All (λ cost. span ≤ cost) costs → IsBetween g span goal best costs
+nothing_entered g span goal best costs room all = record {
   room = room;
   least = λ node b small. absurd (omega (arith, small, all node 0 (omega (arith, b, room))));
   done = λ node b small. absurd (omega (arith, small, all node 0 (omega (arith, b, room))));
 }
 
 -- no place was reached yet
-pub nothing_reached : (g : Graph) (places goal best : ℕ) (costs : List ℕ) → places ≤ length costs → All (λ cost. 2 ^ 16 ≤ cost) costs → ArePruned g places goal best costs
-nothing_reached g places goal best costs room all = record { room = room; least = λ node b small. absurd (omega (arith, small, all node 0 (omega (arith, b, room)))) }
+pub nothing_reached : (g : Graph) (span places goal best : ℕ) (costs : List ℕ) → places ≤ length costs → All (λ cost. span ≤ cost) costs → ArePruned g span places goal best costs
+nothing_reached g span places goal best costs room all = record { room = room; least = λ node b small. absurd (omega (arith, small, all node 0 (omega (arith, b, room)))) }
 
 -- a path from the starts is dearer than what is less than all of them
 pub beyond : (g : Graph) (goal best most : ℕ) (starts : List ℕ) → AreNoCheaper g goal best starts → most < best → (path : List ℕ) → IsPath g starts goal path → most < cost_of g path

@@ -1,5 +1,5 @@
 -- A walk whose stops are the way that is being tried.
-use Rattle.std.proofs.Common.{◌≡◌, ◌≢◌, ℕ, refl, ◌+◌, ◌-◌, ◌^◌, ◌<◌, ◌≤◌, ◌⊎◌, Option, Some, None, IfNone, List, [], ◌∷◌, ◌++◌, length, reverse, get_or, set, arith, ◌∙◌, inl, inr, sym, ap, subst, length-set}
+use Rattle.std.proofs.Common.{◌≡◌, ◌≢◌, ℕ, refl, ◌+◌, ◌-◌, ◌<◌, ◌≤◌, ◌⊎◌, Option, Some, None, IfNone, List, [], ◌∷◌, ◌++◌, length, reverse, get_or, set, arith, ◌∙◌, inl, inr, sym, ap, subst, length-set}
 use Rattle.std.specs.List.{sum_by, Contains}
 use Rattle.std.specs.Option.{option_to_list}
 use Rattle.std.specs.Ordering.{nat_cmp}
@@ -54,10 +54,10 @@ IsTried g goal best start [] = CostsMore g goal best start 0
 IsTried g goal best start (stop ∷ below) = AreDear g goal best stop stop.next_edge
 
 -- the walk before it takes the last stop
-pub record IsOnWay (g : Graph) (goal best start : ℕ) (costs : List ℕ) (stops : List Stop) : Type 0 where
+pub record IsOnWay (g : Graph) (span goal best start : ℕ) (costs : List ℕ) (stops : List Stop) : Type 0 where
   pub trail : IsTrail g goal best start stops
   pub tried : IsTried g goal best start stops
-  pub walking : IsWalking g goal best costs stops
+  pub walking : IsWalking g span goal best costs stops
 
 pub end_within : (g : Graph) → IsLawful g → (node end : ℕ) → node < g.count → Contains (g.ends node) end → end < g.count
 end_within g law node end b c = All-contains (λ (x : ℕ). x < g.count) (g.ends node) end (law.ends_below node b) c
@@ -113,10 +113,10 @@ pub path_of : (xs : List Stop) (rest : List ℕ) → onto (reverse xs) rest ≡ 
 path_of [] rest = refl
 path_of (stop ∷ xs) rest = rw (reverse-append (stop ∷ []) xs, onto-append (reverse xs) (stop ∷ []) rest) (ap (λ z. stop.place ∷ z) (path_of xs rest))
 
-module _ {g : Graph} {goal best start : ℕ} (law : IsLawful g) (few : best < 2 ^ 16) where
+module _ {g : Graph} {span goal best start : ℕ} (law : IsLawful g) (few : best < span) where
   -- ---- the ends of the last stop's edges
 
-  module _ (costs : List ℕ) (stop : Stop) (below : List Stop) (w : IsOnWay g goal best start costs (stop ∷ below)) where
+  module _ (costs : List ℕ) (stop : Stop) (below : List Stop) (w : IsOnWay g span goal best start costs (stop ∷ below)) where
     at_end : (k : ℕ) → k < length (g.ends stop.place) → get_or (g.ends stop.place) k 0 < g.count
     at_end k l = end_within g law stop.place (get_or (g.ends stop.place) k 0) w.trail.0.within (Contains-get_or (g.ends stop.place) k 0 l)
 
@@ -128,7 +128,7 @@ module _ {g : Graph} {goal best start : ℕ} (law : IsLawful g) (few : best < 2 
         let x : ℕ = get_or (g.ends stop.place) k 0 in
         let b : x < g.count = at_end k l in
         let c : ℕ = stop.cost + g.cost x in
-        elim (cases_lt (get_or costs x 0) (2 ^ 16)) [
+        elim (cases_lt (get_or costs x 0) span) [
           | inr big ↦ above g goal best x c (omega (arith, big, entered, few))
           | inl small ↦ elim (w.walking.done x b small) [
             | inl i ↦ (let low = below_last g goal best start stop below x (get_or costs x 0) w.trail i in
@@ -165,7 +165,7 @@ module _ {g : Graph} {goal best start : ℕ} (law : IsLawful g) (few : best < 2 
     ]
 
     -- The stop is left for good.
-    pub goes_back : AreUnfit g goal best costs stop stop.next_edge (length (g.ends stop.place)) → IsOnWay g goal best start costs below
+    pub goes_back : AreUnfit g goal best costs stop stop.next_edge (length (g.ends stop.place)) → IsOnWay g span goal best start costs below
     goes_back unfit =
         let more = exhausted unfit in
         record {
@@ -207,7 +207,7 @@ module _ {g : Graph} {goal best start : ℕ} (law : IsLawful g) (few : best < 2 
       }
 
       -- The stop is put back, and the end of its edge is entered.
-      pub goes_on : step.place ≢ goal → IsOnWay g goal best start (set costs step.place step.cost) (stop_at step.place step.cost ∷ after_step stop step ∷ below)
+      pub goes_on : step.place ≢ goal → IsOnWay g span goal best start (set costs step.place step.cost) (stop_at step.place step.cost ∷ after_step stop step ∷ below)
       goes_on other =
           let room : step.place < length costs = omega (arith, step_within, w.walking.room) in
           record {
@@ -272,7 +272,7 @@ module _ {g : Graph} {goal best start : ℕ} (law : IsLawful g) (few : best < 2 
             (λ q. least xs (subst (λ (v : ℕ). Leads g goal v xs) q l.1) (omega (arith, e, f.sum, sum_by-cons g.cost x xs, ap g.cost q)))
       ]
 
-  pub completes : (costs : List ℕ) (stop : Stop) (below : List Stop) (w : IsOnWay g goal best start costs (stop ∷ below)) (step : Step) (next : IsNext g goal best costs stop step)
+  pub completes : (costs : List ℕ) (stop : Stop) (below : List Stop) (w : IsOnWay g span goal best start costs (stop ∷ below)) (step : Step) (next : IsNext g goal best costs stop step)
       → step.place ≡ goal → IsLeastFrom g goal best start (onto (stop ∷ below) (goal ∷ []))
   completes costs stop below w step next e =
       let sum : step.cost ≡ best = at_goal costs stop below w step next e in
@@ -282,7 +282,7 @@ module _ {g : Graph} {goal best start : ℕ} (law : IsLawful g) (few : best < 2 
       (λ other leads total. no_further costs stop below w step next other leads (omega (arith, total, sum)) b)
 
   -- the path over the stops, after the last one was put back
-  pub completed : (costs : List ℕ) (stop : Stop) (below items : List Stop) (step : Step) → items ≡ below ++ after_step stop step ∷ [] → IsOnWay g goal best start costs (stop ∷ reverse below) → IsNext g goal best costs stop step
+  pub completed : (costs : List ℕ) (stop : Stop) (below items : List Stop) (step : Step) → items ≡ below ++ after_step stop step ∷ [] → IsOnWay g span goal best start costs (stop ∷ reverse below) → IsNext g goal best costs stop step
       → step.place ≡ goal → IsLeastFrom g goal best start (places_in items ++ goal ∷ [])
   completed costs stop below items step is w next e =
       let top : onto (stop ∷ reverse below) (goal ∷ []) ≡ onto (reverse (below ++ after_step stop step ∷ [])) (goal ∷ []) = ap (λ (xs : List Stop). onto xs (goal ∷ [])) (sym (reverse-push (after_step stop step) below)) in
@@ -316,9 +316,9 @@ fewer items below (Some stop) is = omega (arith, ap (λ (xs : List Stop). length
 
 -- ---- the first stop
 
-pub begins : {g : Graph} {goal best start : ℕ} (costs : List ℕ) → 1 ≤ best → start < g.count → CostsAtLeast g goal best start 0 → IsBetween g goal best costs
-    → IsOnWay g goal best start (set costs start 0) (stop_at start 0 ∷ [])
-begins {g} {goal} {best} {start} costs some b least w =
+pub begins : {g : Graph} {span goal best start : ℕ} (costs : List ℕ) → 1 ≤ best → start < g.count → CostsAtLeast g goal best start 0 → IsBetween g span goal best costs
+    → IsOnWay g span goal best start (set costs start 0) (stop_at start 0 ∷ [])
+begins {g} {span} {goal} {best} {start} costs some b least w =
     let room : start < length costs = omega (arith, b, w.room) in
     let other : start ≢ goal = λ e. absurd (omega (arith, some, least [] e)) in
     record {

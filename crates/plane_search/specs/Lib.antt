@@ -4,3 +4,4 @@ pub mod Best
 pub mod Ranking
 pub mod Walk
 pub mod Reach
+pub mod Heap

@@ -1,5 +1,5 @@
 -- Private: a walk through a graph along ways that may have exactly a given cost.
-use Rattle.std.proofs.Common.{◌≡◌, ◌≢◌, ℕ, ◌+◌, ◌*◌, ◌-◌, ◌^◌, ◌<◌, ◌≤◌, ◌⊎◌, List, [], ◌∷◌, Some, length, get_or, map}
+use Rattle.std.proofs.Common.{◌≡◌, ◌≢◌, ℕ, ◌+◌, ◌-◌, ◌<◌, ◌≤◌, ◌⊎◌, List, [], ◌∷◌, Some, length, get_or, map}
 use Rattle.std.specs.List.{sum_by, All, Contains}
 use Rattle.std.specs.Ordering.{nat_cmp}
 use Rattle.std.specs.Cmp.Lexicographic.{slice_cmp}
@@ -13,18 +13,16 @@ use Rattle.plane_search.specs.declared.walk.Step.{Step}
 
 -- ---- marks
 
--- the greatest cell of a walk
-abbrev pub top_cell : ℕ → ℕ
-top_cell number = number * 2 ^ 16 + 2 ^ 16 - 1
+-- the costs at which the places were entered, from the numbers in their cells
+abbrev pub costs_of : {C : Type 0} → (C → ℕ) → ℕ → List C → List ℕ
+costs_of number top cells = map (λ cell. top - number cell) cells
 
--- the costs at which the places were entered, from their cells; 2^16 or more if they were not
-abbrev pub costs_of : ℕ → List ℕ → List ℕ
-costs_of number cells = map (λ cell. top_cell number - cell) cells
-
--- No cell is greater than those of the walk.
-pub record AreCells (number : ℕ) (cells : List ℕ) : Type 0 where
-  pub few : number < 2 ^ 16
-  pub low : All (λ cell. cell ≤ top_cell number) cells
+-- No cell is greater than the greatest one of the walk, which leaves room for the costs that are
+-- marked.
+pub record AreCells {C : Type 0} (span last : ℕ) (number : C → ℕ) (top : ℕ) (cells : List C) : Type 0 where
+  pub room : span ≤ top
+  pub few : top ≤ last
+  pub low : All (λ cell. number cell ≤ top) cells
 
 -- ---- ways
 
@@ -41,9 +39,9 @@ CostsMore g goal best node cost = (rest : List ℕ) → Leads g goal node rest
     → best < cost + sum_by g.cost rest
 
 -- No path over a place that was reached costs less than the best, at the cost at which it was.
-pub record ArePruned (g : Graph) (places goal best : ℕ) (reached : List ℕ) : Type 0 where
+pub record ArePruned (g : Graph) (span places goal best : ℕ) (reached : List ℕ) : Type 0 where
   pub room : places ≤ length reached
-  pub least : (node : ℕ) → node < places → get_or reached node 0 < 2 ^ 16
+  pub least : (node : ℕ) → node < places → get_or reached node 0 < span
       → CostsAtLeast g goal best node (get_or reached node 0)
 
 -- The node was entered at this cost or less, or is too dear.
@@ -90,17 +88,17 @@ IsStop (stop ∷ below) node cost = ((stop.place ≡ node) × (stop.cost ≡ cos
 
 -- A place that was entered is a stop, or too dear at the cost at which it was entered; and no path
 -- over it costs less than the best.
-pub record IsWalking (g : Graph) (goal best : ℕ) (entered : List ℕ) (stops : List Stop) : Type 0 where
+pub record IsWalking (g : Graph) (span goal best : ℕ) (entered : List ℕ) (stops : List Stop) : Type 0 where
   pub room : g.count ≤ length entered
-  pub least : (node : ℕ) → node < g.count → get_or entered node 0 < 2 ^ 16
+  pub least : (node : ℕ) → node < g.count → get_or entered node 0 < span
       → CostsAtLeast g goal best node (get_or entered node 0)
-  pub done : (node : ℕ) → node < g.count → get_or entered node 0 < 2 ^ 16
+  pub done : (node : ℕ) → node < g.count → get_or entered node 0 < span
       → IsStop stops node (get_or entered node 0)
       ⊎ CostsMore g goal best node (get_or entered node 0)
 
 -- Walks may begin: no place is a stop.
-abbrev pub IsBetween : Graph → ℕ → ℕ → List ℕ → Type 0
-IsBetween g goal best entered = IsWalking g goal best entered []
+abbrev pub IsBetween : Graph → ℕ → ℕ → ℕ → List ℕ → Type 0
+IsBetween g span goal best entered = IsWalking g span goal best entered []
 
 -- The path is the least of those from the start that have the best cost.
 pub record IsLeastFrom (g : Graph) (goal best start : ℕ) (path : List ℕ) : Type 0 where

@@ -11,15 +11,19 @@
 //! one is known beforehand: the path that a net had before. If not, the least path of one plane is
 //! found first.
 //!
-//! In a plane, a pass finds what the least path costs at least, and a walk along ways that may cost
-//! just that finds it. If a plane's bound may be that cost, the walk comes first.
+//! In a plane, a pass finds what the least path costs, and a walk along ways that may cost just
+//! that finds it. If a plane's bound may be that cost, the walk comes first. Costs below 2^16 are
+//! marked in narrow cells. Where paths are dearer, the same pass and walk use wide cells.
 #![tactic(auto)]
 
+mod finder;
+mod heap;
+mod levels;
 mod marks;
 mod planes;
+mod queue;
 mod ranking;
 mod reach;
-mod roads;
 mod search;
 mod walk;
 

@@ -1,35 +1,40 @@
 //! A search of one plane at a time.
-ghost use Rattle.std.specs.Prelude.{◌≡◌, ℕ, ◌+◌, ◌<◌, ◌≤◌, ◌^◌, [], true, false, All, Some, None, Ok, IfOk, OnOk, map, length, List, Contains};
+ghost use Rattle.std.specs.Prelude.{◌≡◌, ℕ, ◌<◌, ◌≤◌, ◌^◌, ◌∷◌, [], true, false, All, Some, None, Ok, IfOk, OnOk, map, length, List, Contains};
 ghost use Rattle.std.specs.Bool.{MatchBool};
 ghost use Rattle.std.specs.List.Sorted.{IsNonDecreasing};
 ghost use Rattle.std.specs.Ordering.{nat_cmp, ordering_then};
 ghost use Rattle.std.specs.Cmp.Lexicographic.{slice_cmp};
 ghost use Rattle.std.specs.declared.cmp.Ordering.TheVariants.{Less};
-ghost use Rattle.plane_search.specs.Planes.{IsPlace, IsPlaneBound, IsKnown, HoldsNothingLess, IsLeastOfTrack};
+ghost use Rattle.plane_search.specs.Planes.{IsPlace, IsKnown, HoldsNothingLess, IsLeastOfTrack};
 ghost use Rattle.plane_search.specs.Starts.{AreStarts, places_of};
-ghost use Rattle.plane_search.specs.Walk.{ArePruned, AreNoCheaper};
+ghost use Rattle.plane_search.specs.Walk.{AreNoCheaper};
 ghost use Rattle.plane_search.specs.Best.{HoldsNone, HoldsNothingBeyond, Improves, IsNoLater, AreListed, IsLeastOn, IsLeastIn, HasNoneWithin};
 ghost use Rattle.least_path.specs.LeastPath.{HasNoPath};
 
-use crate::marks::UNMARKED;
+use crate::finder::Finder;
+use crate::heap::Heap;
+use crate::levels::Levels;
+use crate::marks::Cell;
 use crate::planes::{Planes, Start};
-use crate::reach::{Reach, View};
-use crate::roads::PlaneRoads;
-use crate::walk::{Aim, Walk};
-use least_path::{Path, Search};
+use crate::reach::View;
+use least_path::{Path, least_path_law};
 use std::alloc::{AllocError, Global};
 use std::mem;
+
+/// The near search finds paths that cost less than this.
+const NEAR: u64 = <u32 as Cell>::SPAN;
+
+/// The far search finds paths that cost less than this, as each least path does.
+const FAR: u64 = <u64 as Cell>::SPAN;
 
 /// Searches one plane at a time, and reuses its memory from one to the next.
 #[derive(Drop)]
 pub(crate) struct TrackSearch {
-    search: Search,
-    walk: Walk,
-    reach: Reach,
+    near: Finder<u32, Levels>,
+    /// For paths that cost more.
+    far: Finder<u64, Heap>,
     /// The starts of the search of a plane, in rising order.
     starts: Vec<Start>,
-    /// Their places.
-    places: Vec<usize>,
     /// The path that was found in it.
     found: Path,
 }
@@ -45,14 +50,27 @@ fn number_nodes<P: Planes>(planes: &P, track: usize, nodes: &mut Vec<usize>)
     }
 }
 
-/// Lists the places of the starts.
-fn list_places(starts: &[Start], places: &mut Vec<usize>) -> Result<(), AllocError>
-    ensures { OnOk result (places.new.items ≡ places_of starts.now) }
+/// Whether one of the starts is at this place.
+fn is_start(starts: &[Start], place: usize) -> bool
+    ensures { MatchBool result (Contains (places_of starts.now) place)
+        (Contains (places_of starts.now) place → ⊥) }
 {
-    places.clear();
     for start in starts {
-        places.push(start.place)?;
+        if start.place == place {
+            return true;
+        }
     }
+    false
+}
+
+/// Replaces the path by one that has only this place.
+fn stay_at(place: usize, path: &mut Path) -> Result<(), AllocError>
+    ensures nodes { OnOk result (path.new.nodes.items ≡ place ∷ []) }
+    ensures cost { OnOk result (path.new.cost ≡ 0) }
+{
+    path.nodes.clear();
+    path.nodes.push(place)?;
+    path.cost = 0;
     Ok(())
 }
 
@@ -93,11 +111,9 @@ impl TrackSearch {
     pub(crate) fn new(alloc: Global) -> Self {
         let nodes = Vec::new(alloc);
         TrackSearch {
-            search: Search::new(alloc),
-            walk: Walk::new(alloc),
-            reach: Reach::new(alloc),
+            near: Finder::new(alloc, Levels::new(alloc)),
+            far: Finder::new(alloc, Heap::new(alloc)),
             starts: Vec::new(alloc),
-            places: Vec::new(alloc),
             found: Path { nodes, cost: 0 },
         }
     }
@@ -122,35 +138,22 @@ impl TrackSearch {
         Ok(true)
     }
 
-    /// Finds the least path of a plane, by places.
+    /// Finds the least path of a plane, by places: first among those that cost little.
     fn find_first<P: Planes>(&mut self, planes: &P, track: usize) -> Result<bool, AllocError>
         requires { track < (P.family planes.now).tracks }
         ensures found { result ≡ Ok true → IsLeastOn (P.family planes.now) track
             ((P.family planes.now).entries track) self.new.found }
         ensures none { result ≡ Ok false → HoldsNone (P.family planes.now) track }
     {
-        if self.find_cheap(planes, track)? {
+        least_path_law();
+        let _tracks = planes.tracks();
+        let most = NEAR - 2;
+        self.list_in_order(planes, track, most)?;
+        if self.find(planes, track, most)? {
             return Ok(true);
         }
         self.list_in_order(planes, track, u64::MAX)?;
-        self.find_any(planes, track)
-    }
-
-    /// Finds the least path of a plane, by places, if its cost can be marked.
-    fn find_cheap<P: Planes>(&mut self, planes: &P, track: usize) -> Result<bool, AllocError>
-        requires { track < (P.family planes.now).tracks }
-        ensures { result ≡ Ok true → IsLeastOn (P.family planes.now) track
-            ((P.family planes.now).entries track) self.new.found }
-    {
-        let most = UNMARKED - 2;
-        self.list_in_order(planes, track, most)?;
-        if !self.find(planes, track, most)? {
-            return Ok(false);
-        }
-        if most < self.found.cost {
-            return Ok(false);
-        }
-        Ok(true)
+        self.find(planes, track, u64::MAX)
     }
 
     /// Goes on with one more plane: replaces `path` by the least path of the plane if that is less.
@@ -225,43 +228,44 @@ impl TrackSearch {
     /// `most`, returns `false`.
     fn find<P: Planes>(&mut self, planes: &P, track: usize, most: u64) -> Result<bool, AllocError>
         requires track { track < (P.family planes.now).tracks }
-        requires listed { AreListed (P.family planes.now) track most self.old.starts.items }
+        requires listed { (limit : ℕ) × AreListed (P.family planes.now) track limit
+            self.old.starts.items }
         ensures found { result ≡ Ok true → IsLeastOn (P.family planes.now) track
             (places_of self.old.starts.items) self.new.found }
+        ensures within { result ≡ Ok true → self.new.found.cost ≤ most }
         ensures none { result ≡ Ok false → HasNoneWithin (P.family planes.now) track
             (places_of self.old.starts.items) most }
     {
         let _tracks = planes.tracks();
         let bound = planes.bound(track);
-        if most < bound {
-            return Ok(false);
+        if bound > 0 {
+            return self.find_from(planes, track, bound, most);
         }
-        if bound == 0 || UNMARKED - 2 < most {
-            return self.find_any(planes, track);
-        }
-        self.reach.forget(planes.places())?;
-        if self.find_at(planes, track, bound)? {
+        let exit = planes.exit();
+        if is_start(&self.starts, exit) {
+            stay_at(exit, &mut self.found)?;
             return Ok(true);
         }
-        if most == bound {
-            return Ok(false);
-        }
-        self.find_reached(planes, track, most)
+        self.find_from(planes, track, 1, most)
     }
 
-    /// Does as `find` does: finds first what the least path costs.
-    fn find_reached<P: Planes>(
+    /// Does as `find` does. No path may cost less than `bound`.
+    fn find_from<P: Planes>(
         &mut self,
         planes: &P,
         track: usize,
+        bound: u64,
         most: u64,
     ) -> Result<bool, AllocError>
         requires track { track < (P.family planes.now).tracks }
-        requires listed { AreListed (P.family planes.now) track most self.old.starts.items }
-        requires some { IsPlaneBound (P.family planes.now) track 1 }
-        requires few { most + 1 < 2 ^ 16 }
+        requires listed { (limit : ℕ) × AreListed (P.family planes.now) track limit
+            self.old.starts.items }
+        requires least { AreNoCheaper ((P.family planes.now).plane track) (P.family planes.now).exit
+            bound (places_of self.old.starts.items) }
+        requires some { 1 ≤ bound }
         ensures found { result ≡ Ok true → IsLeastOn (P.family planes.now) track
             (places_of self.old.starts.items) self.new.found }
+        ensures within { result ≡ Ok true → self.new.found.cost ≤ most }
         ensures none { result ≡ Ok false → HasNoneWithin (P.family planes.now) track
             (places_of self.old.starts.items) most }
     {
@@ -271,67 +275,36 @@ impl TrackSearch {
             track,
             exit: planes.exit(),
         };
-        let least = self.reach.least_cost(&view, &self.starts, most)?;
-        if most < least {
-            return Ok(false);
+        if most < NEAR - 1 {
+            return self
+                .near
+                .find(&view, &self.starts, bound, most, &mut self.found);
         }
-        if least == 0 {
-            return self.find_any(planes, track);
+        if most < FAR - 1 {
+            return self
+                .far
+                .find(&view, &self.starts, bound, most, &mut self.found);
         }
-        if self.find_at(planes, track, least)? {
-            return Ok(true);
-        }
-        self.find_any(planes, track)
+        self.find_far(&view, bound)
     }
 
-    /// Finds the least path of a plane from the listed starts, by places, if it has this cost; no
-    /// path may cost less.
-    fn find_at<P: Planes>(
-        &mut self,
-        planes: &P,
-        track: usize,
-        best: u64,
-    ) -> Result<bool, AllocError>
-        requires track { track < (P.family planes.now).tracks }
-        requires listed { (most : ℕ) × AreListed (P.family planes.now) track most
-            self.old.starts.items }
-        requires least { AreNoCheaper ((P.family planes.now).plane track) (P.family planes.now).exit
-            best (places_of self.old.starts.items) }
-        requires some { 1 ≤ best }
-        requires few { best < 2 ^ 16 }
-        requires pruned { ArePruned ((P.family planes.now).plane track) (P.family planes.now).places
-            (P.family planes.now).exit best self.old.reach.marks }
-        ensures found { result ≡ Ok true → IsLeastOn (P.family planes.now) track
+    /// Does as `find_from` does, for any costs.
+    fn find_far<P: Planes>(&mut self, view: &View<'_, P>, bound: u64) -> Result<bool, AllocError>
+        requires listed { (limit : ℕ) × AreListed (P.family view.now.planes.now) view.now.track
+            limit self.old.starts.items }
+        requires least { AreNoCheaper ((P.family view.now.planes.now).plane view.now.track)
+            (P.family view.now.planes.now).exit bound (places_of self.old.starts.items) }
+        requires some { 1 ≤ bound }
+        ensures found { result ≡ Ok true → IsLeastOn (P.family view.now.planes.now) view.now.track
             (places_of self.old.starts.items) self.new.found }
-        ensures none { result ≡ Ok false → HasNoneWithin (P.family planes.now) track
-            (places_of self.old.starts.items) best }
-        ensures starts { self.new.starts ≡ self.old.starts }
+        ensures within { result ≡ Ok true → self.new.found.cost < 2 ^ 59 }
+        ensures none { result ≡ Ok false → HasNoPath
+            ((P.family view.now.planes.now).plane view.now.track)
+            (places_of self.old.starts.items) (P.family view.now.planes.now).exit }
     {
-        let _tracks = planes.tracks();
-        let aim = Aim {
-            planes,
-            track,
-            exit: planes.exit(),
-            best,
-            reached: &self.reach.marks,
-        };
-        self.walk.least_into(&aim, &self.starts, &mut self.found)
-    }
-
-    /// Finds the least path of a plane from the listed starts.
-    fn find_any<P: Planes>(&mut self, planes: &P, track: usize) -> Result<bool, AllocError>
-        requires track { track < (P.family planes.now).tracks }
-        requires listed { (most : ℕ) × AreListed (P.family planes.now) track most
-            self.old.starts.items }
-        ensures found { result ≡ Ok true → IsLeastOn (P.family planes.now) track
-            (places_of self.old.starts.items) self.new.found }
-        ensures none { result ≡ Ok false → HasNoPath ((P.family planes.now).plane track)
-            (places_of self.old.starts.items) (P.family planes.now).exit }
-    {
-        let _tracks = planes.tracks();
-        list_places(&self.starts, &mut self.places)?;
-        let roads = PlaneRoads { planes, track };
-        self.search
-            .least_into(&roads, &self.places, planes.exit(), &mut self.found)
+        least_path_law();
+        let _tracks = view.planes.tracks();
+        self.far
+            .find(view, &self.starts, bound, FAR - 2, &mut self.found)
     }
 }

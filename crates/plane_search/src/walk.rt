@@ -13,7 +13,7 @@ ghost use Rattle.least_path.specs.LowerBound.{IsLowerBound};
 ghost use Rattle.plane_search.specs.Starts.{places_of};
 ghost use Rattle.plane_search.specs.Walk.{ArePruned, IsFit, IsUnfit, IsNext, AreUnfit, IsWalking, IsBetween, IsLeastFrom, CostsAtLeast, CostsMore, AreNoCheaper, AreBoundedStarts, places_in, stop_at, after_step};
 
-use crate::marks::Marks;
+use crate::marks::{Cell, Marks};
 use crate::planes::{Planes, Start};
 use least_path::Path;
 use std::alloc::{AllocError, Global};
@@ -40,34 +40,34 @@ struct Step {
 
 /// A plane, and the cost of the paths that are looked for in it.
 #[derive(Drop)]
-pub(crate) struct Aim<'a, P: Planes> {
+pub(crate) struct Aim<'a, P: Planes, C: Cell> {
     pub(crate) planes: &'a P,
     pub(crate) track: usize,
     pub(crate) exit: usize,
     pub(crate) best: u64,
     /// The least costs of ways to places, as far as they are known.
-    pub(crate) reached: &'a Marks,
+    pub(crate) reached: &'a Marks<C>,
     ghost on: { track < (P.family planes.now).tracks },
     ghost to: { exit ≡ (P.family planes.now).exit },
     ghost some: { 1 ≤ best },
-    ghost few: { best < 2 ^ 16 },
-    ghost pruned: { ArePruned ((P.family planes.now).plane track) (P.family planes.now).places
+    ghost few: { best < C.SPAN },
+    ghost pruned: { ArePruned ((P.family planes.now).plane track) C.SPAN (P.family planes.now).places
         (P.family planes.now).exit best reached.now },
 }
 
 /// A walk that reuses its memory from one plane to the next.
 #[derive(Drop)]
-pub(crate) struct Walk {
-    marks: Marks,
+pub(crate) struct Walk<C: Cell> {
+    marks: Marks<C>,
     stops: Vec<Stop>,
 }
 
 /// The cost at which the place may be entered from a stop that was reached at cost `before`, if a
 /// path of the wanted cost may lead over it.
 #[inline(always)]
-fn fitting_cost<P: Planes>(
-    marks: &Marks,
-    aim: &Aim<'_, P>,
+fn fitting_cost<P: Planes, C: Cell>(
+    marks: &Marks<C>,
+    aim: &Aim<'_, P, C>,
     place: usize,
     before: u64,
 ) -> Option<u64>
@@ -104,7 +104,7 @@ fn fitting_cost<P: Planes>(
 /// The first step from the stop, from its next edge on, over which a path of the wanted cost may
 /// lead.
 #[inline(always)]
-fn next_step<P: Planes>(marks: &Marks, aim: &Aim<'_, P>, stop: Stop) -> Option<Step>
+fn next_step<P: Planes, C: Cell>(marks: &Marks<C>, aim: &Aim<'_, P, C>, stop: Stop) -> Option<Step>
     requires place { stop.place < (P.family aim.now.planes.now).places }
     requires room { (P.family aim.now.planes.now).places ≤ length marks.now }
     requires cost { stop.cost ≤ aim.now.best }
@@ -127,7 +127,7 @@ fn next_step<P: Planes>(marks: &Marks, aim: &Aim<'_, P>, stop: Stop) -> Option<S
     None
 }
 
-impl Walk {
+impl<C: Cell> Walk<C> {
     /// A walk without memory yet.
     pub(crate) fn new(alloc: Global) -> Self {
         Walk {
@@ -140,7 +140,7 @@ impl Walk {
     /// wanted cost, and returns whether there is one. No path may cost less.
     pub(crate) fn least_into<P: Planes>(
         &mut self,
-        aim: &Aim<'_, P>,
+        aim: &Aim<'_, P, C>,
         starts: &[Start],
         path: &mut Path,
     ) -> Result<bool, AllocError>
@@ -156,6 +156,7 @@ impl Walk {
             (P.family aim.now.planes.now).exit path.new.nodes.items }
         ensures cost { result ≡ Ok true → path.new.cost
             ≡ cost_of ((P.family aim.now.planes.now).plane aim.now.track) path.new.nodes.items }
+        ensures best { result ≡ Ok true → path.new.cost ≡ aim.now.best }
         ensures none { result ≡ Ok false → (start : ℕ) → Contains (places_of starts.now) start →
             CostsMore ((P.family aim.now.planes.now).plane aim.now.track)
             (P.family aim.now.planes.now).exit aim.now.best start 0 }
@@ -174,13 +175,17 @@ impl Walk {
 
     /// Walks on from a start if a path of the wanted cost may begin there.
     #[inline(always)]
-    fn try_start<P: Planes>(&mut self, aim: &Aim<'_, P>, start: Start) -> Result<bool, AllocError>
+    fn try_start<P: Planes>(
+        &mut self,
+        aim: &Aim<'_, P, C>,
+        start: Start,
+    ) -> Result<bool, AllocError>
         requires start { start.place < (P.family aim.now.planes.now).places }
         requires bounded { IsLowerBound ((P.family aim.now.planes.now).plane aim.now.track)
             (P.family aim.now.planes.now).exit start.place (Some start.ahead) }
         requires least { CostsAtLeast ((P.family aim.now.planes.now).plane aim.now.track)
             (P.family aim.now.planes.now).exit aim.now.best start.place 0 }
-        requires between { IsBetween ((P.family aim.now.planes.now).plane aim.now.track)
+        requires between { IsBetween ((P.family aim.now.planes.now).plane aim.now.track) C.SPAN
             (P.family aim.now.planes.now).exit aim.now.best self.old.marks }
         ensures found { result ≡ Ok true →
             IsLeastFrom ((P.family aim.now.planes.now).plane aim.now.track)
@@ -190,7 +195,7 @@ impl Walk {
             CostsMore ((P.family aim.now.planes.now).plane aim.now.track)
             (P.family aim.now.planes.now).exit aim.now.best start.place 0 }
         ensures between { result ≡ Ok false →
-            IsBetween ((P.family aim.now.planes.now).plane aim.now.track)
+            IsBetween ((P.family aim.now.planes.now).plane aim.now.track) C.SPAN
             (P.family aim.now.planes.now).exit aim.now.best self.new.marks }
     {
         if aim.best < start.ahead {
@@ -200,11 +205,15 @@ impl Walk {
     }
 
     /// Walks on from a start until a path is complete, and returns whether there is one.
-    fn walk_from<P: Planes>(&mut self, aim: &Aim<'_, P>, start: usize) -> Result<bool, AllocError>
+    fn walk_from<P: Planes>(
+        &mut self,
+        aim: &Aim<'_, P, C>,
+        start: usize,
+    ) -> Result<bool, AllocError>
         requires start { start < (P.family aim.now.planes.now).places }
         requires least { CostsAtLeast ((P.family aim.now.planes.now).plane aim.now.track)
             (P.family aim.now.planes.now).exit aim.now.best start 0 }
-        requires between { IsBetween ((P.family aim.now.planes.now).plane aim.now.track)
+        requires between { IsBetween ((P.family aim.now.planes.now).plane aim.now.track) C.SPAN
             (P.family aim.now.planes.now).exit aim.now.best self.old.marks }
         ensures found { result ≡ Ok true →
             IsLeastFrom ((P.family aim.now.planes.now).plane aim.now.track)
@@ -214,7 +223,7 @@ impl Walk {
             CostsMore ((P.family aim.now.planes.now).plane aim.now.track)
             (P.family aim.now.planes.now).exit aim.now.best start 0 }
         ensures between { result ≡ Ok false →
-            IsBetween ((P.family aim.now.planes.now).plane aim.now.track)
+            IsBetween ((P.family aim.now.planes.now).plane aim.now.track) C.SPAN
             (P.family aim.now.planes.now).exit aim.now.best self.new.marks }
     {
         let _tracks = aim.planes.tracks();
@@ -235,7 +244,8 @@ impl Walk {
 
     /// Enters the start, with no other stop.
     fn begin_at(&mut self, start: usize) -> Stop
-        requires { start < length self.old.marks }
+        requires start { start < length self.old.marks }
+        requires some { 0 < C.SPAN }
         ensures stop { result ≡ stop_at start 0 }
         ensures marks { self.new.marks ≡ set self.old.marks start 0 }
         ensures stops { self.new.stops.items ≡ [] }
@@ -279,7 +289,7 @@ impl Walk {
     #[inline(always)]
     fn enter(&mut self, step: Step) -> Stop
         requires place { step.place < length self.old.marks }
-        requires cost { step.cost < 2 ^ 16 }
+        requires cost { step.cost < C.SPAN }
         ensures stop { result ≡ stop_at step.place step.cost }
         ensures marks { self.new.marks ≡ set self.old.marks step.place step.cost }
         ensures stops { self.new.stops ≡ self.old.stops }

@@ -1,14 +1,9 @@
 -- The number of ends that a node can have.
 use Rattle.std.proofs.Common.{ℕ, zero, suc, ◌≡◌, ◌+◌, ◌<◌, ◌≤◌, List, length, subst, inl, inr, arith}
-use Rattle.std.specs.Prelude.{All, Contains, filter, slice_index}
+use Rattle.std.specs.Prelude.{All, Contains, slice_index}
 use Rattle.std.specs.List.Sorted.{IsStrictlyIncreasing}
-use Rattle.std.proofs.lemmas.Bool.{cases_lt, cases_Bool}
-use Rattle.std.proofs.lemmas.List.Kept.{IsStrictlyIncreasing-filter}
-use Rattle.rr_graph.specs.declared.node.Node.{Node}
-use Rattle.rr_graph.specs.Geometry.{is_wire}
+use Rattle.std.proofs.lemmas.Bool.{cases_lt}
 use Rattle.rr_graph.specs.Graph.{Basis, RoutingGraph, IsRoutingGraph}
-use Rattle.rr_graph.specs.Ways.{is_passing, ends_towards}
-use Rattle.rr_graph.proofs.Listing.{has_contains, contains_has, filter_has}
 use Rattle.std.proofs.lemmas.List.Elements.{All-contains_itself}
 
 -- each number is at least its index
@@ -38,10 +33,3 @@ ends_below basis g i end lawful within found = ((lawful.pairs i end within).0 fo
 
 pub ends_few : (basis : Basis) (g : RoutingGraph) (i : ℕ) → IsRoutingGraph basis g → i < g.count → length (g.ends i) ≤ g.count
 ends_few basis g i lawful within = contained_few (g.ends i) g.count (lawful.increasing i within) (λ end found. ends_below basis g i end lawful within found)
-
-pub towards_few : (basis : Basis) (g : RoutingGraph) (sink : Node) (i : ℕ) → IsRoutingGraph basis g → i < g.count → length (ends_towards g sink i) ≤ g.count
-towards_few basis g sink i lawful within = elim (cases_Bool (is_passing sink (g.node i))) [
-  | inl passing ↦ rw passing (contained_few (filter (λ j. is_wire (g.node j).kind) (g.ends i)) g.count (IsStrictlyIncreasing-filter (λ j. is_wire (g.node j).kind) (g.ends i) (lawful.increasing i within))
-      (λ end found. ends_below basis g i end lawful within (has_contains end (g.ends i) (filter_has (λ j. is_wire (g.node j).kind) end (g.ends i) (contains_has end _ found)).0)))
-  | inr stays ↦ rw stays (ends_few basis g i lawful within)
-]

@@ -23,9 +23,6 @@ use Rattle.rr_graph.proofs.Rows.{leads, leads_reached, row_skip, part_push, kind
 
 -- ---- the first index of each kind and row
 
-pub firsts_none : (members : List Member) → AreFirsts members [] 0
-firsts_none members = record { many = refl; each = λ kind y few before. absurd (omega arith) }
-
 pub firsts_push : (members : List Member) (firsts : List ℕ) (kind : NodeKind) (y index : ℕ) → y < 68 → AreFirsts members firsts (rank_of kind * 68 + y) →
     Separates members (rank_of kind * 65536 + y * 256) index → AreFirsts members (firsts ++ index ∷ []) (rank_of kind * 68 + (y + 1))
 firsts_push members firsts kind y index low old at = record {

@@ -1,5 +1,5 @@
 -- The data of a graph are correct for any number of columns.
-use Rattle.std.proofs.Common.{ℕ, zero, suc, ◌≡◌, ◌+◌, ◌*◌, ◌<◌, ◌≤◌, List, Bool, refl, ap, subst, arith, true}
+use Rattle.std.proofs.Common.{ℕ, zero, suc, ◌≡◌, ◌+◌, ◌*◌, ◌<◌, ◌≤◌, List, refl, ap, subst, arith, true}
 use Rattle.std.proofs.lemmas.Nat.{mul-le}
 use Rattle.rr_graph.specs.declared.node.Node.{Node}
 use Rattle.rr_graph.specs.declared.numbering.Numbering.{Numbering}
@@ -7,8 +7,8 @@ use Rattle.rr_graph.specs.declared.table.Tables.{Tables}
 use Rattle.rr_graph.specs.Geometry.{is_node, node_at_offset}
 use Rattle.rr_graph.specs.Graph.{make_node}
 use Rattle.rr_graph.specs.Numbering.{IsNumbering, node_of, column_count}
-use Rattle.rr_graph.specs.Table.{IsRowBelow, IsRows}
-use Rattle.rr_graph.specs.Fabric.{IsKept, IsPart, HaveRows, AreTables, with_width}
+use Rattle.rr_graph.specs.Table.{IsRowBelow, IsTable}
+use Rattle.rr_graph.specs.Fabric.{IsKept, IsPart, AreTables, with_width}
 use Rattle.rr_graph.proofs.GeometryLaws.{node_moved}
 
 -- the nodes of a column don't depend on the number of columns
@@ -44,23 +44,20 @@ tables_of_width nodes width tables are beside count one e =
       rows = λ i few. row_of_width nodes width (node_of nodes i) _ (((node_of nodes i).x + beside + 1) * column_count nodes) (rows.rows i few);
     }
 
-pub kept_of_width : (nodes : Numbering) (width : ℕ) (tables wires : Tables) (met : List Bool) (inputs : ℕ) → IsKept nodes tables wires met inputs →
-    1 ≤ width → width ≤ 256 → IsKept (with_width nodes width) tables wires met inputs
-kept_of_width nodes width tables wires met inputs kept some few = record {
+pub kept_of_width : (nodes : Numbering) (width : ℕ) (tables : Tables) (inputs : ℕ) → IsKept nodes tables inputs →
+    1 ≤ width → width ≤ 256 → IsKept (with_width nodes width) tables inputs
+kept_of_width nodes width tables inputs kept some few = record {
   fabric = record { lawful = numbering_of_width nodes width kept.fabric.lawful some few; rows = tables_of_width nodes width tables kept.fabric.rows };
-  wires_are = kept.wires_are;
-  met_are = kept.met_are;
-  long = kept.long;
   inputs_are = kept.inputs_are;
 }
 
 -- the first columns are a graph
-pub part_of : (nodes : Numbering) (width : ℕ) (tables wires : Tables) (met : List Bool) (inputs : ℕ) → IsKept nodes tables wires met inputs →
-    1 ≤ width → width ≤ nodes.strip.width → IsPart nodes width tables wires met inputs
-part_of nodes width tables wires met inputs kept some few = record {
+pub part_of : (nodes : Numbering) (width : ℕ) (tables : Tables) (inputs : ℕ) → IsKept nodes tables inputs →
+    1 ≤ width → width ≤ nodes.strip.width → IsPart nodes width tables inputs
+part_of nodes width tables inputs kept some few = record {
   lawful = kept.fabric.lawful;
   few = few;
-  kept = kept_of_width nodes width tables wires met inputs kept some (omega (arith, few, kept.fabric.lawful.strip.width.1));
+  kept = kept_of_width nodes width tables inputs kept some (omega (arith, few, kept.fabric.lawful.strip.width.1));
 }
 
 -- a node of the first columns is one of all columns
@@ -77,10 +74,10 @@ number_of_width c x i before width less few =
     let m : (x + 1) * c ≤ (width + 1) * c = mul-le (x + 1) c (width + 1) c (omega (arith, few)) (omega arith) in
     omega (arith, less, m)
 
--- a property of the tables for both kinds of columns
-pub both_tables : (P : ℕ → ℕ → List ℕ → Type 0) (nodes : Numbering) (tables : Tables) →
-    ((count : ℕ) → count + nodes.before ≡ 3 * column_count nodes → IsRows (P 1) tables.inner.starts.items tables.inner.ends.items count) →
-    ((count : ℕ) → count + nodes.before ≡ 3 * column_count nodes → IsRows (P 0) tables.last.starts.items tables.last.ends.items count) → HaveRows P nodes tables
-both_tables P nodes tables inner last zero count one e = last count e
-both_tables P nodes tables inner last (suc zero) count one e = inner count e
-both_tables P nodes tables inner last (suc (suc beside)) count one e = absurd (omega arith)
+-- the tables for both kinds of columns
+pub both_tables : (nodes : Numbering) (tables : Tables) →
+    ((count : ℕ) → count + nodes.before ≡ 3 * column_count nodes → IsTable nodes 1 tables.inner.starts.items tables.inner.ends.items count) →
+    ((count : ℕ) → count + nodes.before ≡ 3 * column_count nodes → IsTable nodes 0 tables.last.starts.items tables.last.ends.items count) → AreTables nodes tables
+both_tables nodes tables inner last zero count one e = last count e
+both_tables nodes tables inner last (suc zero) count one e = inner count e
+both_tables nodes tables inner last (suc (suc beside)) count one e = absurd (omega arith)

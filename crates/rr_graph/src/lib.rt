@@ -8,41 +8,33 @@
 //! wires of one track that meet at a point, in both directions.
 //!
 //! [`StripGraph`] is the graph as a router uses it: nodes by number, and the ends of each node's
-//! edges in node order. For a search to a sink it also returns the ends that matter, and a lower
-//! bound of the number of nodes that follow a node; [`laws_of_ways`] states why these are correct.
-//! An architecture and a strip determine the graph ([`one_graph`]), so any two graphs of them are
-//! equal.
+//! edges in node order. An architecture and a strip determine the graph ([`one_graph`]), so any two
+//! graphs of them are equal.
 //!
 //! [`Fabric`] implements it. All columns of blocks have the same nodes, so it stores the nodes of
-//! one column in a table, and the edges, all of them and the wires among them, of the columns that
-//! differ: column 0 with its vertical channel, the first column of blocks, and one for all others;
-//! each for the case that a column follows, and for the case that it is the last. The tables don't
-//! depend on the number of columns: [`Fabric::part`] is the graph of any narrower strip over the
-//! same tables, and takes no memory.
+//! one column in a table, and the edges of the columns that differ: column 0 with its vertical
+//! channel, the first column of blocks, and one for all others; each for the case that a column
+//! follows, and for the case that it is the last. The tables don't depend on the number of columns:
+//! [`Fabric::part`] is the graph of any narrower strip over the same tables, and takes no memory.
 #![tactic(auto)]
 
 mod column;
-mod edges;
 mod fabric;
 mod geometry;
 mod graph;
 mod joins;
 mod laws;
-mod met;
 mod node;
 mod numbering;
 mod part;
 mod resource;
 mod table;
 mod targets;
-mod ways;
 
-pub use edges::Edges;
 pub use fabric::Fabric;
 pub use graph::{EdgeEnds, Numbers, StripGraph, one_graph};
 pub use joins::{is_together, meets, sides_at};
-pub use laws::{laws_of_geometry, laws_of_ways};
+pub use laws::laws_of_geometry;
 pub use node::{Node, NodeKind};
 pub use part::GraphPart;
 pub use resource::{Resource, ResourceKind};
-pub use ways::{across_of, point_from_sink, up_of};

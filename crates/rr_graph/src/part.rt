@@ -1,18 +1,13 @@
 //! The graph of some columns, over the tables of all.
-ghost use Rattle.std.specs.Prelude.{◌≡◌, ◌<◌, ◌+◌, ◌≤◌, map, length, true};
-ghost use Rattle.rr_graph.specs.Geometry.{is_node};
+ghost use Rattle.std.specs.Prelude.{◌≡◌, ◌<◌, ◌+◌, map};
 ghost use Rattle.rr_graph.specs.Graph.{Basis, graph_of};
 ghost use Rattle.rr_graph.specs.Fabric.{HasRow, column_of, ends_of, with_width};
-ghost use Rattle.rr_graph.specs.declared.node.NodeKind.TheVariants.{Sink};
-ghost use Rattle.rr_graph.specs.Ways.{ends_towards, AreMet};
 
-use crate::geometry::{capacity_of, is_block_row, is_node};
+use crate::geometry::{capacity_of, is_node};
 use crate::graph::{EdgeEnds, Numbers, StripGraph};
-use crate::met::{is_met, met_row};
 use crate::node::{Node, NodeKind};
 use crate::numbering::Nodes;
 use crate::table::Tables;
-use crate::ways::{further, is_passing};
 use arch_file::Arch;
 use grid::Strip;
 use std::marker::Model;
@@ -23,8 +18,6 @@ use std::marker::Model;
 pub struct GraphPart<'a> {
     pub(crate) nodes: &'a Nodes,
     pub(crate) table: &'a Tables,
-    pub(crate) wires: &'a Tables,
-    pub(crate) met: &'a [bool],
     pub(crate) inputs: u32,
     pub(crate) width: u32,
 }
@@ -37,8 +30,7 @@ impl<'a> Model for GraphPart<'a> {
 
     ghost view = { λ p. basis_of (with_width p.nodes.now.numbering p.width) };
 
-    ghost invariant = { λ p. IsPart p.nodes.now.numbering p.width p.table.now p.wires.now p.met.now
-        p.inputs };
+    ghost invariant = { λ p. IsPart p.nodes.now.numbering p.width p.table.now p.inputs };
 }
 
 /// The ends of a node's edges in the tables, if the strip has `width` columns.
@@ -65,30 +57,6 @@ impl<'a> GraphPart<'a> {
     {
         let x = self.nodes.column(node);
         row_from(self.nodes, self.table, self.width, node, x)
-    }
-
-    /// The ends of a node's edges that matter on ways to a sink, in order.
-    #[inline(always)]
-    pub(crate) fn some_ends(&self, node: usize, place: Node, sink: Node) -> EdgeEnds<'a>
-        requires node { node < (graph_of self.now).count }
-        requires place { (graph_of self.now).node node ≡ place }
-        ensures { map (λ end. end + result.base) result.list.now
-            ≡ ends_towards (graph_of self.now) sink node }
-    {
-        if is_passing(sink, place) {
-            row_from(self.nodes, self.wires, self.width, node, place.x)
-        } else {
-            row_from(self.nodes, self.table, self.width, node, place.x)
-        }
-    }
-
-    /// For each of the first tracks, whether a way to the sink can lead over its wires.
-    pub(crate) fn tracks_of(&self, sink: Node) -> &'a [bool]
-        requires { is_node self.now.arch self.now.strip sink ≡ true }
-        ensures long { sink.kind ≡ Sink → self.now.arch.tracks ≤ length result.now }
-        ensures met { AreMet self.now.arch self.now.strip sink result.now }
-    {
-        met_row(self.met, self.nodes.numbering.strip, sink)
     }
 }
 
@@ -118,25 +86,6 @@ impl<'a> StripGraph for GraphPart<'a> {
     #[inline(always)]
     fn ends(&self, node: usize) -> EdgeEnds<'_> {
         self.all_ends(node)
-    }
-
-    #[inline(always)]
-    fn ends_towards(&self, node: usize, place: Node, sink: Node) -> EdgeEnds<'_> {
-        self.some_ends(node, place, sink)
-    }
-
-    fn further_to(&self, node: usize, sink: Node) -> Option<u64> {
-        self.further_from(self.nodes.node(node), sink)
-    }
-
-    fn further_from(&self, node: Node, sink: Node) -> Option<u64> {
-        let strip = self.nodes.numbering.strip;
-        let met = is_met(self.met, &self.nodes.numbering.arch, strip, sink, node.n);
-        further(met, is_block_row(strip, sink.y), sink, node)
-    }
-
-    fn met_tracks(&self, sink: Node) -> &[bool] {
-        self.tracks_of(sink)
     }
 
     fn capacity(&self, node: usize) -> u32 {

@@ -7,11 +7,10 @@ ghost use Rattle.rr_graph.specs.Node.{rank_of};
 ghost use Rattle.rr_graph.specs.Numbering.{column_count};
 ghost use Rattle.rr_graph.specs.Table.{HasSmallNumbers, AreWires, IsSpan, may_lead, may_reach, rows_above, columns_right, IsRowBelow, IsRowAt};
 
-use crate::geometry::is_slot;
+use crate::geometry::{is_slot, is_wire};
 use crate::joins::joins;
 use crate::node::{Node, NodeKind};
 use crate::numbering::Nodes;
-use crate::ways::is_wire;
 use std::alloc::AllocError;
 
 /// The nodes of one kind in a column, among which the ends of the edges of a node `a` are searched.

@@ -112,24 +112,6 @@ impl<'a> StripGraph for Window<'a> {
         self.part.ends(node)
     }
 
-    #[inline(always)]
-    fn ends_towards(&self, node: usize, place: Node, sink: Node) -> EdgeEnds<'_> {
-        self.part.ends_towards(node, place, sink)
-    }
-
-    fn further_to(&self, node: usize, sink: Node) -> Option<u64> {
-        self.part.further_to(node, sink)
-    }
-
-    #[inline(always)]
-    fn further_from(&self, node: Node, sink: Node) -> Option<u64> {
-        self.part.further_from(node, sink)
-    }
-
-    fn met_tracks(&self, sink: Node) -> &[bool] {
-        self.part.met_tracks(sink)
-    }
-
     fn capacity(&self, node: usize) -> u32 {
         self.part.capacity(node)
     }

@@ -1,9 +1,11 @@
-use Rattle.std.proofs.Common.{◌≡◌, ℕ, ◌+◌, ◌-◌, ◌*◌, ◌≤◌, List, length, take, drop, sym, ap, ◌∙◌, subst, arith}
+use Rattle.std.proofs.Common.{◌≡◌, ℕ, ◌+◌, ◌-◌, ◌*◌, ◌^◌, ◌≤◌, List, length, take, drop, sym, ap, ◌∙◌, subst, arith}
 use Rattle.std.specs.Prelude.{slice_index}
+use Rattle.std.proofs.lemmas.Nat.{mul-le}
 use Rattle.rr_graph.specs.Graph.{graph_of}
 use Rattle.fabric_planes.specs.BoundRows.{far_list}
 use Rattle.fabric_planes.specs.Layout.{Terminals, place_of, place_count}
-use Rattle.fabric_planes.proofs.RivalSides.{met_place, wire_few}
+use Rattle.fabric_planes.proofs.RivalSides.{met_place}
+use Rattle.fabric_planes.proofs.Strips.{places_few, track_low}
 use Rattle.fabric_planes.proofs.SideRows.{far_met, near_met, part_at, row_within}
 use Rattle.fabric_planes.proofs.bound_rows.fill_side.Goals as goal
 
@@ -18,6 +20,15 @@ slice_bounds-costs-end g c =
     let le : (place + 1) * n ≤ place_count basis * n = row_within place (place_count basis) n c.requires.place in
     omega (arith, long, le)
 
+pub overflow_mul-costs-2 : goal.overflow_mul-costs-2
+overflow_mul-costs-2 g c =
+    let self = c.args.planes.now in
+    let place = slice_index self.own_sides.now c.args.side in
+    let n = self.strip.layout.now.shape.tracks in
+    let few : place + 1 ≤ 2 ^ 22 = omega (arith, c.requires.place, places_few c.laws.ensures.basis) in
+    let all : (place + 1) * n ≤ 2 ^ 22 * 64 = mul-le (place + 1) n (2 ^ 22) 64 few (omega (arith, self.strip.layout.now.shape.small.few_tracks)) in
+    omega (arith, all)
+
 pub returns-in-Some-clause-row : goal.returns-in-Some-clause-row
 returns-in-Some-clause-row g c = λ wire met.
     let self = c.args.planes.now in
@@ -29,7 +40,7 @@ returns-in-Some-clause-row g c = λ wire met.
     let place = slice_index self.own_sides.now c.args.side in
     let m = self.strip.layout.now.shape.tracks in
     let many : m ≡ basis.arch.tracks = self.strip.laid.shape.tracks in
-    let few = wire_few is wire met.wire_is in
+    let few = track_low is wire met.wire_is in
     let at : place ≡ place_of basis v = met_place is self.source c.args.pin self.own_sides.now c.args.side wire self.are_own_sides c.requires.pin met in
     let price : slice_index (take ((place + 1) * m - place * m) (drop (place * m) self.by_place.now)) v.n ≡ slice_index self.by_place.now (place * m + v.n) =
     part_at self.by_place.now (place * m) ((place + 1) * m) m v.n (omega arith) (omega (arith, few, many)) in
@@ -50,7 +61,7 @@ returns-in-None-clause-row g c = λ wire met.
     let place = slice_index self.own_sides.now c.args.side in
     let m = self.strip.layout.now.shape.tracks in
     let many : m ≡ basis.arch.tracks = self.strip.laid.shape.tracks in
-    let few = wire_few is wire met.wire_is in
+    let few = track_low is wire met.wire_is in
     let at : place ≡ place_of basis v = met_place is self.source c.args.pin self.own_sides.now c.args.side wire self.are_own_sides c.requires.pin met in
     let price : slice_index (take ((place + 1) * m - place * m) (drop (place * m) self.by_place.now)) v.n ≡ slice_index self.by_place.now (place * m + v.n) =
     part_at self.by_place.now (place * m) ((place + 1) * m) m v.n (omega arith) (omega (arith, few, many)) in

@@ -6,7 +6,8 @@ use Rattle.rr_graph.specs.Graph.{graph_of}
 use Rattle.fabric_planes.specs.Layout.{Terminals, place_of, place_count}
 use Rattle.fabric_planes.proofs.Found.{place_low}
 use Rattle.fabric_planes.proofs.Numbers.{number_some}
-use Rattle.fabric_planes.proofs.RivalSides.{met_place, wire_few}
+use Rattle.fabric_planes.proofs.RivalSides.{met_place}
+use Rattle.fabric_planes.proofs.Strips.{track_low}
 use Rattle.fabric_planes.proofs.SideRows.{far_dear}
 use Rattle.fabric_planes.proofs.bound_rows.is_needed.Goals.{then-place-places-via-then-place-places, then-place-places-via-else-place-places+then-index}
 use Rattle.fabric_planes.proofs.bound_rows.is_needed.Goals as goal
@@ -14,8 +15,6 @@ use Rattle.fabric_planes.proofs.bound_rows.is_needed.Goals as goal
 pub returns-then-place-places-clause-none : goal.returns-then-place-places-clause-none
 returns-then-place-places-clause-none g c = λ e pin wire output met.
     let self = c.args.planes.now in
-    let t : Terminals = record { source = self.source; sink = self.sink } in
-    let costs = g.C.NodeCosts.costs self.costs.now in
     let basis = g.G.StripGraph.basis self.strip.graph.now in
     let is = c.laws.ensures.basis in
     let place = slice_index self.own_sides.now c.args.side in
@@ -37,4 +36,4 @@ returns-else-far-eq0-clause-none g c = λ e pin wire output met.
     let place = slice_index self.own_sides.now c.args.side in
     let at : place ≡ place_of basis ((graph_of basis).node wire) = met_place is self.source pin self.own_sides.now c.args.side wire self.are_own_sides output met in
     far_dear is t costs self.starts.now self.goal self.search self.pins.now self.lasts.now self.bounded c.args.more wire place c.args.limits.most c.args.limits.least self.aheads.now self.least_lasts.now met.wire_is at self.are_aheads self.are_least
-    c.if-far-eq0.false (c.requires.limits.least ((graph_of basis).node wire).n (wire_few is wire met.wire_is)) (leb-false (c.args.more + 1 + slice_index self.aheads.now place + c.args.limits.least) c.args.limits.most e)
+    c.if-far-eq0.false (c.requires.limits.least ((graph_of basis).node wire).n (track_low is wire met.wire_is)) (leb-false (c.args.more + 1 + slice_index self.aheads.now place + c.args.limits.least) c.args.limits.most e)

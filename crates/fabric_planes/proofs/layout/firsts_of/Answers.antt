@@ -1,8 +1,8 @@
-use Rattle.std.proofs.Common.{◌≡◌, ◌<◌, ◌∙◌, refl, sym, ap, arith, subst}
+use Rattle.std.proofs.Common.{◌≡◌, ◌<◌, ◌∙◌, sym, ap, arith, subst}
 use Rattle.rr_graph.specs.declared.node.Node.{Node}
 use Rattle.rr_graph.specs.Graph.{graph_of}
 use Rattle.fabric_planes.specs.Layout.{place_of}
-use Rattle.fabric_planes.specs.Tables.{IsFirstWire, NO_WIRE}
+use Rattle.fabric_planes.specs.Tables.{IsFirstWire}
 use Rattle.fabric_planes.proofs.Consecutive.{wire_low}
 use Rattle.fabric_planes.proofs.Told.{told_skip, told_more}
 use Rattle.fabric_planes.proofs.layout.firsts_of.Goals.{then-is_first_wire, else-is_first_wire}
@@ -27,7 +27,7 @@ loop-number-preserved g c =
           let first : IsFirstWire ((graph_of basis).node count) = subst IsFirstWire c.node-node.ensures (w.if-is_first_wire.ensures) in
           let low = wire_low c.count-number-end.ensures.basis count within first.wire in
           let is : place_of basis ((graph_of basis).node count) ≡ w.place.result = sym (w.place.ensures.value basis c.requires ∙ ap (λ (v : Node). place_of basis v) c.node-node.ensures) in
-          rw w.firsts-is (told_more basis (λ number. number) NO_WIRE c.count-number-end.ensures.basis count w.place.result c.loop-number.firsts.items count c.loop-number.invariant (record { within = within; first = first; is_at = is }) (omega (arith, low, is)) refl)
+          rw w.firsts-is (told_more basis c.count-number-end.ensures.basis count w.place.result c.loop-number.firsts.items c.loop-number.invariant (record { within = within; first = first; is_at = is }) (omega (arith, low, is)))
       | else-is_first_wire w ↦
-          rw w.firsts-is (told_skip basis (λ number. number) NO_WIRE count c.loop-number.firsts.items c.loop-number.invariant (λ first. w.if-is_first_wire.ensures (subst IsFirstWire (sym c.node-node.ensures) first)))
+          rw w.firsts-is (told_skip basis count c.loop-number.firsts.items c.loop-number.invariant (λ first. w.if-is_first_wire.ensures (subst IsFirstWire (sym c.node-node.ensures) first)))
     ]

@@ -1,7 +1,7 @@
 use Rattle.std.proofs.Common.{◌≡◌, ℕ, ◌+◌, ◌-◌, ◌*◌, List, [], ◌++◌, ap, ◌∙◌, refl, arith}
 use Rattle.std.proofs.lemmas.Result.{IfOk-weaker}
 use Rattle.fabric_planes.specs.PinRows.{departures}
-use Rattle.fabric_planes.specs.Steps.{with_if}
+use Rattle.fabric_planes.specs.PinRows.{with_if}
 use Rattle.fabric_planes.proofs.PinLists.{four_ifs}
 use Rattle.fabric_planes.proofs.pin_rows.add_departures.Goals as goal
 

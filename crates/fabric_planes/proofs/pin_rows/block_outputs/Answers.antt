@@ -2,7 +2,7 @@ use Rattle.std.proofs.Common.{ℕ, ◌+◌, ◌++◌, [], ◌∙◌, List, sym, 
 use Rattle.rr_graph.specs.declared.node.NodeKind.TheVariants.{Opin}
 use Rattle.rr_graph.specs.Geometry.{is_block_number}
 use Rattle.fabric_planes.specs.PinRows.{block_outputs}
-use Rattle.fabric_planes.specs.Steps.{with_if}
+use Rattle.fabric_planes.specs.PinRows.{with_if}
 use Rattle.fabric_planes.proofs.PinLists.{filtered_more}
 use Rattle.fabric_planes.proofs.pin_rows.block_outputs.Goals as goal
 

@@ -1,5 +1,5 @@
-use Rattle.std.proofs.Common.{◌≡◌, List, ℕ, Ok, Err, subst, sym}
-use Rattle.line_feed.specs.Feed.{ahead_of, line_of}
+use Rattle.std.proofs.Common.{List, ℕ, Ok, Err, subst, sym}
+use Rattle.line_feed.specs.Feed.{line_of}
 use Rattle.live_input.specs.Serving.{state_in}
 use Rattle.live_run.specs.Retelling.{RetellsLine}
 use Rattle.live_run.proofs.ReadLemmas.{read_ok}

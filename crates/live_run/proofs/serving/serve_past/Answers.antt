@@ -1,4 +1,4 @@
-use Rattle.std.proofs.Common.{◌≡◌, Option, Some, None, subst, sym}
+use Rattle.std.proofs.Common.{Option, subst, sym}
 use Rattle.std.specs.Prelude.{is_some}
 use Rattle.live_input.specs.Serving.{state_in}
 use Rattle.live_run.specs.declared.outcome.Outcome.{Outcome}

@@ -22,5 +22,4 @@ returns g c =
     let sink = c.args.sink in
     let end : c.loop-side.side ≡ 4 = omega (arith, c.loop-side-test.false, c.loop-side.auto.side-end) in
     let listed : c.loop-side.firsts.items ≡ first_rows basis sink = c.loop-side.invariant ∙ ap (λ (k : ℕ). map (first_row basis sink) (range_with_len 0 k)) end in
-    subst (λ (firsts : List ℕ). AreArrivals basis sink c.args.self.now.rows firsts) (sym listed)
-    (subst (λ (rows : List (List ℕ)). AreArrivals basis sink rows (first_rows basis sink)) (sym c.requires.rows) (are_arrivals c.laws.ensures.basis sink c.requires.there c.requires.kind))
+    subst (λ (firsts : List ℕ). AreArrivals basis sink c.args.self.now.rows firsts) (sym listed) (are_arrivals c.laws.ensures.basis sink c.requires.there c.requires.kind c.args.self.now.rows c.requires.rows)

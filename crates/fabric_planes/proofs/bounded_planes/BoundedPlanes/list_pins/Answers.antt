@@ -26,7 +26,6 @@ pub start_at-requires-clause-within : goal.start_at-requires-clause-within
 start_at-requires-clause-within g c =
     let self = c.args.self.now.planes.now in
     let t : Terminals = record { source = self.source; sink = self.sink } in
-    let costs = g.C.NodeCosts.costs self.costs.now in
     let basis = g.G.StripGraph.basis self.strip.graph.now in
     let n = c.index-in-loop-index.result.now in
     let in_pins : c.loop-index.index < length c.args.self.now.starts.now.pins.items = omega (arith, c.loop-index-test.true, c.len-index-end.ensures) in

@@ -21,7 +21,4 @@ cost-requires-clause-place g c =
 pub returns : goal.returns
 returns g c =
     let self = c.args.self.now.planes.now in
-    let t : Terminals = record { source = self.source; sink = self.sink } in
-    let costs = g.C.NodeCosts.costs self.costs.now in
-    let basis = g.G.StripGraph.basis self.strip.graph.now in
     c.cost.ensures

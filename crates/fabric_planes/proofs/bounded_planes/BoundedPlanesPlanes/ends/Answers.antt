@@ -21,15 +21,9 @@ place_ends-requires-clause-place g c =
 pub returns-clause-value : goal.returns-clause-value
 returns-clause-value g c =
     let self = c.args.self.now.planes.now in
-    let t : Terminals = record { source = self.source; sink = self.sink } in
-    let costs = g.C.NodeCosts.costs self.costs.now in
-    let basis = g.G.StripGraph.basis self.strip.graph.now in
     c.place_ends.ensures.value
 
 pub returns-clause-rising : goal.returns-clause-rising
 returns-clause-rising g c =
     let self = c.args.self.now.planes.now in
-    let t : Terminals = record { source = self.source; sink = self.sink } in
-    let costs = g.C.NodeCosts.costs self.costs.now in
-    let basis = g.G.StripGraph.basis self.strip.graph.now in
     c.place_ends.ensures.rising

@@ -13,15 +13,9 @@ number-requires-clause-track g c =
 pub number-requires-clause-place : goal.number-requires-clause-place
 number-requires-clause-place g c =
     let self = c.args.self.now.planes.now in
-    let t : Terminals = record { source = self.source; sink = self.sink } in
-    let costs = g.C.NodeCosts.costs self.costs.now in
-    let basis = g.G.StripGraph.basis self.strip.graph.now in
     c.requires.place
 
 pub returns : goal.returns
 returns g c =
     let self = c.args.self.now.planes.now in
-    let t : Terminals = record { source = self.source; sink = self.sink } in
-    let costs = g.C.NodeCosts.costs self.costs.now in
-    let basis = g.G.StripGraph.basis self.strip.graph.now in
     c.number.ensures

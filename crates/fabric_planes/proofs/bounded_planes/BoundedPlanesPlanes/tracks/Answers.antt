@@ -17,5 +17,4 @@ returns-clause-lawful g c =
     let self = c.args.self.now.planes.now in
     let t : Terminals = record { source = self.source; sink = self.sink } in
     let costs = g.C.NodeCosts.costs self.costs.now in
-    let basis = g.G.StripGraph.basis self.strip.graph.now in
     strip_family c.laws.ensures.basis costs self.starts.now self.goal t self.search

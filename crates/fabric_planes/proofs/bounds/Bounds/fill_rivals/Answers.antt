@@ -19,7 +19,6 @@ returns-in-Some-clause-rivals g c = on_ok_weaker c.fill_before.result (λ rivals
 pub returns-in-None-clause-rivals : goal.returns-in-None-clause-rivals
 returns-in-None-clause-rivals g c =
     let p = c.args.planes.now in
-    let basis = g.G.StripGraph.basis p.strip.graph.now in
     let cost = g.C.NodeCosts.costs p.costs.now in
     let t : Terminals = record { source = p.source; sink = p.sink } in
     on_ok_weaker c.copy_all.result (λ same nodes some. from_all c.laws.ensures.basis t cost p.starts.now p.goal p.search c.args.self.now.all.items c.copy_all.new.self.rivals.items nodes same c.requires.bounds) c.copy_all.ensures.rivals

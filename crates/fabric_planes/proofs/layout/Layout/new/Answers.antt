@@ -3,7 +3,6 @@ use Rattle.fabric_planes.specs.declared.distances.Target.{Target}
 use Rattle.fabric_planes.specs.declared.distances.Target.TheVariants.{Level, Upright, Block}
 use Rattle.fabric_planes.specs.Differences.{far_table}
 use Rattle.fabric_planes.specs.Layout.{band_of, stride_of}
-use Rattle.fabric_planes.specs.Tables.{all_steps}
 use Rattle.fabric_planes.proofs.layout.Layout.new.Goals as goal
 
 pub returns : goal.returns
@@ -21,8 +20,7 @@ returns g c =
     record {
       shape = is;
       firsts = c.in_ok-firsts.ensures;
-      classes = c.in_ok-classes.ensures;
-      steps = c.in_ok-steps.ensures ∙ (ap (λ (s : ℕ). all_steps s (shape.rows + 2)) stride ∙ ap (all_steps (stride_of basis)) band);
+      steps = c.in_ok-steps.ensures;
       to_level = c.in_ok-to_level.ensures ∙ same Level;
       to_upright = c.in_ok-to_upright.ensures ∙ same Upright;
       to_block = c.in_ok-to_block.ensures ∙ same Block;

@@ -16,9 +16,8 @@ returns-clause-value g c =
     let t : Terminals = record { source = self.source; sink = self.sink } in
     let costs = g.C.NodeCosts.costs self.costs.now in
     let firsts = self.strip.layout.now.firsts.items in
-    let classes = self.strip.layout.now.classes.items in
     let basis = g.G.StripGraph.basis self.strip.graph.now in
-    let w = class_there is t costs self.starts.now self.goal self.search firsts self.strip.laid.firsts classes self.strip.laid.classes c.args.track c.args.place c.requires.track c.requires.place c.requires.wire in
+    let w = class_there is t costs self.starts.now self.goal self.search firsts self.strip.laid.firsts self.strip.layout.now.steps self.strip.laid.steps c.args.track c.args.place c.requires.track c.requires.place c.requires.wire in
     let base : c.args.place - self.back ≡ c.args.place - 2 * stride_of basis = ap (λ (n : ℕ). c.args.place - n) self.back_is in
     let at = self.are_sides.is_at c.args.side c.args.place w.number w.wire c.requires.side c.requires.at in
     let is_value = arrivals_are is t costs self.starts.now self.goal self.search firsts self.strip.laid.firsts c.args.track c.args.place c.args.side (c.args.place - self.back) self.arrivals.now self.first_arrivals.now c.row.result.now w self.are_arrivals at base c.row.ensures in
@@ -31,9 +30,8 @@ returns-clause-rising g c =
     let t : Terminals = record { source = self.source; sink = self.sink } in
     let costs = g.C.NodeCosts.costs self.costs.now in
     let firsts = self.strip.layout.now.firsts.items in
-    let classes = self.strip.layout.now.classes.items in
     let basis = g.G.StripGraph.basis self.strip.graph.now in
-    let w = class_there is t costs self.starts.now self.goal self.search firsts self.strip.laid.firsts classes self.strip.laid.classes c.args.track c.args.place c.requires.track c.requires.place c.requires.wire in
+    let w = class_there is t costs self.starts.now self.goal self.search firsts self.strip.laid.firsts self.strip.layout.now.steps self.strip.laid.steps c.args.track c.args.place c.requires.track c.requires.place c.requires.wire in
     let base : c.args.place - self.back ≡ c.args.place - 2 * stride_of basis = ap (λ (n : ℕ). c.args.place - n) self.back_is in
     let at = self.are_sides.is_at c.args.side c.args.place w.number w.wire c.requires.side c.requires.at in
     let is_value = arrivals_are is t costs self.starts.now self.goal self.search firsts self.strip.laid.firsts c.args.track c.args.place c.args.side (c.args.place - self.back) self.arrivals.now self.first_arrivals.now c.row.result.now w self.are_arrivals at base c.row.ensures in

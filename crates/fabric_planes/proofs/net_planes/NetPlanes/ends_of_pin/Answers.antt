@@ -18,8 +18,6 @@ row-requires g c =
     let t : Terminals = record { source = self.source; sink = self.sink } in
     let costs = g.C.NodeCosts.costs self.costs.now in
     let firsts = self.strip.layout.now.firsts.items in
-    let classes = self.strip.layout.now.classes.items in
-    let basis = g.G.StripGraph.basis self.strip.graph.now in
     pin_within is t costs self.starts.now self.goal self.search firsts self.strip.laid.firsts self.pin_ends.now self.shown.now self.have_ends c.args.track c.in-Some.pin c.requires.track c.in-Some.ensures.found.0
 
 pub returns-in-Some-clause-value : goal.returns-in-Some-clause-value
@@ -29,8 +27,6 @@ returns-in-Some-clause-value g c =
     let t : Terminals = record { source = self.source; sink = self.sink } in
     let costs = g.C.NodeCosts.costs self.costs.now in
     let firsts = self.strip.layout.now.firsts.items in
-    let classes = self.strip.layout.now.classes.items in
-    let basis = g.G.StripGraph.basis self.strip.graph.now in
     let pin = c.in-Some.pin in
     let found = c.in-Some.ensures.found in
     let is_value = pin_ends_are is t costs self.starts.now self.goal self.search firsts self.strip.laid.firsts self.pin_ends.now self.shown.now self.have_ends c.args.track c.args.place pin c.row.result.now c.requires.track found.0 found.1 c.row.ensures in
@@ -43,8 +39,6 @@ returns-in-Some-clause-rising g c =
     let t : Terminals = record { source = self.source; sink = self.sink } in
     let costs = g.C.NodeCosts.costs self.costs.now in
     let firsts = self.strip.layout.now.firsts.items in
-    let classes = self.strip.layout.now.classes.items in
-    let basis = g.G.StripGraph.basis self.strip.graph.now in
     let pin = c.in-Some.pin in
     let found = c.in-Some.ensures.found in
     let is_value = pin_ends_are is t costs self.starts.now self.goal self.search firsts self.strip.laid.firsts self.pin_ends.now self.shown.now self.have_ends c.args.track c.args.place pin c.row.result.now c.requires.track found.0 found.1 c.row.ensures in
@@ -57,9 +51,7 @@ returns-in-None-clause-value g c =
     let t : Terminals = record { source = self.source; sink = self.sink } in
     let costs = g.C.NodeCosts.costs self.costs.now in
     let firsts = self.strip.layout.now.firsts.items in
-    let classes = self.strip.layout.now.classes.items in
-    let basis = g.G.StripGraph.basis self.strip.graph.now in
-    let is_value = no_ends is t costs self.starts.now self.goal self.search firsts self.strip.laid.firsts self.shown.now self.are_pins classes self.strip.laid.classes c.args.track c.args.place c.requires.place c.requires.no_wire c.in-None.ensures.none in
+    let is_value = no_ends is t costs self.starts.now self.goal self.search firsts self.strip.laid.firsts self.shown.now self.are_pins self.strip.layout.now.steps self.strip.laid.steps c.args.track c.args.place c.requires.place c.requires.no_wire c.in-None.ensures.none in
     is_value
 
 pub returns-in-None-clause-rising : goal.returns-in-None-clause-rising
@@ -69,9 +61,7 @@ returns-in-None-clause-rising g c =
     let t : Terminals = record { source = self.source; sink = self.sink } in
     let costs = g.C.NodeCosts.costs self.costs.now in
     let firsts = self.strip.layout.now.firsts.items in
-    let classes = self.strip.layout.now.classes.items in
-    let basis = g.G.StripGraph.basis self.strip.graph.now in
-    let is_value = no_ends is t costs self.starts.now self.goal self.search firsts self.strip.laid.firsts self.shown.now self.are_pins classes self.strip.laid.classes c.args.track c.args.place c.requires.place c.requires.no_wire c.in-None.ensures.none in
+    let is_value = no_ends is t costs self.starts.now self.goal self.search firsts self.strip.laid.firsts self.shown.now self.are_pins self.strip.layout.now.steps self.strip.laid.steps c.args.track c.args.place c.requires.place c.requires.no_wire c.in-None.ensures.none in
     rising_before 0 [] _ is_value (plane_rises is t costs self.starts.now self.goal self.search firsts self.strip.laid.firsts c.args.track c.args.place)
 
 pub overflow_mul-pin : goal.overflow_mul-pin

@@ -9,7 +9,6 @@ returns-in-Some g c =
     let t : Terminals = record { source = self.source; sink = self.sink } in
     let costs = g.C.NodeCosts.costs self.costs.now in
     let firsts = self.strip.layout.now.firsts.items in
-    let basis = g.G.StripGraph.basis self.strip.graph.now in
     listed_match is t costs self.starts.now self.goal self.search firsts self.strip.laid.firsts self.shown.now self.are_pins c.args.place c.args.number c.in-Some.other c.in-Some.ensures.found c.requires.place
 
 pub returns-in-None : goal.returns-in-None
@@ -19,5 +18,4 @@ returns-in-None g c =
     let t : Terminals = record { source = self.source; sink = self.sink } in
     let costs = g.C.NodeCosts.costs self.costs.now in
     let firsts = self.strip.layout.now.firsts.items in
-    let basis = g.G.StripGraph.basis self.strip.graph.now in
     none_shown is t costs self.starts.now self.goal self.search firsts self.strip.laid.firsts self.shown.now self.are_pins c.args.place c.args.number c.in-None.ensures.none c.requires.place

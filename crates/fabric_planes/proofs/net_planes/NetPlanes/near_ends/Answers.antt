@@ -6,30 +6,29 @@ use Rattle.fabric_planes.proofs.net_planes.NetPlanes.near_ends.Goals as goal
 pub index-requires : goal.index-requires
 index-requires g c =
     let self = c.args.self.now in
-    let classes = self.strip.layout.now.classes.items in
-    omega (arith, c.requires.place, self.strip.laid.classes.long)
+    omega (arith, c.requires.place, self.strip.laid.steps.long)
 
 pub ends_of_pin-requires-clause-no_wire : goal.ends_of_pin-requires-clause-no_wire
 ends_of_pin-requires-clause-no_wire g c =
     let self = c.args.self.now in
-    let classes = self.strip.layout.now.classes.items in
-    let within : c.args.place < length classes = omega (arith, c.requires.place, self.strip.laid.classes.long) in
+    let classes = self.strip.layout.now.steps.classes.items in
+    let within : c.args.place < length classes = omega (arith, c.requires.place, self.strip.laid.steps.long) in
     let class : c.index.result.now ≡ slice_index classes c.args.place = c.index.ensures ∙ get_or_default classes c.args.place c.index.result.now 0 within in
     sym class ∙ c.if-index.true
 
 pub arrival_ends-requires-clause-wire : goal.arrival_ends-requires-clause-wire
 arrival_ends-requires-clause-wire g c =
     let self = c.args.self.now in
-    let classes = self.strip.layout.now.classes.items in
-    let within : c.args.place < length classes = omega (arith, c.requires.place, self.strip.laid.classes.long) in
+    let classes = self.strip.layout.now.steps.classes.items in
+    let within : c.args.place < length classes = omega (arith, c.requires.place, self.strip.laid.steps.long) in
     let class : c.index.result.now ≡ slice_index classes c.args.place = c.index.ensures ∙ get_or_default classes c.args.place c.index.result.now 0 within in
     λ e. c.if-index.false (class ∙ e)
 
 pub step_ends-requires-clause-wire : goal.step_ends-requires-clause-wire
 step_ends-requires-clause-wire g c =
     let self = c.args.self.now in
-    let classes = self.strip.layout.now.classes.items in
-    let within : c.args.place < length classes = omega (arith, c.requires.place, self.strip.laid.classes.long) in
+    let classes = self.strip.layout.now.steps.classes.items in
+    let within : c.args.place < length classes = omega (arith, c.requires.place, self.strip.laid.steps.long) in
     let class : c.index.result.now ≡ slice_index classes c.args.place = c.index.ensures ∙ get_or_default classes c.args.place c.index.result.now 0 within in
     λ e. c.if-index.false (class ∙ e)
 

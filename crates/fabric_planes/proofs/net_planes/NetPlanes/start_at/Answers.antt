@@ -3,26 +3,20 @@ use Rattle.rr_graph.specs.declared.node.Node.{Node}
 use Rattle.std.specs.Prelude.{true}
 use Rattle.rr_graph.specs.Graph.{graph_of}
 use Rattle.fabric_planes.specs.Layout.{Terminals, place_of, place_count, shows}
-use Rattle.fabric_planes.proofs.ListedStarts.{shown_low, near, LowIn}
+use Rattle.fabric_planes.proofs.ListedStarts.{shown_low, LowIn}
+use Rattle.fabric_planes.proofs.Strips.{node_near}
 use Rattle.fabric_planes.proofs.net_planes.NetPlanes.start_at.Goals as goal
 
 pub place-place-requires : goal.place-place-requires
 place-place-requires g c =
     let self = c.args.self.now in
     let is = c.laws.ensures.basis in
-    let t : Terminals = record { source = self.source; sink = self.sink } in
-    let costs = g.C.NodeCosts.costs self.costs.now in
-    let firsts = self.strip.layout.now.firsts.items in
-    let basis = g.G.StripGraph.basis self.strip.graph.now in
-    near is t costs self.starts.now self.goal self.search c.args.number c.requires.within c.node-node.result c.node-node.ensures
+    node_near is c.args.number c.requires.within c.node-node.result c.node-node.ensures
 
 pub is_shown-requires-clause-place : goal.is_shown-requires-clause-place
 is_shown-requires-clause-place g c =
     let self = c.args.self.now in
     let is = c.laws.ensures.basis in
-    let t : Terminals = record { source = self.source; sink = self.sink } in
-    let costs = g.C.NodeCosts.costs self.costs.now in
-    let firsts = self.strip.layout.now.firsts.items in
     let basis = g.G.StripGraph.basis self.strip.graph.now in
     sym (c.place-place.ensures.value basis self.strip.laid.shape)
 
@@ -32,7 +26,6 @@ start-requires-clause-place g c =
     let is = c.laws.ensures.basis in
     let t : Terminals = record { source = self.source; sink = self.sink } in
     let costs = g.C.NodeCosts.costs self.costs.now in
-    let firsts = self.strip.layout.now.firsts.items in
     let basis = g.G.StripGraph.basis self.strip.graph.now in
     let shown = subst (λ (v : Node). shows basis.strip t c.args.track v.kind v ≡ true) c.node-node.ensures c.if-is_shown.ensures in
     let at : c.place-place.result ≡ place_of basis ((graph_of basis).node c.args.number) = c.place-place.ensures.value basis self.strip.laid.shape ∙ ap (λ (v : Node). place_of basis v) c.node-node.ensures in
@@ -44,7 +37,6 @@ returns-then-is_shown-clause-there g c =
     let is = c.laws.ensures.basis in
     let t : Terminals = record { source = self.source; sink = self.sink } in
     let costs = g.C.NodeCosts.costs self.costs.now in
-    let firsts = self.strip.layout.now.firsts.items in
     let basis = g.G.StripGraph.basis self.strip.graph.now in
     let shown = subst (λ (v : Node). shows basis.strip t c.args.track v.kind v ≡ true) c.node-node.ensures c.if-is_shown.ensures in
     let at : c.place-place.result ≡ place_of basis ((graph_of basis).node c.args.number) = c.place-place.ensures.value basis self.strip.laid.shape ∙ ap (λ (v : Node). place_of basis v) c.node-node.ensures in
@@ -55,7 +47,5 @@ returns-clause-none g c =
     let self = c.args.self.now in
     let is = c.laws.ensures.basis in
     let t : Terminals = record { source = self.source; sink = self.sink } in
-    let costs = g.C.NodeCosts.costs self.costs.now in
-    let firsts = self.strip.layout.now.firsts.items in
     let basis = g.G.StripGraph.basis self.strip.graph.now in
     λ shown. c.if-is_shown.ensures (subst (λ (v : Node). shows basis.strip t c.args.track v.kind v ≡ true) (sym c.node-node.ensures) shown)

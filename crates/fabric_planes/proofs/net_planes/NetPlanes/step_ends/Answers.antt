@@ -1,5 +1,6 @@
 use Rattle.std.proofs.Common.{◌≡◌, ◌-◌, ◌*◌, ℕ, ap}
 use Rattle.fabric_planes.specs.Layout.{Terminals, stride_of}
+use Rattle.fabric_planes.proofs.Found.{first_for}
 use Rattle.fabric_planes.proofs.Numbers.{class_there}
 use Rattle.fabric_planes.proofs.StepEnds.{steps_are, plane_rises, rising_before}
 use Rattle.fabric_planes.proofs.net_planes.NetPlanes.step_ends.Goals as goal
@@ -11,8 +12,9 @@ steps-requires g c =
     let t : Terminals = record { source = self.source; sink = self.sink } in
     let costs = g.C.NodeCosts.costs self.costs.now in
     let firsts = self.strip.layout.now.firsts.items in
-    let w = class_there is t costs self.starts.now self.goal self.search firsts self.strip.laid.firsts self.strip.layout.now.classes.items self.strip.laid.classes c.args.track c.args.place c.requires.track c.requires.place c.requires.wire in
-    (w.number, w.wire)
+    let w = class_there is t costs self.starts.now self.goal self.search firsts self.strip.laid.firsts self.strip.layout.now.steps self.strip.laid.steps c.args.track c.args.place c.requires.track c.requires.place c.requires.wire in
+    let f = first_for is c.args.place w.number w.wire in
+    (f.first, f.at)
 
 pub returns-clause-value : goal.returns-clause-value
 returns-clause-value g c =
@@ -21,10 +23,11 @@ returns-clause-value g c =
     let t : Terminals = record { source = self.source; sink = self.sink } in
     let costs = g.C.NodeCosts.costs self.costs.now in
     let firsts = self.strip.layout.now.firsts.items in
-    let w = class_there is t costs self.starts.now self.goal self.search firsts self.strip.laid.firsts self.strip.layout.now.classes.items self.strip.laid.classes c.args.track c.args.place c.requires.track c.requires.place c.requires.wire in
+    let w = class_there is t costs self.starts.now self.goal self.search firsts self.strip.laid.firsts self.strip.layout.now.steps self.strip.laid.steps c.args.track c.args.place c.requires.track c.requires.place c.requires.wire in
+    let f = first_for is c.args.place w.number w.wire in
     let basis = g.G.StripGraph.basis self.strip.graph.now in
     let base : c.args.place - self.back ≡ c.args.place - 2 * stride_of basis = ap (λ (n : ℕ). c.args.place - n) self.back_is in
-    let is_value = steps_are is t costs self.starts.now self.goal self.search firsts self.strip.laid.firsts c.args.track c.args.place (c.args.place - self.back) c.steps.result.now w c.requires.aside base (c.steps.ensures w.number w.wire) in
+    let is_value = steps_are is t costs self.starts.now self.goal self.search firsts self.strip.laid.firsts c.args.track c.args.place (c.args.place - self.back) c.steps.result.now w c.requires.track c.requires.aside base f (c.steps.ensures f.first f.at) in
     is_value
 
 pub returns-clause-rising : goal.returns-clause-rising
@@ -34,8 +37,9 @@ returns-clause-rising g c =
     let t : Terminals = record { source = self.source; sink = self.sink } in
     let costs = g.C.NodeCosts.costs self.costs.now in
     let firsts = self.strip.layout.now.firsts.items in
-    let w = class_there is t costs self.starts.now self.goal self.search firsts self.strip.laid.firsts self.strip.layout.now.classes.items self.strip.laid.classes c.args.track c.args.place c.requires.track c.requires.place c.requires.wire in
+    let w = class_there is t costs self.starts.now self.goal self.search firsts self.strip.laid.firsts self.strip.layout.now.steps self.strip.laid.steps c.args.track c.args.place c.requires.track c.requires.place c.requires.wire in
+    let f = first_for is c.args.place w.number w.wire in
     let basis = g.G.StripGraph.basis self.strip.graph.now in
     let base : c.args.place - self.back ≡ c.args.place - 2 * stride_of basis = ap (λ (n : ℕ). c.args.place - n) self.back_is in
-    let is_value = steps_are is t costs self.starts.now self.goal self.search firsts self.strip.laid.firsts c.args.track c.args.place (c.args.place - self.back) c.steps.result.now w c.requires.aside base (c.steps.ensures w.number w.wire) in
+    let is_value = steps_are is t costs self.starts.now self.goal self.search firsts self.strip.laid.firsts c.args.track c.args.place (c.args.place - self.back) c.steps.result.now w c.requires.track c.requires.aside base f (c.steps.ensures f.first f.at) in
     rising_before (c.args.place - self.back) c.steps.result.now _ is_value (plane_rises is t costs self.starts.now self.goal self.search firsts self.strip.laid.firsts c.args.track c.args.place)

@@ -2,7 +2,8 @@ use Rattle.std.proofs.Common.{◌∙◌, ◌≡◌}
 use Rattle.rr_graph.specs.Graph.{graph_of}
 use Rattle.fabric_planes.specs.Layout.{pins_of}
 use Rattle.fabric_planes.specs.PinRows.{aparts}
-use Rattle.fabric_planes.proofs.PinAparts.{aparts_few, aparts_within, apart_told, track_low}
+use Rattle.fabric_planes.proofs.PinAparts.{aparts_few, aparts_within, apart_told}
+use Rattle.fabric_planes.proofs.Strips.{track_low}
 use Rattle.fabric_planes.proofs.pin_rows.PinRows.apart.Goals as goal
 
 pub slice_bounds-result-end : goal.slice_bounds-result-end

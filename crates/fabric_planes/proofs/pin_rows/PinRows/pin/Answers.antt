@@ -5,7 +5,8 @@ use Rattle.fabric_planes.specs.declared.pins.PinAt.{PinAt}
 use Rattle.fabric_planes.specs.Layout.{stride_of, place_of, planes_of}
 use Rattle.fabric_planes.specs.PinRows.{first_row, rows_per_track, rise_of}
 use Rattle.fabric_planes.specs.Pins.{HasEnds}
-use Rattle.fabric_planes.proofs.PinsRowed.{IsMade, node_near, has_ends}
+use Rattle.fabric_planes.proofs.PinsRowed.{IsMade, has_ends}
+use Rattle.fabric_planes.proofs.Strips.{node_near}
 use Rattle.fabric_planes.proofs.pin_rows.PinRows.pin.Goals as goal
 
 pub row_of-row-requires : goal.row_of-row-requires

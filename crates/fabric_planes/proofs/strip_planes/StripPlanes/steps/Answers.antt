@@ -1,34 +1,29 @@
-use Rattle.std.proofs.Common.{◌≡◌, ◌<◌, ◌∙◌, ℕ, List, length, ap, arith}
-use Rattle.std.specs.Prelude.{slice_index}
+use Rattle.std.proofs.Common.{◌≡◌, ◌∙◌, [], sym, ap, arith}
+use Rattle.std.specs.Prelude.{slice_get, slice_index}
 use Rattle.std.proofs.lemmas.List.{get_or_default}
-use Rattle.std.proofs.lemmas.List.FromFn.{length-map-range_with_len}
-use Rattle.fabric_planes.specs.Layout.{stride_of, band_of}
-use Rattle.fabric_planes.specs.Tables.{steps_in}
-use Rattle.fabric_planes.proofs.Found.{steps_told, class_told, class_low, place_low}
+use Rattle.std.proofs.lemmas.Option.{get_or_from_slice_get, slice_get_within}
+use Rattle.fabric_planes.proofs.StepRows.{first_low}
 use Rattle.fabric_planes.proofs.strip_planes.StripPlanes.steps.Goals as goal
 
 pub index-requires : goal.index-requires
 index-requires g c =
     let found = c.requires in
-    omega (arith, place_low c.laws.ensures.basis c.args.place found.0 found.1, c.args.self.now.laid.classes.long)
+    omega (arith, first_low c.laws.ensures.basis c.args.place found.0 found.1, c.args.self.now.laid.steps.long)
 
 pub row-requires : goal.row-requires
 row-requires g c =
-    let basis = g.G.StripGraph.basis c.args.self.now.graph.now in
     let found = c.requires in
-    let laid = c.args.self.now.laid in
-    let classes = c.args.self.now.layout.now.classes.items in
-    let within : c.args.place < length classes = omega (arith, place_low c.laws.ensures.basis c.args.place found.0 found.1, laid.classes.long) in
-    let told = class_told c.laws.ensures.basis classes laid.classes c.args.place found.0 found.1 in
-    let class : c.index.result.now ≡ slice_index classes c.args.place = c.index.ensures ∙ get_or_default classes c.args.place c.index.result.now 0 within in
-    let many = ap (λ (rows : List (List ℕ)). length rows) laid.steps ∙ length-map-range_with_len (steps_in (stride_of basis) (band_of basis)) 0 32 in
-    omega (arith, told, class, class_low c.laws.ensures.basis found.0, many)
+    let steps = c.args.self.now.layout.now.steps in
+    let laid = c.args.self.now.laid.steps in
+    let low = first_low c.laws.ensures.basis c.args.place found.0 found.1 in
+    let class : c.index.result.now ≡ slice_index steps.classes.items c.args.place = c.index.ensures ∙ get_or_default steps.classes.items c.args.place c.index.result.now 0 (omega (arith, low, laid.long)) in
+    omega (arith, class, slice_get_within steps.rows (slice_index steps.classes.items c.args.place) _ (laid.wires c.args.place found.0 low found.1))
 
 pub returns : goal.returns
-returns g c = λ number w.
-    let laid = c.args.self.now.laid in
-    let classes = c.args.self.now.layout.now.classes.items in
-    let within : c.args.place < length classes = omega (arith, place_low c.laws.ensures.basis c.args.place number w, laid.classes.long) in
-    let told = class_told c.laws.ensures.basis classes laid.classes c.args.place number w in
-    let class = c.index.ensures ∙ (get_or_default classes c.args.place c.index.result.now 0 within ∙ told) in
-    steps_told c.laws.ensures.basis c.args.self.now.layout.now.steps c.row.result.now c.index.result.now c.args.place number laid.steps class c.row.ensures w
+returns g c = λ first at.
+    let steps = c.args.self.now.layout.now.steps in
+    let laid = c.args.self.now.laid.steps in
+    let low = first_low c.laws.ensures.basis c.args.place first at in
+    let class : c.index.result.now ≡ slice_index steps.classes.items c.args.place = c.index.ensures ∙ get_or_default steps.classes.items c.args.place c.index.result.now 0 (omega (arith, low, laid.long)) in
+    sym (get_or_from_slice_get steps.rows c.index.result.now c.row.result.now [] c.row.ensures)
+    ∙ get_or_from_slice_get steps.rows c.index.result.now _ [] (ap (slice_get steps.rows) class ∙ laid.wires c.args.place first low at)

@@ -10,7 +10,7 @@ use Rattle.pathfinder.proofs.routing.Routing.has_node.Goals as goal
 pub returns : goal.returns
 returns c =
     let tree = c.index.result.now in
-    let within : c.args.net < length c.self.inside.routes.items = subst (λ (s : RoutingState). c.args.net < length s.trees) (sym c.self.view_is) c.requires in
+    let within : c.args.net < length c.self.inside.state.routes.items = subst (λ (s : RoutingState). c.args.net < length s.trees) (sym c.self.view_is) c.requires in
     c.contains.ensures.value ∙ found_by_count (λ other. other == c.args.node) c.nodes.result.now (has_node tree c.args.node) (c.nodes.ensures c.args.node)
-    ∙ ap (λ (t : Tree). has_node t c.args.node) (c.index.ensures ∙ get_or_default c.self.inside.routes.items c.args.net tree [] within)
+    ∙ ap (λ (t : Tree). has_node t c.args.node) (c.index.ensures ∙ get_or_default c.self.inside.state.routes.items c.args.net tree [] within)
     ∙ ap (λ (s : RoutingState). has_node (slice_index_or s.trees c.args.net []) c.args.node) c.self.view_is

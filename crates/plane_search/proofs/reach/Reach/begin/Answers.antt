@@ -12,7 +12,7 @@ no_start = record { place = 0; ahead = 0 }
 pub loop-start-init : goal.loop-start-init
 loop-start-init g c =
     let plane = c.tracks-tracks.ensures.lawful.planes c.args.view.now.track c.args.view.now.on in
-    beginning (omega (arith, plane.count, c.in_ok-renew.ensures.room, c.places.ensures)) (omega (arith, plane.count, plane.exit_there.within)) c.in_ok-renew.ensures.unmarked c.clear.ensures.items c.clear-2.ensures.items
+    beginning (omega (arith, plane.count, c.in_ok-renew.ensures.room, c.places.ensures)) (omega (arith, plane.count, plane.exit_there.within)) c.in_ok-renew.ensures.unmarked c.clear.ensures
 
 pub offer_start-requires-clause-start : goal.offer_start-requires-clause-start
 offer_start-requires-clause-start g c =

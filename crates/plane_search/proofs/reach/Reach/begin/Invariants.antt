@@ -5,4 +5,4 @@ use Rattle.plane_search.proofs.reach.Reach.begin.Given as goal
 abbrev pub invariant-loop-start : goal.invariant-loop-start
 invariant-loop-start g l =
     let f = g.P.Planes.family l.view.planes.now in
-    IsBeginning (f.plane l.view.track) (places_of l.starts) f.exit l.most l.start-index l.self.marks l.self.next.items l.self.later.items
+    IsBeginning (f.plane l.view.track) g.C.Cell.SPAN (places_of l.starts) f.exit l.most l.start-index l.self.marks (g.Q.Queue.entries l.self.queue)

@@ -5,10 +5,10 @@ use Rattle.plane_search.proofs.Walking.{end_within}
 use Rattle.plane_search.proofs.reach.Reach.follow.Goals as goal
 
 pub returns-then-item-cost-clause-under_way : goal.returns-then-item-cost-clause-under_way
-returns-then-item-cost-clause-under_way g c = λ starts next w removed. taken_over removed (λ e. c.if-item-cost.true (omega (arith, e, c.cost-cost.ensures))) w
+returns-then-item-cost-clause-under_way g c = λ starts most w. taken_over (λ e. c.if-item-cost.true (omega (arith, e, c.cost-cost.ensures))) w
 
 pub loop-end-init : goal.loop-end-init
-loop-end-init g c = (c.requires.room, omega arith, omega arith, λ starts w. w)
+loop-end-init g c = (c.requires.room, omega arith, omega arith, λ starts most w. w)
 
 pub overflow_add-place : goal.overflow_add-place
 overflow_add-place g c =
@@ -32,9 +32,9 @@ loop-end-preserved g c =
       omega (arith, i.0, c.in_ok-limit.ensures.room),
       omega (arith, i.1, c.in_ok-limit.ensures.limit),
       omega (arith, i.2, c.in_ok-limit.ensures.nearer),
-      λ starts w. c.in_ok-limit.ensures.on starts c.loop-end.end-index (record { within = q.0; is = q.1 }) (i.3 starts w),
+      λ starts most w. c.in_ok-limit.ensures.on starts most c.loop-end.end-index (record { within = q.0; is = q.1 }) (i.3 starts most w),
     )
 
 pub returns-clause-under_way : goal.returns-clause-under_way
-returns-clause-under_way g c = λ starts next w removed.
-    all_followed (past_listed _ _ _ _ c.ends-ends.ensures.value c.loop-end-test.false) (c.loop-end.invariant.3 starts (taken_next removed (omega (arith, c.if-item-cost.false, c.cost-cost.ensures)) w))
+returns-clause-under_way g c = λ starts most w.
+    all_followed (past_listed _ _ _ _ c.ends-ends.ensures.value c.loop-end-test.false) (c.loop-end.invariant.3 starts most (taken_next (omega (arith, c.if-item-cost.false, c.cost-cost.ensures)) w))

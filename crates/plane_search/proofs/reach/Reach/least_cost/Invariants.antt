@@ -6,7 +6,7 @@ use Rattle.plane_search.proofs.reach.Reach.least_cost.Given as goal
 abbrev pub invariant-loop-item : goal.invariant-loop-item
 invariant-loop-item g l =
     let f = g.P.Planes.family l.view.planes.now in
-    (l.limit ≤ l.most) × IsUnderWay (f.plane l.view.track) (places_of l.starts) f.exit l.limit l.self.marks l.self.next.items l.self.later.items
+    (l.limit ≤ l.most) × IsUnderWay (f.plane l.view.track) g.C.Cell.SPAN (places_of l.starts) f.exit l.most l.limit l.self.marks (g.Q.Queue.entries l.self.queue)
 
 abbrev pub decreases-loop-item : goal.decreases-loop-item
-decreases-loop-item g l = measure_of l.self.marks l.self.next.items l.self.later.items
+decreases-loop-item g l = measure_of l.self.marks (g.Q.Queue.entries l.self.queue)

@@ -3,4 +3,4 @@ use Rattle.plane_search.specs.Walk.{places_in}
 use Rattle.plane_search.proofs.walk.Walk.write_path.Given as goal
 
 abbrev pub invariant-loop-stop : goal.invariant-loop-stop
-invariant-loop-stop l = l.nodes.items ≡ places_in (take l.stop-index l.self.stops.items)
+invariant-loop-stop g l = l.nodes.items ≡ places_in (take l.stop-index l.self.stops.items)

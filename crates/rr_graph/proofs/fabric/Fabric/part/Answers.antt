@@ -1,12 +1,9 @@
 use Rattle.std.proofs.Common.{◌≤◌, sym, subst}
 use Rattle.rr_graph.specs.Graph.{Basis}
-use Rattle.rr_graph.specs.Fabric.{IsPart}
 use Rattle.rr_graph.proofs.Widths.{part_of}
 use Rattle.rr_graph.proofs.fabric.Fabric.part.Goals as goal
 
 pub invariant_of-result : goal.invariant_of-result
 invariant_of-result c =
-    let nodes = c.self.inside.nodes.numbering in
-    subst (λ met. IsPart nodes c.args.width c.self.inside.table c.self.inside.wires met c.self.inside.inputs) (sym c.as_slice.ensures.value)
-    (part_of nodes c.args.width c.self.inside.table c.self.inside.wires c.self.inside.met.items c.self.inside.inputs c.self.invariant c.requires.some
-    (subst (λ (g : Basis). c.args.width ≤ g.strip.width) (sym c.self.view_is) c.requires.few))
+    part_of c.self.inside.nodes.numbering c.args.width c.self.inside.table c.self.inside.inputs c.self.invariant c.requires.some
+    (subst (λ (g : Basis). c.args.width ≤ g.strip.width) (sym c.self.view_is) c.requires.few)

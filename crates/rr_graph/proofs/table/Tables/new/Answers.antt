@@ -1,6 +1,5 @@
-use Rattle.rr_graph.specs.Table.{IsRowBeside}
 use Rattle.rr_graph.proofs.Widths.{both_tables}
 use Rattle.rr_graph.proofs.table.Tables.new.Goals as goal
 
 pub returns : goal.returns
-returns c = both_tables (IsRowBeside c.args.nodes.now.numbering) c.args.nodes.now.numbering _ c.in_ok-inner.ensures c.in_ok-last.ensures
+returns c = both_tables c.args.nodes.now.numbering _ c.in_ok-inner.ensures c.in_ok-last.ensures

@@ -1,4 +1,4 @@
-use Rattle.std.proofs.Common.{ℕ, ◌≡◌, ◌∙◌, ◌+◌, ◌-◌, ◌<◌, ◌≤◌, ◌⊎◌, ◌++◌, Bool, true, false, List, Some, length, take, drop, map, refl, ap, sym, subst, arith}
+use Rattle.std.proofs.Common.{◌≡◌, ◌∙◌, ◌+◌, ◌≤◌, ◌⊎◌, ◌++◌, true, false, List, Some, length, take, map, refl, ap, sym, subst, arith}
 use Rattle.std.specs.List.{refill}
 use Rattle.std.proofs.lemmas.List.{append-nil, drop_all, length-map, take_all}
 use Rattle.std.proofs.lemmas.List.Elements.{All-same}

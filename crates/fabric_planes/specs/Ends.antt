@@ -1,0 +1,32 @@
+-- The ends of a node's edges, as a plane lists them.
+use Rattle.std.specs.Prelude.{ℕ, ◌-◌, ◌*◌, List, map, filter}
+use Rattle.rr_graph.specs.declared.node.Node.{Node}
+use Rattle.rr_graph.specs.Graph.{Basis, graph_of}
+use Rattle.fabric_planes.specs.declared.ends.View.{View}
+use Rattle.fabric_planes.specs.Layout.{Terminals, place_of, shows, stride_of}
+
+-- the places of those of the nodes that a track's plane shows
+abbrev pub shown_places : Basis → Terminals → ℕ → List ℕ → List ℕ
+shown_places basis t track nodes =
+    map (λ node. place_of basis ((graph_of basis).node node)) (filter (λ node. shows basis.strip t track ((graph_of basis).node node).kind ((graph_of basis).node node)) nodes)
+
+-- the ends of a node's edges in a track's plane
+unfoldable pub shown_ends : Basis → Terminals → ℕ → ℕ → List ℕ
+shown_ends basis t track number = shown_places basis t track ((graph_of basis).ends number)
+
+-- ---- rows: ends, each less a base
+
+-- what belongs to the node's block or pad
+abbrev pub seen_from : Node → Terminals
+seen_from node = record { source = node; sink = node }
+
+abbrev pub row_from : Basis → View → ℕ → List ℕ → List ℕ
+row_from basis view base nodes = map (λ place. place - base) (shown_places basis (seen_from view.node) view.track nodes)
+
+-- the place two columns before that of a wire
+abbrev pub base_of : Basis → ℕ → ℕ
+base_of basis wire = place_of basis ((graph_of basis).node wire) - 2 * stride_of basis
+
+-- the row of a wire
+abbrev pub row_of : Basis → View → ℕ → List ℕ
+row_of basis view wire = row_from basis view (base_of basis wire) ((graph_of basis).ends wire)

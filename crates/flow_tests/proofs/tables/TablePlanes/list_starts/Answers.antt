@@ -1,0 +1,10 @@
+use Rattle.std.proofs.Common.{◌++◌, List, ap, ◌∙◌}
+use Rattle.plane_search.specs.declared.planes.Start.{Start}
+use Rattle.flow_tests.specs.Tables.{pairs}
+use Rattle.flow_tests.proofs.Pairs.{the_starts}
+use Rattle.flow_tests.proofs.tables.TablePlanes.list_starts.Goals as goal
+
+pub returns : goal.returns
+returns c =
+    let t = c.args.self.now in
+    the_starts (pairs t.ends.items t.costs.items) t.goal c.args._track c.args._most t.starts.items c.extend_from_slice.new.self.items (c.in_ok-extend_from_slice.ensures.items ∙ ap (λ (xs : List Start). xs ++ c.deref.result.now) c.clear.ensures.items ∙ c.deref.ensures.value) t.starts_near
