@@ -3,10 +3,12 @@
 Statements are the parts of specs and of sources that other crates can rest on, cut at empty lines: definitions, items, members of an impl or a
 trait. A part is reached if a name that it defines is written, under its import, in the crate's own text or in a part that is reached; a member
 of a type or trait of this repository, if its name is written anywhere there and its type or trait is reached. So a statement that no text
-names, however far below, asks for no new try of an edit. What is private to a type, its fields and its model's view and invariant, no other
-crate can name; it counts in the crate itself alone."""
+names, however far below, asks for no new try of an edit. No other crate can name the private fields of a type, nor, if it has no public one,
+its model's view and invariant; these count in the crate itself alone."""
 import collections
 import re
+
+from wrong_bodies.edits import without_parameters
 
 WORD = re.compile(r"[^\s(){}\[\],.;:`'\"λ→×]+")
 VISIBLE = r"(?:pub(?:\([^)]*\))? )?"
@@ -116,19 +118,9 @@ def owners(head):
     return first or None, second or None
 
 
-def without_parameters(said):
-    """The head of an impl block without the parameters that it begins with."""
-    depth = 0
-    for at, letter in enumerate(said):
-        depth += (letter == "<") - (letter == ">" and said[at - 1] not in "-=")
-        if not depth:
-            return said[at + 1:].strip() if letter == ">" else said
-    return said
-
-
 def source_parts(crate, traits, lines):
     """The items of a source. `traits` are those of this repository, whose members are called by their names."""
-    file = file_of(crate, lines, True)
+    file, open_types = file_of(crate, lines, True), types_with_public_fields(lines)
     for head, group in items(lines):
         group = [line for line in without_tactics(group) if not USE.match(line) and not re.match(VISIBLE + r"mod |\s*}$", line)]
         named = [ITEM.match(line.strip()) for line in group]
@@ -140,7 +132,8 @@ def source_parts(crate, traits, lines):
                 yield Part(crate, [((crate, name),) for name in defined], file.names(text), text)
             continue
         trait, type = owners(head)
-        text = "\n".join(line for line in group if "ghost Value" in line) if trait == "Model" and type else "\n".join(group)
+        hides = trait == "Model" and type not in open_types
+        text = "\n".join(line for line in group if "ghost Value" in line or not hides)
         of_std = trait and type and trait not in traits
         # An impl for a parameter, or for a type like `u32`, is reached by its trait.
         at = type if type and len(type) > 1 and not type[0].islower() else trait
@@ -151,6 +144,10 @@ def source_parts(crate, traits, lines):
             needs = [(at,)]
         if text:
             yield Part(crate, needs, file.names("\n".join([*head, text])), text)
+
+
+def types_with_public_fields(lines):
+    return {it[1] for it in re.findall(VISIBLE + r"(struct) (\w+)[^{};]*\{\n(?:    .*\n)*?    pub ", "\n".join(line for line in lines if line))}
 
 
 def without_tactics(group):

@@ -10,7 +10,7 @@ reply has this tag too, and `done @NAME/K` ends it. Lines of the operator have n
 | `op echo refused K` | `op refused K` | K is no single command: it is not handed over |
 | `op echo all K` | none is waited for | all entries up to K were served and told before; `shorten` writes it |
 
-So each K that was answered stands in the log, and a log says by itself what was served."""
+So each K that was answered is in the log, and a log says by itself what was served."""
 import re
 from typing import Dict, Iterable, List, NamedTuple, Optional, Set, Tuple
 

@@ -3,9 +3,8 @@ ghost use Rattle.std.specs.Prelude.{◌≡◌, ◌%◌, ◌<◌};
 
 use std::marker::Model;
 
-/// A number that words are divided by. Its value is that number. Beside it stands 2^32 divided by
-/// it, rounded down: the upper half of a word's product with that is the word's quotient, or one
-/// less. A product takes a tenth of the time of a division.
+/// A number that words are divided by. Its value is that number. Beside it is 2^32 divided by it,
+/// rounded down: the upper half of a word's product with that is the word's quotient, or one less.
 #[derive(Drop)]
 pub(crate) struct Divisor {
     by: u32,
