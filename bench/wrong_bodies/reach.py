@@ -3,7 +3,8 @@
 Statements are the parts of specs and of sources that other crates can rest on, cut at empty lines: definitions, items, members of an impl or a
 trait. A part is reached if a name that it defines is written, under its import, in the crate's own text or in a part that is reached; a member
 of a type or trait of this repository, if its name is written anywhere there and its type or trait is reached. So a statement that no text
-names, however far below, asks for no new try of an edit. No other crate can name the private fields of a type, nor, if it has no public one,
+names, however far below, asks for no new try of an edit; a function that is a member is named if it is written with its arguments or after `::`,
+as no field is. No other crate can name the private fields of a type, nor, if it has no public one,
 its model's view and invariant; these count in the crate itself alone."""
 import collections
 import re
@@ -18,8 +19,9 @@ TRAIT = re.compile(VISIBLE + r"trait (\w+)")
 KEYWORDS = {"abbrev", "unfoldable", "opaque", "pub", "record", "data", "where", "infix", "infixl", "infixr"}
 PATH = re.compile(r"\b([a-z]\w*)::(\w+)")
 USE = re.compile(r"^\s*" + VISIBLE + r"(?:ghost )?use ([^;]*?)(?:;|$)", re.M)
-# Before a member's name, which is looked up in each crate, and before the crate of a name that no import has.
-ANYWHERE, OWN = "?", "="
+CALL = re.compile(r"::\s*(\w+)|\b(\w+)(?=\(|::<)")
+# Before a member's name, which is looked up in each crate, before that of a function, and before the crate of a name that no import has.
+ANYWHERE, CALLED, OWN = "?", "!", "="
 Part = collections.namedtuple("Part", "crate needs names text")
 
 
@@ -54,8 +56,10 @@ class File:
             found.add(self.imports.get(word, (OWN + self.crate, word)))
             if self.is_source:
                 found.add((ANYWHERE, word))
-        # Paths like `line_text::Line`.
-        return found | {path for path in PATH.findall(text) if self.is_source}
+        if not self.is_source:
+            return found
+        # Calls, and paths like `line_text::Line`.
+        return found | {(CALLED, path or name) for path, name in CALL.findall(text)} | {*PATH.findall(text)}
 
 
 def file_of(crate, lines, is_source):
@@ -124,6 +128,7 @@ def source_parts(crate, traits, lines):
     for head, group in items(lines):
         group = [line for line in without_tactics(group) if not USE.match(line) and not re.match(VISIBLE + r"mod |\s*}$", line)]
         named = [ITEM.match(line.strip()) for line in group]
+        kinds = {it[2]: it[1] for it in named if it}
         named = [it[2] for it in named if it]
         if not head:
             text = "\n".join(public_lines(group))
@@ -139,7 +144,7 @@ def source_parts(crate, traits, lines):
         at = type if type and len(type) > 1 and not type[0].islower() else trait
         at = file.imports.get(at, (crate, at))
         if named and group is not head and not of_std:
-            needs = [(at, (ANYWHERE, name)) for name in named]
+            needs = [(at, (CALLED if kinds[name] == "fn" else ANYWHERE, name)) for name in named]
         else:
             needs = [(at,)]
         if text:
@@ -199,7 +204,7 @@ class Reach:
             crate, word = name
             if crate.startswith(OWN):
                 self.meant[name] = ((crate[1:], word),)
-            elif crate == ANYWHERE or word not in self.definers or crate in self.definers[word]:
+            elif crate in (ANYWHERE, CALLED) or word not in self.definers or crate in self.definers[word]:
                 self.meant[name] = (name,)
             else:
                 self.meant[name] = tuple((it, word) for it in self.definers[word] if it in self.below.get(crate, ()))

@@ -86,7 +86,7 @@ def crate_sums(top=TOP):
             named = set()
             for path, lines in files(top, name, "src", "specs", "proofs"):
                 named |= file_of(name, lines, path.endswith(".rt")).names("\n".join(lines))
-            said = sorted((it.crate, it.text) for it in reach.of(named, under(name)))
+            said = sorted({(it.crate, it.text) for it in reach.of(named, under(name))})
             sums[name] = sum_of(*texts(top, name, "src", "specs", "proofs"), said)
     return sums
 

@@ -1,19 +1,13 @@
 //! The tool that makes the log of a live service shorter.
-ghost use Rattle.live_run.specs.Limits.{device_of};
-ghost use Rattle.service_core.specs.Kept.{IsDevice};
-
-use arch_file::{Arch, ArchError, read_arch};
+use crate::printing::print_over;
+use arch_file::{ArchError, read_arch};
 use desk_common::{
     COLUMNS, DEVICE, FileRole, NO_DEVICE, Outcome, ROWS, read_file, write_arch_fault,
 };
 use line_text::{MAX_TEXT, Sink};
-use live_input::LiveLines;
-use live_log::{ShortLog, shorten};
 use live_run::{Options, first_line};
 use option_words::{Given, OptionWord, Program, Takes};
-use service_core::Service;
-use sessions::device_graph;
-use std::alloc::{AllocError, Global};
+use std::alloc::Global;
 use std::rt::Files;
 
 const NO_FILE: &str = "give an architecture and a log";
@@ -28,7 +22,9 @@ pub const TOOL: Program = Program {
 The options are those that fpgad_live runs with. The service must not be running. Left out are the lines of evicted tenancies,
 what a later `withdraw`, `change`, `place` or `cancel` made void, `status`, `net`, `placefile`, `routefile`, `op list`, `op owners`,
 each `op echo` but the last, and what was refused.
-Ids and offsets stay. Journals have fewer entries then, and `? N` counts the lines of the shorter log.
+Ids and offsets stay, and a comment says the last id that each name used. Journals have fewer entries then, and `? N` counts the lines of the shorter log.
+The shorter log is checked: a second service is served it, and both are asked for each tenancy's state and files.
+Unless they answer alike, the whole log is printed, and standard error says so.
 
 Example: fpgad_desk log --arch my.arch --tracks 8 --columns 20 --rows 10 day.log > short.log && mv short.log day.log",
     options: &[
@@ -133,7 +129,7 @@ fn print<W: Sink, E: Sink>(
         return Err(Outcome::LogDiffers);
     }
     match read_arch(alloc, arch, wishes.options.tracks) {
-        Ok(arch) => print_over(alloc, wishes.options, arch, log, writer),
+        Ok(arch) => print_over(alloc, wishes.options, arch, log, writer, teller),
         Err(ArchError::NoMemory) => Err(Outcome::NoMemory),
         Err(ArchError::Fault(fault)) => {
             let _ = write_arch_fault(teller, wishes.arch, fault);
@@ -165,42 +161,4 @@ fn begins_so(
         }
         Err(_) => Err(Outcome::NoMemory),
     }
-}
-
-/// Prints the shorter log of a service with these options, over that architecture.
-fn print_over<W: Sink>(
-    alloc: Global,
-    options: Options,
-    arch: Arch,
-    log: &[u8],
-    writer: &mut W,
-) -> Result<(), Outcome>
-    requires { IsDevice (device_of options arch) }
-{
-    match shorten_log(alloc, options, arch, log) {
-        Ok(short) => {
-            let written = short.write(writer);
-            drop(short);
-            written.or(Err(Outcome::OutputFailed))
-        }
-        Err(_) => Err(Outcome::NoMemory),
-    }
-}
-
-/// The shorter log of a service with these options, over that architecture.
-fn shorten_log<'l>(
-    alloc: Global,
-    options: Options,
-    arch: Arch,
-    log: &'l [u8],
-) -> Result<ShortLog<'l>, AllocError>
-    requires { IsDevice (device_of options arch) }
-{
-    let device = options.device(arch);
-    let graph = device_graph(alloc, &device)?;
-    let core = Service::with_text_limit(alloc, device, options.text_limit())?;
-    let mut lines = LiveLines::new(alloc, &graph, core);
-    let short = shorten(alloc, &mut lines, log);
-    lines.close();
-    short
 }

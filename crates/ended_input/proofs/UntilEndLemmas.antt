@@ -1,7 +1,7 @@
 -- An input that ends at its first line `op end`.
 use Rattle.std.proofs.Common.{◌≡◌, ◌≢◌, ℕ, zero, suc, ◌+◌, ◌<◌, ◌≤◌, nat_le, List, [], ◌∷◌, ◌++◌, length, take, drop, Bool, true, false, Option, Some, None, refl, sym, ap, subst, ◌∙◌, arith, append-nil, append_assoc, take-take, ◌-◌, length-take, length-append, length-drop}
 use Rattle.ended_input.specs.declared.until_end.Seen.TheVariants.{End, Beginning, Other}
-use Rattle.std.specs.Prelude.{slice_index_or, ◌==◌, ◌&&◌, nat_eq, option_map, if◌then◌else◌}
+use Rattle.std.specs.Prelude.{slice_index_or, ◌==◌, nat_eq, option_map, if◌then◌else◌}
 use Rattle.std.specs.List.{starts_with}
 use Rattle.std.specs.Io.KnownBytes.{Consumes, IsAtEnd, Keeps, ReadConsumes}
 use Rattle.std.specs.Prelude.{IfOk, Result, Ok, Err}

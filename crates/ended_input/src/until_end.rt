@@ -156,7 +156,7 @@ impl<S: Source + Drop> UntilEnd<S> {
             held: Held { count: 0 },
             is_over: false,
             failed: false,
-            reads: 1 << 32,
+            reads: u64::MAX,
         }
     }
 

@@ -1,33 +1,23 @@
 -- The wires up to a sink, by tables of distances.
-use Rattle.std.proofs.Common.{◌≡◌, ℕ, ◌+◌, ◌-◌, ◌<◌, ◌≤◌, Bool, true, List, length, min, subst, sym, inl, inr, arith}
-use Rattle.std.specs.Prelude.{slice_index, nat_le, nat_lt, ◌&&◌, ◌||◌, ◌==◌}
-use Rattle.std.proofs.lemmas.Bool.{and_parts, or_cases, leb-true, eqb-true, false≢true}
-use Rattle.arch_file.specs.declared.arch.Arch.{Arch}
-use Rattle.grid.specs.declared.Strip.{Strip}
+use Rattle.std.proofs.Common.{◌≡◌, ℕ, ◌-◌, ◌<◌, ◌≤◌, true, List, subst, sym, arith}
 use Rattle.rr_graph.specs.declared.node.NodeKind.{NodeKind}
-use Rattle.rr_graph.specs.declared.node.NodeKind.TheVariants.{Source, Sink, ChanX, ChanY}
+use Rattle.rr_graph.specs.declared.node.NodeKind.TheVariants.{Sink, ChanX, ChanY}
 use Rattle.rr_graph.specs.declared.node.Node.{Node}
-use Rattle.rr_graph.specs.Geometry.{is_node, is_slot, is_chan_y, is_block_row, is_pad_row, is_block_number}
-use Rattle.rr_graph.specs.Graph.{Basis, IsBasis, graph_of}
+use Rattle.rr_graph.specs.Geometry.{IsWire, is_node}
+use Rattle.rr_graph.specs.Graph.{Basis, IsBasis, graph_of, make_node}
 use Rattle.fabric_planes.specs.Aheads.{AreAheads}
-use Rattle.fabric_planes.specs.Differences.{MOST_FAR, IsPinPlace, wires_to}
+use Rattle.fabric_planes.specs.Differences.{wires_to}
+use Rattle.fabric_planes.specs.Fars.{AreFar}
 use Rattle.fabric_planes.specs.Distances.{wires_by}
 use Rattle.fabric_planes.specs.declared.distances.Target.{Target}
 use Rattle.fabric_planes.specs.declared.distances.Target.TheVariants.{Level, Block}
-use Rattle.fabric_planes.specs.Laid.{IsWireOf}
-use Rattle.fabric_planes.specs.Layout.{in_column, place_count}
 use Rattle.fabric_planes.specs.SidePlaces.{IsInStrip}
 use Rattle.fabric_planes.specs.Sides.{IsAtSide}
 use Rattle.fabric_planes.specs.Ways.{IsWireAt}
 use Rattle.fabric_planes.proofs.Lowered.{by_four}
-use Rattle.fabric_planes.proofs.Strips.{lawful, node_column, wire_row}
-
--- what a table tells of a target
-pub record AreFar (basis : Basis) (target : Target) (u v : ℕ) (table : List ℕ) : Type 0 where
-  pub long : length table ≡ place_count basis
-  pub far : (from number : ℕ) → IsWireOf basis from number
-      → slice_index table from ≡ min MOST_FAR (wires_to target ((graph_of basis).node number).kind ((graph_of basis).node number).x ((graph_of basis).node number).y u v)
-  pub none : (x offset : ℕ) → IsPinPlace basis x offset → slice_index table (in_column basis x offset) ≡ 0
+use Rattle.fabric_planes.proofs.PinsRowed.{pin_facts}
+use Rattle.fabric_planes.proofs.Strips.{lawful, wire_row}
+use Rattle.fabric_planes.proofs.Wires.{upright_facts}
 
 -- the distance from a wire at a side
 abbrev IsFarFrom : Target → ℕ → ℕ → NodeKind → ℕ → ℕ → NodeKind → ℕ → ℕ → Type 0
@@ -50,48 +40,12 @@ block_far sink ka xa ya side kb xb yb at =
 level_far : (sink : Node) (v : ℕ) (ka : NodeKind) (xa ya : ℕ) (kb : NodeKind) (xb yb : ℕ) → kb ≡ ChanX → xb ≡ sink.x → yb ≡ v → IsFarFrom Level sink.x v ka xa ya kb xb yb
 level_far sink v ka xa ya kb xb yb k x y = at_is Level sink.x v ka xa ya kb ChanX xb sink.x yb v k x y (omega arith)
 
--- a vertical wire is beside a row of blocks
-upright_slot : (arch : Arch) (strip : Strip) (kind : NodeKind) (y n : ℕ) → kind ≡ ChanY → is_slot arch strip kind y n ≡ true → 1 ≤ y
-upright_slot arch strip kind y n e h =
-    let slot : is_slot arch strip ChanY y n ≡ true = subst (λ k. is_slot arch strip k y n ≡ true) e h in
-    leb-true 1 y (and_parts (nat_le 1 y) (nat_le y strip.rows) (and_parts (is_block_row strip y) (nat_lt n arch.tracks) slot).0).0
+-- a source or a sink is in a column and row of the strip
+pub terminal_inside : {basis : Basis} → IsBasis basis → (v : Node) → (IsWire v.kind → ⊥) → is_node basis.arch basis.strip v ≡ true → IsInStrip basis v
+terminal_inside is v no_wire there = let pin = pin_facts is v no_wire there in record { x = pin.to; y = omega (arith, pin.row) }
 
--- a sink is in a column and row of the strip
-pub record IsInside (strip : Strip) (v : Node) : Type 0 where
-  pub x : v.x ≤ strip.width
-  pub some : 1 ≤ v.x
-  pub y : v.y ≤ strip.rows + 1
-
-row_of : (strip : Strip) (y : ℕ) → is_pad_row strip y ≡ true → y ≤ strip.rows + 1
-row_of strip y h = elim (or_cases (y == 0) (y == strip.rows + 1) h) [
-  | inl e ↦ omega (arith, eqb-true y 0 e)
-  | inr e ↦ omega (arith, eqb-true y (strip.rows + 1) e)
-]
-
--- a block's or pad's node is in one of the rows
-terminal_row : (strip : Strip) (y n : ℕ) (block : Bool) → ((is_pad_row strip y && nat_lt n strip.io_rat) || (is_block_row strip y && block)) ≡ true → y ≤ strip.rows + 1
-terminal_row strip y n block h = elim (or_cases (is_pad_row strip y && nat_lt n strip.io_rat) (is_block_row strip y && block) h) [
-  | inl pad ↦ row_of strip y (and_parts (is_pad_row strip y) (nat_lt n strip.io_rat) pad).0
-  | inr at ↦ (let l = leb-true y strip.rows (and_parts (nat_le 1 y) (nat_le y strip.rows) (and_parts (is_block_row strip y) block at).0).1 in omega (arith, l))
-]
-
-pub source_inside : (basis : Basis) (v : Node) → v.kind ≡ Source → is_node basis.arch basis.strip v ≡ true → IsInStrip basis v
-source_inside basis v e h =
-    let inner = (and_parts (nat_le v.x basis.strip.width) ((nat_le 1 v.x || is_chan_y v.kind) && is_slot basis.arch basis.strip v.kind v.y v.n) h).1 in
-    let slot : is_slot basis.arch basis.strip Source v.y v.n ≡ true = subst (λ k. is_slot basis.arch basis.strip k v.y v.n ≡ true) e (and_parts (nat_le 1 v.x || is_chan_y v.kind) (is_slot basis.arch basis.strip v.kind v.y v.n) inner).1 in
-    record { x = node_column basis v h; y = terminal_row basis.strip v.y v.n (is_block_number basis.arch Source v.n) slot }
-
-pub sink_inside : (arch : Arch) (strip : Strip) (v : Node) → v.kind ≡ Sink → is_node arch strip v ≡ true → IsInside strip v
-sink_inside arch strip v e h =
-    let outer = and_parts (nat_le v.x strip.width) ((nat_le 1 v.x || is_chan_y v.kind) && is_slot arch strip v.kind v.y v.n) h in
-    let inner = and_parts (nat_le 1 v.x || is_chan_y v.kind) (is_slot arch strip v.kind v.y v.n) outer.1 in
-    let slot : is_slot arch strip Sink v.y v.n ≡ true = subst (λ k. is_slot arch strip k v.y v.n ≡ true) e inner.1 in
-    let column : (nat_le 1 v.x || is_chan_y Sink) ≡ true = subst (λ k. (nat_le 1 v.x || is_chan_y k) ≡ true) e inner.0 in
-    record {
-      x = leb-true v.x strip.width outer.0;
-      some = elim (or_cases (nat_le 1 v.x) (is_chan_y Sink) column) [ inl l ↦ leb-true 1 v.x l | inr f ↦ absurd (false≢true f) ];
-      y = terminal_row strip v.y v.n (is_block_number arch Sink v.n) slot;
-    }
+pub sink_inside : {basis : Basis} → IsBasis basis → (v : Node) → v.kind ≡ Sink → is_node basis.arch basis.strip v ≡ true → IsInStrip basis v
+sink_inside is v kind there = terminal_inside is v (subst (λ (k : NodeKind). IsWire k → ⊥) (sym kind) (λ w. w)) there
 
 module _ (basis : Basis) (is : IsBasis basis) (sink : Node) where
   abbrev node : ℕ → Node
@@ -100,9 +54,7 @@ module _ (basis : Basis) (is : IsBasis basis) (sink : Node) where
   row_from : (number : ℕ) → IsWireAt basis number → (node number).kind ≡ ChanY → 1 ≤ (node number).y
   row_from number w e =
       let v = node number in
-      let h = (lawful is).nodes number w.within in
-      upright_slot basis.arch basis.strip v.kind v.y v.n e
-      (and_parts (nat_le 1 v.x || is_chan_y v.kind) (is_slot basis.arch basis.strip v.kind v.y v.n) (and_parts (nat_le v.x basis.strip.width) ((nat_le 1 v.x || is_chan_y v.kind) && is_slot basis.arch basis.strip v.kind v.y v.n) h).1).1
+      (upright_facts basis v.x v.y v.n (subst (λ (k : NodeKind). is_node basis.arch basis.strip (make_node v.x k v.y v.n) ≡ true) e ((lawful is).nodes number w.within))).from
 
   -- if the target is at most as far as each wire at a side
   ahead_by : (target : Target) (u v : ℕ) (table : List ℕ) → AreFar basis target u v table

@@ -1,8 +1,9 @@
--- Wires whose edges lead to the same places, but for a shift: those of other tracks and columns.
-use Rattle.std.proofs.Common.{◌≡◌, ℕ, ◌+◌, ◌-◌, ◌*◌, ◌<◌, ◌≤◌, ◌⊎◌, List, [], ◌∷◌, length, get_or, map, refl, sym, ap, ◌∙◌, subst, inl, inr, arith, Bool, true, ◌==◌, ◌&&◌, ◌||◌}
+-- Nodes whose edges lead to the same places, but for a shift: wires of other tracks and columns,
+-- and pins of other columns.
+use Rattle.std.proofs.Common.{◌≡◌, ℕ, ◌+◌, ◌-◌, ◌*◌, ◌<◌, ◌≤◌, ◌⊎◌, List, [], ◌∷◌, length, get_or, map, refl, sym, ap, ◌∙◌, subst, inl, inr, arith, Bool, true, ◌==◌, ◌&&◌, ◌||◌, nat_le}
 use Rattle.std.specs.Prelude.{Contains}
 use Rattle.std.specs.List.Sorted.{IsStrictlyIncreasing}
-use Rattle.std.proofs.lemmas.Bool.{eq-eqb, eqb-true, le-leb, false≢true}
+use Rattle.std.proofs.lemmas.Bool.{eq-eqb, eqb-true, le-leb, or_right, false≢true}
 use Rattle.std.proofs.lemmas.Bool.Decides.{nat_tests}
 use Rattle.std.proofs.lemmas.List.{length-map, get_or-map}
 use Rattle.std.proofs.lemmas.List.Elements.{Contains-get_or}
@@ -13,8 +14,9 @@ use Rattle.grid.specs.declared.Strip.{Strip}
 use Rattle.rr_graph.specs.declared.node.NodeKind.{NodeKind}
 use Rattle.rr_graph.specs.declared.node.NodeKind.TheVariants.{Source, Sink, Opin, Ipin, ChanX, ChanY}
 use Rattle.rr_graph.specs.declared.node.Node.{Node}
-use Rattle.rr_graph.specs.Geometry.{IsWire, is_node, is_block_row, is_together, is_next, joins, node_at_offset}
+use Rattle.rr_graph.specs.Geometry.{IsWire, is_node, is_slot, is_chan_y, is_block_row, is_together, is_next, joins, node_at_offset}
 use Rattle.rr_graph.specs.Graph.{Basis, IsBasis, graph_of, make_node}
+use Rattle.rr_graph.specs.Table.{columns_right}
 use Rattle.rr_graph.proofs.Moves.{joins_moved}
 use Rattle.rr_graph.proofs.Nearness.{IsNear, joins_reached, reached_near}
 use Rattle.rr_graph.proofs.Unique.{same_rising}
@@ -22,10 +24,10 @@ use Rattle.fabric_planes.specs.declared.ends.View.{View}
 use Rattle.fabric_planes.specs.Ends.{shown_ends, seen_from, row_of, base_of}
 use Rattle.fabric_planes.specs.Layout.{Terminals, stride_of, offset_of, place_of, shows}
 use Rattle.fabric_planes.proofs.Found.{same_offset}
-use Rattle.fabric_planes.proofs.Numbers.{each_track, wire_stride}
 use Rattle.fabric_planes.proofs.PlaneEnds.{end_back, end_shown, shown_rise}
-use Rattle.fabric_planes.proofs.Spans.{in_map, map_in}
-use Rattle.fabric_planes.proofs.Strips.{wire_row, wire_shows, together_parts}
+use Rattle.fabric_planes.proofs.Members.{in_map, map_in}
+use Rattle.fabric_planes.proofs.Strips.{offset_few, wire_shows, together_parts}
+use Rattle.fabric_planes.proofs.Wires.{each_track}
 
 -- ---- lists
 
@@ -51,13 +53,21 @@ leads_on : (arch : Arch) (strip : Strip) (ka kb : NodeKind) (a b : Node) → IsW
 leads_on arch strip ka ChanX a b w h = inl tt
 leads_on arch strip ka ChanY a b w h = inl tt
 leads_on arch strip ka Ipin a b w h = inr refl
-leads_on arch strip ChanX Source a b w h = absurd (false≢true h)
-leads_on arch strip ChanX Sink a b w h = absurd (false≢true h)
-leads_on arch strip ChanX Opin a b w h = absurd (false≢true h)
-leads_on arch strip ChanY Source a b w h = absurd (false≢true h)
-leads_on arch strip ChanY Sink a b w h = absurd (false≢true h)
-leads_on arch strip ChanY Opin a b w h = absurd (false≢true h)
+leads_on arch strip ChanX _ a b w h = absurd (false≢true h)
+leads_on arch strip ChanY _ a b w h = absurd (false≢true h)
 leads_on arch strip _ _ a b w h = absurd w
+
+-- a pin's edges lead within its column, but for those to the vertical wires to its left
+pin_right : (ka kb : NodeKind) → (IsWire ka → ⊥) → columns_right ka kb ≡ 0
+pin_right ChanX kb pin = absurd (pin tt)
+pin_right ChanY kb pin = absurd (pin tt)
+pin_right _ kb pin = refl
+
+pin_left : (ka kb : NodeKind) → (IsWire ka → ⊥) → (columns_right kb ka ≡ 0) ⊎ (is_chan_y kb ≡ true)
+pin_left ka ChanY pin = inr refl
+pin_left ChanX ChanX pin = absurd (pin tt)
+pin_left ChanY ChanX pin = absurd (pin tt)
+pin_left _ _ pin = inl refl
 
 same_moved : (d m n : ℕ) → (m + d == n + d) ≡ (m == n)
 same_moved d m n = grind (arith, nat_tests)
@@ -141,107 +151,108 @@ module _ {basis : Basis} (is : IsBasis basis) where
 
   -- ---- places
 
-  near : (t : Terminals) (track i : ℕ) (p : Node) → IsEnd t track i p → IsNear (node i) p
-  near t track i p e = reached_near (node i).kind p.kind (node i) p (joins_reached basis.arch basis.strip (node i).kind p.kind (node i) p refl refl e.joined)
+  near : (i : ℕ) (p : Node) → joins basis.arch basis.strip (node i).kind p.kind (node i) p ≡ true → IsNear (node i) p
+  near i p h = reached_near (node i).kind p.kind (node i) p (joins_reached basis.arch basis.strip (node i).kind p.kind (node i) p refl refl h)
 
-  base_low : (i : ℕ) → i < (graph_of basis).count → IsWire (node i).kind → (p : Node) → IsNear (node i) p → base_of basis i ≤ place_of basis p
-  base_low i within w p n =
+  base_low : (i : ℕ) → i < (graph_of basis).count → (p : Node) → IsNear (node i) p → base_of basis i ≤ place_of basis p
+  base_low i within p n =
       let s : ℕ = stride_of basis in
-      let low : offset_of basis (node i).kind (node i) < s = wire_stride basis (node i).kind (node i) w (wire_row is i within w) in
       let m : ((node i).x + 1) * s ≤ (p.x + 2) * s = mul-le ((node i).x + 1) s (p.x + 2) s (omega (arith, n.left)) (omega arith) in
       let e : ((node i).x + 2) * s ≡ ((node i).x + 1) * s + s = grind arith in
-      omega (arith, low, m, e)
+      omega (arith, offset_few is i within, m, e)
 
   base_high : (i : ℕ) → 2 * stride_of basis ≤ place_of basis (node i)
   base_high i = let e : ((node i).x + 2) * stride_of basis ≡ (node i).x * stride_of basis + 2 * stride_of basis = grind arith in omega (arith, e)
 
   -- ---- columns
 
+  node_fits : (d : ℕ) (p : Node) → p.x + d ≤ basis.strip.width → (1 ≤ p.x) ⊎ (is_chan_y p.kind ≡ true) → is_node basis.arch basis.strip (node_at_offset d p) ≡ is_node basis.arch basis.strip p
+  node_fits d p few which =
+      let slot : Bool = is_slot basis.arch basis.strip p.kind p.y p.n in
+      elim which [
+        | inl some ↦ rw (le-leb (p.x + d) basis.strip.width few, le-leb 1 (p.x + d) (omega (arith, some)), le-leb p.x basis.strip.width (omega (arith, few)), le-leb 1 p.x some) refl
+        | inr up ↦ rw (le-leb (p.x + d) basis.strip.width few, le-leb p.x basis.strip.width (omega (arith, few)), or_right (nat_le 1 (p.x + d)) (is_chan_y p.kind) up, or_right (nat_le 1 p.x) (is_chan_y p.kind) up) refl
+      ]
+
   pub node_moved : (d : ℕ) (p : Node) → 1 ≤ p.x → p.x + d ≤ basis.strip.width → is_node basis.arch basis.strip (node_at_offset d p) ≡ is_node basis.arch basis.strip p
-  node_moved d p some few =
-      rw (le-leb (p.x + d) basis.strip.width few, le-leb 1 (p.x + d) (omega (arith, some)), le-leb p.x basis.strip.width (omega (arith, few)), le-leb 1 p.x some) refl
+  node_moved d p some few = node_fits d p few (inl some)
 
   offset_moved : (d : ℕ) (kind : NodeKind) (p : Node) → offset_of basis kind (node_at_offset d p) ≡ offset_of basis kind p
   offset_moved d Source p = refl
-  offset_moved d Sink p = refl
-  offset_moved d Opin p = refl
-  offset_moved d Ipin p = refl
-  offset_moved d ChanX p = refl
-  offset_moved d ChanY p = refl
+  offset_moved d _ p = refl
 
   pub place_moved : (d : ℕ) (p : Node) → place_of basis (node_at_offset d p) ≡ place_of basis p + d * stride_of basis
   place_moved d p =
       let e : (p.x + d + 2) * stride_of basis ≡ (p.x + 2) * stride_of basis + d * stride_of basis = grind arith in
       omega (arith, e, offset_moved d p.kind p)
 
-  module _ (t u : Terminals) (track i j d : ℕ) (within : i < (graph_of basis).count) (after : j < (graph_of basis).count) (wire : IsWire (node i).kind) (to : node j ≡ node_at_offset d (node i)) (sinks : u.sink ≡ node_at_offset d t.sink) where
+  module _ (t u : Terminals) (k m i j d : ℕ) (within : i < (graph_of basis).count) (to : node j ≡ node_at_offset d (node i)) where
+    IsJoined : Node → Type 0
+    IsJoined p = joins basis.arch basis.strip (node i).kind p.kind (node i) p ≡ true
+
+    Fits : Node → Type 0
+    Fits p = is_node basis.arch basis.strip (node_at_offset d p) ≡ is_node basis.arch basis.strip p
+
+    IsShownAlike : Node → Type 0
+    IsShownAlike p = shows basis.strip u m p.kind (node_at_offset d p) ≡ shows basis.strip t k p.kind p
+
+    joins_to : (p : Node) → joins basis.arch basis.strip (node j).kind p.kind (node j) (node_at_offset d p) ≡ joins basis.arch basis.strip (node i).kind p.kind (node i) p
+    joins_to p = ap (λ (v : Node). joins basis.arch basis.strip v.kind p.kind v (node_at_offset d p)) to ∙ joins_moved basis.arch basis.strip d (node i).kind p.kind (node i) p
+
+    -- a node in another column, where what it leads to is
+    moved_alike : (d ≡ 0) ⊎ (1 ≤ (node i).x) → ((p : Node) → IsJoined p → Fits p) → ((p : Node) → IsJoined p → IsShownAlike p) → AreAlike t u k m i j (base_of basis i) (base_of basis j)
+    unfolding IsJoined Fits IsShownAlike
+    moved_alike some fits shown =
+        let bases : base_of basis j ≡ base_of basis i + d * stride_of basis = omega (arith, ap (λ (v : Node). place_of basis v) to, place_moved d (node i), base_high i) in
+        record {
+          into = λ p e. (
+            base_low i within p (near i p e.joined),
+            node_at_offset d p,
+            record { there = fits p e.joined ∙ e.there; joined = joins_to p ∙ e.joined; shown = shown p e.joined ∙ e.shown },
+            omega (arith, place_moved d p, bases),
+          );
+          back = λ q e.
+              let x : (node j).x ≡ (node i).x + d = ap (λ (v : Node). v.x) to in
+              let p : Node = make_node (q.x - d) q.kind q.y q.n in
+              let n = near j q e.joined in
+              let enough : d ≤ q.x = elim some [ inl none ↦ omega (arith, none) | inr right ↦ omega (arith, n.left, x, right) ] in
+              let same : q.x - d + d ≡ q.x = omega (arith, enough) in
+              let is_q : node_at_offset d p ≡ q = ap (λ (x : ℕ). make_node x q.kind q.y q.n) same in
+              let end = subst (IsEnd u m j) (sym is_q) e in
+              let joined = sym (joins_to p) ∙ end.joined in
+              (p, record { there = sym (fits p joined) ∙ end.there; joined = joined; shown = sym (shown p joined) ∙ end.shown }, omega (arith, place_moved d p, ap (λ (v : Node). place_of basis v) is_q, bases));
+        }
+
+    -- a pin in another column
+    pub pins_alike : (IsWire (node i).kind → ⊥) → 1 ≤ (node i).x → (node i).x + d ≤ basis.strip.width → ((p : Node) → joins basis.arch basis.strip (node i).kind p.kind (node i) p ≡ true → shows basis.strip u m p.kind (node_at_offset d p) ≡ shows basis.strip t k p.kind p)
+        → AreAlike t u k m i j (base_of basis i) (base_of basis j)
+    unfolding IsJoined Fits IsShownAlike
+    pins_alike pin some few shown = moved_alike (inr some) (λ p h.
+        let r = joins_reached basis.arch basis.strip (node i).kind p.kind (node i) p refl refl h in
+        node_fits d p (omega (arith, r.right, pin_right (node i).kind p.kind pin, few)) (elim (pin_left (node i).kind p.kind pin) [ inl none ↦ inl (omega (arith, r.left, none, some)) | inr up ↦ inr up ])) shown
+
+  module _ (t u : Terminals) (track i j d : ℕ) (within : i < (graph_of basis).count) (wire : IsWire (node i).kind) (to : node j ≡ node_at_offset d (node i)) (sinks : u.sink ≡ node_at_offset d t.sink) where
     shows_moved : (kind : NodeKind) (p : Node) → IsWire kind ⊎ (kind ≡ Ipin) → shows basis.strip u track kind (node_at_offset d p) ≡ shows basis.strip t track kind p
     shows_moved ChanX p k = refl
     shows_moved ChanY p k = refl
     shows_moved Ipin p k =
         ap (is_together basis.strip (node_at_offset d p)) sinks ∙ ap (λ (b : Bool). b && ((p.y == t.sink.y) && (is_block_row basis.strip p.y || (p.n == t.sink.n)))) (same_moved d p.x t.sink.x)
-    shows_moved Source p (inl w) = absurd w
     shows_moved Source p (inr e) = cc
-    shows_moved Sink p (inl w) = absurd w
     shows_moved Sink p (inr e) = cc
-    shows_moved Opin p (inl w) = absurd w
     shows_moved Opin p (inr e) = cc
-
-    Fits : Node → Type 0
-    Fits p = is_node basis.arch basis.strip (node_at_offset d p) ≡ is_node basis.arch basis.strip p
-
-    joins_to : (p : Node) → joins basis.arch basis.strip (node j).kind p.kind (node j) (node_at_offset d p) ≡ joins basis.arch basis.strip (node i).kind p.kind (node i) p
-    joins_to p = ap (λ (v : Node). joins basis.arch basis.strip v.kind p.kind v (node_at_offset d p)) to ∙ joins_moved basis.arch basis.strip d (node i).kind p.kind (node i) p
-
-    end_into : (p : Node) → Fits p → IsEnd t track i p → IsEnd u track j (node_at_offset d p)
-    unfolding Fits
-    end_into p fits e = record {
-      there = fits ∙ e.there;
-      joined = joins_to p ∙ e.joined;
-      shown = shows_moved p.kind p (leads_on basis.arch basis.strip (node i).kind p.kind (node i) p wire e.joined) ∙ e.shown;
-    }
-
-    end_from : (p : Node) → Fits p → IsEnd u track j (node_at_offset d p) → IsEnd t track i p
-    unfolding Fits
-    end_from p fits e =
-        let joined = sym (joins_to p) ∙ e.joined in
-        record {
-          there = sym fits ∙ e.there;
-          joined = joined;
-          shown = sym (shows_moved p.kind p (leads_on basis.arch basis.strip (node i).kind p.kind (node i) p wire joined)) ∙ e.shown;
-        }
-
-    bases : base_of basis j ≡ base_of basis i + d * stride_of basis
-    bases = omega (arith, ap (λ (v : Node). place_of basis v) to, place_moved d (node i), base_high i)
+    shows_moved _ p (inl w) = absurd w
 
     -- a wire in another column, where both have the same neighbours
     pub columns_alike : (d ≡ 0) ⊎ ((2 ≤ (node i).x) × ((node i).x + d < basis.strip.width)) → AreAlike t u track track i j (base_of basis i) (base_of basis j)
-    unfolding Fits
-    columns_alike inner = record {
-      into = λ p e.
-          let n = near t track i p e in
-          (base_low i within wire p n, node_at_offset d p, end_into p (fits p n) e, omega (arith, place_moved d p, bases));
-      back = λ q e.
-          let n = near u track j q e in
-          let x : (node j).x ≡ (node i).x + d = ap (λ (v : Node). v.x) to in
-          let p : Node = make_node (q.x - d) q.kind q.y q.n in
-          let enough : d ≤ q.x = elim inner [ inl none ↦ omega (arith, none) | inr some ↦ omega (arith, n.left, x, some.0) ] in
-          let same : q.x - d + d ≡ q.x = omega (arith, enough) in
-          let is_q : node_at_offset d p ≡ q = ap (λ (x : ℕ). make_node x q.kind q.y q.n) same in
-          let near_p : IsNear (node i) p = record {
-            left = omega (arith, n.left, x, enough);
-            right = omega (arith, n.right, x, enough);
-            below = subst (λ (v : Node). v.y ≤ q.y + 1) to n.below;
-            above = subst (λ (v : Node). q.y ≤ v.y + 1) to n.above;
-          } in
-          (p, end_from p (fits p near_p) (subst (IsEnd u track j) (sym is_q) e), omega (arith, place_moved d p, ap (λ (v : Node). place_of basis v) is_q, bases));
-    }
-      where
-        fits : (p : Node) → IsNear (node i) p → Fits p
-        fits p n = elim inner [
+    unfolding IsJoined Fits IsShownAlike
+    columns_alike inner = moved_alike t u track track i j d within to (elim inner [ inl none ↦ inl none | inr some ↦ inr (omega (arith, some.0)) ])
+        (λ p h.
+        let n = near i p h in
+        elim inner [
           | inl none ↦ ap (is_node basis.arch basis.strip) (not_moved d p none)
-          | inr some ↦ node_moved d p (omega (arith, n.left, some.0)) (omega (arith, n.right, some.1))
-        ]
+          | inr some ↦ node_fits d p (omega (arith, n.right, some.1)) (inl (omega (arith, n.left, some.0)))
+        ])
+        (λ p h. shows_moved p.kind p (leads_on basis.arch basis.strip (node i).kind p.kind (node i) p wire h))
 
   -- ---- tracks
 
@@ -272,9 +283,9 @@ module _ {basis : Basis} (is : IsBasis basis) where
         let kind : IsWire (node j).kind = subst (λ (v : Node). IsWire v.kind) (sym to) wire in
         record {
           into = λ p e.
-              let n = near view 0 i p e in
+              let n = near i p e.joined in
               elim (leads_on basis.arch basis.strip (node i).kind p.kind (node i) p wire e.joined) [
-                | inl w ↦ (base_low i within wire p n, on_track track p, end_on view t 0 track i j own_track to few p w e, omega (arith, place_on track p w, same))
+                | inl w ↦ (base_low i within p n, on_track track p, end_on view t 0 track i j own_track to few p w e, omega (arith, place_on track p w, same))
                 | inr pin ↦
                     let together : is_together basis.strip p (node_at_offset 2 (node i)) ≡ true = subst (λ (k : NodeKind). shows basis.strip view 0 k p ≡ true) pin e.shown in
                     absurd (omega (arith, n.right, (together_parts basis.strip p (node_at_offset 2 (node i)) together).0))

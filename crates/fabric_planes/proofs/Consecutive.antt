@@ -2,14 +2,13 @@
 use Rattle.std.proofs.Common.{◌≡◌, ℕ, zero, suc, ◌+◌, ◌<◌, ◌≤◌, refl, sym, ap, ◌∙◌, subst, inl, inr, arith, true}
 use Rattle.std.proofs.lemmas.Bool.{cases_eq, cases_lt}
 use Rattle.rr_graph.specs.declared.node.NodeKind.{NodeKind}
-use Rattle.rr_graph.specs.declared.node.NodeKind.TheVariants.{Source, Sink, Opin, Ipin, ChanX, ChanY}
 use Rattle.rr_graph.specs.declared.node.Node.{Node}
 use Rattle.rr_graph.specs.Node.{IsBefore, rank_of}
 use Rattle.rr_graph.specs.Geometry.{IsWire, is_node}
 use Rattle.rr_graph.specs.Graph.{Basis, IsBasis, graph_of, make_node}
 use Rattle.fabric_planes.specs.Layout.{Terminals, place_of, place_count}
-use Rattle.fabric_planes.proofs.Wires.{level_facts, upright_facts, level_there, upright_there}
-use Rattle.fabric_planes.proofs.Strips.{lawful, low, place_order, before_number, wire_shows}
+use Rattle.fabric_planes.proofs.Wires.{each_track}
+use Rattle.fabric_planes.proofs.Strips.{lawful, low, place_order, before_number, track_low, wire_shows}
 
 before_column : (a b : Node) → IsBefore a b → a.x ≤ b.x
 before_column a b (inl l) = omega (arith, l)
@@ -44,17 +43,6 @@ not_after a b x k y n before = omega (arith, before_number b a (sym x) (sym k) (
 not_itself : (a : Node) → IsBefore a a → ⊥
 not_itself a before = omega (arith, before_number a a refl refl refl before)
 
--- the wire of another track at the same place is a node, too
-on_track : (basis : Basis) (kind : NodeKind) (x y n m : ℕ) → IsWire kind → m ≤ n → is_node basis.arch basis.strip (make_node x kind y n) ≡ true → is_node basis.arch basis.strip (make_node x kind y m) ≡ true
-on_track basis Source x y n m w l h = absurd w
-on_track basis Sink x y n m w l h = absurd w
-on_track basis Opin x y n m w l h = absurd w
-on_track basis Ipin x y n m w l h = absurd w
-on_track basis ChanX x y n m w l h =
-    let f = level_facts basis x y n h in level_there basis x y m (record { from = f.from; to = f.to; row = f.row; track = omega (arith, l, f.track) })
-on_track basis ChanY x y n m w l h =
-    let f = upright_facts basis x y n h in upright_there basis x y m (record { from = f.from; to = f.to; row = f.row; track = omega (arith, l, f.track) })
-
 -- the first wire of a row, and the distance to a given one
 pub record IsFirstOf (basis : Basis) (number : ℕ) (wire : Node) : Type 0 where
   pub first : ℕ
@@ -78,7 +66,8 @@ module _ {basis : Basis} (is : IsBasis basis) where
   first_by : (kind : NodeKind) (x y n number : ℕ) → IsWire kind → number < (graph_of basis).count → node number ≡ make_node x kind y n → IsFirstOf basis number (make_node x kind y n)
   first_by kind x y zero number w b e = record { first = number; within = b; is = e; apart = omega arith }
   first_by kind x y (suc m) number w b e =
-      let there = on_track basis kind x y (suc m) m w (omega arith) (subst (λ (v : Node). is_node basis.arch basis.strip v ≡ true) e ((lawful is).nodes number b)) in
+      let few : suc m < basis.arch.tracks = subst (λ (v : Node). v.n < basis.arch.tracks) e (track_low is number (record { within = b; wire = subst (λ (v : Node). IsWire v.kind) (sym e) w })) in
+      let there = each_track basis kind x y (suc m) m w (omega (arith, few)) (subst (λ (v : Node). is_node basis.arch basis.strip v ≡ true) e ((lawful is).nodes number b)) in
       let found = (lawful is).all (make_node x kind y m) there in
       let k = found.0 in
       let before = first_by kind x y m k w found.1 found.2 in

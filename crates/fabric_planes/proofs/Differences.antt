@@ -13,8 +13,9 @@ use Rattle.rr_graph.specs.Graph.{Basis, make_node}
 use Rattle.fabric_planes.specs.declared.distances.Target.{Target}
 use Rattle.fabric_planes.specs.declared.distances.Target.TheVariants.{Level, Upright, Block}
 use Rattle.fabric_planes.specs.Distances.{west_of, south_of, ends_apart, is_same_wire, wires_by}
-use Rattle.fabric_planes.specs.Differences.{MOST_FAR, wires_to, far_at, far_count, far_table, shift_of, IsPlaced, IsTargetAt, target_at, index_from}
+use Rattle.fabric_planes.specs.Differences.{MOST_FAR, wires_to, far_at, far_count, far_table, shift_of, IsPlaced, IsTarget, IsTargetAt, target_at, target_offset, index_from}
 use Rattle.fabric_planes.specs.Layout.{band_of, level_at, upright_at, stride_of, in_column, place_of, place_count}
+use Rattle.fabric_planes.proofs.Offsets.{place_below}
 
 -- ---- a move of both wires
 
@@ -24,18 +25,11 @@ across_moved Source kb x u k wa wb l = absurd wa
 across_moved Sink kb x u k wa wb l = absurd wa
 across_moved Opin kb x u k wa wb l = absurd wa
 across_moved Ipin kb x u k wa wb l = absurd wa
-across_moved ChanX Source x u k wa wb l = absurd wb
-across_moved ChanX Sink x u k wa wb l = absurd wb
-across_moved ChanX Opin x u k wa wb l = absurd wb
-across_moved ChanX Ipin x u k wa wb l = absurd wb
 across_moved ChanX ChanX x u k wa wb l = omega (arith, l)
 across_moved ChanX ChanY x u k wa wb l = omega (arith, l)
-across_moved ChanY Source x u k wa wb l = absurd wb
-across_moved ChanY Sink x u k wa wb l = absurd wb
-across_moved ChanY Opin x u k wa wb l = absurd wb
-across_moved ChanY Ipin x u k wa wb l = absurd wb
 across_moved ChanY ChanX x u k wa wb l = omega (arith, l)
 across_moved ChanY ChanY x u k wa wb l = omega (arith, l)
+across_moved _ _ x u k wa wb l = absurd wb
 
 -- along the columns
 up_moved : (ka kb : NodeKind) (x u k : ℕ) → IsWire ka → IsWire kb → u ≤ k → (south_of kb k - (x + k - u + 1)) + (south_of ka (x + k - u) - (k + 1)) ≡ (south_of kb u - (x + 1)) + (south_of ka x - (u + 1))
@@ -43,18 +37,11 @@ up_moved Source kb x u k wa wb l = absurd wa
 up_moved Sink kb x u k wa wb l = absurd wa
 up_moved Opin kb x u k wa wb l = absurd wa
 up_moved Ipin kb x u k wa wb l = absurd wa
-up_moved ChanX Source x u k wa wb l = absurd wb
-up_moved ChanX Sink x u k wa wb l = absurd wb
-up_moved ChanX Opin x u k wa wb l = absurd wb
-up_moved ChanX Ipin x u k wa wb l = absurd wb
 up_moved ChanX ChanX x u k wa wb l = omega (arith, l)
 up_moved ChanX ChanY x u k wa wb l = omega (arith, l)
-up_moved ChanY Source x u k wa wb l = absurd wb
-up_moved ChanY Sink x u k wa wb l = absurd wb
-up_moved ChanY Opin x u k wa wb l = absurd wb
-up_moved ChanY Ipin x u k wa wb l = absurd wb
 up_moved ChanY ChanX x u k wa wb l = omega (arith, l)
 up_moved ChanY ChanY x u k wa wb l = omega (arith, l)
+up_moved _ _ x u k wa wb l = absurd wb
 
 same_moved : (x u k : ℕ) → u ≤ k → (x + k - u == k) ≡ (x == u)
 same_moved x u k l = elim (cases_eq x u) [
@@ -96,14 +83,11 @@ row_of ChanX band = band
 row_of _ band = 3 * band
 
 entry_moved : (target : Target) (ka : NodeKind) (x y u v k band : ℕ) → IsWire ka → u ≤ k → y + 2 ≤ band → v < band → IsPlaced target u v → far_at target k band (x + k - u) (y + row_of ka band - v) ≡ min MOST_FAR (wires_to target ka x y u v)
-entry_moved target Source x y u v k band w lu ly lv p = absurd w
-entry_moved target Sink x y u v k band w lu ly lv p = absurd w
-entry_moved target Opin x y u v k band w lu ly lv p = absurd w
-entry_moved target Ipin x y u v k band w lu ly lv p = absurd w
 entry_moved target ChanX x y u v k band w lu ly lv p =
     rw (lt-leb (4 * band) (y + band - v) (omega (arith, ly, lv)), lt-ltb (y + band - v) (2 * band) (omega (arith, ly, lv))) (ap (min MOST_FAR) (to_moved target ChanX x y u v k band w lu (omega (arith, lv)) p))
 entry_moved target ChanY x y u v k band w lu ly lv p =
     rw (lt-leb (4 * band) (y + 3 * band - v) (omega (arith, ly, lv)), le-ltb (y + 3 * band - v) (2 * band) (omega (arith, ly, lv))) (ap (min MOST_FAR) (to_moved target ChanY x y u v k (3 * band) w lu (omega (arith, lv)) p))
+entry_moved target _ x y u v k band w lu ly lv p = absurd w
 
 entry_at : (target : Target) (k band stride c r : ℕ) → r < stride → c ≤ 2 * k → slice_index (far_table target k band stride) (c * stride + r) ≡ far_at target k band c r
 entry_at target k band stride c r lr lc =
@@ -132,6 +116,14 @@ module _ (basis : Basis) where
       let f : (x + K - u + (u + 2)) * s ≡ (x + K - u) * s + (u + 2) * s = grind arith in
       e ∙ (ap (λ (v : ℕ). v * s) n ∙ f)
 
+  target_few : (target : Target) → target_offset basis target + band_of basis ≤ stride_of basis
+  target_few Level = omega arith
+  target_few Upright = omega arith
+  target_few Block = omega arith
+
+  pub target_low : (target : Target) (u v : ℕ) → IsTarget basis target u v → target_at basis target u v < place_count basis
+  target_low target u v t = place_below basis u (target_offset basis target + v) t.x (omega (arith, target_few target, t.y))
+
   -- the target's place is below the column that the entry of place 0 is for
   below : (u : ℕ) → u + 3 ≤ K → (u + 3) * stride_of basis ≤ K * stride_of basis
   below u lu = mul-le (u + 3) (stride_of basis) K (stride_of basis) lu (omega arith)
@@ -153,20 +145,14 @@ module _ (basis : Basis) where
   index_is Block ChanY x y u v w lu ly lv = let e = columns x u (omega (arith, lu)) in omega (arith, e, below u lu, next u, ly, lv)
 
   wire_place : (ka : NodeKind) (x y n : ℕ) → IsWire ka → place_of basis (make_node x ka y n) ≡ in_column basis x (start_of ka + y)
-  wire_place Source x y n w = absurd w
-  wire_place Sink x y n w = absurd w
-  wire_place Opin x y n w = absurd w
-  wire_place Ipin x y n w = absurd w
   wire_place ChanX x y n w = refl
   wire_place ChanY x y n w = refl
+  wire_place _ x y n w = absurd w
 
   row_few : (ka : NodeKind) (y v : ℕ) → IsWire ka → y + 2 ≤ band_of basis → y + row_of ka (band_of basis) - v < stride_of basis
-  row_few Source y v w ly = absurd w
-  row_few Sink y v w ly = absurd w
-  row_few Opin y v w ly = absurd w
-  row_few Ipin y v w ly = absurd w
   row_few ChanX y v w ly = omega (arith, ly)
   row_few ChanY y v w ly = omega (arith, ly)
+  row_few _ y v w ly = absurd w
 
   -- the table tells the distance of each wire
   pub far_told : (target : Target) (ka : NodeKind) (x y n u v : ℕ) → IsWire ka → x ≤ basis.strip.width → y ≤ basis.strip.rows → u ≤ basis.strip.width → v ≤ basis.strip.rows + 1 → IsPlaced target u v
@@ -179,8 +165,7 @@ module _ (basis : Basis) where
 
   shift_few : (target : Target) → shift_of target (band_of basis) ≤ stride_of basis
   shift_few Level = omega arith
-  shift_few Upright = omega arith
-  shift_few Block = omega arith
+  shift_few _ = omega arith
 
   -- the part of the table for a target's place
   pub part_within : (target : Target) (place first : ℕ) → place < place_count basis → first ≡ place_count basis + shift_of target (band_of basis) - place → first + place_count basis ≤ length (far_table target K (band_of basis) (stride_of basis))

@@ -3,7 +3,7 @@ use Rattle.std.proofs.Common.{◌≡◌, ℕ, ◌+◌, ◌<◌, ◌⊎◌, List,
 use Rattle.std.specs.Prelude.{slice_index}
 use Rattle.std.proofs.lemmas.Bool.{cases_eq, cases_lt}
 use Rattle.rr_graph.specs.declared.node.NodeKind.{NodeKind}
-use Rattle.rr_graph.specs.declared.node.NodeKind.TheVariants.{Source, Sink, Opin, Ipin, ChanX, ChanY}
+use Rattle.rr_graph.specs.declared.node.NodeKind.TheVariants.{ChanX, ChanY}
 use Rattle.rr_graph.specs.declared.node.Node.{Node}
 use Rattle.rr_graph.specs.Geometry.{IsWire}
 use Rattle.rr_graph.specs.Graph.{Basis, IsBasis, graph_of, make_node}
@@ -13,20 +13,14 @@ use Rattle.fabric_planes.specs.Tables.{IsFirstAt, AreFirsts, NO_WIRE}
 use Rattle.fabric_planes.proofs.Consecutive.{first_of, wire_low}
 
 pub cases_wire : (kind : NodeKind) → IsWire kind ⊎ (IsWire kind → ⊥)
-cases_wire Source = inr (λ w. w)
-cases_wire Sink = inr (λ w. w)
-cases_wire Opin = inr (λ w. w)
-cases_wire Ipin = inr (λ w. w)
 cases_wire ChanX = inl tt
 cases_wire ChanY = inl tt
+cases_wire _ = inr (λ w. w)
 
 pub same_offset : (basis : Basis) (kind : NodeKind) (x y n m : ℕ) → IsWire kind → offset_of basis kind (make_node x kind y n) ≡ offset_of basis kind (make_node x kind y m)
-same_offset basis Source x y n m w = absurd w
-same_offset basis Sink x y n m w = absurd w
-same_offset basis Opin x y n m w = absurd w
-same_offset basis Ipin x y n m w = absurd w
 same_offset basis ChanX x y n m w = refl
 same_offset basis ChanY x y n m w = refl
+same_offset basis _ x y n m w = absurd w
 
 module _ {basis : Basis} (is : IsBasis basis) where
   abbrev node : ℕ → Node

@@ -6,7 +6,7 @@ use Rattle.std.specs.declared.cmp.Ordering.{Ordering}
 use Rattle.std.specs.declared.cmp.Ordering.TheVariants.{Less, Equal, Greater}
 use Rattle.std.proofs.lemmas.Cmp.{ranked}
 use Rattle.rr_graph.specs.declared.node.NodeKind.{NodeKind}
-use Rattle.rr_graph.specs.declared.node.NodeKind.TheVariants.{Source, Sink, Opin, Ipin, ChanX, ChanY}
+use Rattle.rr_graph.specs.declared.node.NodeKind.TheVariants.{Source, Opin, ChanX, ChanY}
 use Rattle.rr_graph.specs.declared.node.Node.{Node}
 use Rattle.rr_graph.specs.Node.{IsBefore}
 use Rattle.rr_graph.specs.Geometry.{IsWire}
@@ -35,29 +35,20 @@ first_less a b xs ys h = by (nat_cmp a b) (ranked a b (nat_cmp a b) refl) h
 
 -- the offset of a wire is among those of its kind
 wire_in : (basis : Basis) (kind : NodeKind) (v : Node) → IsWire kind → v.y ≤ basis.strip.rows → (low_of basis kind ≤ offset_of basis kind v) × (offset_of basis kind v < high_of basis kind)
-wire_in basis Source v w r = absurd w
-wire_in basis Sink v w r = absurd w
-wire_in basis Opin v w r = absurd w
-wire_in basis Ipin v w r = absurd w
 wire_in basis ChanX v w r = (omega arith, omega (arith, r))
 wire_in basis ChanY v w r = (omega arith, omega (arith, r))
+wire_in basis _ v w r = absurd w
 
 -- the offsets of wires of a kind are in the order of their rows
 row_less : (basis : Basis) (kind : NodeKind) (a b : Node) → IsWire kind → a.y < b.y → offset_of basis kind a < offset_of basis kind b
-row_less basis Source a b w l = absurd w
-row_less basis Sink a b w l = absurd w
-row_less basis Opin a b w l = absurd w
-row_less basis Ipin a b w l = absurd w
 row_less basis ChanX a b w l = omega (arith, l)
 row_less basis ChanY a b w l = omega (arith, l)
+row_less basis _ a b w l = absurd w
 
 row_same : (basis : Basis) (kind : NodeKind) (a b : Node) → IsWire kind → a.y ≡ b.y → offset_of basis kind a ≡ offset_of basis kind b
-row_same basis Source a b w e = absurd w
-row_same basis Sink a b w e = absurd w
-row_same basis Opin a b w e = absurd w
-row_same basis Ipin a b w e = absurd w
 row_same basis ChanX a b w e = omega (arith, e)
 row_same basis ChanY a b w e = omega (arith, e)
+row_same basis _ a b w e = absurd w
 
 module _ {basis : Basis} (is : IsBasis basis) where
   abbrev node : ℕ → Node

@@ -24,12 +24,9 @@ use Rattle.fabric_planes.proofs.Strips.{are_labels, strip_family, edge_reached}
 
 -- a wire is shown in its own track's plane alone
 wire_track : (strip : Strip) (t : Terminals) (track : ℕ) (kind : NodeKind) (v : Node) → IsWire kind → shows strip t track kind v ≡ true → v.n ≡ track
-wire_track strip t track Source v w s = absurd w
-wire_track strip t track Sink v w s = absurd w
-wire_track strip t track Opin v w s = absurd w
-wire_track strip t track Ipin v w s = absurd w
 wire_track strip t track ChanX v w s = eqb-true v.n track s
 wire_track strip t track ChanY v w s = eqb-true v.n track s
+wire_track strip t track _ v w s = absurd w
 
 opin_sink : Opin ≡ Sink → ⊥
 opin_sink e = cc

@@ -10,7 +10,7 @@ use Rattle.std.proofs.lemmas.List.Sums.{passes_at_first, position_or_len_is}
 use Rattle.least_path.specs.Graph.{IsLawful, AreNodes}
 use Rattle.plane_search.specs.Planes.{IsFamily, IsPlane, IsPlace}
 use Rattle.fabric_planes.specs.Labels.{Labels, AreLabels, node_at, is_there, places_of, plane_of, family_of}
-use Rattle.fabric_planes.proofs.Spans.{in_cases, in_first, in_further, in_none}
+use Rattle.fabric_planes.proofs.Members.{in_cases, in_first, in_further, in_none}
 
 -- the place of a node that is shown is among the places
 pub has_place : (l : Labels) (track : ℕ) (nodes : List ℕ) (node : ℕ) → Contains nodes node → l.is_shown track node ≡ true → Contains (places_of l track nodes) (l.place node)

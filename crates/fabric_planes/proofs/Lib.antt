@@ -4,16 +4,9 @@ mod Offsets
 mod Strips
 mod Nearer
 mod Crossing
-mod Spans
+mod Members
 mod Wires
 mod PlaneEnds
-mod PinSides
-mod PinLists
-mod PinRowsAt
-mod PinEnds
-mod SourceEnds
-mod PinsRowed
-mod PinAparts
 mod Consecutive
 mod Told
 mod Found
@@ -46,7 +39,10 @@ mod OwnPins
 mod BoundedSides
 mod FarWires
 mod ShownPins
+mod ListedRows
+mod PinsRowed
 mod ArrivalNumbers
+mod PinAparts
 pub mod NetSearches
 mod Alike
 mod StepRows

@@ -6,7 +6,7 @@ use Rattle.std.proofs.lemmas.Bool.{cases_Bool, cases_lt, eqb-true, eq-eqb, false
 use Rattle.std.proofs.lemmas.List.{map-append}
 use Rattle.std.proofs.lemmas.List.Elements.{Contains-append_left, Contains-append_right, Contains-append_cases}
 use Rattle.rr_graph.specs.declared.node.NodeKind.{NodeKind}
-use Rattle.rr_graph.specs.declared.node.NodeKind.TheVariants.{Source, Sink, Opin, Ipin, ChanX, ChanY}
+use Rattle.rr_graph.specs.declared.node.NodeKind.TheVariants.{ChanX, ChanY}
 use Rattle.rr_graph.specs.declared.node.Node.{Node}
 use Rattle.rr_graph.specs.Geometry.{IsWire}
 use Rattle.rr_graph.specs.Graph.{Basis, IsBasis, graph_of}
@@ -31,12 +31,9 @@ match_test false = λ q. false≢true q
 
 -- a wire is shown in the planes of its track
 pub wire_shows : (strip : _) (t : Terminals) (track : ℕ) (kind : NodeKind) (v : Node) → IsWire kind → MatchBool (v.n == track) (shows strip t track kind v ≡ true) (shows strip t track kind v ≡ true → ⊥)
-wire_shows strip t track Source v w = absurd w
-wire_shows strip t track Sink v w = absurd w
-wire_shows strip t track Opin v w = absurd w
-wire_shows strip t track Ipin v w = absurd w
 wire_shows strip t track ChanX v w = match_test (v.n == track)
 wire_shows strip t track ChanY v w = match_test (v.n == track)
+wire_shows strip t track _ v w = absurd w
 
 module _ (basis : Basis) (t : Terminals) (cost : ℕ → ℕ) (starts : List ℕ) (goal : ℕ) where
   abbrev pub IsShownIn : ℕ → ℕ → Type 0
@@ -132,9 +129,6 @@ module _ {basis : Basis} (is : IsBasis basis) (t : Terminals) (cost : ℕ → �
   only : (start other : Start) → Contains (start ∷ []) other → start ≡ other
   only start other (zero, b, e) = e
   only start other (suc k, b, e) = absurd (omega (arith, b))
-
-  pub some_none : (track : ℕ) → AreSomeStarts F track []
-  some_none track = record { among = λ start (k, b, e). absurd (omega (arith, b)); bounded = λ start (k, b, e). absurd (omega (arith, b)) }
 
   pub some_more : (track : ℕ) (list : List Start) (start : Start) → AreSomeStarts F track list → Contains (F.entries track) start.place → IsLowerBound (F.plane track) F.exit start.place (Some start.ahead)
       → AreSomeStarts F track (list ++ start ∷ [])

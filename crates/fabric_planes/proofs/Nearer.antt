@@ -74,18 +74,11 @@ apart_falls arch strip Source kb a b w e s n wa wb h = absurd wa
 apart_falls arch strip Sink kb a b w e s n wa wb h = absurd wa
 apart_falls arch strip Opin kb a b w e s n wa wb h = absurd wa
 apart_falls arch strip Ipin kb a b w e s n wa wb h = absurd wa
-apart_falls arch strip ChanX Source a b w e s n wa wb h = absurd wb
-apart_falls arch strip ChanX Sink a b w e s n wa wb h = absurd wb
-apart_falls arch strip ChanX Opin a b w e s n wa wb h = absurd wb
-apart_falls arch strip ChanX Ipin a b w e s n wa wb h = absurd wb
 apart_falls arch strip ChanX ChanX a b w e s n wa wb h = falls_level a b w e s n h
 apart_falls arch strip ChanX ChanY a b w e s n wa wb h = falls_crossing a b w e s n h
-apart_falls arch strip ChanY Source a b w e s n wa wb h = absurd wb
-apart_falls arch strip ChanY Sink a b w e s n wa wb h = absurd wb
-apart_falls arch strip ChanY Opin a b w e s n wa wb h = absurd wb
-apart_falls arch strip ChanY Ipin a b w e s n wa wb h = absurd wb
 apart_falls arch strip ChanY ChanX a b w e s n wa wb h = falls_back a b w e s n h
 apart_falls arch strip ChanY ChanY a b w e s n wa wb h = falls_upright a b w e s n h
+apart_falls arch strip _ _ a b w e s n wa wb h = absurd wb
 
 -- wires that meet have no distance
 touch_level : (a b : Node) → ((a.n == b.n) && ((a.y == b.y) && is_next a.x b.x)) ≡ true → ends_apart ChanX a.x a.y ChanX b.x b.y ≡ 0
@@ -105,18 +98,11 @@ touch arch strip Source kb a b wa wb h = absurd wa
 touch arch strip Sink kb a b wa wb h = absurd wa
 touch arch strip Opin kb a b wa wb h = absurd wa
 touch arch strip Ipin kb a b wa wb h = absurd wa
-touch arch strip ChanX Source a b wa wb h = absurd wb
-touch arch strip ChanX Sink a b wa wb h = absurd wb
-touch arch strip ChanX Opin a b wa wb h = absurd wb
-touch arch strip ChanX Ipin a b wa wb h = absurd wb
 touch arch strip ChanX ChanX a b wa wb h = touch_level a b h
 touch arch strip ChanX ChanY a b wa wb h = (touch_crossing a b h).0
-touch arch strip ChanY Source a b wa wb h = absurd wb
-touch arch strip ChanY Sink a b wa wb h = absurd wb
-touch arch strip ChanY Opin a b wa wb h = absurd wb
-touch arch strip ChanY Ipin a b wa wb h = absurd wb
 touch arch strip ChanY ChanX a b wa wb h = (touch_crossing b a h).1
 touch arch strip ChanY ChanY a b wa wb h = touch_upright a b h
+touch arch strip _ _ a b wa wb h = absurd wb
 
 -- ---- numbers of wires
 

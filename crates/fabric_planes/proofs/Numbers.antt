@@ -5,7 +5,7 @@ use Rattle.std.proofs.lemmas.Bool.{cases_Bool, cases_eq, cases_lt, false≢true}
 use Rattle.rr_graph.specs.declared.node.NodeKind.{NodeKind}
 use Rattle.rr_graph.specs.declared.node.NodeKind.TheVariants.{Source, Sink, Opin, Ipin, ChanX, ChanY}
 use Rattle.rr_graph.specs.declared.node.Node.{Node}
-use Rattle.rr_graph.specs.Geometry.{IsWire, is_node}
+use Rattle.rr_graph.specs.Geometry.{IsWire}
 use Rattle.rr_graph.specs.Graph.{Basis, IsBasis, graph_of, make_node}
 use Rattle.rr_graph.proofs.FewNodes.{few_nodes}
 use Rattle.plane_search.specs.Planes.{IsPlace}
@@ -19,57 +19,34 @@ use Rattle.fabric_planes.specs.Pins.{IsShownPin, ArePins, ArePrices}
 use Rattle.fabric_planes.specs.Steps.{AreSteps, NO_CLASS}
 use Rattle.fabric_planes.specs.Tables.{IsFirstAt, AreFirsts, NO_WIRE}
 use Rattle.fabric_planes.proofs.Bounded.{IsShownThere, shown_there}
-use Rattle.fabric_planes.proofs.Wires.{level_facts, upright_facts, level_there, upright_there}
+use Rattle.fabric_planes.proofs.Wires.{each_track}
 use Rattle.fabric_planes.proofs.Found.{cases_wire, first_for, firsts_cases, told_at, same_offset}
 use Rattle.fabric_planes.proofs.Labeled.{shown_at, at_place, there_of}
 use Rattle.fabric_planes.proofs.Offsets.{columns_apart}
-use Rattle.fabric_planes.proofs.Strips.{lawful, are_labels, wire_row, wire_shows}
+use Rattle.fabric_planes.proofs.Strips.{lawful, are_labels, offset_few, wire_shows}
 
 -- the offset of a wire is not one of a pin
 wire_offset : (basis : Basis) (kind : NodeKind) (v : Node) → IsWire kind → level_at basis ≤ offset_of basis kind v
-wire_offset basis Source v w = absurd w
-wire_offset basis Sink v w = absurd w
-wire_offset basis Opin v w = absurd w
-wire_offset basis Ipin v w = absurd w
 wire_offset basis ChanX v w = omega arith
 wire_offset basis ChanY v w = omega arith
-
-pub wire_stride : (basis : Basis) (kind : NodeKind) (v : Node) → IsWire kind → v.y ≤ basis.strip.rows → offset_of basis kind v < stride_of basis
-wire_stride basis Source v w b = absurd w
-wire_stride basis Sink v w b = absurd w
-wire_stride basis Opin v w b = absurd w
-wire_stride basis Ipin v w b = absurd w
-wire_stride basis ChanX v w b = omega (arith, b)
-wire_stride basis ChanY v w b = omega (arith, b)
-
--- the wire of each track at the place of a wire
-pub each_track : (basis : Basis) (kind : NodeKind) (x y n m : ℕ) → IsWire kind → m < basis.arch.tracks → is_node basis.arch basis.strip (make_node x kind y n) ≡ true → is_node basis.arch basis.strip (make_node x kind y m) ≡ true
-each_track basis Source x y n m w l h = absurd w
-each_track basis Sink x y n m w l h = absurd w
-each_track basis Opin x y n m w l h = absurd w
-each_track basis Ipin x y n m w l h = absurd w
-each_track basis ChanX x y n m w l h = let f = level_facts basis x y n h in level_there basis x y m (record { from = f.from; to = f.to; row = f.row; track = l })
-each_track basis ChanY x y n m w l h = let f = upright_facts basis x y n h in upright_there basis x y m (record { from = f.from; to = f.to; row = f.row; track = l })
+wire_offset basis _ v w = absurd w
 
 -- pins are shown in all planes, or in none
 pub same_shows : (strip : _) (t : Terminals) (track other : ℕ) (kind : NodeKind) (v : Node) → (IsWire kind → ⊥) → shows strip t track kind v ≡ true → shows strip t other kind v ≡ true
-same_shows strip t track other Source v n s = s
-same_shows strip t track other Sink v n s = s
-same_shows strip t track other Opin v n s = s
-same_shows strip t track other Ipin v n s = s
 same_shows strip t track other ChanX v n s = absurd (n tt)
 same_shows strip t track other ChanY v n s = absurd (n tt)
+same_shows strip t track other _ v n s = s
 
 module _ {basis : Basis} (is : IsBasis basis) where
   abbrev node : ℕ → Node
   node = (graph_of basis).node
 
   -- no wire is at the place of a pin
-  wire_or_pin : (place number x offset : ℕ) → IsWireOf basis place number → (node number).y ≤ basis.strip.rows → IsPinPlace basis x offset → place ≡ in_column basis x offset → ⊥
-  wire_or_pin place number x offset w row pin at =
+  wire_or_pin : (place number x offset : ℕ) → IsWireOf basis place number → IsPinPlace basis x offset → place ≡ in_column basis x offset → ⊥
+  wire_or_pin place number x offset w pin at =
       let o : ℕ = offset_of basis (node number).kind (node number) in
       let high : level_at basis ≤ o = wire_offset basis (node number).kind (node number) w.wire.wire in
-      let low : o < stride_of basis = wire_stride basis (node number).kind (node number) w.wire.wire row in
+      let low : o < stride_of basis = offset_few is number w.wire.within in
       let e : in_column basis (node number).x o ≡ in_column basis x offset = w.is_at ∙ at in
       elim (cases_eq (node number).x x) [
         | inl same ↦
@@ -97,7 +74,7 @@ module _ {basis : Basis} (is : IsBasis basis) where
     | inr first ↦
         let number : ℕ = slice_index firsts place in
         let w = first_wire place number first in
-        absurd (wire_or_pin place number x offset w (wire_row is number w.wire.within w.wire.wire) pin at)
+        absurd (wire_or_pin place number x offset w pin at)
   ]
 
   module _ (t : Terminals) (cost : ℕ → ℕ) (starts : List ℕ) (goal : ℕ) (search : IsNetSearch basis cost starts goal t) (firsts : List ℕ) (told : AreFirsts basis firsts) where

@@ -26,50 +26,17 @@ high_of basis ChanY = upright_at basis + band_of basis
 
 pub below_stride : (basis : Basis) (kind : NodeKind) → high_of basis kind ≤ stride_of basis
 below_stride basis Source = omega arith
-below_stride basis Sink = omega arith
-below_stride basis Opin = omega arith
-below_stride basis Ipin = omega arith
-below_stride basis ChanX = omega arith
-below_stride basis ChanY = omega arith
+below_stride basis _ = omega arith
 
 -- kinds are in order
 pub kinds_apart : (basis : Basis) (ka kb : NodeKind) → rank_of ka < rank_of kb → high_of basis ka ≤ low_of basis kb
-kinds_apart basis Source Source l = absurd (omega (arith, l))
-kinds_apart basis Source Sink l = omega arith
-kinds_apart basis Source Opin l = omega arith
-kinds_apart basis Source Ipin l = omega arith
-kinds_apart basis Source ChanX l = omega arith
-kinds_apart basis Source ChanY l = omega arith
-kinds_apart basis Sink Source l = absurd (omega (arith, l))
-kinds_apart basis Sink Sink l = absurd (omega (arith, l))
-kinds_apart basis Sink Opin l = omega arith
-kinds_apart basis Sink Ipin l = omega arith
-kinds_apart basis Sink ChanX l = omega arith
-kinds_apart basis Sink ChanY l = omega arith
-kinds_apart basis Opin Source l = absurd (omega (arith, l))
-kinds_apart basis Opin Sink l = absurd (omega (arith, l))
-kinds_apart basis Opin Opin l = absurd (omega (arith, l))
-kinds_apart basis Opin Ipin l = omega arith
-kinds_apart basis Opin ChanX l = omega arith
-kinds_apart basis Opin ChanY l = omega arith
-kinds_apart basis Ipin Source l = absurd (omega (arith, l))
-kinds_apart basis Ipin Sink l = absurd (omega (arith, l))
-kinds_apart basis Ipin Opin l = absurd (omega (arith, l))
-kinds_apart basis Ipin Ipin l = absurd (omega (arith, l))
-kinds_apart basis Ipin ChanX l = omega arith
-kinds_apart basis Ipin ChanY l = omega arith
-kinds_apart basis ChanX Source l = absurd (omega (arith, l))
-kinds_apart basis ChanX Sink l = absurd (omega (arith, l))
-kinds_apart basis ChanX Opin l = absurd (omega (arith, l))
-kinds_apart basis ChanX Ipin l = absurd (omega (arith, l))
-kinds_apart basis ChanX ChanX l = absurd (omega (arith, l))
-kinds_apart basis ChanX ChanY l = omega arith
-kinds_apart basis ChanY Source l = absurd (omega (arith, l))
-kinds_apart basis ChanY Sink l = absurd (omega (arith, l))
-kinds_apart basis ChanY Opin l = absurd (omega (arith, l))
-kinds_apart basis ChanY Ipin l = absurd (omega (arith, l))
-kinds_apart basis ChanY ChanX l = absurd (omega (arith, l))
-kinds_apart basis ChanY ChanY l = absurd (omega (arith, l))
+kinds_apart basis Source Source l = omega (arith, l)
+kinds_apart basis Sink Source l = omega (arith, l)
+kinds_apart basis Opin Source l = omega (arith, l)
+kinds_apart basis Ipin Source l = omega (arith, l)
+kinds_apart basis ChanX Source l = omega (arith, l)
+kinds_apart basis ChanY Source l = omega (arith, l)
+kinds_apart basis _ _ l = omega (arith, l)
 
 -- columns are in order
 pub columns_apart : (basis : Basis) (x y p q : ℕ) → x < y → p < stride_of basis → in_column basis x p < in_column basis y q

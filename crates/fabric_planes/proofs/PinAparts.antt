@@ -1,77 +1,109 @@
 -- The tracks that an output pin meets on a side, as the table tells them.
-use Rattle.std.proofs.Common.{◌≡◌, ℕ, ◌+◌, ◌-◌, ◌*◌, ◌<◌, ◌≤◌, List, length, take, drop, ap, ◌∙◌, subst, arith, Bool, true, false, sym}
+use Rattle.std.proofs.Common.{◌≡◌, ℕ, ◌+◌, ◌-◌, ◌*◌, ◌/◌, ◌%◌, ◌<◌, ◌≤◌, List, length, get_or, take, drop, refl, sym, ap, ◌∙◌, subst, inl, inr, arith, true, ◌==◌, ◌&&◌}
 use Rattle.std.specs.Prelude.{All, slice_index}
 use Rattle.std.specs.List.{range_with_len}
-use Rattle.std.proofs.lemmas.Nat.{mul-add-lt, row_fits}
+use Rattle.std.proofs.lemmas.Bool.{and_parts, cases_Bool, eqb-true}
+use Rattle.std.proofs.lemmas.Nat.{div-mul-add, mod-mul-add, mul-add-lt, row_fits}
 use Rattle.std.proofs.lemmas.List.{get_or-take, get_or-drop}
 use Rattle.std.proofs.lemmas.List.Elements.{All-map, All-take, All-drop}
 use Rattle.std.proofs.lemmas.List.FromFn.{length-map-range_with_len, get_or-map-range_with_len}
 use Rattle.rr_graph.specs.declared.node.NodeKind.{NodeKind}
-use Rattle.rr_graph.specs.declared.node.NodeKind.TheVariants.{Opin}
+use Rattle.rr_graph.specs.declared.node.NodeKind.TheVariants.{Opin, ChanX}
 use Rattle.rr_graph.specs.declared.node.Node.{Node}
-use Rattle.rr_graph.specs.Geometry.{is_node, meets}
-use Rattle.rr_graph.specs.Graph.{Basis, make_node}
-use Rattle.fabric_planes.specs.Layout.{pins_of}
-use Rattle.fabric_planes.specs.PinRows.{is_met, site_of, apart_entry, apart_if, aparts}
-use Rattle.fabric_planes.specs.Sides.{IsAtSide}
-use Rattle.fabric_planes.proofs.PinEnds.{IsOutput, output_facts}
-use Rattle.fabric_planes.proofs.PinRowsAt.{apart_at}
-use Rattle.fabric_planes.proofs.PinSides.{met_at, site_few, site_met}
+use Rattle.rr_graph.specs.Geometry.{IsWire, is_node, meets, node_at_offset}
+use Rattle.rr_graph.specs.Graph.{Basis, IsBasis, make_node}
+use Rattle.rr_graph.proofs.Moves.{joins_moved}
+use Rattle.fabric_planes.specs.ArrivalRows.{wire_beside}
+use Rattle.fabric_planes.specs.Layout.{pins_of, band_of}
+use Rattle.fabric_planes.specs.PinRows.{apart_at, apart_by, apart_count, aparts, pin_number}
+use Rattle.fabric_planes.specs.Sides.{IsAtSide, side_kind, rows_less, columns_less}
+use Rattle.fabric_planes.proofs.ArrivalNumbers.{column_few}
+use Rattle.fabric_planes.proofs.PinsRowed.{IsPin, number_low, pin_facts}
 
-if_few : (met : Bool) → apart_if met ≤ 20000
-if_few true = omega arith
-if_few false = omega arith
+module _ {basis : Basis} (is : IsBasis basis) where
+  apart_few : (at : ℕ) → apart_at basis at ≤ 20000
+  apart_few at = few (at / basis.arch.tracks / 4 / pins_of basis) (at / basis.arch.tracks / 4 % pins_of basis) (at / basis.arch.tracks % 4) (at % basis.arch.tracks)
+    where
+      few : (y n side track : ℕ) → apart_by basis y n side track ≤ 20000
+      few y n side track = elim (cases_Bool ((side == 1) && (y == 0))) [
+        | inl none ↦ rw none (omega arith)
+        | inr some ↦ rw some (elim (cases_Bool (meets basis.arch basis.strip (make_node 1 Opin y n) (wire_beside (make_node 1 Opin y n) side track))) [
+          | inl met ↦ rw met (omega arith)
+          | inr apart ↦ rw apart (omega arith)
+        ])
+      ]
 
-module _ (basis : Basis) where
-  abbrev table : List ℕ
-  table = aparts basis.arch basis.strip (pins_of basis)
-
-  abbrev entry : ℕ → ℕ
-  entry = apart_entry basis.arch basis.strip (pins_of basis)
-
-  abbrev count : ℕ
-  count = 3 * pins_of basis * 4 * basis.arch.tracks
-
-  pub aparts_few : (first many : ℕ) (list : List ℕ) → list ≡ table → All (λ bound. bound ≤ 20000) (take many (drop first list))
+  pub aparts_few : (first many : ℕ) (list : List ℕ) → list ≡ aparts basis → All (λ bound. bound ≤ 20000) (take many (drop first list))
   aparts_few first many list e =
-      rw e (All-take (λ (bound : ℕ). bound ≤ 20000) many (drop first table)
-      (All-drop (λ (bound : ℕ). bound ≤ 20000) first table
-      (All-map (λ (bound : ℕ). bound ≤ 20000) entry (range_with_len 0 count) (λ k d b. if_few _))))
+      rw e (All-take (λ (bound : ℕ). bound ≤ 20000) many (drop first (aparts basis))
+      (All-drop (λ (bound : ℕ). bound ≤ 20000) first (aparts basis)
+      (All-map (λ (bound : ℕ). bound ≤ 20000) (apart_at basis) (range_with_len 0 (apart_count basis)) (λ k d b. apart_few (get_or (range_with_len 0 (apart_count basis)) k d)))))
 
-  module _ (pin : Node) (there : is_node basis.arch basis.strip pin ≡ true) (kind : pin.kind ≡ Opin) (side : ℕ) (few : side < 4) (some : 1 ≤ basis.strip.rows) where
-    facts : IsOutput basis (make_node pin.x Opin pin.y pin.n)
-    facts = output_facts basis pin.x pin.y pin.n (subst (λ (k : NodeKind). is_node basis.arch basis.strip (make_node pin.x k pin.y pin.n) ≡ true) kind there)
+  -- the parts of an entry's number
+  number_back : (y n side track : ℕ) → n < pins_of basis → side < 4 → track < basis.arch.tracks → apart_at basis ((pin_number basis y n * 4 + side) * basis.arch.tracks + track) ≡ apart_by basis y n side track
+  number_back y n side track few four low =
+      let p : ℕ = pin_number basis y n in
+      let q : ℕ = p * 4 + side in
+      let t : ℕ = basis.arch.tracks in
+      let a : q / 4 ≡ p = omega (arith, four) in
+      let b : q % 4 ≡ side = omega (arith, four) in
+      ap (λ (r : ℕ). apart_by basis (r / 4 / pins_of basis) (r / 4 % pins_of basis) (r % 4) ((q * t + track) % t)) (div-mul-add q t track low)
+      ∙ (ap (λ (k : ℕ). apart_by basis (q / 4 / pins_of basis) (q / 4 % pins_of basis) (q % 4) k) (mod-mul-add q t track low)
+      ∙ (ap (λ (r : ℕ). apart_by basis (r / pins_of basis) (r % pins_of basis) (q % 4) track) a
+      ∙ (ap (λ (s : ℕ). apart_by basis (p / pins_of basis) (p % pins_of basis) s track) b
+      ∙ (ap (λ (v : ℕ). apart_by basis v (p % pins_of basis) side track) (div-mul-add y (pins_of basis) n few)
+      ∙ ap (λ (m : ℕ). apart_by basis y m side track) (mod-mul-add y (pins_of basis) n few)))))
+
+  module _ (pin : Node) (there : is_node basis.arch basis.strip pin ≡ true) (kind : pin.kind ≡ Opin) (side : ℕ) (few : side < 4) where
+    facts : IsPin is pin
+    facts = pin_facts is pin (subst (λ (k : NodeKind). IsWire k → ⊥) (sym kind) (λ w. w)) there
 
     abbrev at : ℕ
-    at = (site_of basis.strip pin.y * pins_of basis + pin.n) * 4 + side
+    at = pin_number basis pin.y pin.n * 4 + side
 
-    fits : at * basis.arch.tracks + basis.arch.tracks ≤ count
+    fits : at * basis.arch.tracks + basis.arch.tracks ≤ apart_count basis
     fits =
-        let site : ℕ = site_of basis.strip pin.y in
-        let first : site * pins_of basis + pin.n < pins_of basis * 3 = mul-add-lt site (pins_of basis) pin.n 3 (site_few basis.strip pin.y) facts.few in
-        let second : at < 4 * (pins_of basis * 3) = mul-add-lt (site * pins_of basis + pin.n) 4 side (pins_of basis * 3) first few in
-        let all : at * basis.arch.tracks + basis.arch.tracks ≤ 4 * (pins_of basis * 3) * basis.arch.tracks = row_fits at basis.arch.tracks (4 * (pins_of basis * 3)) basis.arch.tracks second (omega arith) in
-        let e : 4 * (pins_of basis * 3) * basis.arch.tracks ≡ count = grind arith in
+        let low : at < 4 * (pins_of basis * band_of basis) = mul-add-lt (pin_number basis pin.y pin.n) 4 side (pins_of basis * band_of basis) (number_low is pin facts) few in
+        let all = row_fits at basis.arch.tracks (4 * (pins_of basis * band_of basis)) basis.arch.tracks low (omega arith) in
+        let e : 4 * (pins_of basis * band_of basis) * basis.arch.tracks ≡ apart_count basis = grind arith in
         omega (arith, all, e)
 
-    pub aparts_within : (site pins tracks : ℕ) (list : List ℕ) → site ≡ site_of basis.strip pin.y → pins ≡ pins_of basis → tracks ≡ basis.arch.tracks → list ≡ table → ((site * pins + pin.n) * 4 + side) * tracks + tracks ≤ length list
-    aparts_within site pins tracks list i p t e =
-        let long : length table ≡ count = length-map-range_with_len entry 0 count in
-        rw (i, p, t, e) (omega (arith, fits, long))
+    pub aparts_within : (number tracks : ℕ) (list : List ℕ) → number ≡ pin_number basis pin.y pin.n → tracks ≡ basis.arch.tracks → list ≡ aparts basis → (number * 4 + side) * tracks + tracks ≤ length list
+    aparts_within number tracks list p t e =
+        let long : length (aparts basis) ≡ apart_count basis = length-map-range_with_len (apart_at basis) 0 (apart_count basis) in
+        rw (p, t, e) (omega (arith, fits, long))
 
-    told : (wire : Node) → wire.n < basis.arch.tracks → IsAtSide pin side wire.kind wire.x wire.y → meets basis.arch basis.strip pin wire ≡ true
-        → slice_index (take (at * basis.arch.tracks + basis.arch.tracks - at * basis.arch.tracks) (drop (at * basis.arch.tracks) table)) wire.n ≡ 0
-    told wire low beside m =
-        let first : ℕ = at * basis.arch.tracks in
-        let met : is_met basis.arch basis.strip (make_node pin.x Opin pin.y pin.n) side wire.n ≡ true = subst (λ (k : NodeKind). is_met basis.arch basis.strip (make_node pin.x k pin.y pin.n) side wire.n ≡ true) kind (met_at basis.arch basis.strip pin wire side beside m) in
-        let none : 0 + (first + wire.n) ≡ first + wire.n = omega arith in
-        get_or-take (first + basis.arch.tracks - first) (drop first table) wire.n 0 (omega (arith, low))
-        ∙ (get_or-drop first table wire.n 0
-        ∙ (get_or-map-range_with_len entry 0 count (first + wire.n) (first + wire.n) 0 (omega (arith, fits, low)) none
-        ∙ (apart_at basis (site_of basis.strip pin.y) pin.n side wire.n facts.few few low
-        ∙ ap apart_if (sym (site_met basis.arch basis.strip pin.y pin.n side wire.n some) ∙ met))))
+    -- the entry of a wire that the pin meets
+    entry : (wire : Node) → IsAtSide pin side wire.kind wire.x wire.y → meets basis.arch basis.strip pin wire ≡ true → apart_by basis pin.y pin.n side wire.n ≡ 0
+    entry wire beside met =
+        let d : ℕ = pin.x - 1 in
+        let first : Node = make_node 1 Opin pin.y pin.n in
+        let near : Node = wire_beside first side wire.n in
+        let x : 1 + d ≡ pin.x = omega (arith, facts.from) in
+        let is_pin : node_at_offset d first ≡ pin = ap (λ (x : ℕ). make_node x Opin pin.y pin.n) x ∙ ap (λ (k : NodeKind). make_node pin.x k pin.y pin.n) (sym kind) in
+        let column : 1 - columns_less side + d ≡ wire.x = omega (arith, beside.column, x, column_few side 1 (omega arith)) in
+        let row : pin.y - rows_less side ≡ wire.y = omega (arith, beside.row) in
+        let is_wire : node_at_offset d near ≡ wire =
+        ap (λ (x : ℕ). make_node x (side_kind side) (pin.y - rows_less side) wire.n) column
+        ∙ (ap (λ (y : ℕ). make_node wire.x (side_kind side) y wire.n) row
+        ∙ ap (λ (k : NodeKind). make_node wire.x k wire.y wire.n) (sym beside.kind_is)) in
+        let own : meets basis.arch basis.strip first near ≡ true =
+        sym (joins_moved basis.arch basis.strip d Opin ChanX first near) ∙ (ap (λ (p : Node). meets basis.arch basis.strip p (node_at_offset d near)) is_pin ∙ (ap (meets basis.arch basis.strip pin) is_wire ∙ met)) in
+        elim (cases_Bool ((side == 1) && (pin.y == 0))) [
+          | inl none ↦
+              let parts = and_parts (side == 1) (pin.y == 0) none in
+              let less : rows_less side ≡ 1 = rw parts.0 refl in
+              absurd (omega (arith, beside.row, less, eqb-true pin.y 0 parts.1))
+          | inr some ↦ rw (some, own) refl
+        ]
 
-    pub apart_told : (site pins tracks : ℕ) (list : List ℕ) → site ≡ site_of basis.strip pin.y → pins ≡ pins_of basis → tracks ≡ basis.arch.tracks → list ≡ table
+    pub apart_told : (number tracks : ℕ) (list : List ℕ) → number ≡ pin_number basis pin.y pin.n → tracks ≡ basis.arch.tracks → list ≡ aparts basis
         → (wire : Node) → wire.n < basis.arch.tracks → IsAtSide pin side wire.kind wire.x wire.y → meets basis.arch basis.strip pin wire ≡ true
-        → slice_index (take (((site * pins + pin.n) * 4 + side) * tracks + tracks - ((site * pins + pin.n) * 4 + side) * tracks) (drop (((site * pins + pin.n) * 4 + side) * tracks) list)) wire.n ≡ 0
-    apart_told site pins tracks list i p t e wire low beside m = rw (i, p, t, e) (told wire low beside m)
+        → slice_index (take ((number * 4 + side) * tracks + tracks - (number * 4 + side) * tracks) (drop ((number * 4 + side) * tracks) list)) wire.n ≡ 0
+    apart_told number tracks list p t e wire low beside met =
+        let first : ℕ = at * basis.arch.tracks in
+        let none : 0 + (first + wire.n) ≡ first + wire.n = omega arith in
+        rw (p, t, e) (get_or-take (first + basis.arch.tracks - first) (drop first (aparts basis)) wire.n 0 (omega (arith, low))
+        ∙ (get_or-drop first (aparts basis) wire.n 0
+        ∙ (get_or-map-range_with_len (apart_at basis) 0 (apart_count basis) (first + wire.n) (first + wire.n) 0 (omega (arith, fits, low)) none
+        ∙ (number_back pin.y pin.n side wire.n facts.few few low ∙ entry wire beside met))))

@@ -1,148 +1,261 @@
 -- The rows of a pin are its ends in each plane.
-use Rattle.std.proofs.Common.{◌≡◌, ℕ, ◌+◌, ◌*◌, ◌<◌, ◌≤◌, List, [], length, map, refl, sym, ap, ◌∙◌, subst, inl, inr, arith, true, ◌==◌, ◌&&◌}
-use Rattle.std.specs.Prelude.{slice_index_or, nat_lt}
-use Rattle.std.proofs.lemmas.Bool.{and_parts, or_cases, cases_Bool, false≢true, ltb-true}
+use Rattle.std.proofs.Common.{◌≡◌, ℕ, suc, ◌+◌, ◌-◌, ◌*◌, ◌%◌, ◌^◌, ◌<◌, ◌≤◌, List, [], ◌∷◌, length, map, refl, sym, ap, ◌∙◌, subst, inl, inr, arith, true, ◌==◌, ◌&&◌, ◌||◌, nat_le}
+use Rattle.std.specs.Prelude.{slice_index_or, nat_lt, if◌then◌else◌}
+use Rattle.std.proofs.lemmas.Bool.{and_parts, or_cases, cases_Bool, eqb-true, leb-true, ltb-true, false≢true}
+use Rattle.std.proofs.lemmas.Bool.Decides.{nat_tests}
+use Rattle.std.proofs.lemmas.Nat.{div-mul-add, mod-mul-add, mul-add-lt, mul-le}
+use Rattle.arch_file.proofs.FewPins.{few_pins}
+use Rattle.arch_file.specs.Arch.{clock_count}
+use Rattle.arch_file.specs.declared.arch.Pin.{Pin}
 use Rattle.rr_graph.specs.declared.node.NodeKind.{NodeKind}
 use Rattle.rr_graph.specs.declared.node.NodeKind.TheVariants.{Source, Sink, Opin, Ipin, ChanX, ChanY}
 use Rattle.rr_graph.specs.declared.node.Node.{Node}
-use Rattle.rr_graph.specs.Geometry.{IsWire, is_node, is_slot, is_pad_row, is_block_row}
+use Rattle.rr_graph.specs.Geometry.{IsWire, is_node, is_slot, is_chan_y, is_pad_row, is_block_row, is_together, joins, node_at_offset}
 use Rattle.rr_graph.specs.Graph.{Basis, IsBasis, graph_of, make_node}
+use Rattle.rr_graph.proofs.Columns.{member_bounds}
+use Rattle.fabric_planes.specs.declared.ends.Listed.{Listed}
+use Rattle.fabric_planes.specs.declared.ends.View.{View}
 use Rattle.fabric_planes.specs.declared.pins.PinAt.{PinAt}
+use Rattle.fabric_planes.specs.Ends.{AreRowsBelow, base_of, row_of, seen_from, shown_ends}
 use Rattle.fabric_planes.specs.Labels.{plane_of, family_of}
-use Rattle.fabric_planes.specs.Ends.{shown_ends}
-use Rattle.fabric_planes.specs.Layout.{Terminals, pins_of, band_of, stride_of, place_of, shows, labels_of, planes_of, IsNetSearch, level_at}
-use Rattle.fabric_planes.specs.PinRows.{is_met, departures, sink_row, output_at, site_of, pin_rows, first_row, rows_per_track, rise_of}
+use Rattle.fabric_planes.specs.Layout.{Terminals, pins_of, band_of, place_of, shows, labels_of, planes_of, AreTerminals, IsNetSearch}
+use Rattle.fabric_planes.specs.PinRows.{kind_at, index_of, rows_per_track, listed_by, listed_in, listed_at, row_count, pin_number, first_row}
 use Rattle.fabric_planes.specs.Pins.{IsShownPin, HasEnds, ends_in}
+use Rattle.fabric_planes.proofs.Alike.{node_moved, pins_alike, wire_row_moved}
+use Rattle.fabric_planes.proofs.Joins.{IsReached, reached}
 use Rattle.fabric_planes.proofs.Numbers.{same_shows}
-use Rattle.fabric_planes.proofs.PinEnds.{output_facts, output_ends}
-use Rattle.fabric_planes.proofs.PinRowsAt.{rows_long, rows_few, index_low, departures_at, pad_at}
-use Rattle.fabric_planes.proofs.PinSides.{site_few, site_met}
 use Rattle.fabric_planes.proofs.PlaneEnds.{plane_shows}
-use Rattle.fabric_planes.proofs.SourceEnds.{source_row, source_ends, input_ends, sink_ends}
-use Rattle.fabric_planes.proofs.Strips.{lawful, node_slot}
+use Rattle.fabric_planes.proofs.Strips.{lawful, node_column, node_slot, slot_facts, spot_parts, together_parts}
 
-module _ (basis : Basis) where
-  abbrev T : ℕ
-  T = basis.arch.tracks
+-- ---- numbers of rows
 
-  -- a source's row
-  source_few : (y n : ℕ) → is_slot basis.arch basis.strip Source y n ≡ true → first_row basis Source (make_node 0 Source y n) < 3 + pins_of basis
-  source_few y n slot = elim (cases_Bool (is_block_row basis.strip y)) [
-    | inl block ↦ rw block (omega arith)
-    | inr other ↦ rw other (elim (or_cases (is_pad_row basis.strip y && nat_lt n basis.strip.io_rat) (is_block_row basis.strip y && (n == 1)) slot) [
-      | inl pad ↦ omega (arith, ltb-true n basis.strip.io_rat (and_parts (is_pad_row basis.strip y) (nat_lt n basis.strip.io_rat) pad).1)
-      | inr block ↦ absurd (false≢true (sym other ∙ (and_parts (is_block_row basis.strip y) (n == 1) block).0))
-    ])
+kind_back : (kind : NodeKind) (track : ℕ) → (IsWire kind → ⊥) → kind_at (index_of kind + rows_per_track kind * track) ≡ kind
+kind_back Source track pin = let e : 0 + 0 * track ≡ 0 = omega arith in ap kind_at e
+kind_back Sink track pin = let e : 1 + 0 * track ≡ 1 = omega arith in ap kind_at e
+kind_back Ipin track pin = let e : 2 + 0 * track ≡ 2 = omega arith in ap kind_at e
+kind_back Opin track pin = let e : 3 + 1 * track ≡ suc (suc (suc track)) = omega arith in ap kind_at e
+kind_back ChanX track pin = absurd (pin tt)
+kind_back ChanY track pin = absurd (pin tt)
+
+index_low : (kind : NodeKind) (track tracks : ℕ) → track < tracks → index_of kind + rows_per_track kind * track < tracks + 3
+index_low Opin track tracks low = omega (arith, low)
+index_low _ track tracks low = omega (arith, low)
+
+per_track_few : (kind : NodeKind) → rows_per_track kind ≤ 1
+per_track_few Opin = omega arith
+per_track_few _ = omega arith
+
+-- a pin is not left of the first column
+pin_column : (kind : NodeKind) (x : ℕ) → (IsWire kind → ⊥) → (nat_le 1 x || is_chan_y kind) ≡ true → 1 ≤ x
+pin_column kind x pin h = elim (or_cases (nat_le 1 x) (is_chan_y kind) h) [
+  | inl some ↦ leb-true 1 x some
+  | inr up ↦ absurd (pin (upright kind up))
+]
+  where
+    upright : (kind : NodeKind) → is_chan_y kind ≡ true → IsWire kind
+    upright ChanX e = tt
+    upright ChanY e = tt
+    upright _ e = absurd (false≢true e)
+
+pins_some : (pins : List Pin) → clock_count pins ≡ 1 → 1 ≤ length pins
+pins_some [] e = cc
+pins_some (pin ∷ pins) e = omega arith
+
+module _ {basis : Basis} (is : IsBasis basis) where
+  -- a sink has the number of a pad, or 0
+  pub sink_few : (v : Node) → is_slot basis.arch basis.strip Sink v.y v.n ≡ true → v.n < basis.strip.io_rat
+  sink_few v h = elim (or_cases (is_pad_row basis.strip v.y && nat_lt v.n basis.strip.io_rat) (is_block_row basis.strip v.y && (v.n == 0)) h) [
+    | inl pad ↦ ltb-true v.n basis.strip.io_rat (and_parts (is_pad_row basis.strip v.y) (nat_lt v.n basis.strip.io_rat) pad).1
+    | inr block ↦ omega (arith, eqb-true v.n 0 (and_parts (is_block_row basis.strip v.y) (v.n == 0) block).1, is.strip.io_rat.0)
   ]
 
-  source_at : (y n r : ℕ) → is_slot basis.arch basis.strip Source y n ≡ true → r ≡ first_row basis Source (make_node 0 Source y n) → slice_index_or (pin_rows basis) r [] ≡ source_row basis y n
-  source_at y n r slot e = elim (cases_Bool (is_block_row basis.strip y)) [
-    | inl block ↦ rw block (ap (λ (i : ℕ). slice_index_or (pin_rows basis) i []) (rw block at e))
-    | inr other ↦
-        let few = source_few y n slot in
-        rw other (pad_at basis n r (omega (arith, rw other at few)) (rw other at e))
+  -- the number of a pin is one of those in the table
+  number_few : (kind : NodeKind) (v : Node) → (IsWire kind → ⊥) → is_slot basis.arch basis.strip kind v.y v.n ≡ true → v.n < pins_of basis
+  number_few Source v pin h = elim (or_cases (is_pad_row basis.strip v.y && nat_lt v.n basis.strip.io_rat) (is_block_row basis.strip v.y && (v.n == 1)) h) [
+    | inl pad ↦ omega (arith, ltb-true v.n basis.strip.io_rat (and_parts (is_pad_row basis.strip v.y) (nat_lt v.n basis.strip.io_rat) pad).1)
+    | inr block ↦ omega (arith, eqb-true v.n 1 (and_parts (is_block_row basis.strip v.y) (v.n == 1) block).1, pins_some basis.arch.pins is.arch.clocks, is.strip.io_rat.0)
   ]
+  number_few Sink v pin h = omega (arith, sink_few v h)
+  number_few Opin v pin h = slot_facts basis Opin v h
+  number_few Ipin v pin h = slot_facts basis Ipin v h
+  number_few ChanX v pin h = absurd (pin tt)
+  number_few ChanY v pin h = absurd (pin tt)
 
-  module _ (is : IsBasis basis) (t : Terminals) (cost : ℕ → ℕ) (starts : List ℕ) (goal : ℕ) (search : IsNetSearch basis cost starts goal t) where
-    -- the rows are the ends that the planes show
-    record IsRowed (i : ℕ) (kind : NodeKind) (v : Node) : Type 0 where
-      within : (track : ℕ) → track < T → first_row basis kind v + rows_per_track kind * track < length (pin_rows basis)
-      ends : (track : ℕ) → track < T → ends_in (pin_rows basis) (first_row basis kind v + rows_per_track kind * track) ((v.x + 1) * stride_of basis + rise_of kind v) ≡ shown_ends basis t track i
+  -- what is known of a source, a sink or a pin
+  pub record IsPin (v : Node) : Type 0 where
+    pub from : 1 ≤ v.x
+    pub to : v.x ≤ basis.strip.width
+    pub row : v.y < band_of basis
+    pub few : v.n < pins_of basis
 
-    abbrev moved : ℕ → List ℕ → List ℕ
-    moved base row = map (λ end. end + base) row
+  pub pin_facts : (v : Node) → (IsWire v.kind → ⊥) → is_node basis.arch basis.strip v ≡ true → IsPin v
+  pin_facts v pin there =
+      let slot = node_slot basis v there in
+      let column = and_parts (nat_le v.x basis.strip.width) ((nat_le 1 v.x || is_chan_y v.kind) && is_slot basis.arch basis.strip v.kind v.y v.n) there in
+      record {
+        from = pin_column v.kind v.x pin (and_parts (nat_le 1 v.x || is_chan_y v.kind) (is_slot basis.arch basis.strip v.kind v.y v.n) column.1).0;
+        to = node_column basis v there;
+        row = omega (arith, (member_bounds basis.arch basis.strip v.kind v.y v.n is.arch is.strip slot).0);
+        few = number_few v.kind v pin slot;
+      }
 
-    -- the row of an output pin, by its kind of row
-    row_same : (x y n track : ℕ) → departures basis.arch basis.strip (level_at basis) (band_of basis) (output_at basis.strip (site_of basis.strip y) n) track ≡ departures basis.arch basis.strip (level_at basis) (band_of basis) (make_node x Opin y n) track
-    row_same x y n track =
-        let some : 1 ≤ basis.strip.rows = is.strip.rows.0 in
-        let same : (side : ℕ) → is_met basis.arch basis.strip (output_at basis.strip (site_of basis.strip y) n) side track ≡ is_met basis.arch basis.strip (make_node 1 Opin y n) side track = λ side. sym (site_met basis.arch basis.strip y n side track some) in
-        rw (same 3, same 1, same 0, same 2) refl
+  pub sink_column : (v : Node) → v.kind ≡ Sink → is_node basis.arch basis.strip v ≡ true → 1 ≤ v.x
+  sink_column v kind there = (pin_facts v (subst (λ (k : NodeKind). IsWire k → ⊥) (sym kind) (λ w. w)) there).from
 
-    output_rowed : (i x y n : ℕ) → i < (graph_of basis).count → (graph_of basis).node i ≡ make_node x Opin y n → is_node basis.arch basis.strip (make_node x Opin y n) ≡ true → IsRowed i Opin (make_node x Opin y n)
-    output_rowed i x y n b e there =
-        let o = output_facts basis x y n there in
-        let site : ℕ = site_of basis.strip y in
-        let low : site < 3 = site_few basis.strip y in
+  pub number_low : (v : Node) → IsPin v → pin_number basis v.y v.n < pins_of basis * band_of basis
+  number_low v p = mul-add-lt v.y (pins_of basis) v.n (band_of basis) p.row p.few
+
+  row_low : (v : Node) → IsPin v → (index : ℕ) → index < basis.arch.tracks + 3 → pin_number basis v.y v.n * (basis.arch.tracks + 3) + index < row_count basis
+  row_low v p index low =
+      let m = mul-add-lt (pin_number basis v.y v.n) (basis.arch.tracks + 3) index (pins_of basis * band_of basis) (number_low v p) low in
+      let e : (basis.arch.tracks + 3) * (pins_of basis * band_of basis) ≡ row_count basis = grind arith in
+      omega (arith, m, e)
+
+  rows_few : row_count basis ≤ 2 ^ 20
+  rows_few =
+      let pins : length basis.arch.pins ≤ 145 = few_pins basis.arch is.arch in
+      let a : band_of basis * pins_of basis ≤ 66 * 153 = mul-le (band_of basis) (pins_of basis) 66 153 (omega (arith, is.strip.rows.1)) (omega (arith, pins, is.strip.io_rat.1)) in
+      let b : row_count basis ≤ 66 * 153 * 67 = mul-le (band_of basis * pins_of basis) (basis.arch.tracks + 3) (66 * 153) 67 a (omega (arith, is.arch.tracks.1)) in
+      omega (arith, b)
+
+  -- the parts of a row's number
+  number_back : (y n index : ℕ) → n < pins_of basis → index < basis.arch.tracks + 3 → listed_at basis (pin_number basis y n * (basis.arch.tracks + 3) + index) ≡ listed_by basis.strip (kind_at index) y n (index - 3)
+  number_back y n index few low =
+      let p : ℕ = pin_number basis y n in
+      let per : ℕ = basis.arch.tracks + 3 in
+      ap (λ (q : ℕ). listed_in basis q ((p * per + index) % per)) (div-mul-add p per index low)
+      ∙ (ap (listed_in basis p) (mod-mul-add p per index low)
+      ∙ (ap (λ (v : ℕ). listed_by basis.strip (kind_at index) v (p % pins_of basis) (index - 3)) (div-mul-add y (pins_of basis) n few)
+      ∙ ap (λ (m : ℕ). listed_by basis.strip (kind_at index) y m (index - 3)) (mod-mul-add y (pins_of basis) n few)))
+
+  -- ---- the ends that are shown
+
+  module _ (t : Terminals) (i : ℕ) (shown : IsShownPin basis t i) where
+    abbrev v : Node
+    v = (graph_of basis).node i
+
+    abbrev own : ℕ
+    own = if is_block_row basis.strip v.y then 0 else v.n
+
+    pin : IsPin v
+    pin = pin_facts v shown.no_wire ((lawful is).nodes i shown.within)
+
+    -- what is together with the source is together with the first column's
+    own_source : (d : ℕ) → v.x ≡ 1 + d → v.kind ≡ Source → (p : Node) → is_together basis.strip t.source (node_at_offset d p) ≡ is_together basis.strip (make_node 1 v.kind v.y own) p
+    own_source d x kind p =
+        let b = t.source in
+        let e = spot_parts v b (subst (λ (k : NodeKind). shows basis.strip t 0 k v ≡ true) kind shown.shown) in
+        let at : b.x ≡ 1 + d = sym e.0 ∙ x in
+        let column : (b.x == p.x + d) ≡ (1 == p.x) = rw at (grind (arith, nat_tests)) in
+        elim (cases_Bool (is_block_row basis.strip v.y)) [
+          | inl block ↦ rw (column, sym e.1, block) refl
+          | inr pad ↦ rw (column, sym e.1, sym e.2, pad) refl
+        ]
+
+    record IsOwnSink : Type 0 where
+      x : t.sink.x ≡ v.x
+      y : t.sink.y ≡ v.y
+      n : t.sink.n ≡ own
+
+    own_sink : (goal : ℕ) → AreTerminals basis goal t → v.kind ≡ Ipin → IsOwnSink
+    own_sink goal terminals kind =
+        let s = t.sink in
+        let h : is_together basis.strip v s ≡ true = subst (λ (k : NodeKind). shows basis.strip t 0 k v ≡ true) kind shown.shown in
+        let e = together_parts basis.strip v s h in
+        let there : is_node basis.arch basis.strip s ≡ true = subst (λ (v : Node). is_node basis.arch basis.strip v ≡ true) terminals.goal_is ((lawful is).nodes goal terminals.goal_within) in
+        let slot : is_slot basis.arch basis.strip Sink s.y s.n ≡ true = subst (λ (k : NodeKind). is_slot basis.arch basis.strip k s.y s.n ≡ true) terminals.kind (node_slot basis s there) in
         record {
-          within = λ track l. omega (arith, index_low basis site n track low o.few l, rows_long basis);
-          ends = λ track l.
-              let r : 3 + (pins_of basis + (site * pins_of basis + n) * T) + 1 * track ≡ 3 + (pins_of basis + ((site * pins_of basis + n) * T + track)) = omega arith in
-              ap (moved ((x + 1) * stride_of basis + y)) (departures_at basis site n track _ low o.few l r ∙ row_same x y n track) ∙ sym (output_ends basis is t cost starts goal search i x y n track b e o l);
+          x = sym e.0;
+          y = sym e.1;
+          n = elim (cases_Bool (is_block_row basis.strip v.y)) [
+            | inl block ↦ rw block (elim (or_cases (is_pad_row basis.strip s.y && nat_lt s.n basis.strip.io_rat) (is_block_row basis.strip s.y && (s.n == 0)) slot) [
+              | inl pad ↦ absurd (pad_no_block s.y (and_parts (is_pad_row basis.strip s.y) (nat_lt s.n basis.strip.io_rat) pad).0 (subst (λ (y : ℕ). is_block_row basis.strip y ≡ true) e.1 block))
+              | inr in_block ↦ eqb-true s.n 0 (and_parts (is_block_row basis.strip s.y) (s.n == 0) in_block).1
+            ])
+            | inr pad ↦ rw pad (let parts : (v.n == s.n) ≡ true = rw pad at (and_parts (v.y == s.y) (is_block_row basis.strip v.y || (v.n == s.n)) (and_parts (v.x == s.x) ((v.y == s.y) && (is_block_row basis.strip v.y || (v.n == s.n))) h).1).1 in sym (eqb-true v.n s.n parts))
+          ];
         }
+      where
+        -- no row has both pads and blocks
+        pad_no_block : (y : ℕ) → is_pad_row basis.strip y ≡ true → is_block_row basis.strip y ≡ true → ⊥
+        pad_no_block y pad block =
+            let rows = and_parts (nat_le 1 y) (nat_le y basis.strip.rows) block in
+            elim (or_cases (y == 0) (y == basis.strip.rows + 1) pad) [
+              | inl low ↦ omega (arith, eqb-true y 0 low, leb-true 1 y rows.0)
+              | inr high ↦ omega (arith, eqb-true y (basis.strip.rows + 1) high, leb-true y basis.strip.rows rows.1)
+            ]
 
-    no_rise : (x : ℕ) → (x + 1) * stride_of basis + 0 ≡ (x + 1) * stride_of basis
-    no_rise x = omega arith
+    own_track : (track : ℕ) → v.kind ≡ Opin → track ≡ index_of v.kind + rows_per_track v.kind * track - 3
+    own_track track kind = rw kind (omega arith)
 
-    source_rowed : (i x y n : ℕ) → i < (graph_of basis).count → (graph_of basis).node i ≡ make_node x Source y n → is_node basis.arch basis.strip (make_node x Source y n) ≡ true → shows basis.strip t 0 Source (make_node x Source y n) ≡ true → IsRowed i Source (make_node x Source y n)
-    source_rowed i x y n b e there s =
-        let slot = node_slot basis (make_node x Source y n) there in
-        record {
-          within = λ track l. omega (arith, source_few y n slot, rows_long basis);
-          ends = λ track l.
-              let r : first_row basis Source (make_node 0 Source y n) + 0 * track ≡ first_row basis Source (make_node 0 Source y n) = omega arith in
-              ap (moved ((x + 1) * stride_of basis + 0)) (source_at y n _ slot r)
-              ∙ (ap (λ (base : ℕ). moved base (source_row basis y n)) (no_rise x) ∙ sym (source_ends basis is t cost starts goal search i x y n track b e s));
-        }
+    -- the index of a pin's row among those of its number
+    abbrev index : ℕ → ℕ
+    index track = index_of v.kind + rows_per_track v.kind * track
 
-    input_rowed : (i x y n : ℕ) → i < (graph_of basis).count → (graph_of basis).node i ≡ make_node x Ipin y n → shows basis.strip t 0 Ipin (make_node x Ipin y n) ≡ true → IsRowed i Ipin (make_node x Ipin y n)
-    input_rowed i x y n b e s =
-        record {
-          within = λ track l. omega (arith, rows_long basis);
-          ends = λ track l.
-              let r : 1 + 0 * track ≡ 1 = omega arith in
-              ap (λ (k : ℕ). moved ((x + 1) * stride_of basis + 0) (slice_index_or (pin_rows basis) k [])) r
-              ∙ (ap (λ (base : ℕ). moved base (sink_row (stride_of basis))) (no_rise x) ∙ sym (input_ends basis is t cost starts goal search i x y n track b e s));
-        }
+    shows_same : (goal : ℕ) → AreTerminals basis goal t → (d track : ℕ) → v.x ≡ 1 + d → (kb : NodeKind) (p : Node) → IsReached basis.strip v.kind kb (make_node 1 v.kind v.y v.n) p
+        → shows basis.strip t track kb (node_at_offset d p) ≡ shows basis.strip (seen_from (make_node 1 v.kind v.y own)) (index track - 3) kb p
+    shows_same goal terminals d track x Source p r = absurd r
+    shows_same goal terminals d track x Sink p r =
+        let s = own_sink goal terminals r.0 in
+        let at : t.sink.x ≡ 1 + d = s.x ∙ x in
+        let column : (p.x + d == t.sink.x) ≡ (p.x == 1) = rw at (grind (arith, nat_tests)) in
+        rw (column, s.y, s.n) refl
+    shows_same goal terminals d track x Opin p r = own_source d x r.0 p
+    shows_same goal terminals d track x Ipin p r = absurd (shown.no_wire r)
+    shows_same goal terminals d track x ChanX p (inl output) = ap (λ (m : ℕ). p.n == m) (own_track track output)
+    shows_same goal terminals d track x ChanX p (inr wire) = absurd (shown.no_wire wire.0)
+    shows_same goal terminals d track x ChanY p (inl output) = ap (λ (m : ℕ). p.n == m) (own_track track output)
+    shows_same goal terminals d track x ChanY p (inr wire) = absurd (shown.no_wire wire.0)
 
-    sink_rowed : (i x y n : ℕ) → i < (graph_of basis).count → (graph_of basis).node i ≡ make_node x Sink y n → IsRowed i Sink (make_node x Sink y n)
-    sink_rowed i x y n b e =
-        record {
-          within = λ track l. omega (arith, rows_long basis);
-          ends = λ track l.
-              let r : 0 + 0 * track ≡ 0 = omega arith in
-              ap (λ (k : ℕ). moved ((x + 1) * stride_of basis + 0) (slice_index_or (pin_rows basis) k [])) r ∙ sym (sink_ends basis is t cost starts goal search i x y n track b e);
-        }
+    row_is : (goal : ℕ) → AreTerminals basis goal t → (rows : List (List ℕ)) → AreRowsBelow basis (listed_at basis) (row_count basis) rows → (track : ℕ) → track < basis.arch.tracks
+        → ends_in rows (first_row basis v + rows_per_track v.kind * track) (base_of basis i) ≡ shown_ends basis t track i
+    row_is goal terminals rows are track low =
+        let a : Node = make_node 1 v.kind v.y v.n in
+        let d : ℕ = v.x - 1 in
+        let x : 1 + d ≡ v.x = omega (arith, pin.from) in
+        let is_v : node_at_offset d a ≡ v = ap (λ (x : ℕ). make_node x v.kind v.y v.n) x in
+        let there : is_node basis.arch basis.strip a ≡ true = sym (node_moved is d a (omega arith) (omega (arith, x, pin.to))) ∙ (ap (is_node basis.arch basis.strip) is_v ∙ (lawful is).nodes i shown.within) in
+        let found = (lawful is).all a there in
+        let j = found.0 in
+        let number : ℕ = pin_number basis v.y v.n * (basis.arch.tracks + 3) + index track in
+        let same : first_row basis v + rows_per_track v.kind * track ≡ number = omega arith in
+        let few : index track < basis.arch.tracks + 3 = index_low v.kind track basis.arch.tracks low in
+        let made : listed_at basis number ≡ listed_by basis.strip v.kind v.y v.n (index track - 3) =
+        number_back v.y v.n (index track) pin.few few ∙ ap (λ (k : NodeKind). listed_by basis.strip k v.y v.n (index track - 3)) (kind_back v.kind track shown.no_wire) in
+        let view : View = record { track = index track - 3; node = make_node 1 v.kind v.y own } in
+        let row : slice_index_or rows number [] ≡ row_of basis view j =
+        are.rows_are number (row_low v pin (index track) few) j found.1 (found.2 ∙ sym (ap (λ (l : Listed). l.node) made)) ∙ ap (λ (l : Listed). row_of basis l.view j) made in
+        let to : v ≡ node_at_offset d ((graph_of basis).node j) = sym is_v ∙ ap (node_at_offset d) (sym found.2) in
+        let first : ((graph_of basis).node j).x ≡ 1 = ap (λ (v : Node). v.x) found.2 in
+        ap (λ (k : ℕ). ends_in rows k (base_of basis i)) same
+        ∙ (ap (map (λ (v : ℕ). v + base_of basis i)) row
+        ∙ wire_row_moved is view t track j i found.1 shown.within
+        (pins_alike is (seen_from view.node) t view.track track j i d found.1 to (λ w. shown.no_wire (subst (λ (v : Node). IsWire v.kind) found.2 w)) (omega (arith, first)) (omega (arith, first, x, pin.to))
+        (λ p h. shows_same goal terminals d track (sym x) p.kind p (reached basis.arch basis.strip v.kind p.kind a p (subst (λ (w : Node). joins basis.arch basis.strip w.kind p.kind w p ≡ true) found.2 h)))))
 
-    rowed : (kind : NodeKind) (i x y n : ℕ) → (IsWire kind → ⊥) → i < (graph_of basis).count → (graph_of basis).node i ≡ make_node x kind y n → is_node basis.arch basis.strip (make_node x kind y n) ≡ true → shows basis.strip t 0 kind (make_node x kind y n) ≡ true → IsRowed i kind (make_node x kind y n)
-    rowed Source i x y n w b e there s = source_rowed i x y n b e there s
-    rowed Sink i x y n w b e there s = sink_rowed i x y n b e
-    rowed Opin i x y n w b e there s = output_rowed i x y n b e there
-    rowed Ipin i x y n w b e there s = input_rowed i x y n b e s
-    rowed ChanX i x y n w b e there s = absurd (w tt)
-    rowed ChanY i x y n w b e there s = absurd (w tt)
+  -- a pin as it is made
+  pub record IsMade (pin : PinAt) (v : Node) : Type 0 where
+    pub place : pin.place ≡ place_of basis v
+    pub row : pin.row ≡ first_row basis v
+    pub per_track : pin.per_track ≡ rows_per_track v.kind
+    pub base : pin.base ≡ base_of basis pin.number
 
-    per_track_few : (kind : NodeKind) → rows_per_track kind ≤ 1
-    per_track_few Source = omega arith
-    per_track_few Sink = omega arith
-    per_track_few Opin = omega arith
-    per_track_few Ipin = omega arith
-    per_track_few ChanX = omega arith
-    per_track_few ChanY = omega arith
-
-    -- a pin as it is made
-    pub record IsMade (pin : PinAt) (v : Node) : Type 0 where
-      pub place : pin.place ≡ place_of basis v
-      pub row : pin.row ≡ first_row basis v.kind v
-      pub per_track : pin.per_track ≡ rows_per_track v.kind
-      pub base : pin.base ≡ (v.x + 1) * stride_of basis + rise_of v.kind v
-
-    pub has_ends : (pin : PinAt) → IsMade pin ((graph_of basis).node pin.number) → IsShownPin basis t pin.number → HasEnds (planes_of basis cost starts goal t) (pin_rows basis) pin
-    unfolding family_of labels_of
-    has_ends pin made shown =
-        let i = pin.number in
-        let v = (graph_of basis).node i in
-        let r = rowed v.kind i v.x v.y v.n shown.no_wire shown.within refl ((lawful is).nodes i shown.within) shown.shown in
-        let first : first_row basis v.kind v + rows_per_track v.kind * 0 < length (pin_rows basis) = r.within 0 (omega (arith, is.arch.tracks.0)) in
-        let at : (track : ℕ) → pin.row + pin.per_track * track ≡ first_row basis v.kind v + rows_per_track v.kind * track = λ track. rw (made.row, made.per_track) refl in
-        record {
-          few = omega (arith, made.row, first, rows_few basis is);
-          per_track = omega (arith, made.per_track, per_track_few v.kind);
-          within = λ track l. subst (λ (k : ℕ). k < length (pin_rows basis)) (sym (at track)) (r.within track l);
-          ends = λ track l.
-              ap (λ (k : ℕ). ends_in (pin_rows basis) k pin.base) (at track)
-              ∙ (ap (ends_in (pin_rows basis) (first_row basis v.kind v + rows_per_track v.kind * track)) made.base
-              ∙ (r.ends track l
-              ∙ (sym (plane_shows is t cost starts goal search i track shown.within (same_shows basis.strip t 0 track v.kind v shown.no_wire shown.shown))
-              ∙ ap (plane_of (labels_of basis cost starts goal t) track).ends (sym made.place))));
-        }
+  pub has_ends : (rows : List (List ℕ)) → AreRowsBelow basis (listed_at basis) (row_count basis) rows → (cost : ℕ → ℕ) (starts : List ℕ) (goal : ℕ) (t : Terminals) → IsNetSearch basis cost starts goal t
+      → (pin : PinAt) → IsMade pin ((graph_of basis).node pin.number) → IsShownPin basis t pin.number → HasEnds (planes_of basis cost starts goal t) rows pin
+  unfolding family_of labels_of
+  has_ends rows are cost starts goal t search pin made shown =
+      let i = pin.number in
+      let v = (graph_of basis).node i in
+      let p = pin_facts v shown.no_wire ((lawful is).nodes i shown.within) in
+      let at : (track : ℕ) → pin.row + pin.per_track * track ≡ pin_number basis v.y v.n * (basis.arch.tracks + 3) + (index_of v.kind + rows_per_track v.kind * track) = λ track. rw (made.row, made.per_track) (omega arith) in
+      let low : (track : ℕ) → track < basis.arch.tracks → pin.row + pin.per_track * track < row_count basis = λ track l.
+      omega (arith, at track, row_low v p (index_of v.kind + rows_per_track v.kind * track) (index_low v.kind track basis.arch.tracks l)) in
+      record {
+        few = omega (arith, low 0 is.arch.tracks.0, rows_few);
+        per_track = omega (arith, made.per_track, per_track_few v.kind);
+        within = λ track l. omega (arith, low track l, are.long);
+        ends = λ track l.
+            rw (made.row, made.per_track, made.base) (row_is t i shown goal search.terminals rows are track l)
+            ∙ (sym (plane_shows is t cost starts goal search i track shown.within (same_shows basis.strip t 0 track v.kind v shown.no_wire shown.shown))
+            ∙ ap (plane_of (labels_of basis cost starts goal t) track).ends (sym made.place));
+      }

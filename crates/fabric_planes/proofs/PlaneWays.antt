@@ -14,7 +14,7 @@ use Rattle.fabric_planes.specs.Sides.{AreSideBounds, IsBySide}
 use Rattle.fabric_planes.specs.Ways.{IsWireAt}
 use Rattle.fabric_planes.proofs.Labeled.{is_family, at_place, there_of}
 use Rattle.fabric_planes.proofs.SideWays.{by_side}
-use Rattle.fabric_planes.proofs.Spans.{in_none}
+use Rattle.fabric_planes.proofs.Members.{in_none}
 use Rattle.fabric_planes.proofs.Strips.{are_labels}
 
 module _ {f : Family} {track : ℕ} (plane : IsPlane f track) where

@@ -6,7 +6,7 @@ use Rattle.std.proofs.lemmas.List.Elements.{All-contains}
 use Rattle.arch_file.specs.declared.arch.Arch.{Arch}
 use Rattle.grid.specs.declared.Strip.{Strip}
 use Rattle.rr_graph.specs.declared.node.NodeKind.{NodeKind}
-use Rattle.rr_graph.specs.declared.node.NodeKind.TheVariants.{Source, Sink, Opin, Ipin, ChanX, ChanY}
+use Rattle.rr_graph.specs.declared.node.NodeKind.TheVariants.{Source, Opin, ChanX, ChanY}
 use Rattle.rr_graph.specs.declared.node.Node.{Node}
 use Rattle.rr_graph.specs.Geometry.{IsWire, joins, meets, meets_track, flexibility_of, runs_along, sides_at, is_together}
 use Rattle.rr_graph.specs.Graph.{Basis, IsBasis, graph_of}
@@ -43,12 +43,9 @@ first_same q r h s p l t (inr (e, inr (d, inr (b, a)))) = inr (sym s ∙ e, inr 
 
 -- an output pin meets the wires that its edges lead to
 pin_meets : (arch : Arch) (strip : Strip) (kind : NodeKind) (pin wire : Node) → IsWire kind → joins arch strip Opin kind pin wire ≡ true → meets arch strip pin wire ≡ true
-pin_meets arch strip Source pin wire w h = absurd w
-pin_meets arch strip Sink pin wire w h = absurd w
-pin_meets arch strip Opin pin wire w h = absurd w
-pin_meets arch strip Ipin pin wire w h = absurd w
 pin_meets arch strip ChanX pin wire w h = h
 pin_meets arch strip ChanY pin wire w h = h
+pin_meets arch strip _ pin wire w h = absurd w
 
 module _ {basis : Basis} (is : IsBasis basis) where
   abbrev node : ℕ → Node

@@ -4,7 +4,7 @@ use Rattle.std.specs.Prelude.{sum_by}
 use Rattle.std.proofs.lemmas.Bool.{and_parts, or_cases, eqb-true, false≢true}
 use Rattle.arch_file.specs.declared.arch.Sides.{Sides}
 use Rattle.rr_graph.specs.declared.node.NodeKind.{NodeKind}
-use Rattle.rr_graph.specs.declared.node.NodeKind.TheVariants.{Source, Sink, Opin, Ipin, ChanX, ChanY}
+use Rattle.rr_graph.specs.declared.node.NodeKind.TheVariants.{Sink, Ipin, ChanX, ChanY}
 use Rattle.rr_graph.specs.declared.node.Node.{Node}
 use Rattle.rr_graph.specs.Geometry.{IsWire, joins, meets, meets_track, flexibility_of, runs_along, sides_at}
 use Rattle.rr_graph.specs.Graph.{Basis, IsBasis, graph_of}
@@ -23,10 +23,6 @@ pub record IsAlong (sides : Sides) (sink : Node) (kind : NodeKind) (x y : ℕ) :
   pub at : IsAtSide sink side kind x y
 
 pub along_side : (sides : Sides) (pin sink : Node) (kind : NodeKind) (x y : ℕ) → pin.x ≡ sink.x → pin.y ≡ sink.y → runs_along sides pin kind x y ≡ true → IsAlong sides sink kind x y
-along_side sides pin sink Source x y ex ey h = absurd (false≢true h)
-along_side sides pin sink Sink x y ex ey h = absurd (false≢true h)
-along_side sides pin sink Opin x y ex ey h = absurd (false≢true h)
-along_side sides pin sink Ipin x y ex ey h = absurd (false≢true h)
 along_side sides pin sink ChanX x y ex ey h =
     let parts = and_parts (x == pin.x) ((sides.top && (y == pin.y)) || (sides.bottom && (y + 1 == pin.y))) h in
     let column : x ≡ sink.x = eqb-true x pin.x parts.0 ∙ ex in
@@ -41,15 +37,13 @@ along_side sides pin sink ChanY x y ex ey h =
       | inl r ↦ (let q = and_parts sides.right (x == pin.x) r in record { side = 2; on = q.0; at = record { few = omega arith; kind_is = refl; column = omega (arith, eqb-true x pin.x q.1, ex); row = omega (arith, row) } })
       | inr l ↦ (let q = and_parts sides.left (x + 1 == pin.x) l in record { side = 3; on = q.0; at = record { few = omega arith; kind_is = refl; column = omega (arith, eqb-true (x + 1) pin.x q.1, ex); row = omega (arith, row) } })
     ]
+along_side sides pin sink _ x y ex ey h = absurd (false≢true h)
 
 -- what a wire and a pin that join say
 pub wire_meets : (arch : _) (strip : _) (kind : NodeKind) (wire pin : Node) → IsWire kind → joins arch strip kind Ipin wire pin ≡ true → wire.kind ≡ kind → meets arch strip pin wire ≡ true
-wire_meets arch strip Source wire pin w h e = absurd w
-wire_meets arch strip Sink wire pin w h e = absurd w
-wire_meets arch strip Opin wire pin w h e = absurd w
-wire_meets arch strip Ipin wire pin w h e = absurd w
 wire_meets arch strip ChanX wire pin w h e = h
 wire_meets arch strip ChanY wire pin w h e = h
+wire_meets arch strip _ wire pin w h e = absurd w
 
 module _ {basis : Basis} (is : IsBasis basis) {cost : ℕ → ℕ} (costs : AreCosts basis cost) (goal : ℕ) (within : goal < (graph_of basis).count) (kind : ((graph_of basis).node goal).kind ≡ Sink) where
   abbrev node : ℕ → Node

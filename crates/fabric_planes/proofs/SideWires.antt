@@ -5,7 +5,7 @@ use Rattle.std.proofs.lemmas.Bool.{cases_lt, and_parts, leb-true, le-leb}
 use Rattle.arch_file.specs.declared.arch.Arch.{Arch}
 use Rattle.grid.specs.declared.Strip.{Strip}
 use Rattle.rr_graph.specs.declared.node.NodeKind.{NodeKind}
-use Rattle.rr_graph.specs.declared.node.NodeKind.TheVariants.{Source, Sink, Opin, Ipin, ChanX, ChanY}
+use Rattle.rr_graph.specs.declared.node.NodeKind.TheVariants.{ChanX, ChanY}
 use Rattle.rr_graph.specs.declared.node.Node.{Node}
 use Rattle.rr_graph.specs.Geometry.{IsWire, is_node, is_slot, is_chan_y, is_block_row}
 use Rattle.rr_graph.specs.Graph.{Basis, IsBasis, graph_of}
@@ -37,12 +37,9 @@ parts_of basis x y p q few more e = elim (cases_lt x y) [
 
 -- a wire's row is one of the strip's
 slot_row : (arch : Arch) (strip : Strip) (kind : NodeKind) (y n : ℕ) → IsWire kind → is_slot arch strip kind y n ≡ true → y ≤ strip.rows
-slot_row arch strip Source y n w h = absurd w
-slot_row arch strip Sink y n w h = absurd w
-slot_row arch strip Opin y n w h = absurd w
-slot_row arch strip Ipin y n w h = absurd w
 slot_row arch strip ChanX y n w h = leb-true y strip.rows (and_parts (nat_le y strip.rows) (nat_lt n arch.tracks) h).0
 slot_row arch strip ChanY y n w h = leb-true y strip.rows (and_parts (nat_le 1 y) (nat_le y strip.rows) (and_parts (is_block_row strip y) (nat_lt n arch.tracks) h).0).1
+slot_row arch strip _ y n w h = absurd w
 
 wire_row : (arch : Arch) (strip : Strip) (v : Node) → IsWire v.kind → is_node arch strip v ≡ true → v.y ≤ strip.rows
 wire_row arch strip v w there =
@@ -50,28 +47,22 @@ wire_row arch strip v w there =
 
 -- a horizontal wire, and a vertical one, by their places
 level_wire : (basis : Basis) (v : Node) (kind : NodeKind) → IsWire kind → v.y ≤ basis.strip.rows → (x r : ℕ) → r < band_of basis → in_column basis x (level_at basis + r) ≡ in_column basis v.x (offset_of basis kind v) → (kind ≡ ChanX) × (v.x ≡ x) × (v.y ≡ r)
-level_wire basis v Source w low x r few e = absurd w
-level_wire basis v Sink w low x r few e = absurd w
-level_wire basis v Opin w low x r few e = absurd w
-level_wire basis v Ipin w low x r few e = absurd w
 level_wire basis v ChanX w low x r few e =
     let p = parts_of basis x v.x (level_at basis + r) (level_at basis + v.y) (omega (arith, few)) (omega (arith, low)) e in
     (refl, sym p.0, omega (arith, p.1))
 level_wire basis v ChanY w low x r few e =
     let p = parts_of basis x v.x (level_at basis + r) (upright_at basis + v.y) (omega (arith, few)) (omega (arith, low)) e in
     absurd (omega (arith, p.1, few))
+level_wire basis v _ w low x r few e = absurd w
 
 upright_wire : (basis : Basis) (v : Node) (kind : NodeKind) → IsWire kind → v.y ≤ basis.strip.rows → (x r : ℕ) → r < band_of basis → in_column basis x (upright_at basis + r) ≡ in_column basis v.x (offset_of basis kind v) → (kind ≡ ChanY) × (v.x ≡ x) × (v.y ≡ r)
-upright_wire basis v Source w low x r few e = absurd w
-upright_wire basis v Sink w low x r few e = absurd w
-upright_wire basis v Opin w low x r few e = absurd w
-upright_wire basis v Ipin w low x r few e = absurd w
 upright_wire basis v ChanX w low x r few e =
     let p = parts_of basis x v.x (upright_at basis + r) (level_at basis + v.y) (omega (arith, few)) (omega (arith, low)) e in
     absurd (omega (arith, p.1, low))
 upright_wire basis v ChanY w low x r few e =
     let p = parts_of basis x v.x (upright_at basis + r) (upright_at basis + v.y) (omega (arith, few)) (omega (arith, low)) e in
     (refl, sym p.0, omega (arith, p.1))
+upright_wire basis v _ w low x r few e = absurd w
 
 -- the place of a wire of a kind
 place_by : (basis : Basis) (v : Node) (kind : NodeKind) → v.kind ≡ kind → place_of basis v ≡ in_column basis v.x (offset_of basis kind v)

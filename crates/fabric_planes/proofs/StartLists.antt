@@ -5,40 +5,31 @@ use Rattle.std.proofs.lemmas.Bool.{cases_Bool, false≢true}
 use Rattle.std.proofs.lemmas.List.{map-append, append-nil}
 use Rattle.std.proofs.lemmas.List.Elements.{All-contains, All-append, All-nil, All-cons, filter-append}
 use Rattle.rr_graph.specs.declared.node.NodeKind.{NodeKind}
-use Rattle.rr_graph.specs.declared.node.NodeKind.TheVariants.{Source, Sink, Opin, Ipin, ChanX, ChanY}
+use Rattle.rr_graph.specs.declared.node.NodeKind.TheVariants.{ChanX, ChanY}
 use Rattle.rr_graph.specs.Geometry.{IsWire, is_wire}
 use Rattle.rr_graph.specs.Graph.{Basis, graph_of}
 use Rattle.fabric_planes.specs.declared.net_starts.NetStarts.{NetStarts}
 use Rattle.fabric_planes.specs.declared.net_starts.StartWire.{StartWire}
 use Rattle.fabric_planes.specs.Starts.{HasStarts, IsStartWire, is_wire_number, is_pin_number}
 use Rattle.fabric_planes.specs.Ways.{IsWireAt}
-use Rattle.fabric_planes.proofs.Spans.{in_map, in_none, map_in}
+use Rattle.fabric_planes.proofs.Members.{in_map, in_none, map_in}
 
 -- ---- kinds
 
 pub wire_true : (kind : NodeKind) → IsWire kind → is_wire kind ≡ true
-wire_true Source w = absurd w
-wire_true Sink w = absurd w
-wire_true Opin w = absurd w
-wire_true Ipin w = absurd w
 wire_true ChanX w = refl
 wire_true ChanY w = refl
+wire_true _ w = absurd w
 
 pub true_wire : (kind : NodeKind) → is_wire kind ≡ true → IsWire kind
-true_wire Source e = absurd (false≢true e)
-true_wire Sink e = absurd (false≢true e)
-true_wire Opin e = absurd (false≢true e)
-true_wire Ipin e = absurd (false≢true e)
 true_wire ChanX e = tt
 true_wire ChanY e = tt
+true_wire _ e = absurd (false≢true e)
 
 pub wire_false : (kind : NodeKind) → (IsWire kind → ⊥) → is_wire kind ≡ false
-wire_false Source n = refl
-wire_false Sink n = refl
-wire_false Opin n = refl
-wire_false Ipin n = refl
 wire_false ChanX n = absurd (n tt)
 wire_false ChanY n = absurd (n tt)
+wire_false _ n = refl
 
 -- ---- filtered lists
 

@@ -1,8 +1,8 @@
 -- The classes of wires, place by place.
-use Rattle.std.proofs.Common.{◌≡◌, ℕ, ◌+◌, ◌-◌, ◌*◌, ◌<◌, ◌≤◌, List, [], Some, length, replicate, set, true, sym, ap, ◌∙◌, subst, inl, inr, arith}
+use Rattle.std.proofs.Common.{◌≡◌, ℕ, ◌+◌, ◌-◌, ◌*◌, ◌<◌, ◌≤◌, List, Some, length, set, true, sym, ap, ◌∙◌, subst, inl, inr, arith}
 use Rattle.std.specs.Prelude.{slice_get, slice_index}
 use Rattle.std.proofs.lemmas.Bool.{cases_eq, cases_lt}
-use Rattle.std.proofs.lemmas.List.{get_or-set_same, get_or-set_other, length-set, get_or-replicate, length-replicate}
+use Rattle.std.proofs.lemmas.List.{get_or-set_same, get_or-set_other, length-set}
 use Rattle.std.proofs.lemmas.Nat.{mul-le}
 use Rattle.std.proofs.lemmas.Option.{slice_get_within}
 use Rattle.arch_file.proofs.FewPins.{few_pins}
@@ -17,8 +17,7 @@ use Rattle.fabric_planes.specs.Steps.{AreSteps, AreStepsBelow, KeepsRows, NO_CLA
 use Rattle.fabric_planes.specs.Tables.{AreFirsts, IsFirstAt, NO_WIRE}
 use Rattle.fabric_planes.proofs.Alike.{columns_alike, node_moved, place_moved, same_row}
 use Rattle.fabric_planes.proofs.Consecutive.{wire_low, wires_order}
-use Rattle.fabric_planes.proofs.Numbers.{wire_stride}
-use Rattle.fabric_planes.proofs.Strips.{lawful, wire_row}
+use Rattle.fabric_planes.proofs.Strips.{lawful, offset_few}
 
 module _ {basis : Basis} (is : IsBasis basis) where
   abbrev node : ℕ → Node
@@ -56,14 +55,6 @@ module _ {basis : Basis} (is : IsBasis basis) where
   ]
 
   -- ---- one place after another
-
-  pub no_classes : (steps : Steps) → steps.classes.items ≡ replicate {A = ℕ} (place_count basis) NO_CLASS → steps.rows ≡ [] → AreStepsBelow basis 0 steps
-  no_classes steps e none = record {
-    long = ap length e ∙ length-replicate (place_count basis) NO_CLASS;
-    few = omega (arith, ap length none);
-    wires = λ place first l at. absurd (omega (arith, l));
-    others = λ place b nothing. ap (λ (xs : List ℕ). slice_index xs place) e ∙ get_or-replicate (place_count basis) place NO_CLASS 0 b;
-  }
 
   -- no wire is at the place
   pub class_skipped : (count : ℕ) (steps : Steps) → AreStepsBelow basis count steps → ((first : ℕ) → IsFirstAt basis count first → ⊥) → AreStepsBelow basis (count + 1) steps
@@ -132,7 +123,7 @@ module _ {basis : Basis} (is : IsBasis basis) where
         at = record { within = found.1; first = record { wire = wire; first = ap (λ (v : Node). v.n) is_p ∙ at.first.first }; is_at = omega (arith, apart) };
         far = omega (arith, apart);
         same = same_row is (step_view (node i)) (step_view v) i first found.1 at.within
-            (columns_alike is (seen_from (node_at_offset 2 (node i))) (seen_from (node_at_offset 2 v)) 0 i first 1 found.1 at.within wire to (ap (node_at_offset 2) to ∙ swap) (inr (omega (arith, column, some), omega (arith, column, some, few))));
+            (columns_alike is (seen_from (node_at_offset 2 (node i))) (seen_from (node_at_offset 2 v)) 0 i first 1 found.1 wire to (ap (node_at_offset 2) to ∙ swap) (inr (omega (arith, column, some), omega (arith, column, some, few))));
       }
 
   -- the class of the column before is taken
@@ -148,7 +139,7 @@ module _ {basis : Basis} (is : IsBasis basis) where
   row_more place first rows more at few one outer =
       let v = node first in
       let o : ℕ = offset_of basis v.kind v in
-      let low : o < stride_of basis = wire_stride basis v.kind v at.first.wire (wire_row is first at.within at.first.wire) in
+      let low : o < stride_of basis = offset_few is first at.within in
       elim (cases_lt 2 v.x) [
         | inr left ↦
             let m : (v.x + 3) * stride_of basis ≤ 5 * stride_of basis = mul-le (v.x + 3) (stride_of basis) 5 (stride_of basis) (omega (arith, left)) (omega arith) in

@@ -59,16 +59,13 @@ wire_shows strip t track _ v w e = absurd w
 
 -- what is known of a node's row and number
 abbrev pub IsSlot : Basis → NodeKind → Node → Type 0
-IsSlot basis Source node = Unit {0}
-IsSlot basis Sink node = Unit {0}
 IsSlot basis Opin node = node.n < pins_of basis
 IsSlot basis Ipin node = node.n < pins_of basis
 IsSlot basis ChanX node = (node.y ≤ basis.strip.rows) × (node.n < basis.arch.tracks)
 IsSlot basis ChanY node = (node.y ≤ basis.strip.rows) × (node.n < basis.arch.tracks)
+IsSlot basis _ node = Unit {0}
 
 pub slot_facts : (basis : Basis) (kind : NodeKind) (node : Node) → is_slot basis.arch basis.strip kind node.y node.n ≡ true → IsSlot basis kind node
-slot_facts basis Source node h = tt
-slot_facts basis Sink node h = tt
 slot_facts basis Opin node h = elim (or_cases (is_pad_row basis.strip node.y && nat_lt node.n basis.strip.io_rat) (is_block_row basis.strip node.y && is_block_number basis.arch Opin node.n) h) [
   | inl pad ↦ omega (arith, ltb-true node.n basis.strip.io_rat (and_parts (is_pad_row basis.strip node.y) (nat_lt node.n basis.strip.io_rat) pad).1)
   | inr block ↦ omega (arith, get_within (λ pin. is_output_class pin.class) basis.arch.pins node.n (and_parts (is_block_row basis.strip node.y) (is_block_number basis.arch Opin node.n) block).1)
@@ -83,6 +80,7 @@ slot_facts basis ChanX node h =
 slot_facts basis ChanY node h =
     let parts = and_parts (is_block_row basis.strip node.y) (nat_lt node.n basis.arch.tracks) h in
     (leb-true node.y basis.strip.rows (and_parts (nat_le 1 node.y) (nat_le node.y basis.strip.rows) parts.0).1, ltb-true node.n basis.arch.tracks parts.1)
+slot_facts basis _ node h = tt
 
 pub node_column : (basis : Basis) (node : Node) → is_node basis.arch basis.strip node ≡ true → node.x ≤ basis.strip.width
 node_column basis node h = leb-true node.x basis.strip.width (and_parts (nat_le node.x basis.strip.width) ((nat_le 1 node.x || is_chan_y node.kind) && is_slot basis.arch basis.strip node.kind node.y node.n) h).0
@@ -107,12 +105,9 @@ IsEnd Sink = Unit {0}
 IsEnd _ = ⊥
 
 wire_end : (kind : NodeKind) → IsWire kind → IsEnd kind → ⊥
-wire_end Source w e = w
-wire_end Sink w e = w
-wire_end Opin w e = w
-wire_end Ipin w e = w
 wire_end ChanX w e = e
 wire_end ChanY w e = e
+wire_end _ w e = w
 
 -- an edge from a pin before a sink, or from a sink, leads to another such node
 end_next : (strip : Strip) (ka kb : NodeKind) (a b : Node) → IsEnd ka → IsReached strip ka kb a b → IsEnd kb
@@ -127,21 +122,15 @@ end_next strip ka ChanY a b e (inr w) = absurd (wire_end ka w.0 e)
 
 -- such a node is no wire
 end_track : (kind : NodeKind) (n track other : ℕ) → IsEnd kind → track_by kind n ≡ Some other → other ≡ track
-end_track Source n track other i e = absurd i
 end_track Sink n track other i e = cc
-end_track Opin n track other i e = absurd i
 end_track Ipin n track other i e = cc
-end_track ChanX n track other i e = absurd i
-end_track ChanY n track other i e = absurd i
+end_track _ n track other i e = absurd i
 
 -- the track of a wire is its number
 pub track_number : (kind : NodeKind) (n track : ℕ) → track_by kind n ≡ Some track → IsWire kind × (n ≡ track)
-track_number Source n track e = cc
-track_number Sink n track e = cc
-track_number Opin n track e = cc
-track_number Ipin n track e = cc
 track_number ChanX n track e = (tt, cc)
 track_number ChanY n track e = (tt, cc)
+track_number _ n track e = cc
 
 module _ {basis : Basis} (is : IsBasis basis) where
   pub lawful : IsRoutingGraph basis (graph_of basis)
@@ -175,13 +164,7 @@ module _ {basis : Basis} (is : IsBasis basis) where
     stays_more : (kb : NodeKind) (j : ℕ) (rest : List ℕ) (i track : ℕ) → (node j).kind ≡ kb → i < (graph_of basis).count → track_by (node i).kind (node i).n ≡ Some track
         → j < (graph_of basis).count → IsReached basis.strip (node i).kind kb (node i) (node j) → Leads (graph_at basis cost) goal j rest → Stays rest → All (On track) (j ∷ rest)
     stays_more Source j rest i track e b t bj r l next = absurd r
-    stays_more Sink j rest i track e b t bj r l next =
-        let n : IsEnd (node j).kind = subst IsEnd (sym e) tt in
-        All-cons (On track) j rest (λ other s. end_track (node j).kind (node j).n track other n s) (ends_stay rest j track bj n l)
     stays_more Opin j rest i track e b t bj r l next = absurd (subst IsWire r.0 (track_number (node i).kind (node i).n track t).0)
-    stays_more Ipin j rest i track e b t bj r l next =
-        let n : IsEnd (node j).kind = subst IsEnd (sym e) tt in
-        All-cons (On track) j rest (λ other s. end_track (node j).kind (node j).n track other n s) (ends_stay rest j track bj n l)
     stays_more ChanX j rest i track e b t bj (inl o) l next = absurd (subst IsWire o (track_number (node i).kind (node i).n track t).0)
     stays_more ChanX j rest i track e b t bj (inr w) l next =
         let n : (node j).n ≡ track = sym w.1 ∙ (track_number (node i).kind (node i).n track t).1 in
@@ -192,6 +175,9 @@ module _ {basis : Basis} (is : IsBasis basis) where
         let n : (node j).n ≡ track = sym w.1 ∙ (track_number (node i).kind (node i).n track t).1 in
         let s : track_by (node j).kind (node j).n ≡ Some track = rw e (ap Some n) in
         All-cons (On track) j rest (λ other o. cc) (next j track bj s l)
+    stays_more _ j rest i track e b t bj r l next =
+        let n : IsEnd (node j).kind = subst IsEnd (sym e) tt in
+        All-cons (On track) j rest (λ other s. end_track (node j).kind (node j).n track other n s) (ends_stay rest j track bj n l)
 
     stays : (rest : List ℕ) → Stays rest
     stays [] i track b t l = All-nil (On track)
@@ -207,14 +193,13 @@ module _ {basis : Basis} (is : IsBasis basis) where
         absurd (none (node j).kind (node i) (node j) (subst (λ k. IsReached basis.strip k (node j).kind (node i) (node j)) e r.1))
       where
         none : (kb : NodeKind) (a b : Node) → IsReached basis.strip Sink kb a b → ⊥
-        none Source a b r = r
         none Sink a b r = cc
         none Opin a b r = cc
-        none Ipin a b r = r
         none ChanX a b (inl o) = cc
         none ChanX a b (inr w) = w.0
         none ChanY a b (inl o) = cc
         none ChanY a b (inr w) = w.0
+        none _ a b r = r
 
     -- an input pin leads to a sink of its block
     pin_last : (rest : List ℕ) (i : ℕ) → i < (graph_of basis).count → (node i).kind ≡ Ipin → (node goal).kind ≡ Sink → Leads (graph_at basis cost) goal i rest → is_together basis.strip (node i) (node goal) ≡ true
@@ -228,39 +213,39 @@ module _ {basis : Basis} (is : IsBasis basis) where
         subst (λ v. is_together basis.strip (node i) (node v) ≡ true) (sink_last rest j r.0 s.0 l.1).0 s.1
       where
         only : (kb : NodeKind) (a b : Node) → IsReached basis.strip Ipin kb a b → (kb ≡ Sink) × (is_together basis.strip a b ≡ true)
-        only Source a b r = absurd r
         only Sink a b r = (refl, r.1)
         only Opin a b r = cc
-        only Ipin a b r = absurd r
         only ChanX a b (inl o) = cc
         only ChanX a b (inr w) = absurd w.0
         only ChanY a b (inl o) = cc
         only ChanY a b (inr w) = absurd w.0
+        only _ a b r = absurd r
 
   -- ---- places
+
+  slot_of : (i : ℕ) → i < (graph_of basis).count → IsSlot basis (node i).kind (node i)
+  slot_of i b = slot_facts basis (node i).kind (node i) (node_slot basis (node i) (lawful.nodes i b))
+
+  -- a node is among the places of its kind
+  offset_in : (i : ℕ) → i < (graph_of basis).count → (low_of basis (node i).kind ≤ offset_of basis (node i).kind (node i)) × (offset_of basis (node i).kind (node i) < high_of basis (node i).kind)
+  offset_in i b = in_kind (node i).kind (node i) (slot_of i b)
+    where
+      in_kind : (kind : NodeKind) (v : Node) → IsSlot basis kind v → (low_of basis kind ≤ offset_of basis kind v) × (offset_of basis kind v < high_of basis kind)
+      in_kind Opin v s = (omega arith, omega (arith, s))
+      in_kind Ipin v s = (omega arith, omega (arith, s))
+      in_kind ChanX v s = (omega arith, omega (arith, s.0))
+      in_kind ChanY v s = (omega arith, omega (arith, s.0))
+      in_kind _ v s = (omega arith, omega arith)
+
+  pub offset_few : (i : ℕ) → i < (graph_of basis).count → offset_of basis (node i).kind (node i) < stride_of basis
+  offset_few i b = omega (arith, (offset_in i b).1, below_stride basis (node i).kind)
 
   module _ (t : Terminals) where
     abbrev pub Shown : ℕ → ℕ → Type 0
     Shown track i = shows basis.strip t track (node i).kind (node i) ≡ true
 
-    slot_of : (i : ℕ) → i < (graph_of basis).count → IsSlot basis (node i).kind (node i)
-    slot_of i b = slot_facts basis (node i).kind (node i) (node_slot basis (node i) (lawful.nodes i b))
-
-    -- a node that is shown is among the places of its kind
-    pub offset_in : (track i : ℕ) → i < (graph_of basis).count → (kind : NodeKind) → (node i).kind ≡ kind → shows basis.strip t track kind (node i) ≡ true
-        → (low_of basis kind ≤ offset_of basis kind (node i)) × (offset_of basis kind (node i) < high_of basis kind)
-    offset_in track i b Source k h = (omega arith, omega arith)
-    offset_in track i b Sink k h = (omega arith, omega arith)
-    offset_in track i b Opin k h = let s = subst (λ kind. IsSlot basis kind (node i)) k (slot_of i b) in (omega arith, omega (arith, s))
-    offset_in track i b Ipin k h = let s = subst (λ kind. IsSlot basis kind (node i)) k (slot_of i b) in (omega arith, omega (arith, s))
-    offset_in track i b ChanX k h = let s = subst (λ kind. IsSlot basis kind (node i)) k (slot_of i b) in (omega arith, omega (arith, s.0))
-    offset_in track i b ChanY k h = let s = subst (λ kind. IsSlot basis kind (node i)) k (slot_of i b) in (omega arith, omega (arith, s.0))
-
-    pub offset_few : (track i : ℕ) → i < (graph_of basis).count → Shown track i → offset_of basis (node i).kind (node i) < stride_of basis
-    offset_few track i b s = omega (arith, (offset_in track i b (node i).kind refl s).1, below_stride basis (node i).kind)
-
     pub low : (track i : ℕ) → i < (graph_of basis).count → Shown track i → place_of basis (node i) < place_count basis
-    low track i b s = place_below basis (node i).x (offset_of basis (node i).kind (node i)) (node_column basis (node i) (lawful.nodes i b)) (offset_few track i b s)
+    low track i b s = place_below basis (node i).x (offset_of basis (node i).kind (node i)) (node_column basis (node i) (lawful.nodes i b)) (offset_few i b)
 
     -- nodes of a kind in a column are in the order of their places
     row_order : (track i j : ℕ) → i < j → i < (graph_of basis).count → j < (graph_of basis).count → (kind : NodeKind) → (node i).kind ≡ kind → (node j).kind ≡ kind
@@ -291,7 +276,7 @@ module _ {basis : Basis} (is : IsBasis basis) where
         → (rank_of (node i).kind < rank_of (node j).kind) ⊎ ((rank_of (node i).kind ≡ rank_of (node j).kind) × (((node i).y < (node j).y) ⊎ (((node i).y ≡ (node j).y) × ((node i).n < (node j).n))))
         → offset_of basis (node i).kind (node i) < offset_of basis (node j).kind (node j)
     kind_order track i j l bi bj si sj (inl r) =
-        omega (arith, (offset_in track i bi (node i).kind refl si).1, (offset_in track j bj (node j).kind refl sj).0, kinds_apart basis (node i).kind (node j).kind r)
+        omega (arith, (offset_in i bi).1, (offset_in j bj).0, kinds_apart basis (node i).kind (node j).kind r)
     kind_order track i j l bi bj si sj (inr (r, more)) =
         let k : (node j).kind ≡ (node i).kind = sym (same_kind (node i).kind (node j).kind r) in
         subst (λ kind. offset_of basis (node i).kind (node i) < offset_of basis kind (node j)) (sym k)
@@ -299,7 +284,7 @@ module _ {basis : Basis} (is : IsBasis basis) where
 
     pub place_order : (track i j : ℕ) → i < j → i < (graph_of basis).count → j < (graph_of basis).count → Shown track i → Shown track j → IsBefore (node i) (node j) → place_of basis (node i) < place_of basis (node j)
     place_order track i j l bi bj si sj (inl x) =
-        columns_apart basis (node i).x (node j).x (offset_of basis (node i).kind (node i)) (offset_of basis (node j).kind (node j)) x (offset_few track i bi si)
+        columns_apart basis (node i).x (node j).x (offset_of basis (node i).kind (node i)) (offset_of basis (node j).kind (node j)) x (offset_few i bi)
     place_order track i j l bi bj si sj (inr (x, more)) =
         let o = kind_order track i j l bi bj si sj more in
         let e : (((node i).x + 2) * stride_of basis) ≡ (((node j).x + 2) * stride_of basis) = ap (λ (x : ℕ). (x + 2) * stride_of basis) x in
@@ -330,12 +315,9 @@ module _ {basis : Basis} (is : IsBasis basis) where
 
       end_own : (track i j : ℕ) (ka kb : NodeKind) → ka ≡ (node i).kind → Shown t track i → IsReached basis.strip ka kb (node i) (node j) → (kb ≡ Source → shows basis.strip t track Source (node j) ≡ true) × (kb ≡ Opin → shows basis.strip t track Opin (node j) ≡ true)
       end_own track i j ka Source k s r = absurd r
-      end_own track i j ka Sink k s r = (λ e. cc, λ e. cc)
       end_own track i j ka Opin k s r =
           (λ e. cc, λ e. together_spot basis.strip (node i) t.source (node j) (subst (λ kind. shows basis.strip t track kind (node i) ≡ true) (sym k ∙ r.0) s) r.1)
-      end_own track i j ka Ipin k s r = (λ e. cc, λ e. cc)
-      end_own track i j ka ChanX k s r = (λ e. cc, λ e. cc)
-      end_own track i j ka ChanY k s r = (λ e. cc, λ e. cc)
+      end_own track i j ka _ k s r = (λ e. cc, λ e. cc)
 
       end_shown : (track i j : ℕ) (rest : List ℕ) → i < (graph_of basis).count → Shown t track i → Contains ((graph_of basis).ends i) j → On track j → Leads (graph_at basis cost) goal j rest → Shown t track j
       end_shown track i j rest b s c on l =
@@ -403,16 +385,15 @@ module _ {basis : Basis} (is : IsBasis basis) where
   wire_row i b w = row_low (node i).kind (node i) w (slot_facts basis (node i).kind (node i) (node_slot basis (node i) (lawful.nodes i b)))
     where
       row_low : (kind : NodeKind) (v : Node) → IsWire kind → IsSlot basis kind v → v.y ≤ basis.strip.rows
-      row_low Source v w s = absurd w
-      row_low Sink v w s = absurd w
-      row_low Opin v w s = absurd w
-      row_low Ipin v w s = absurd w
       row_low ChanX v w s = s.0
       row_low ChanY v w s = s.0
+      row_low _ v w s = absurd w
 
 -- a node's fields are within their limits
-pub node_near : {basis : Basis} → IsBasis basis → (i : ℕ) → i < (graph_of basis).count → (v : Node) → v ≡ (graph_of basis).node i → IsNearby v
-node_near {basis} is i b v e =
-    let h : is_node basis.arch basis.strip v ≡ true = subst (λ (v : Node). is_node basis.arch basis.strip v ≡ true) (sym e) ((lawful is).nodes i b) in
+pub node_fields : {basis : Basis} → IsBasis basis → (v : Node) → is_node basis.arch basis.strip v ≡ true → IsNearby v
+node_fields {basis} is v h =
     let small = member_small basis.arch basis.strip is.arch is.strip (member_of v.kind v.y v.n) (node_slot basis v h) in
     record { x = omega (arith, node_column basis v h, is.strip.width.1); y = omega (arith, small.0); n = omega (arith, small.1) }
+
+pub node_near : {basis : Basis} → IsBasis basis → (i : ℕ) → i < (graph_of basis).count → (v : Node) → v ≡ (graph_of basis).node i → IsNearby v
+node_near {basis} is i b v e = node_fields is v (subst (λ (v : Node). is_node basis.arch basis.strip v ≡ true) (sym e) ((lawful is).nodes i b))

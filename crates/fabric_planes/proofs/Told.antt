@@ -1,21 +1,14 @@
 -- The table of the first wires of places, one node after another.
-use Rattle.std.proofs.Common.{◌≡◌, ℕ, ◌+◌, ◌<◌, List, set, replicate, sym, ap, ◌∙◌, subst, inl, inr, arith}
+use Rattle.std.proofs.Common.{◌≡◌, ℕ, ◌+◌, ◌<◌, List, set, sym, ap, ◌∙◌, subst, inl, inr, arith}
 use Rattle.std.specs.Prelude.{slice_index}
 use Rattle.std.proofs.lemmas.Bool.{cases_eq}
-use Rattle.std.proofs.lemmas.List.{get_or-set_same, get_or-set_other, length-set, get_or-replicate, length-replicate}
+use Rattle.std.proofs.lemmas.List.{get_or-set_same, get_or-set_other, length-set}
 use Rattle.rr_graph.specs.Graph.{Basis, IsBasis, graph_of}
 use Rattle.fabric_planes.specs.Layout.{place_of, place_count}
-use Rattle.fabric_planes.specs.Tables.{IsFirstWire, IsFirstAt, AreFirstsBelow, NO_WIRE}
+use Rattle.fabric_planes.specs.Tables.{IsFirstWire, IsFirstAt, AreFirstsBelow}
 use Rattle.fabric_planes.proofs.Consecutive.{wires_order}
 
 module _ (basis : Basis) where
-  pub told_none : AreFirstsBelow basis 0 (replicate {A = ℕ} (place_count basis) NO_WIRE)
-  told_none = record {
-    long = length-replicate (place_count basis) NO_WIRE;
-    wires = λ place number l at. absurd (omega (arith, l));
-    others = λ place b nothing. get_or-replicate (place_count basis) place NO_WIRE 0 b;
-  }
-
   -- the node is no wire of the first track
   pub told_skip : (count : ℕ) (table : List ℕ) → AreFirstsBelow basis count table → (IsFirstWire ((graph_of basis).node count) → ⊥) → AreFirstsBelow basis (count + 1) table
   told_skip count table told other = record {

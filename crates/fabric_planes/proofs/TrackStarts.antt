@@ -3,7 +3,7 @@ use Rattle.std.proofs.Common.{◌≡◌, ℕ, ◌+◌, ◌<◌, ◌⊎◌, List,
 use Rattle.std.specs.Prelude.{Contains, slice_index, slice_index_or}
 use Rattle.std.proofs.lemmas.Bool.{eqb-true}
 use Rattle.rr_graph.specs.declared.node.NodeKind.{NodeKind}
-use Rattle.rr_graph.specs.declared.node.NodeKind.TheVariants.{Source, Sink, Opin, Ipin, ChanX, ChanY}
+use Rattle.rr_graph.specs.declared.node.NodeKind.TheVariants.{ChanX, ChanY}
 use Rattle.rr_graph.specs.declared.node.Node.{Node}
 use Rattle.rr_graph.specs.Geometry.{IsWire}
 use Rattle.rr_graph.specs.Graph.{Basis, IsBasis, graph_of}
@@ -22,12 +22,9 @@ use Rattle.fabric_planes.proofs.WireBounds.{wire_shown}
 
 -- a wire is shown in its own track's plane alone
 pub shown_track : (strip : _) (t : Terminals) (track : ℕ) (kind : NodeKind) (v : Node) → IsWire kind → shows strip t track kind v ≡ true → v.n ≡ track
-shown_track strip t track Source v w s = absurd w
-shown_track strip t track Sink v w s = absurd w
-shown_track strip t track Opin v w s = absurd w
-shown_track strip t track Ipin v w s = absurd w
 shown_track strip t track ChanX v w s = eqb-true v.n track s
 shown_track strip t track ChanY v w s = eqb-true v.n track s
+shown_track strip t track _ v w s = absurd w
 
 pub start_wire_of : (basis : Basis) (wire : StartWire) → IsStartWire basis wire → IsWireOf basis wire.place wire.number
 start_wire_of basis wire s = record { wire = wire_of_start basis wire s; is_at = sym s.place }

@@ -3,7 +3,7 @@ use Rattle.std.proofs.Common.{◌≡◌, ℕ, ◌+◌, ◌*◌, ◌<◌, ◌≤�
 use Rattle.std.specs.Prelude.{Some, slice_index, sum_by}
 use Rattle.std.proofs.lemmas.Bool.{eq-eqb}
 use Rattle.rr_graph.specs.declared.node.NodeKind.{NodeKind}
-use Rattle.rr_graph.specs.declared.node.NodeKind.TheVariants.{Source, Sink, Opin, Ipin, ChanX, ChanY}
+use Rattle.rr_graph.specs.declared.node.NodeKind.TheVariants.{ChanX, ChanY}
 use Rattle.rr_graph.specs.declared.node.Node.{Node}
 use Rattle.rr_graph.specs.Geometry.{IsWire}
 use Rattle.rr_graph.specs.Graph.{Basis, IsBasis, graph_of}
@@ -19,12 +19,9 @@ use Rattle.fabric_planes.proofs.Nearer.{no_wires}
 use Rattle.fabric_planes.proofs.PlaneWays.{wire_way}
 
 pub wire_shown : (strip : _) (t : Terminals) (track : ℕ) (kind : NodeKind) (v : Node) → IsWire kind → v.n ≡ track → shows strip t track kind v ≡ true
-wire_shown strip t track Source v w e = absurd w
-wire_shown strip t track Sink v w e = absurd w
-wire_shown strip t track Opin v w e = absurd w
-wire_shown strip t track Ipin v w e = absurd w
 wire_shown strip t track ChanX v w e = eq-eqb v.n track e
 wire_shown strip t track ChanY v w e = eq-eqb v.n track e
+wire_shown strip t track _ v w e = absurd w
 
 module _ (basis : Basis) (sink : Node) where
   abbrev node : ℕ → Node

@@ -2,8 +2,9 @@
 use Rattle.std.proofs.Common.{◌≡◌, ℕ, ◌<◌, ◌≤◌, refl, inl, inr, true, false, ◌&&◌, ◌||◌, nat_le}
 use Rattle.std.specs.Prelude.{nat_lt}
 use Rattle.std.proofs.lemmas.Bool.{and_parts, and_from, or_cases, or_left, or_right, leb-true, le-leb, ltb-true, lt-ltb, false≢true}
+use Rattle.rr_graph.specs.declared.node.NodeKind.{NodeKind}
 use Rattle.rr_graph.specs.declared.node.NodeKind.TheVariants.{ChanX, ChanY}
-use Rattle.rr_graph.specs.Geometry.{is_node}
+use Rattle.rr_graph.specs.Geometry.{IsWire, is_node}
 use Rattle.rr_graph.specs.Graph.{Basis, make_node}
 
 -- ---- wires of the strip
@@ -56,3 +57,9 @@ upright_there basis x y n w =
     and_from (nat_le x basis.strip.width) ((nat_le 1 x || true) && ((nat_le 1 y && nat_le y basis.strip.rows) && nat_lt n basis.arch.tracks)) (le-leb x basis.strip.width w.to)
     (and_from (nat_le 1 x || true) ((nat_le 1 y && nat_le y basis.strip.rows) && nat_lt n basis.arch.tracks) (or_right (nat_le 1 x) true refl)
     (and_from (nat_le 1 y && nat_le y basis.strip.rows) (nat_lt n basis.arch.tracks) (and_from (nat_le 1 y) (nat_le y basis.strip.rows) (le-leb 1 y w.from) (le-leb y basis.strip.rows w.row)) (lt-ltb n basis.arch.tracks w.track)))
+
+-- the wire of each track at the place of a wire
+pub each_track : (basis : Basis) (kind : NodeKind) (x y n m : ℕ) → IsWire kind → m < basis.arch.tracks → is_node basis.arch basis.strip (make_node x kind y n) ≡ true → is_node basis.arch basis.strip (make_node x kind y m) ≡ true
+each_track basis ChanX x y n m w l h = let f = level_facts basis x y n h in level_there basis x y m (record { from = f.from; to = f.to; row = f.row; track = l })
+each_track basis ChanY x y n m w l h = let f = upright_facts basis x y n h in upright_there basis x y m (record { from = f.from; to = f.to; row = f.row; track = l })
+each_track basis _ x y n m w l h = absurd w

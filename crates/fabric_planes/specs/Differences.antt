@@ -47,10 +47,14 @@ IsPlaced Level u v = Unit {0}
 IsPlaced Upright u v = Unit {0}
 IsPlaced Block u v = (1 ≤ u) × (1 ≤ v)
 
+-- the offset of a target's wires in their column
+abbrev pub target_offset : Basis → Target → ℕ
+target_offset basis Upright = upright_at basis
+target_offset basis _ = level_at basis
+
 -- the place of the target's wire
 abbrev pub target_at : Basis → Target → ℕ → ℕ → ℕ
-target_at basis Upright u v = in_column basis u (upright_at basis + v)
-target_at basis _ u v = in_column basis u (level_at basis + v)
+target_at basis target u v = in_column basis u (target_offset basis target + v)
 
 -- the index of the entry for a place and the place of the target's wire
 abbrev pub index_from : Basis → Target → ℕ → ℕ → ℕ
@@ -62,6 +66,10 @@ pub record IsTargetAt (basis : Basis) (target : Target) (place u v : ℕ) : Type
   pub x : u ≤ basis.strip.width
   pub y : v ≤ basis.strip.rows + 1
   pub placed : IsPlaced target u v
+
+-- the strip has such a column and row
+abbrev pub IsTarget : Basis → Target → ℕ → ℕ → Type 0
+IsTarget basis target u v = IsTargetAt basis target (target_at basis target u v) u v
 
 -- places of pins, of a source and of a sink
 pub record IsPinPlace (basis : Basis) (x offset : ℕ) : Type 0 where

@@ -1,49 +1,16 @@
 //! The rows of the ends of the wires at the sides of blocks and pads.
-ghost use Rattle.std.specs.Prelude.{◌≡◌, ◌≤◌, ◌<◌, ◌^◌, true, IfOk, OnOk};
-ghost use Rattle.grid.specs.Sizes.{IsStripSize};
-ghost use Rattle.rr_graph.specs.Graph.{Basis};
+ghost use Rattle.std.specs.Prelude.{◌≡◌, ◌<◌, true, IfOk, OnOk};
 ghost use Rattle.rr_graph.specs.Geometry.{is_node};
 ghost use Rattle.rr_graph.specs.declared.node.NodeKind.TheVariants.{Sink};
-ghost use Rattle.fabric_planes.specs.ArrivalRows.{AddsRow, arrival_at, column_of, first_row, index_of, row_count, sink_at, site_of, wire_beside};
+ghost use Rattle.fabric_planes.specs.ArrivalRows.{arrival_at, column_of, first_row, index_of, row_count, wire_beside};
 ghost use Rattle.fabric_planes.specs.Pins.{AreArrivals};
-ghost use Rattle.fabric_planes.specs.Tables.{IsShapeOf};
+ghost use Rattle.fabric_planes.specs.Tables.{IsNearby, IsShapeOf};
 
-use crate::ends::{View, add_ends};
+use crate::ends::{Listed, View, add_row};
 use crate::shape::Shape;
-use grid::Strip;
 use rows::Rows;
 use rr_graph::{Node, NodeKind, StripGraph};
 use std::alloc::{AllocError, Global};
-
-/// The number of a pad or of a block's row: first the pads below, then those above, then the rows.
-fn site_of(strip: Strip, sink: Node) -> usize
-    ensures { result ≡ site_of strip sink }
-{
-    if sink.y == 0 {
-        sink.n as usize
-    } else if strip.rows < sink.y {
-        strip.io_rat as usize + sink.n as usize
-    } else {
-        2 * strip.io_rat as usize + (sink.y as usize - 1)
-    }
-}
-
-/// The sink of the pad or block of a column with this number.
-fn sink_at(strip: Strip, x: u32, site: u32) -> Node
-    requires size { IsStripSize strip }
-    requires few { site < 2 ^ 20 }
-    ensures { result ≡ sink_at strip x site }
-{
-    let (y, n) = if site < strip.io_rat {
-        (0, site)
-    } else if site < 2 * strip.io_rat {
-        (strip.rows + 1, site - strip.io_rat)
-    } else {
-        (site - 2 * strip.io_rat + 1, 0)
-    };
-    let kind = NodeKind::Sink;
-    Node { x, kind, y, n }
-}
 
 /// The number of the column that has the rows of a column: the first, the second, the last, or the
 /// third one for all others.
@@ -64,8 +31,8 @@ fn column_of(width: u32, index: u32) -> u32
     if index == 3 { width } else { index + 1 }
 }
 
-/// The wire of a track at a side of a sink's block or pad.
-fn wire_beside(sink: Node, side: u32, track: u32) -> Node
+/// The wire of a track at a side of a pin's or a sink's block or pad.
+pub(crate) fn wire_beside(sink: Node, side: u32, track: u32) -> Node
     ensures { result ≡ wire_beside sink side track }
 {
     let kind = if side < 2 {
@@ -81,52 +48,28 @@ fn wire_beside(sink: Node, side: u32, track: u32) -> Node
     }
 }
 
-/// A wire at a side of a block or pad, and what its row lists.
-#[derive(Clone, Copy)]
-struct Arrival {
-    view: View,
-    wire: Node,
-}
-
-/// What the row with this number is for.
-fn arrival_at<G: StripGraph>(graph: &G, shape: Shape, number: u32) -> Arrival
-    requires shape { IsShapeOf (G.basis graph.now) shape }
-    requires few { number < row_count (G.basis graph.now) }
+/// What the row with this number is for: the wire of a track at a side of a sink's block or pad.
+/// The row of a sink that the strip doesn't have is empty.
+fn arrival_at<G: StripGraph>(graph: &G, shape: Shape, number: u32) -> Listed
+    requires { IsShapeOf (G.basis graph.now) shape }
     ensures { result ≡ arrival_at (G.basis graph.now) number }
 {
     graph.laws();
-    let (tracks, strip) = (shape.tracks, graph.strip());
-    let by_side = number / tracks;
-    let (side, track) = (by_side % 4, number % tracks);
-    let node = sink_at(
-        strip,
-        column_of(strip.width, by_side / 4 % 4),
-        by_side / 4 / 4,
-    );
-    Arrival {
-        view: View { track, node },
-        wire: wire_beside(node, side, track),
-    }
-}
-
-/// Adds the row of a wire, an empty one if the strip doesn't have the wire.
-fn add_row<G: StripGraph>(
-    rows: &mut Rows,
-    graph: &G,
-    shape: Shape,
-    arrival: Arrival,
-    list: &mut Vec<u32>,
-) -> Result<(), AllocError>
-    requires { IsShapeOf (G.basis graph.now) shape }
-    ensures { IfOk result (λ _. AddsRow (G.basis graph.now) arrival rows.old rows.new) }
-{
-    graph.laws();
-    list.clear();
-    match graph.number(arrival.wire) {
-        Some(wire) => add_ends(list, graph, shape, arrival.view, wire)?,
-        None => (),
-    }
-    rows.push(list)
+    let strip = graph.strip();
+    let (by_side, track) = (number / shape.tracks, number % shape.tracks);
+    let (side, site) = (by_side % 4, by_side / 4 / 4);
+    let sink = Node {
+        x: column_of(strip.width, by_side / 4 % 4),
+        kind: NodeKind::Sink,
+        y: site / strip.io_rat,
+        n: site % strip.io_rat,
+    };
+    let node = match graph.number(sink) {
+        Some(_) => wire_beside(sink, side, track),
+        None => sink,
+    };
+    let view = View { track, node: sink };
+    Listed { view, node }
 }
 
 /// The number of rows.
@@ -136,17 +79,21 @@ fn row_count<G: StripGraph>(graph: &G, shape: Shape) -> u32
 {
     graph.laws();
     let strip = graph.strip();
-    (2 * strip.io_rat + strip.rows) * 16 * shape.tracks
+    (shape.rows + 2) * strip.io_rat * 16 * shape.tracks
 }
 
 /// The row of the first track's wire at a side of the sink's block or pad.
-fn first_row(strip: Strip, shape: Shape, sink: Node, side: u32) -> usize
-    requires { side < 4 }
-    ensures { (basis : Basis) → IsShapeOf basis shape → strip ≡ basis.strip →
-        result ≡ first_row basis sink side }
+fn first_row<G: StripGraph>(graph: &G, shape: Shape, sink: Node, side: u32) -> usize
+    requires shape { IsShapeOf (G.basis graph.now) shape }
+    requires near { IsNearby sink }
+    requires side { side < 4 }
+    ensures { result ≡ first_row (G.basis graph.now) sink side }
 {
-    let column = index_of(strip.width, sink.x) as usize;
-    ((site_of(strip, sink) * 4 + column) * 4 + side as usize) * shape.tracks as usize
+    graph.laws();
+    let strip = graph.strip();
+    let site = sink.y * strip.io_rat + sink.n;
+    let column = index_of(strip.width, sink.x);
+    (((site * 4 + column) * 4 + side) * shape.tracks) as usize
 }
 
 /// The rows of the ends of the wires at the sides of blocks and pads. They are made once for a
@@ -195,10 +142,9 @@ impl ArrivalRows {
             firsts.new.items) }
     {
         graph.laws();
-        let strip = graph.strip();
         firsts.clear();
         for side in 0..4 {
-            firsts.push(first_row(strip, shape, sink, side))?;
+            firsts.push(first_row(graph, shape, sink, side))?;
         }
         Ok(())
     }

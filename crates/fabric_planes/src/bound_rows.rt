@@ -3,11 +3,11 @@ ghost use Rattle.std.specs.Prelude.{◌≡◌, ◌+◌, ◌*◌, ◌<◌, ◌≤
 ghost use Rattle.rr_graph.specs.declared.node.Node.{Node};
 ghost use Rattle.fabric_planes.specs.Bounds.{AreLimits, AreLowered, IsMetAt, IsOutput, IsRow, IsWireBound};
 ghost use Rattle.fabric_planes.specs.BoundRows.{AreFarSides, IsFarRow, IsNearRow, far_list};
-ghost use Rattle.fabric_planes.specs.Layout.{place_count, planes_of};
+ghost use Rattle.fabric_planes.specs.Layout.{place_count};
 
 use crate::costs::NodeCosts;
 use crate::layout::NO_WIRE;
-use crate::net_planes::NetPlanes;
+use crate::net_planes::{HasFamily, NetPlanes};
 use rr_graph::{Node, StripGraph};
 
 /// At most the wires from a place up to the sides of a sink's block or pad.
@@ -99,7 +99,7 @@ pub(crate) struct Limits {
     pub(crate) least: u16,
 }
 
-impl<G: StripGraph, C: NodeCosts> NetPlanes<'_, G, C> {
+impl<'a, G: StripGraph, C: NodeCosts> NetPlanes<'a, G, C> {
     /// The limits of a search for paths that cost at most this.
     pub(crate) fn limits(&self, most: u64) -> Limits
         ensures most { result.most ≡ most }
@@ -132,8 +132,8 @@ impl<G: StripGraph, C: NodeCosts> NetPlanes<'_, G, C> {
 /// Writes for each track what a way costs at least from an output pin over the wire at a side of
 /// its block or pad. `more` is added.
 #[inline(never)]
-pub(crate) fn fill_side<G: StripGraph, C: NodeCosts>(
-    planes: &NetPlanes<'_, G, C>,
+pub(crate) fn fill_side<'a, G: StripGraph, C: NodeCosts>(
+    planes: &NetPlanes<'a, G, C>,
     row: &mut [u16],
     pin: Node,
     side: usize,
@@ -146,10 +146,7 @@ pub(crate) fn fill_side<G: StripGraph, C: NodeCosts>(
     requires more { more ≤ 10000 }
     ensures long { length row.new ≡ length row.old }
     ensures row { IsRow (G.basis planes.now.strip.graph.now) (C.costs planes.now.costs.now)
-        (planes_of (G.basis planes.now.strip.graph.now)
-        (C.costs planes.now.costs.now) planes.now.starts.now planes.now.goal
-        (record { source = planes.now.source; sink = planes.now.sink }))
-        pin side more row.new }
+        (⟦<NetPlanes<'a, G, C> as HasFamily>⟧.family planes.now) pin side more row.new }
 {
     planes.strip.graph.laws();
     let layout = planes.strip.layout;
@@ -181,8 +178,8 @@ pub(crate) fn fill_side<G: StripGraph, C: NodeCosts>(
 
 /// Whether there are wires at a side of the source's block or pad from which ways may cost no more
 /// than the limit, if `more` is added.
-pub(crate) fn is_needed<G: StripGraph, C: NodeCosts>(
-    planes: &NetPlanes<'_, G, C>,
+pub(crate) fn is_needed<'a, G: StripGraph, C: NodeCosts>(
+    planes: &NetPlanes<'a, G, C>,
     limits: Limits,
     side: usize,
     more: u16,
@@ -191,13 +188,10 @@ pub(crate) fn is_needed<G: StripGraph, C: NodeCosts>(
     requires limits { AreLimits (G.basis planes.now.strip.graph.now) planes.now.least_lasts.now limits }
     ensures place { result ≡ true →
         slice_index planes.now.own_sides.now side < place_count (G.basis planes.now.strip.graph.now) }
-    ensures none { result ≡ false → (pin : Node) (wire : ℕ) →
-        IsOutput (G.basis planes.now.strip.graph.now) planes.now.source pin →
-        IsMetAt (G.basis planes.now.strip.graph.now) pin side wire →
-        IsWireBound (G.basis planes.now.strip.graph.now) (C.costs planes.now.costs.now)
-        (planes_of (G.basis planes.now.strip.graph.now)
-        (C.costs planes.now.costs.now) planes.now.starts.now planes.now.goal
-        (record { source = planes.now.source; sink = planes.now.sink }))
+    ensures none { result ≡ false → (pin : Node) (wire : ℕ) → IsOutput (G.basis
+        planes.now.strip.graph.now) planes.now.source pin → IsMetAt (G.basis
+        planes.now.strip.graph.now) pin side wire → IsWireBound (G.basis planes.now.strip.graph.now)
+        (C.costs planes.now.costs.now) (⟦<NetPlanes<'a, G, C> as HasFamily>⟧.family planes.now)
         more wire (limits.most + 1) }
 {
     planes.strip.graph.laws();

@@ -9,7 +9,7 @@ ghost use Rattle.fabric_planes.specs.declared.net_starts.StartWire.{StartWire};
 
 use crate::bounds::Bounds;
 use crate::costs::NodeCosts;
-use crate::net_planes::NetPlanes;
+use crate::net_planes::{HasFamily, NetPlanes};
 use crate::net_starts::{NetStarts, StartWire};
 use least_path::Ends;
 use plane_search::{Planes, Start};
@@ -34,16 +34,12 @@ pub struct BoundedPlanes<'a, G: StripGraph, C: NodeCosts> {
         (record { source = planes.now.source; sink = planes.now.sink })).tracks },
 }
 
-impl<G: StripGraph, C: NodeCosts> BoundedPlanes<'_, G, C> {
+impl<'a, G: StripGraph, C: NodeCosts> BoundedPlanes<'a, G, C> {
     /// Lists the pins at which paths of a track's plane start. Each is bounded as all paths are.
     fn list_pins(&self, track: usize, starts: &mut Vec<Start>) -> Result<(), AllocError>
         requires { track < (G.basis self.now.planes.now.strip.graph.now).arch.tracks }
-        ensures some { OnOk result (AreSomeStarts
-            (planes_of (G.basis self.now.planes.now.strip.graph.now)
-            (C.costs self.now.planes.now.costs.now) self.now.planes.now.starts.now
-            self.now.planes.now.goal
-            (record { source = self.now.planes.now.source; sink = self.now.planes.now.sink }))
-            track starts.new.items) }
+        ensures some { OnOk result (AreSomeStarts (⟦<NetPlanes<'a, G, C> as HasFamily>⟧.family
+            self.now.planes.now) track starts.new.items) }
         ensures pins { OnOk result ((number : ℕ) → Contains self.now.starts.now.pins.items number →
             shows (G.basis self.now.planes.now.strip.graph.now).strip
             (record { source = self.now.planes.now.source; sink = self.now.planes.now.sink }) track
@@ -73,17 +69,10 @@ impl<G: StripGraph, C: NodeCosts> BoundedPlanes<'_, G, C> {
         requires track { track < (G.basis self.now.planes.now.strip.graph.now).arch.tracks }
         requires wire { Contains self.now.starts.now.wires.items wire }
         ensures there { IfSome result (λ start. IsStartOf
-            (planes_of (G.basis self.now.planes.now.strip.graph.now)
-            (C.costs self.now.planes.now.costs.now) self.now.planes.now.starts.now
-            self.now.planes.now.goal
-            (record { source = self.now.planes.now.source; sink = self.now.planes.now.sink }))
-            track wire start) }
+            (⟦<NetPlanes<'a, G, C> as HasFamily>⟧.family self.now.planes.now) track wire start) }
         ensures none { IfNone result (wire.track ≡ track → IsTooFar
-            (planes_of (G.basis self.now.planes.now.strip.graph.now)
-            (C.costs self.now.planes.now.costs.now) self.now.planes.now.starts.now
-            self.now.planes.now.goal
-            (record { source = self.now.planes.now.source; sink = self.now.planes.now.sink }))
-            track most wire.place) }
+            (⟦<NetPlanes<'a, G, C> as HasFamily>⟧.family self.now.planes.now) track most
+            wire.place) }
     {
         let planes = self.planes;
         planes.strip.graph.laws();
@@ -100,25 +89,14 @@ impl<G: StripGraph, C: NodeCosts> BoundedPlanes<'_, G, C> {
     /// Adds the wires at which paths of a track's plane start, except for those that are too far.
     fn add_wires(&self, track: usize, most: u64, starts: &mut Vec<Start>) -> Result<(), AllocError>
         requires track { track < (G.basis self.now.planes.now.strip.graph.now).arch.tracks }
-        requires some { AreSomeStarts (planes_of (G.basis self.now.planes.now.strip.graph.now)
-            (C.costs self.now.planes.now.costs.now) self.now.planes.now.starts.now
-            self.now.planes.now.goal
-            (record { source = self.now.planes.now.source; sink = self.now.planes.now.sink }))
-            track starts.old.items }
-        ensures some { OnOk result (AreSomeStarts
-            (planes_of (G.basis self.now.planes.now.strip.graph.now)
-            (C.costs self.now.planes.now.costs.now) self.now.planes.now.starts.now
-            self.now.planes.now.goal
-            (record { source = self.now.planes.now.source; sink = self.now.planes.now.sink }))
-            track starts.new.items) }
+        requires some { AreSomeStarts (⟦<NetPlanes<'a, G, C> as HasFamily>⟧.family
+            self.now.planes.now) track starts.old.items }
+        ensures some { OnOk result (AreSomeStarts (⟦<NetPlanes<'a, G, C> as HasFamily>⟧.family
+            self.now.planes.now) track starts.new.items) }
         ensures kept { OnOk result (KeepsStarts starts.old.items starts.new.items) }
-        ensures wires { OnOk result (AddsWires
-            (planes_of (G.basis self.now.planes.now.strip.graph.now)
-            (C.costs self.now.planes.now.costs.now) self.now.planes.now.starts.now
-            self.now.planes.now.goal
-            (record { source = self.now.planes.now.source; sink = self.now.planes.now.sink }))
-            track most (length self.now.starts.now.wires.items) self.now.starts.now.wires.items
-            starts.new.items) }
+        ensures wires { OnOk result (AddsWires (⟦<NetPlanes<'a, G, C> as HasFamily>⟧.family
+            self.now.planes.now) track most (length self.now.starts.now.wires.items)
+            self.now.starts.now.wires.items starts.new.items) }
     {
         let (planes, net) = (self.planes, self.starts);
         planes.strip.graph.laws();
@@ -131,15 +109,11 @@ impl<G: StripGraph, C: NodeCosts> BoundedPlanes<'_, G, C> {
     }
 }
 
-impl<G: StripGraph, C: NodeCosts> Planes for BoundedPlanes<'_, G, C> {
-    ghost family = { λ p. planes_of (G.basis p.planes.now.strip.graph.now)
-        (C.costs p.planes.now.costs.now) p.planes.now.starts.now p.planes.now.goal
-        (record { source = p.planes.now.source; sink = p.planes.now.sink }) };
+impl<'a, G: StripGraph, C: NodeCosts> Planes for BoundedPlanes<'a, G, C> {
+    ghost family = { λ p. ⟦<NetPlanes<'a, G, C> as HasFamily>⟧.family p.planes.now };
 
-    ghost is_about = { λ p nodes. AreRivals (planes_of (G.basis p.planes.now.strip.graph.now)
-        (C.costs p.planes.now.costs.now) p.planes.now.starts.now p.planes.now.goal
-        (record { source = p.planes.now.source; sink = p.planes.now.sink })) nodes
-        p.bounds.now.rivals.items };
+    ghost is_about = { λ p nodes. AreRivals (⟦<NetPlanes<'a, G, C> as HasFamily>⟧.family
+        p.planes.now) nodes p.bounds.now.rivals.items };
 
     fn tracks(&self) -> usize {
         let planes = self.planes;

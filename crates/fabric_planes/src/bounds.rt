@@ -1,12 +1,11 @@
 //! Lower bounds of the paths of all tracks at once.
 ghost use Rattle.std.specs.Prelude.{◌≡◌, length, OnOk};
-ghost use Rattle.fabric_planes.specs.Layout.{planes_of};
 ghost use Rattle.fabric_planes.specs.PlaneBounds.{AreBounds};
 ghost use Rattle.fabric_planes.specs.RivalBounds.{AreLimited};
 ghost use Rattle.fabric_planes.specs.Starts.{HasStarts};
 
 use crate::costs::NodeCosts;
-use crate::net_planes::NetPlanes;
+use crate::net_planes::{HasFamily, NetPlanes};
 use crate::net_starts::NetStarts;
 use crate::rival_bounds::{Known, lower_by_pins, lower_by_wires};
 use crate::rivals::Head;
@@ -60,17 +59,15 @@ impl Bounds {
 
     /// Fills in for each track a lower bound of its paths. A bound may be less than it could be if
     /// it is above `most`.
-    pub fn fill_all<G: StripGraph, C: NodeCosts>(
+    pub fn fill_all<'a, G: StripGraph, C: NodeCosts>(
         &mut self,
-        planes: &NetPlanes<'_, G, C>,
+        planes: &NetPlanes<'a, G, C>,
         starts: &NetStarts,
         most: u64,
     ) -> Result<(), AllocError>
         requires { HasStarts (G.basis planes.now.strip.graph.now) planes.now.starts.now starts.now }
-        ensures { OnOk result (AreBounds (planes_of (G.basis planes.now.strip.graph.now)
-            (C.costs planes.now.costs.now) planes.now.starts.now planes.now.goal
-            (record { source = planes.now.source; sink = planes.now.sink }))
-            self.new.all.items) }
+        ensures { OnOk result (AreBounds (⟦<NetPlanes<'a, G, C> as HasFamily>⟧.family
+            planes.now) self.new.all.items) }
     {
         planes.strip.graph.laws();
         self.begin(planes.strip.layout.shape.tracks as usize, most)?;

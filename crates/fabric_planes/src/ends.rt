@@ -1,12 +1,13 @@
-//! The ends of the edges of wires, as planes list them.
+//! The ends of the edges of nodes, as planes list them.
 ghost use Rattle.std.specs.Prelude.{◌≡◌, ◌<◌, ◌++◌, [], ◌∷◌, IfOk};
 ghost use Rattle.rr_graph.specs.Graph.{Basis, graph_of};
 ghost use Rattle.fabric_planes.specs.Layout.{place_of, shows};
-ghost use Rattle.fabric_planes.specs.Ends.{base_of, row_from, row_of, seen_from};
+ghost use Rattle.fabric_planes.specs.Ends.{AddsRow, base_of, row_from, row_of, seen_from};
 ghost use Rattle.fabric_planes.specs.Tables.{IsShapeOf};
 
 use crate::shape::Shape;
 use grid::Strip;
+use rows::Rows;
 use rr_graph::{Node, NodeKind, StripGraph, is_together};
 use std::alloc::AllocError;
 
@@ -14,6 +15,13 @@ use std::alloc::AllocError;
 #[derive(Clone, Copy)]
 pub(crate) struct View {
     pub(crate) track: u32,
+    pub(crate) node: Node,
+}
+
+/// A node, and what of the ends of its edges its row lists.
+#[derive(Clone, Copy)]
+pub(crate) struct Listed {
+    pub(crate) view: View,
     pub(crate) node: Node,
 }
 
@@ -32,15 +40,15 @@ fn is_shown(strip: Strip, view: View, node: Node) -> bool
     }
 }
 
-/// The place two columns before that of a wire.
-fn base_of<G: StripGraph>(graph: &G, shape: Shape, wire: usize) -> usize
+/// The place two columns before that of a node.
+fn base_of<G: StripGraph>(graph: &G, shape: Shape, number: usize) -> usize
     requires shape { IsShapeOf (G.basis graph.now) shape }
-    requires within { wire < (graph_of (G.basis graph.now)).count }
-    ensures { result ≡ base_of (G.basis graph.now) wire }
+    requires within { number < (graph_of (G.basis graph.now)).count }
+    ensures { result ≡ base_of (G.basis graph.now) number }
 {
     graph.laws();
     shape
-        .place(graph.node(wire))
+        .place(graph.node(number))
         .saturating_sub(2 * shape.stride())
 }
 
@@ -66,25 +74,45 @@ fn add_end<G: StripGraph>(
     Ok(())
 }
 
-/// Appends the places of the ends of a wire's edges that are listed, each less the place two
-/// columns before the wire's.
+/// Appends the places of the ends of a node's edges that are listed, each less the place two
+/// columns before the node's.
 pub(crate) fn add_ends<G: StripGraph>(
     list: &mut Vec<u32>,
     graph: &G,
     shape: Shape,
     view: View,
-    wire: usize,
+    number: usize,
 ) -> Result<(), AllocError>
     requires shape { IsShapeOf (G.basis graph.now) shape }
-    requires within { wire < (graph_of (G.basis graph.now)).count }
+    requires within { number < (graph_of (G.basis graph.now)).count }
     ensures { IfOk result (λ _. list.new.items ≡ list.old.items
-        ++ row_of (G.basis graph.now) view wire) }
+        ++ row_of (G.basis graph.now) view number) }
 {
     graph.laws();
-    let base = base_of(graph, shape, wire);
-    let ends = graph.ends(wire);
+    let base = base_of(graph, shape, number);
+    let ends = graph.ends(number);
     for end in ends.list {
         add_end(list, graph, shape, view, base, *end as usize + ends.base)?;
     }
     Ok(())
+}
+
+/// Adds the row of a node, an empty one if the strip doesn't have the node.
+pub(crate) fn add_row<G: StripGraph>(
+    rows: &mut Rows,
+    graph: &G,
+    shape: Shape,
+    listed: Listed,
+    list: &mut Vec<u32>,
+) -> Result<(), AllocError>
+    requires { IsShapeOf (G.basis graph.now) shape }
+    ensures { IfOk result (λ _. AddsRow (G.basis graph.now) listed rows.old rows.new) }
+{
+    graph.laws();
+    list.clear();
+    match graph.number(listed.node) {
+        Some(number) => add_ends(list, graph, shape, listed.view, number)?,
+        None => (),
+    }
+    rows.push(list)
 }

@@ -1,7 +1,6 @@
 //! Lower bounds of the paths that come before a known one, for all tracks.
 ghost use Rattle.std.specs.Prelude.{◌≡◌, ◌<◌, ℕ, List, length, slice_index, IfSome, OnOk};
 ghost use Rattle.plane_search.specs.Planes.{IsRivalBound};
-ghost use Rattle.fabric_planes.specs.Layout.{planes_of};
 ghost use Rattle.fabric_planes.specs.PlaneBounds.{AreBounds, AreRivals};
 ghost use Rattle.fabric_planes.specs.RivalBounds.{AreLimited};
 ghost use Rattle.fabric_planes.specs.Rivals.{IsHeadOf};
@@ -9,7 +8,7 @@ ghost use Rattle.fabric_planes.specs.Starts.{HasStarts};
 
 use crate::bounds::Bounds;
 use crate::costs::NodeCosts;
-use crate::net_planes::NetPlanes;
+use crate::net_planes::{HasFamily, NetPlanes};
 use crate::net_starts::NetStarts;
 use crate::rival_bounds::{Known, lower_by_pins, lower_by_wires};
 use crate::rivals::Head;
@@ -17,8 +16,8 @@ use rr_graph::StripGraph;
 use std::alloc::AllocError;
 
 /// Lowers the bounds by the paths from all starts.
-fn lower_by_starts<G: StripGraph, C: NodeCosts>(
-    planes: &NetPlanes<'_, G, C>,
+fn lower_by_starts<'a, G: StripGraph, C: NodeCosts>(
+    planes: &NetPlanes<'a, G, C>,
     head: Head,
     starts: &NetStarts,
     bounds: &mut [u16],
@@ -29,13 +28,10 @@ fn lower_by_starts<G: StripGraph, C: NodeCosts>(
     requires limited { AreLimited head.cost bounds.old }
     requires starts { HasStarts (G.basis planes.now.strip.graph.now) planes.now.starts.now
         starts.now }
-    ensures { (nodes : List ℕ) → IsHeadOf (G.basis planes.now.strip.graph.now) head nodes →
-        (track : ℕ) → track < (G.basis planes.now.strip.graph.now).arch.tracks →
-        (track ≡ head.track → ⊥) →
-        IsRivalBound (planes_of (G.basis planes.now.strip.graph.now) (C.costs planes.now.costs.now)
-        planes.now.starts.now planes.now.goal
-        (record { source = planes.now.source; sink = planes.now.sink }))
-        track nodes (slice_index bounds.new track) }
+    ensures { (nodes : List ℕ) → IsHeadOf (G.basis planes.now.strip.graph.now) head nodes → (track :
+        ℕ) → track < (G.basis planes.now.strip.graph.now).arch.tracks → (track ≡ head.track → ⊥) →
+        IsRivalBound (⟦<NetPlanes<'a, G, C> as HasFamily>⟧.family planes.now) track nodes
+        (slice_index bounds.new track) }
 {
     planes.strip.graph.laws();
     let known = Known {
@@ -61,27 +57,22 @@ fn take_own(bounds: &mut [u16], all: &[u16], track: usize)
 
 /// Lowers the bounds to those of the paths that come before any path with this head. `all` are
 /// bounds of all paths.
-fn lower_to_rivals<G: StripGraph, C: NodeCosts>(
-    planes: &NetPlanes<'_, G, C>,
+fn lower_to_rivals<'a, G: StripGraph, C: NodeCosts>(
+    planes: &NetPlanes<'a, G, C>,
     head: Head,
     starts: &NetStarts,
     all: &[u16],
     bounds: &mut [u16],
     row: &mut [u16],
 )
-    requires all { AreBounds (planes_of (G.basis planes.now.strip.graph.now) (C.costs planes.now.costs.now)
-        planes.now.starts.now planes.now.goal
-        (record { source = planes.now.source; sink = planes.now.sink })) all.now }
+    requires all { AreBounds (⟦<NetPlanes<'a, G, C> as HasFamily>⟧.family planes.now) all.now }
     requires bounds { length bounds.old ≡ (G.basis planes.now.strip.graph.now).arch.tracks }
     requires row { length row.old ≡ (G.basis planes.now.strip.graph.now).arch.tracks }
     requires limited { AreLimited head.cost bounds.old }
     requires starts { HasStarts (G.basis planes.now.strip.graph.now) planes.now.starts.now
         starts.now }
     ensures { (nodes : List ℕ) → IsHeadOf (G.basis planes.now.strip.graph.now) head nodes →
-        AreRivals (planes_of (G.basis planes.now.strip.graph.now) (C.costs planes.now.costs.now)
-        planes.now.starts.now planes.now.goal
-        (record { source = planes.now.source; sink = planes.now.sink }))
-        nodes bounds.new }
+        AreRivals (⟦<NetPlanes<'a, G, C> as HasFamily>⟧.family planes.now) nodes bounds.new }
 {
     planes.strip.graph.laws();
     lower_by_starts(planes, head, starts, bounds, row);
@@ -112,27 +103,23 @@ impl Bounds {
     }
 
     /// Fills in for each track a lower bound of the paths that come before any path with this head.
-    fn fill_before<G: StripGraph, C: NodeCosts>(
+    fn fill_before<'a, G: StripGraph, C: NodeCosts>(
         &mut self,
-        planes: &NetPlanes<'_, G, C>,
+        planes: &NetPlanes<'a, G, C>,
         starts: &NetStarts,
         head: Head,
     ) -> Result<(), AllocError>
         requires starts { HasStarts (G.basis planes.now.strip.graph.now) planes.now.starts.now
             starts.now }
-        requires bounds { AreBounds (planes_of (G.basis planes.now.strip.graph.now) (C.costs planes.now.costs.now)
-            planes.now.starts.now planes.now.goal
-            (record { source = planes.now.source; sink = planes.now.sink }))
+        requires bounds { AreBounds (⟦<NetPlanes<'a, G, C> as HasFamily>⟧.family planes.now)
             self.old.all.items }
         ensures all { self.new.all.items ≡ self.old.all.items }
         ensures long { OnOk result (length self.new.rivals.items
             ≡ (G.basis planes.now.strip.graph.now).arch.tracks) }
-        ensures rivals { OnOk result ((nodes : List ℕ) →
-            IsHeadOf (G.basis planes.now.strip.graph.now) head nodes →
-            AreRivals (planes_of (G.basis planes.now.strip.graph.now) (C.costs planes.now.costs.now)
-            planes.now.starts.now planes.now.goal
-            (record { source = planes.now.source; sink = planes.now.sink }))
-            nodes self.new.rivals.items) }
+        ensures rivals { OnOk result ((nodes : List ℕ) → IsHeadOf (G.basis
+            planes.now.strip.graph.now) head nodes → AreRivals
+            (⟦<NetPlanes<'a, G, C> as HasFamily>⟧.family planes.now) nodes
+            self.new.rivals.items) }
     {
         planes.strip.graph.laws();
         let tracks = planes.strip.layout.shape.tracks as usize;
@@ -144,29 +131,23 @@ impl Bounds {
 
     /// Fills in for each track a lower bound of the paths that come before any path with this head;
     /// of all paths if there is none.
-    pub fn fill_rivals<G: StripGraph, C: NodeCosts>(
+    pub fn fill_rivals<'a, G: StripGraph, C: NodeCosts>(
         &mut self,
-        planes: &NetPlanes<'_, G, C>,
+        planes: &NetPlanes<'a, G, C>,
         starts: &NetStarts,
         head: Option<Head>,
     ) -> Result<(), AllocError>
         requires starts { HasStarts (G.basis planes.now.strip.graph.now) planes.now.starts.now
             starts.now }
-        requires bounds { AreBounds (planes_of (G.basis planes.now.strip.graph.now) (C.costs planes.now.costs.now)
-            planes.now.starts.now planes.now.goal
-            (record { source = planes.now.source; sink = planes.now.sink }))
+        requires bounds { AreBounds (⟦<NetPlanes<'a, G, C> as HasFamily>⟧.family planes.now)
             self.old.all.items }
         ensures all { self.new.all.items ≡ self.old.all.items }
-        ensures long { OnOk result (length self.new.rivals.items
-            ≡ (planes_of (G.basis planes.now.strip.graph.now) (C.costs planes.now.costs.now)
-            planes.now.starts.now planes.now.goal
-            (record { source = planes.now.source; sink = planes.now.sink })).tracks) }
-        ensures rivals { OnOk result ((nodes : List ℕ) →
-            IfSome head (λ head. IsHeadOf (G.basis planes.now.strip.graph.now) head nodes) →
-            AreRivals (planes_of (G.basis planes.now.strip.graph.now) (C.costs planes.now.costs.now)
-            planes.now.starts.now planes.now.goal
-            (record { source = planes.now.source; sink = planes.now.sink }))
-            nodes self.new.rivals.items) }
+        ensures long { OnOk result (length self.new.rivals.items ≡
+            (⟦<NetPlanes<'a, G, C> as HasFamily>⟧.family planes.now).tracks) }
+        ensures rivals { OnOk result ((nodes : List ℕ) → IfSome head (λ head. IsHeadOf (G.basis
+            planes.now.strip.graph.now) head nodes) → AreRivals
+            (⟦<NetPlanes<'a, G, C> as HasFamily>⟧.family planes.now) nodes
+            self.new.rivals.items) }
     {
         planes.strip.graph.laws();
         match head {

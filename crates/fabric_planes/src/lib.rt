@@ -8,9 +8,10 @@
 //! A node's place in its plane is told by its column, its kind and its row, so all planes have the
 //! same places, in node order. A [`Layout`] has tables by place and by difference of places. It is
 //! made once for a graph: a [`KeptLayout`] keeps it for later graphs with the same architecture and
-//! strip. A [`PriceTable`] has the prices of wires at costs that change. [`NetPlanes`] are the
-//! planes at current costs, from a net's starts towards a sink, and a [`NetSearch`] finds the least
-//! path through them. Costs come from a trait, [`NodeCosts`]; nothing here knows negotiation.
+//! strip. A [`PriceTable`] has the prices of wires at costs that change, and a [`PricedGraph`] is a
+//! graph with all these. [`NetPlanes`] are the planes at current costs, from a net's starts towards
+//! a sink, and a [`NetSearch`] finds the least path through them. Costs come from a trait,
+//! [`NodeCosts`]; nothing here knows negotiation.
 #![tactic(auto)]
 
 mod aheads;
@@ -21,7 +22,6 @@ mod bounds;
 mod costs;
 mod distances;
 mod ends;
-mod fars;
 mod kept_layout;
 mod known_rivals;
 mod labels;
@@ -36,6 +36,7 @@ mod net_tables;
 mod pin_rows;
 mod pins;
 mod price_table;
+mod priced_graph;
 mod rival_bounds;
 mod rivals;
 mod shape;
@@ -60,5 +61,6 @@ pub use net_starts::{NetStarts, StartWire};
 pub use net_tables::NetTables;
 pub use pins::PinAt;
 pub use price_table::PriceTable;
+pub use priced_graph::PricedGraph;
 pub use rivals::{Head, head_of, heads_law, starts_law};
 pub use shape::Shape;

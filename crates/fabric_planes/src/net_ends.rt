@@ -2,15 +2,15 @@
 ghost use Rattle.std.specs.Prelude.{◌≡◌, ◌+◌, ◌<◌, ℕ, map, slice_index};
 ghost use Rattle.std.specs.List.Sorted.{IsNonDecreasing};
 ghost use Rattle.fabric_planes.specs.Steps.{NO_CLASS};
-ghost use Rattle.fabric_planes.specs.Layout.{place_count, planes_of};
+ghost use Rattle.fabric_planes.specs.Layout.{place_count};
 
 use crate::costs::NodeCosts;
-use crate::net_planes::NetPlanes;
+use crate::net_planes::{HasFamily, NetPlanes};
 use crate::steps::NO_CLASS;
 use least_path::Ends;
 use rr_graph::StripGraph;
 
-impl<G: StripGraph, C: NodeCosts> NetPlanes<'_, G, C> {
+impl<'a, G: StripGraph, C: NodeCosts> NetPlanes<'a, G, C> {
     /// The ends of the edges from a wire at a side: to the wires around it, and to pins.
     fn arrival_ends(&self, track: usize, place: usize, side: usize) -> Ends<'_>
         requires track { track < (G.basis self.now.strip.graph.now).arch.tracks }
@@ -18,10 +18,8 @@ impl<G: StripGraph, C: NodeCosts> NetPlanes<'_, G, C> {
         requires wire { slice_index self.now.strip.layout.now.steps.classes.items place ≡ NO_CLASS → ⊥ }
         requires side { side < 4 }
         requires at { slice_index self.now.sides.now side ≡ place }
-        ensures value { map (λ end. end + result.base) result.list.now
-            ≡ ((planes_of (G.basis self.now.strip.graph.now) (C.costs self.now.costs.now)
-            self.now.starts.now self.now.goal
-            (record { source = self.now.source; sink = self.now.sink })).plane track).ends place }
+        ensures value { map (λ end. end + result.base) result.list.now ≡
+            ((⟦<NetPlanes<'a, G, C> as HasFamily>⟧.family self.now).plane track).ends place }
         ensures rising { IsNonDecreasing result.list.now }
     {
         self.strip.graph.laws();
@@ -36,10 +34,8 @@ impl<G: StripGraph, C: NodeCosts> NetPlanes<'_, G, C> {
         requires track { track < (G.basis self.now.strip.graph.now).arch.tracks }
         requires place { place < place_count (G.basis self.now.strip.graph.now) }
         requires no_wire { slice_index self.now.strip.layout.now.steps.classes.items place ≡ NO_CLASS }
-        ensures value { map (λ end. end + result.base) result.list.now
-            ≡ ((planes_of (G.basis self.now.strip.graph.now) (C.costs self.now.costs.now)
-            self.now.starts.now self.now.goal
-            (record { source = self.now.source; sink = self.now.sink })).plane track).ends place }
+        ensures value { map (λ end. end + result.base) result.list.now ≡
+            ((⟦<NetPlanes<'a, G, C> as HasFamily>⟧.family self.now).plane track).ends place }
         ensures rising { IsNonDecreasing result.list.now }
     {
         self.strip.graph.laws();
@@ -57,10 +53,8 @@ impl<G: StripGraph, C: NodeCosts> NetPlanes<'_, G, C> {
     fn near_ends(&self, track: usize, place: usize) -> Ends<'_>
         requires track { track < (G.basis self.now.strip.graph.now).arch.tracks }
         requires place { place < place_count (G.basis self.now.strip.graph.now) }
-        ensures value { map (λ end. end + result.base) result.list.now
-            ≡ ((planes_of (G.basis self.now.strip.graph.now) (C.costs self.now.costs.now)
-            self.now.starts.now self.now.goal
-            (record { source = self.now.source; sink = self.now.sink })).plane track).ends place }
+        ensures value { map (λ end. end + result.base) result.list.now ≡
+            ((⟦<NetPlanes<'a, G, C> as HasFamily>⟧.family self.now).plane track).ends place }
         ensures rising { IsNonDecreasing result.list.now }
     {
         self.strip.graph.laws();
@@ -79,10 +73,8 @@ impl<G: StripGraph, C: NodeCosts> NetPlanes<'_, G, C> {
         requires track { track < (G.basis self.now.strip.graph.now).arch.tracks }
         requires place { place < place_count (G.basis self.now.strip.graph.now) }
         requires far { slice_index self.now.aheads.now place ≡ 0 → ⊥ }
-        ensures value { map (λ end. end + result.base) result.list.now
-            ≡ ((planes_of (G.basis self.now.strip.graph.now) (C.costs self.now.costs.now)
-            self.now.starts.now self.now.goal
-            (record { source = self.now.source; sink = self.now.sink })).plane track).ends place }
+        ensures value { map (λ end. end + result.base) result.list.now ≡
+            ((⟦<NetPlanes<'a, G, C> as HasFamily>⟧.family self.now).plane track).ends place }
         ensures rising { IsNonDecreasing result.list.now }
     {
         self.strip.graph.laws();
@@ -97,10 +89,8 @@ impl<G: StripGraph, C: NodeCosts> NetPlanes<'_, G, C> {
     pub(crate) fn place_ends(&self, track: usize, place: usize) -> Ends<'_>
         requires track { track < (G.basis self.now.strip.graph.now).arch.tracks }
         requires place { place < place_count (G.basis self.now.strip.graph.now) }
-        ensures value { map (λ end. end + result.base) result.list.now
-            ≡ ((planes_of (G.basis self.now.strip.graph.now) (C.costs self.now.costs.now)
-            self.now.starts.now self.now.goal
-            (record { source = self.now.source; sink = self.now.sink })).plane track).ends place }
+        ensures value { map (λ end. end + result.base) result.list.now ≡
+            ((⟦<NetPlanes<'a, G, C> as HasFamily>⟧.family self.now).plane track).ends place }
         ensures rising { IsNonDecreasing result.list.now }
     {
         self.strip.graph.laws();

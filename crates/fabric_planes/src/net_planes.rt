@@ -96,7 +96,20 @@ pub struct NetPlanes<'a, G: StripGraph, C: NodeCosts> {
     ghost counted: { C.count costs.now ≡ (graph_of (G.basis strip.graph.now)).count },
 }
 
-impl<G: StripGraph, C: NodeCosts> NetPlanes<'_, G, C> {
+/// What consists of planes.
+pub trait HasFamily {
+    ghost use Rattle.plane_search.specs.Planes.{Family};
+
+    // The planes, track by track.
+    ghost family: { Self → Family };
+}
+
+impl<'a, G: StripGraph, C: NodeCosts> HasFamily for NetPlanes<'a, G, C> {
+    ghost family = { λ p. planes_of (G.basis p.strip.graph.now) (C.costs p.costs.now) p.starts.now
+        p.goal (record { source = p.source; sink = p.sink }) };
+}
+
+impl<'a, G: StripGraph, C: NodeCosts> NetPlanes<'a, G, C> {
     /// The number of the side whose wires are at a place.
     pub(crate) fn side_of(&self, place: usize) -> Option<usize>
         ensures none { IfNone result ((side : ℕ) → side < 4 →
@@ -141,9 +154,7 @@ impl<G: StripGraph, C: NodeCosts> NetPlanes<'_, G, C> {
     pub(crate) fn at_least(&self, track: usize, place: usize) -> Option<u64>
         requires track { track < (G.basis self.now.strip.graph.now).arch.tracks }
         requires place { place < place_count (G.basis self.now.strip.graph.now) }
-        ensures { IsLowerBound ((planes_of (G.basis self.now.strip.graph.now)
-            (C.costs self.now.costs.now) self.now.starts.now self.now.goal
-            (record { source = self.now.source; sink = self.now.sink })).plane track)
+        ensures { IsLowerBound ((⟦<NetPlanes<'a, G, C> as HasFamily>⟧.family self.now).plane track)
             self.now.exit place result }
     {
         self.strip.graph.laws();
@@ -188,12 +199,8 @@ impl<G: StripGraph, C: NodeCosts> NetPlanes<'_, G, C> {
     /// The number of a place's node in the whole graph.
     pub(crate) fn number(&self, track: usize, place: usize) -> usize
         requires track { track < (G.basis self.now.strip.graph.now).arch.tracks }
-        requires place { IsPlace (planes_of (G.basis self.now.strip.graph.now)
-            (C.costs self.now.costs.now) self.now.starts.now self.now.goal
-            (record { source = self.now.source; sink = self.now.sink })) track place }
-        ensures { result ≡ (planes_of (G.basis self.now.strip.graph.now)
-            (C.costs self.now.costs.now) self.now.starts.now self.now.goal
-            (record { source = self.now.source; sink = self.now.sink })).number track place }
+        requires place { IsPlace (⟦<NetPlanes<'a, G, C> as HasFamily>⟧.family self.now) track place }
+        ensures { result ≡ (⟦<NetPlanes<'a, G, C> as HasFamily>⟧.family self.now).number track place }
     {
         self.strip.graph.laws();
         if self.strip.layout.firsts[place] != NO_WIRE {
@@ -210,9 +217,8 @@ impl<G: StripGraph, C: NodeCosts> NetPlanes<'_, G, C> {
     fn dear_cost(&self, track: usize, place: usize) -> u64
         requires track { track < (G.basis self.now.strip.graph.now).arch.tracks }
         requires place { place < place_count (G.basis self.now.strip.graph.now) }
-        ensures { result ≡ ((planes_of (G.basis self.now.strip.graph.now)
-            (C.costs self.now.costs.now) self.now.starts.now self.now.goal
-            (record { source = self.now.source; sink = self.now.sink })).plane track).cost place }
+        ensures { result ≡ ((⟦<NetPlanes<'a, G, C> as HasFamily>⟧.family self.now).plane track).cost
+            place }
     {
         self.strip.graph.laws();
         if self.strip.layout.firsts[place] != NO_WIRE {
@@ -229,9 +235,8 @@ impl<G: StripGraph, C: NodeCosts> NetPlanes<'_, G, C> {
     pub(crate) fn cost(&self, track: usize, place: usize) -> u64
         requires track { track < (G.basis self.now.strip.graph.now).arch.tracks }
         requires place { place < place_count (G.basis self.now.strip.graph.now) }
-        ensures { result ≡ ((planes_of (G.basis self.now.strip.graph.now)
-            (C.costs self.now.costs.now) self.now.starts.now self.now.goal
-            (record { source = self.now.source; sink = self.now.sink })).plane track).cost place }
+        ensures { result ≡ ((⟦<NetPlanes<'a, G, C> as HasFamily>⟧.family self.now).plane track).cost
+            place }
     {
         self.strip.graph.laws();
         let price = self.prices[track * self.aheads.len() + place];
@@ -248,10 +253,8 @@ impl<G: StripGraph, C: NodeCosts> NetPlanes<'_, G, C> {
         requires place { place < place_count (G.basis self.now.strip.graph.now) }
         requires wire { slice_index self.now.strip.layout.now.steps.classes.items place ≡ NO_CLASS → ⊥ }
         requires aside { IsAside (G.basis self.now.strip.graph.now) self.now.sink place }
-        ensures value { map (λ end. end + result.base) result.list.now
-            ≡ ((planes_of (G.basis self.now.strip.graph.now) (C.costs self.now.costs.now)
-            self.now.starts.now self.now.goal
-            (record { source = self.now.source; sink = self.now.sink })).plane track).ends place }
+        ensures value { map (λ end. end + result.base) result.list.now ≡
+            ((⟦<NetPlanes<'a, G, C> as HasFamily>⟧.family self.now).plane track).ends place }
         ensures rising { IsNonDecreasing result.list.now }
     {
         self.strip.graph.laws();

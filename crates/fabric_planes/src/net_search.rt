@@ -4,22 +4,19 @@ ghost use Rattle.least_path.specs.LeastPath.{HasNoPath, least_path};
 ghost use Rattle.plane_search.specs.Planes.{HoldsNothingLess, IsKnown, IsLeastOfTrack};
 ghost use Rattle.rr_graph.specs.Graph.{graph_of};
 ghost use Rattle.rr_graph.specs.declared.node.NodeKind.TheVariants.{Source};
-ghost use Rattle.fabric_planes.specs.Laid.{IsLayout};
-ghost use Rattle.fabric_planes.specs.Layout.{IsNetSearch, graph_at, planes_of};
+ghost use Rattle.fabric_planes.specs.Layout.{IsNetSearch, graph_at};
 ghost use Rattle.fabric_planes.specs.NetSearches.{IsPathAt, terminals_of};
 ghost use Rattle.fabric_planes.specs.PlaneBounds.{AreBounds};
-ghost use Rattle.fabric_planes.specs.Prices.{HasPrices};
 ghost use Rattle.fabric_planes.specs.Starts.{HasStarts};
 
 use crate::bounded_planes::BoundedPlanes;
 use crate::bounds::Bounds;
 use crate::costs::NodeCosts;
 use crate::laws::planes_law;
-use crate::layout::Layout;
-use crate::net_planes::NetPlanes;
+use crate::net_planes::{HasFamily, NetPlanes};
 use crate::net_starts::NetStarts;
 use crate::net_tables::NetTables;
-use crate::price_table::PriceTable;
+use crate::priced_graph::PricedGraph;
 use crate::rivals::head_of;
 use least_path::{Path, least_path_law};
 use plane_search::PlaneSearch;
@@ -28,27 +25,21 @@ use std::alloc::{AllocError, Global};
 
 /// Replaces `path`, which is a path already, by the least path. If `done` is a track, `path` must
 /// be the least of its plane already, or less.
-fn improve<G: StripGraph, C: NodeCosts>(
+fn improve<'a, G: StripGraph, C: NodeCosts>(
     search: &mut PlaneSearch,
     bounds: &mut Bounds,
-    planes: &NetPlanes<'_, G, C>,
+    planes: &NetPlanes<'a, G, C>,
     starts: &NetStarts,
     done: usize,
     path: &mut Path,
 ) -> Result<(), AllocError>
     requires starts { HasStarts (G.basis planes.now.strip.graph.now) planes.now.starts.now
         starts.now }
-    requires all { AreBounds (planes_of (G.basis planes.now.strip.graph.now)
-        (C.costs planes.now.costs.now) planes.now.starts.now planes.now.goal
-        (record { source = planes.now.source; sink = planes.now.sink })) bounds.old.all.items }
-    requires known { IsKnown (planes_of (G.basis planes.now.strip.graph.now)
-        (C.costs planes.now.costs.now) planes.now.starts.now planes.now.goal
-        (record { source = planes.now.source; sink = planes.now.sink })) path.old }
-    requires done { done < (G.basis planes.now.strip.graph.now).arch.tracks →
-        HoldsNothingLess (planes_of (G.basis planes.now.strip.graph.now)
-        (C.costs planes.now.costs.now) planes.now.starts.now planes.now.goal
-        (record { source = planes.now.source; sink = planes.now.sink }))
-        done path.old.nodes.items }
+    requires all { AreBounds (⟦<NetPlanes<'a, G, C> as HasFamily>⟧.family planes.now)
+        bounds.old.all.items }
+    requires known { IsKnown (⟦<NetPlanes<'a, G, C> as HasFamily>⟧.family planes.now) path.old }
+    requires done { done < (G.basis planes.now.strip.graph.now).arch.tracks → HoldsNothingLess
+        (⟦<NetPlanes<'a, G, C> as HasFamily>⟧.family planes.now) done path.old.nodes.items }
     ensures { OnOk result (least_path (graph_at (G.basis planes.now.strip.graph.now)
         (C.costs planes.now.costs.now)) planes.now.starts.now planes.now.goal
         ≡ Some path.new.nodes.items) }
@@ -72,21 +63,18 @@ fn improve<G: StripGraph, C: NodeCosts>(
 
 /// Replaces `path` by the least path of one plane, and returns its track; `None` if there is no
 /// path at all. Afterwards `bounds` has the bounds of all paths.
-fn first_into<G: StripGraph, C: NodeCosts>(
+fn first_into<'a, G: StripGraph, C: NodeCosts>(
     search: &mut PlaneSearch,
     bounds: &mut Bounds,
-    planes: &NetPlanes<'_, G, C>,
+    planes: &NetPlanes<'a, G, C>,
     starts: &NetStarts,
     path: &mut Path,
 ) -> Result<Option<usize>, AllocError>
     requires { HasStarts (G.basis planes.now.strip.graph.now) planes.now.starts.now starts.now }
-    ensures all { OnOk result (AreBounds (planes_of (G.basis planes.now.strip.graph.now)
-        (C.costs planes.now.costs.now) planes.now.starts.now planes.now.goal
-        (record { source = planes.now.source; sink = planes.now.sink })) bounds.new.all.items) }
-    ensures found { (track : ℕ) → result ≡ Ok (Some track) →
-        IsLeastOfTrack (planes_of (G.basis planes.now.strip.graph.now)
-        (C.costs planes.now.costs.now) planes.now.starts.now planes.now.goal
-        (record { source = planes.now.source; sink = planes.now.sink })) track path.new }
+    ensures all { OnOk result (AreBounds (⟦<NetPlanes<'a, G, C> as HasFamily>⟧.family
+        planes.now) bounds.new.all.items) }
+    ensures found { (track : ℕ) → result ≡ Ok (Some track) → IsLeastOfTrack
+        (⟦<NetPlanes<'a, G, C> as HasFamily>⟧.family planes.now) track path.new }
     ensures none { result ≡ Ok None →
         least_path (graph_at (G.basis planes.now.strip.graph.now) (C.costs planes.now.costs.now))
         planes.now.starts.now planes.now.goal ≡ None }
@@ -175,38 +163,33 @@ impl NetSearch {
     /// `path` mean nothing.
     pub fn least_into<G: StripGraph, C: NodeCosts>(
         &mut self,
-        graph: &G,
-        layout: &Layout,
-        costs: &C,
-        prices: &PriceTable,
+        priced: &PricedGraph<'_, G, C>,
         wanted: Wanted<'_>,
         is_known: bool,
         path: &mut Path,
     ) -> Result<bool, AllocError>
-        requires laid { IsLayout (G.basis graph.now) layout.now }
-        requires counted { C.count costs.now ≡ (graph_of (G.basis graph.now)).count }
-        requires priced { HasPrices (G.basis graph.now) (C.costs costs.now) prices.now }
-        requires within { wanted.source < (graph_of (G.basis graph.now)).count }
-        requires source { ((graph_of (G.basis graph.now)).node wanted.source).kind ≡ Source }
-        requires search { IsNetSearch (G.basis graph.now) (C.costs costs.now) wanted.starts.now
-            wanted.goal (terminals_of (G.basis graph.now) wanted.source wanted.goal) }
-        requires known { is_known ≡ true → IsPathAt (G.basis graph.now) (C.costs costs.now)
-            wanted.starts.now wanted.goal path.old }
+        requires within { wanted.source < (graph_of (G.basis priced.now.graph.now)).count }
+        requires source { ((graph_of (G.basis priced.now.graph.now)).node wanted.source).kind
+            ≡ Source }
+        requires search { IsNetSearch (G.basis priced.now.graph.now) (C.costs priced.now.costs.now)
+            wanted.starts.now wanted.goal
+            (terminals_of (G.basis priced.now.graph.now) wanted.source wanted.goal) }
+        requires known { is_known ≡ true → IsPathAt (G.basis priced.now.graph.now)
+            (C.costs priced.now.costs.now) wanted.starts.now wanted.goal path.old }
         ensures { IfOk result (λ is_found.
-            least_path (graph_at (G.basis graph.now) (C.costs costs.now)) wanted.entry.starts.now
-            wanted.entry.goal ≡ (if is_found then Some path.new.nodes.items else None)) }
+            least_path (graph_at (G.basis priced.now.graph.now) (C.costs priced.now.costs.now))
+            wanted.entry.starts.now wanted.entry.goal
+            ≡ (if is_found then Some path.new.nodes.items else None)) }
     {
-        self.tables
-            .fill(graph, layout, costs, prices, wanted.source, wanted.goal)?;
-        self.starts.fill(graph, layout, wanted.starts)?;
+        self.tables.fill(priced, wanted.source, wanted.goal)?;
+        self.starts
+            .fill(priced.graph, priced.layout, wanted.starts)?;
         let planes = self.tables.planes(
-            graph,
-            layout,
-            costs,
-            prices,
-            wanted.source,
-            wanted.starts,
-            wanted.goal,
+            priced.graph,
+            priced.layout,
+            priced.costs,
+            priced.prices,
+            wanted,
         );
         least_over(
             &mut self.search,

@@ -5,12 +5,12 @@ ghost use Rattle.least_path.specs.LowerBound.{IsLowerBound};
 ghost use Rattle.rr_graph.specs.Geometry.{IsWire};
 ghost use Rattle.rr_graph.specs.Graph.{graph_of};
 ghost use Rattle.fabric_planes.specs.Laid.{IsLayout};
-ghost use Rattle.fabric_planes.specs.Layout.{place_count, place_of, planes_of, shows};
+ghost use Rattle.fabric_planes.specs.Layout.{place_count, place_of, shows};
 ghost use Rattle.fabric_planes.specs.Pins.{IsShownPin};
 
 use crate::costs::NodeCosts;
 use crate::layout::Layout;
-use crate::net_planes::NetPlanes;
+use crate::net_planes::{HasFamily, NetPlanes};
 use plane_search::Start;
 use rr_graph::{Node, NodeKind, StripGraph};
 use std::alloc::{AllocError, Global};
@@ -98,7 +98,7 @@ impl NetStarts {
     }
 }
 
-impl<G: StripGraph, C: NodeCosts> NetPlanes<'_, G, C> {
+impl<'a, G: StripGraph, C: NodeCosts> NetPlanes<'a, G, C> {
     /// Whether the pin with this number is shown. `place` is its place.
     fn is_listed(&self, place: usize, number: usize) -> bool
         requires within { number < (graph_of (G.basis self.now.strip.graph.now)).count }
@@ -138,10 +138,8 @@ impl<G: StripGraph, C: NodeCosts> NetPlanes<'_, G, C> {
         requires track { track < (G.basis self.now.strip.graph.now).arch.tracks }
         requires place { place < place_count (G.basis self.now.strip.graph.now) }
         ensures place { result.place ≡ place }
-        ensures bound { IsLowerBound ((planes_of (G.basis self.now.strip.graph.now)
-            (C.costs self.now.costs.now) self.now.starts.now self.now.goal
-            (record { source = self.now.source; sink = self.now.sink })).plane track)
-            self.now.exit place (Some result.ahead) }
+        ensures bound { IsLowerBound ((⟦<NetPlanes<'a, G, C> as HasFamily>⟧.family
+            self.now).plane track) self.now.exit place (Some result.ahead) }
     {
         match self.at_least(track, place) {
             Some(ahead) => Start { place, ahead },
@@ -153,16 +151,12 @@ impl<G: StripGraph, C: NodeCosts> NetPlanes<'_, G, C> {
     pub(crate) fn start_at(&self, track: usize, number: usize) -> Option<Start>
         requires track { track < (G.basis self.now.strip.graph.now).arch.tracks }
         requires within { number < (graph_of (G.basis self.now.strip.graph.now)).count }
-        ensures there { IfSome result (λ start.
-            (shows (G.basis self.now.strip.graph.now).strip
-            (record { source = self.now.source; sink = self.now.sink }) track
-            ((graph_of (G.basis self.now.strip.graph.now)).node number).kind
-            ((graph_of (G.basis self.now.strip.graph.now)).node number) ≡ true)
-            × (start.place ≡ place_of (G.basis self.now.strip.graph.now)
-            ((graph_of (G.basis self.now.strip.graph.now)).node number))
-            × IsLowerBound ((planes_of (G.basis self.now.strip.graph.now)
-            (C.costs self.now.costs.now) self.now.starts.now self.now.goal
-            (record { source = self.now.source; sink = self.now.sink })).plane track)
+        ensures there { IfSome result (λ start. (shows (G.basis self.now.strip.graph.now).strip
+            (record { source = self.now.source; sink = self.now.sink }) track ((graph_of (G.basis
+            self.now.strip.graph.now)).node number).kind ((graph_of (G.basis
+            self.now.strip.graph.now)).node number) ≡ true) × (start.place ≡ place_of (G.basis
+            self.now.strip.graph.now) ((graph_of (G.basis self.now.strip.graph.now)).node number)) ×
+            IsLowerBound ((⟦<NetPlanes<'a, G, C> as HasFamily>⟧.family self.now).plane track)
             self.now.exit start.place (Some start.ahead)) }
         ensures none { IfNone result (shows (G.basis self.now.strip.graph.now).strip
             (record { source = self.now.source; sink = self.now.sink }) track

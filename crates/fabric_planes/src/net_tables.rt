@@ -10,8 +10,10 @@ ghost use Rattle.fabric_planes.specs.NetSearches.{terminals_of};
 use crate::costs::NodeCosts;
 use crate::layout::Layout;
 use crate::net_planes::NetPlanes;
+use crate::net_search::Wanted;
 use crate::pins::PinAt;
 use crate::price_table::PriceTable;
+use crate::priced_graph::PricedGraph;
 use crate::shown::list_pins;
 use crate::side_bounds::SideBounds;
 use crate::side_places::list_sides;
@@ -46,23 +48,18 @@ impl NetTables {
     /// Replaces the tables by those of a net's source and one of its sinks.
     pub fn fill<G: StripGraph, C: NodeCosts>(
         &mut self,
-        graph: &G,
-        layout: &Layout,
-        costs: &C,
-        prices: &PriceTable,
+        priced: &PricedGraph<'_, G, C>,
         source: usize,
         goal: usize,
     ) -> Result<(), AllocError>
-        requires laid { IsLayout (G.basis graph.now) layout.now }
-        requires counted { C.count costs.now ≡ (graph_of (G.basis graph.now)).count }
-        requires priced { HasPrices (G.basis graph.now) (C.costs costs.now) prices.now }
-        requires source { source < (graph_of (G.basis graph.now)).count }
-        requires goal { goal < (graph_of (G.basis graph.now)).count }
-        requires source_is { ((graph_of (G.basis graph.now)).node source).kind ≡ Source }
-        requires goal_is { ((graph_of (G.basis graph.now)).node goal).kind ≡ Sink }
-        ensures { OnOk result (AreNetTables (G.basis graph.now) (C.costs costs.now) source goal
-            layout.now self.new) }
+        requires source { source < (graph_of (G.basis priced.now.graph.now)).count }
+        requires goal { goal < (graph_of (G.basis priced.now.graph.now)).count }
+        requires source_is { ((graph_of (G.basis priced.now.graph.now)).node source).kind ≡ Source }
+        requires goal_is { ((graph_of (G.basis priced.now.graph.now)).node goal).kind ≡ Sink }
+        ensures { OnOk result (AreNetTables (G.basis priced.now.graph.now)
+            (C.costs priced.now.costs.now) source goal priced.now.layout.now self.new) }
     {
+        let (graph, layout) = (priced.graph, priced.layout);
         graph.laws();
         let shape = layout.shape;
         let sink = graph.node(goal);
@@ -72,8 +69,13 @@ impl NetTables {
             .arrivals
             .list_firsts(graph, shape, sink, &mut self.first_arrivals)?;
         list_pins(graph, layout, source, goal, &mut self.shown)?;
-        self.bounds
-            .fill(graph, costs, sink, &self.sides, prices.by_place())
+        self.bounds.fill(
+            graph,
+            priced.costs,
+            sink,
+            &self.sides,
+            priced.prices.by_place(),
+        )
     }
 
     /// The planes over these tables.
@@ -83,34 +85,32 @@ impl NetTables {
         layout: &'a Layout,
         costs: &'a C,
         prices: &'a PriceTable,
-        source: usize,
-        starts: &'a [usize],
-        goal: usize,
+        wanted: Wanted<'a>,
     ) -> NetPlanes<'a, G, C>
         requires laid { IsLayout (G.basis graph.now) layout.now }
         requires counted { C.count costs.now ≡ (graph_of (G.basis graph.now)).count }
         requires priced { HasPrices (G.basis graph.now) (C.costs costs.now) prices.now }
-        requires tables { AreNetTables (G.basis graph.now) (C.costs costs.now) source goal
-            layout.now self.now }
-        requires search { IsNetSearch (G.basis graph.now) (C.costs costs.now) starts.now goal
-            (terminals_of (G.basis graph.now) source goal) }
+        requires tables { AreNetTables (G.basis graph.now) (C.costs costs.now) wanted.source
+            wanted.goal layout.now self.now }
+        requires search { IsNetSearch (G.basis graph.now) (C.costs costs.now) wanted.starts.now
+            wanted.goal (terminals_of (G.basis graph.now) wanted.source wanted.goal) }
         ensures graph { result.strip.graph.now ≡ graph.now }
         ensures layout { result.strip.layout.now ≡ layout.now }
         ensures costs { result.costs.now ≡ costs.now }
-        ensures starts { result.starts.now ≡ starts.now }
-        ensures goal { result.goal ≡ goal }
-        ensures source { result.source ≡ (graph_of (G.basis graph.now)).node source }
-        ensures sink { result.sink ≡ (graph_of (G.basis graph.now)).node goal }
+        ensures starts { result.starts.now ≡ wanted.entry.starts.now }
+        ensures goal { result.goal ≡ wanted.entry.goal }
+        ensures source { result.source ≡ (graph_of (G.basis graph.now)).node wanted.entry.source }
+        ensures sink { result.sink ≡ (graph_of (G.basis graph.now)).node wanted.entry.goal }
     {
         graph.laws();
         let strip = StripPlanes { graph, layout };
-        let sink = graph.node(goal);
+        let sink = graph.node(wanted.goal);
         let shape = layout.shape;
         NetPlanes {
             costs,
-            starts,
-            goal,
-            source: graph.node(source),
+            starts: wanted.starts,
+            goal: wanted.goal,
+            source: graph.node(wanted.source),
             sink,
             exit: shape.place(sink),
             sides: self.sides.as_slice(),
@@ -119,10 +119,10 @@ impl NetTables {
             least_lasts: self.bounds.least_lasts.as_slice(),
             aheads: strip.aheads(sink),
             shown: self.shown.as_slice(),
-            to_top: strip.to_top(sink),
-            to_bottom: strip.to_bottom(sink),
-            to_right: strip.to_right(sink),
-            to_left: strip.to_left(sink),
+            to_top: strip.fars(sink, 0),
+            to_bottom: strip.fars(sink, 1),
+            to_right: strip.fars(sink, 2),
+            to_left: strip.fars(sink, 3),
             own_sides: self.own_sides.as_slice(),
             prices: prices.as_slice(),
             by_place: prices.by_place(),

@@ -1,319 +1,144 @@
-//! The rows of the ends of pins.
-ghost use Rattle.std.specs.Prelude.{◌≡◌, ◌+◌, ◌*◌, ◌<◌, ◌≤◌, ◌++◌, [], ℕ, List, All, length, map, slice_index, true, IfOk};
-ghost use Rattle.std.specs.List.{range_with_len};
-ghost use Rattle.arch_file.specs.Arch.{IsArch};
+//! The rows of the ends of sources, sinks and pins.
+ghost use Rattle.std.specs.Prelude.{◌≡◌, ◌+◌, ◌*◌, ◌<◌, ◌≤◌, ℕ, List, All, length, slice_index, true, IfOk};
 ghost use Rattle.rr_graph.specs.declared.node.NodeKind.TheVariants.{Opin};
-ghost use Rattle.rr_graph.specs.Geometry.{IsWire, is_block_number, is_node, meets};
+ghost use Rattle.rr_graph.specs.Geometry.{IsWire, is_node, meets};
 ghost use Rattle.rr_graph.specs.Graph.{Basis, graph_of};
 ghost use Rattle.fabric_planes.specs.Layout.{Terminals, IsNetSearch, place_of, planes_of};
-ghost use Rattle.fabric_planes.specs.PinRows.{with_if, beside, is_met, departures, departure_row, block_outputs, pad_output, rows_by, first_row, rows_per_track, rise_of, row_at, site_of, apart_entry, aparts};
+ghost use Rattle.fabric_planes.specs.PinRows.{apart_at, aparts, first_row, index_of, kind_at, listed_at, pin_number, rows_per_track};
 ghost use Rattle.fabric_planes.specs.Pins.{HasEnds, IsShownPin};
-ghost use Rattle.fabric_planes.specs.Sides.{IsAtSide, is_on_side, rows_less, columns_less};
+ghost use Rattle.fabric_planes.specs.Sides.{IsAtSide};
 ghost use Rattle.fabric_planes.specs.Tables.{IsShapeOf, IsNearby};
 ghost use Rattle.fabric_planes.specs.Ways.{IsWireAt};
 
+use crate::arrival_rows::wire_beside;
+use crate::ends::{Listed, View, add_row};
 use crate::pins::PinAt;
 use crate::shape::Shape;
-use arch_file::{Arch, PinClass, Sides};
-use grid::Strip;
 use rows::Rows;
-use rr_graph::{Node, NodeKind, StripGraph, meets, sides_at};
+use rr_graph::{Node, NodeKind, StripGraph, meets};
 use std::alloc::{AllocError, Global};
 
 /// For a track that an output pin does not meet: more than costs count.
 const APART: u16 = 20000;
 
-/// Appends the number if there is one.
-fn add_if(list: &mut Vec<u32>, there: bool, number: u32) -> Result<(), AllocError>
-    ensures { IfOk result (λ _. list.new.items ≡ list.old.items ++ with_if there number []) }
+/// The kind of the node with this index among those of a row of the first column with one number:
+/// a source, a sink, an input pin, and for each track an output pin.
+fn kind_at(index: u32) -> NodeKind
+    ensures { result ≡ kind_at index }
 {
-    if there {
-        list.push(number)?;
-    }
-    Ok(())
-}
-
-/// Whether a pin with these sides is on a side.
-fn is_on(sides: Sides, side: u32) -> bool
-    ensures { result ≡ is_on_side sides side }
-{
-    match side {
-        0 => sides.top,
-        1 => sides.bottom,
-        2 => sides.right,
-        3 => sides.left,
-        _ => false,
+    match index {
+        0 => NodeKind::Source,
+        1 => NodeKind::Sink,
+        2 => NodeKind::Ipin,
+        _ => NodeKind::Opin,
     }
 }
 
-/// The wire of a track at a side of the pin's block or pad.
-fn wire_beside(pin: Node, side: u32, track: u32) -> Node
-    requires few { side < 4 }
-    requires column { columns_less side ≤ pin.x }
-    requires row { rows_less side ≤ pin.y }
-    ensures { result ≡ beside pin side track }
+/// The first index of a kind.
+fn index_of(kind: NodeKind) -> usize
+    ensures { result ≡ index_of kind }
 {
-    let n = track;
-    match side {
-        0 => Node {
-            kind: NodeKind::ChanX,
-            n,
-            ..pin
-        },
-        1 => Node {
-            kind: NodeKind::ChanX,
-            y: pin.y - 1,
-            n,
-            ..pin
-        },
-        2 => Node {
-            kind: NodeKind::ChanY,
-            n,
-            ..pin
-        },
-        _ => Node {
-            kind: NodeKind::ChanY,
-            x: pin.x - 1,
-            n,
-            ..pin
-        },
+    match kind {
+        NodeKind::Source => 0,
+        NodeKind::Sink => 1,
+        NodeKind::Ipin => 2,
+        _ => 3,
     }
 }
 
-/// Whether the pin is on the side and meets the track.
-fn is_met(arch: &Arch, strip: Strip, pin: Node, side: u32, track: u32) -> bool
-    requires arch { IsArch arch.now }
-    requires few { side < 4 }
-    requires column { 1 ≤ pin.x }
-    ensures { result ≡ is_met arch.now strip pin side track }
+/// By how much the row of the next track differs.
+fn rows_per_track(kind: NodeKind) -> usize
+    ensures { result ≡ rows_per_track kind }
 {
-    if is_on(sides_at(arch, strip, pin), side) {
-        return meets(arch, strip, pin, wire_beside(pin, side, track));
-    }
-    false
-}
-
-/// Appends the places of the wires of a track that an output pin meets.
-fn add_departures(
-    list: &mut Vec<u32>,
-    arch: &Arch,
-    strip: Strip,
-    shape: Shape,
-    pin: Node,
-    track: u32,
-) -> Result<(), AllocError>
-    requires arch { IsArch arch.now }
-    requires column { 1 ≤ pin.x }
-    ensures { IfOk result (λ _. list.new.items ≡ list.old.items
-        ++ departures arch.now strip (2 + 2 * shape.pins + (shape.rows + 2)) (shape.rows + 2) pin
-        track) }
-{
-    let level = shape.level() as u32;
-    let upright = shape.upright() as u32;
-    let stride = shape.stride() as u32;
-    add_if(list, is_met(arch, strip, pin, 3, track), upright)?;
-    add_if(
-        list,
-        is_met(arch, strip, pin, 1, track),
-        stride + (level - 1),
-    )?;
-    add_if(list, is_met(arch, strip, pin, 0, track), stride + level)?;
-    add_if(list, is_met(arch, strip, pin, 2, track), stride + upright)
-}
-
-/// A row of a kind: 0 for the pads below, 1 for blocks, 2 for the pads above.
-fn row_at(rows: u32, site: u32) -> u32
-    requires { rows ≤ 64 }
-    ensures { result ≡ row_at rows site }
-{
-    match site {
-        0 => 0,
-        1 => 1,
-        _ => rows + 1,
-    }
-}
-
-/// Appends the row for an index that tells the kind of row, the pin and the track.
-fn add_departure_row(
-    list: &mut Vec<u32>,
-    arch: &Arch,
-    strip: Strip,
-    shape: Shape,
-    at: u32,
-) -> Result<(), AllocError>
-    requires arch { IsArch arch.now }
-    requires pins { 1 ≤ shape.pins }
-    requires rows { strip.rows ≤ 64 }
-    ensures { IfOk result (λ _. list.new.items ≡ list.old.items
-        ++ departure_row arch.now strip (2 + 2 * shape.pins + (shape.rows + 2)) (shape.rows + 2)
-        shape.pins at) }
-{
-    let (kind, pin) = (NodeKind::Opin, at / arch.tracks);
-    let (y, n) = (row_at(strip.rows, pin / shape.pins), pin % shape.pins);
-    let x = 1;
-    let track = at % arch.tracks;
-    add_departures(list, arch, strip, shape, Node { x, kind, y, n }, track)
-}
-
-/// Adds the rows of output pins.
-fn add_departure_rows(
-    alloc: Global,
-    rows: &mut Rows,
-    arch: &Arch,
-    strip: Strip,
-    shape: Shape,
-) -> Result<(), AllocError>
-    requires arch { IsArch arch.now }
-    requires pins { 1 ≤ shape.pins }
-    requires rows { strip.rows ≤ 64 }
-    ensures { IfOk result (λ _. rows.new ≡ rows.old
-        ++ map (departure_row arch.now strip (2 + 2 * shape.pins + (shape.rows + 2))
-        (shape.rows + 2) shape.pins)
-        (range_with_len 0 (3 * shape.pins * arch.now.tracks))) }
-{
-    let mut list = Vec::new(alloc);
-    for at in 0..3 * shape.pins * arch.tracks {
-        list.clear();
-        add_departure_row(&mut list, arch, strip, shape, at)?;
-        rows.push(&list)?;
-    }
-    Ok(())
-}
-
-/// Whether a block has an output pin with this number.
-fn is_output(arch: &Arch, n: u32) -> bool
-    ensures { result ≡ is_block_number arch.now Opin n }
-{
-    match arch.pins.as_slice().get(n as usize) {
-        Some(pin) => pin.class == PinClass::Output,
-        None => false,
-    }
-}
-
-/// The row of a block's source.
-fn block_outputs(alloc: Global, arch: &Arch, shape: Shape) -> Result<Vec<u32>, AllocError>
-    ensures { IfOk result (λ list. list.items
-        ≡ block_outputs arch.now (2 + 2 * shape.pins + 5 * (shape.rows + 2)) shape.pins) }
-{
-    let stride = shape.stride() as u32;
-    let mut list = Vec::new(alloc);
-    for n in 0..shape.pins {
-        add_if(&mut list, is_output(arch, n), stride + (2 + n))?;
-    }
-    Ok(list)
-}
-
-/// Adds the rows of pads' sources.
-fn add_pad_rows(rows: &mut Rows, shape: Shape) -> Result<(), AllocError>
-    ensures { IfOk result (λ _. rows.new ≡ rows.old
-        ++ map (pad_output (2 + 2 * shape.pins + 5 * (shape.rows + 2)))
-        (range_with_len 0 shape.pins)) }
-{
-    let stride = shape.stride() as u32;
-    for n in 0..shape.pins {
-        rows.push(&[stride + (2 + n)])?;
-    }
-    Ok(())
-}
-
-/// The rows of all pins.
-fn rows_of(alloc: Global, arch: &Arch, strip: Strip, shape: Shape) -> Result<Rows, AllocError>
-    requires arch { IsArch arch.now }
-    requires pins { 1 ≤ shape.pins }
-    requires rows { strip.rows ≤ 64 }
-    ensures { IfOk result (λ rows. rows ≡ rows_by arch.now strip
-        (2 + 2 * shape.pins + (shape.rows + 2)) (shape.rows + 2) shape.pins) }
-{
-    let outputs = block_outputs(alloc, arch, shape)?;
-    let mut rows = Rows::new(alloc);
-    rows.push(&[])?;
-    rows.push(&[shape.stride() as u32 + 1])?;
-    rows.push(&outputs)?;
-    add_pad_rows(&mut rows, shape)?;
-    add_departure_rows(alloc, &mut rows, arch, strip, shape)?;
-    Ok(rows)
-}
-
-/// The entry for an index that tells the kind of row, the pin, the side and the track.
-fn apart_at(arch: &Arch, strip: Strip, pins: u32, at: u32) -> u16
-    requires arch { IsArch arch.now }
-    requires pins { 1 ≤ pins }
-    requires rows { strip.rows ≤ 64 }
-    ensures { result ≡ apart_entry arch.now strip pins at }
-{
-    let (kind, side) = (NodeKind::Opin, at / arch.tracks);
-    let (y, n) = (row_at(strip.rows, side / 4 / pins), side / 4 % pins);
-    let x = 1;
-    let track = at % arch.tracks;
-    if is_met(arch, strip, Node { x, kind, y, n }, side % 4, track) {
-        return 0;
-    }
-    APART
-}
-
-/// For each output pin of a column, each side and each track, whether they meet.
-fn aparts(alloc: Global, arch: &Arch, strip: Strip, shape: Shape) -> Result<Vec<u16>, AllocError>
-    requires arch { IsArch arch.now }
-    requires pins { 1 ≤ shape.pins }
-    requires rows { strip.rows ≤ 64 }
-    ensures { IfOk result (λ list. list.items ≡ aparts arch.now strip shape.pins) }
-{
-    let mut list = Vec::new(alloc);
-    for at in 0..3 * shape.pins * 4 * arch.tracks {
-        list.push(apart_at(arch, strip, shape.pins, at))?;
-    }
-    Ok(list)
-}
-
-/// The kind of a row: 0 for the pads below, 1 for blocks, 2 for the pads above.
-fn site_of(shape: Shape, y: u32) -> usize
-    ensures few { result < 3 }
-    ensures value { (basis : Basis) → IsShapeOf basis shape → result ≡ site_of basis.strip y }
-{
-    if y == 0 {
-        return 0;
-    }
-    if y == shape.rows + 1 {
-        return 2;
-    }
-    1
-}
-
-/// The row of a node in the first track's plane, and by how much the row of the next track differs.
-fn row_of(shape: Shape, node: Node) -> (usize, usize)
-    requires { IsNearby node }
-    ensures row { (basis : Basis) → IsShapeOf basis shape →
-        result.0 ≡ first_row basis node.kind node }
-    ensures per_track { result.1 ≡ rows_per_track node.kind }
-{
-    let (n, pins) = (node.n as usize, shape.pins as usize);
-    let is_block = 1 <= node.y && node.y <= shape.rows;
-    match node.kind {
-        NodeKind::Source => (if is_block { 2 } else { 3 + n }, 0),
-        NodeKind::Opin => {
-            let pin = site_of(shape, node.y) * pins + n;
-            (3 + (pins + pin * shape.tracks as usize), 1)
-        }
-        NodeKind::Ipin => (1, 0),
-        _ => (0, 0),
-    }
-}
-
-/// What is added to the row's numbers beside the place of the column before.
-fn rise_of(node: Node) -> usize
-    ensures { result ≡ rise_of node.kind node }
-{
-    match node.kind {
-        NodeKind::Opin => node.y as usize,
+    match kind {
+        NodeKind::Opin => 1,
         _ => 0,
     }
 }
 
-/// The rows of the ends of pins, for each plane. They are made once for a graph.
+/// What the row with this number is for.
+fn listed_at<G: StripGraph>(graph: &G, shape: Shape, number: u32) -> Listed
+    requires { IsShapeOf (G.basis graph.now) shape }
+    ensures { result ≡ listed_at (G.basis graph.now) number }
+{
+    graph.laws();
+    let (pin, index) = (number / (shape.tracks + 3), number % (shape.tracks + 3));
+    let (y, n) = (pin / shape.pins, pin % shape.pins);
+    let node = Node {
+        x: 1,
+        kind: kind_at(index),
+        y,
+        n,
+    };
+    // A block has one sink, with number 0.
+    let is_block = 1 <= y && y <= shape.rows;
+    let n = if is_block { 0 } else { n };
+    Listed {
+        view: View {
+            track: index.saturating_sub(3),
+            node: Node { n, ..node },
+        },
+        node,
+    }
+}
+
+/// The number of a pin among those of a column.
+fn pin_number(shape: Shape, node: Node) -> usize
+    requires { IsNearby node }
+    ensures few { result ≤ 10200 }
+    ensures value { (basis : Basis) → IsShapeOf basis shape →
+        result ≡ pin_number basis node.y node.n }
+{
+    node.y as usize * shape.pins as usize + node.n as usize
+}
+
+/// The row of a node in the first track's plane.
+fn first_row(shape: Shape, node: Node) -> usize
+    requires { IsNearby node }
+    ensures { (basis : Basis) → IsShapeOf basis shape → result ≡ first_row basis node }
+{
+    pin_number(shape, node) * (shape.tracks as usize + 3) + index_of(node.kind)
+}
+
+/// The entry for an index that tells the pin, the side and the track.
+fn apart_at<G: StripGraph>(graph: &G, shape: Shape, at: u32) -> u16
+    requires { IsShapeOf (G.basis graph.now) shape }
+    ensures { result ≡ apart_at (G.basis graph.now) at }
+{
+    graph.laws();
+    let (kind, by_side) = (NodeKind::Opin, at / shape.tracks);
+    let (y, n) = (by_side / 4 / shape.pins, by_side / 4 % shape.pins);
+    let (pin, side) = (Node { x: 1, kind, y, n }, by_side % 4);
+    // No wire is below the pads of row 0.
+    if side == 1 && y == 0 {
+        return APART;
+    }
+    let wire = wire_beside(pin, side, at % shape.tracks);
+    if meets(graph.arch(), graph.strip(), pin, wire) {
+        0
+    } else {
+        APART
+    }
+}
+
+/// For each output pin of a column, each side and each track, whether they meet.
+fn aparts<G: StripGraph>(alloc: Global, graph: &G, shape: Shape) -> Result<Vec<u16>, AllocError>
+    requires { IsShapeOf (G.basis graph.now) shape }
+    ensures { IfOk result (λ list. list.items ≡ aparts (G.basis graph.now)) }
+{
+    graph.laws();
+    let mut list = Vec::new(alloc);
+    for at in 0..(shape.rows + 2) * shape.pins * 4 * shape.tracks {
+        list.push(apart_at(graph, shape, at))?;
+    }
+    Ok(list)
+}
+
+/// The rows of the ends of sources, sinks and pins, for each plane. They are made once for a graph.
 #[derive(Drop)]
 pub struct PinRows {
     pub(crate) rows: Rows,
-    /// For each kind of row, output pin, side and track 0 if they meet.
+    /// For each output pin of a column, side and track 0 if they meet.
     pub(crate) apart: Vec<u16>,
 }
 
@@ -330,8 +155,13 @@ impl PinRows {
         ensures { IfOk result (λ pins. ArePinRows (G.basis graph.now) pins) }
     {
         graph.laws();
-        let apart = aparts(alloc, graph.arch(), graph.strip(), shape)?;
-        let rows = rows_of(alloc, graph.arch(), graph.strip(), shape)?;
+        let apart = aparts(alloc, graph, shape)?;
+        let mut rows = Rows::new(alloc);
+        let mut list = Vec::new(alloc);
+        for number in 0..(shape.rows + 2) * shape.pins * (shape.tracks + 3) {
+            let listed = listed_at(graph, shape, number);
+            add_row(&mut rows, graph, shape, listed, &mut list)?;
+        }
         Ok(PinRows { rows, apart })
     }
 
@@ -351,13 +181,13 @@ impl PinRows {
     {
         graph.laws();
         let node = graph.node(number);
-        let (row, per_track) = row_of(shape, node);
+        let place = shape.place(node);
         PinAt {
-            place: shape.place(node),
+            place,
             number,
-            row,
-            per_track,
-            base: (node.x as usize + 1) * shape.stride() + rise_of(node),
+            row: first_row(shape, node),
+            per_track: rows_per_track(node.kind),
+            base: place.saturating_sub(2 * shape.stride()),
         }
     }
 
@@ -386,8 +216,8 @@ impl PinRows {
             slice_index result.now ((graph_of (G.basis graph.now)).node number).n ≡ 0 }
     {
         graph.laws();
-        let (pins, tracks) = (shape.pins as usize, shape.tracks as usize);
-        let at = (site_of(shape, pin.y) * pins + pin.n as usize) * 4 + side;
-        &self.apart[at * tracks..at * tracks + tracks]
+        let tracks = shape.tracks as usize;
+        let at = (pin_number(shape, pin) * 4 + side) * tracks;
+        &self.apart[at..at + tracks]
     }
 }

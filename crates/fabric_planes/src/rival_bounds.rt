@@ -4,7 +4,7 @@ ghost use Rattle.rr_graph.specs.Geometry.{IsWire};
 ghost use Rattle.rr_graph.specs.Graph.{graph_of};
 ghost use Rattle.rr_graph.specs.declared.node.NodeKind.TheVariants.{Opin};
 ghost use Rattle.fabric_planes.specs.Bounds.{AreLimits, AreLowered};
-ghost use Rattle.fabric_planes.specs.Layout.{IsStart, planes_of};
+ghost use Rattle.fabric_planes.specs.Layout.{IsStart};
 ghost use Rattle.fabric_planes.specs.Pins.{IsShownPin};
 ghost use Rattle.fabric_planes.specs.RivalBounds.{AreFromSource, AreLimited, AreOverPin, AreOverSide, AreRivalsFrom, AreRivalsOver, IsLead};
 ghost use Rattle.fabric_planes.specs.Rivals.{ComesFirst};
@@ -15,7 +15,7 @@ ghost use Rattle.fabric_planes.specs.declared.rivals.Head.{Head};
 use crate::bound_rows::{Limits, fill_side, is_needed};
 use crate::bounds::DEAR;
 use crate::costs::NodeCosts;
-use crate::net_planes::NetPlanes;
+use crate::net_planes::{HasFamily, NetPlanes};
 use crate::net_starts::{NetStarts, StartWire};
 use crate::rivals::Head;
 use rr_graph::{NodeKind, StripGraph};
@@ -74,8 +74,8 @@ fn lower_first(numbers: &mut [u16], row: &[u16], count: usize)
 }
 
 /// Lowers the bounds by the paths over a side of an output pin's block or pad.
-fn lower_by_side<G: StripGraph, C: NodeCosts>(
-    planes: &NetPlanes<'_, G, C>,
+fn lower_by_side<'a, G: StripGraph, C: NodeCosts>(
+    planes: &NetPlanes<'a, G, C>,
     known: Known,
     lead: Lead,
     side: usize,
@@ -91,10 +91,8 @@ fn lower_by_side<G: StripGraph, C: NodeCosts>(
     requires side { side < 4 }
     ensures falls { AreLowered bounds.old bounds.new }
     ensures low { AreOverSide (G.basis planes.now.strip.graph.now) (C.costs planes.now.costs.now)
-        (planes_of (G.basis planes.now.strip.graph.now) (C.costs planes.now.costs.now)
-        planes.now.starts.now planes.now.goal
-        (record { source = planes.now.source; sink = planes.now.sink }))
-        known.head lead side bounds.new }
+        (⟦<NetPlanes<'a, G, C> as HasFamily>⟧.family planes.now) known.head lead side
+        bounds.new }
 {
     planes.strip.graph.laws();
     let count = tracks_before(lead, planes.own_sides[side], known.head, bounds.len());
@@ -106,8 +104,8 @@ fn lower_by_side<G: StripGraph, C: NodeCosts>(
 }
 
 /// Lowers the bounds by the paths over an output pin.
-fn lower_by_output<G: StripGraph, C: NodeCosts>(
-    planes: &NetPlanes<'_, G, C>,
+fn lower_by_output<'a, G: StripGraph, C: NodeCosts>(
+    planes: &NetPlanes<'a, G, C>,
     known: Known,
     lead: Lead,
     bounds: &mut [u16],
@@ -121,10 +119,7 @@ fn lower_by_output<G: StripGraph, C: NodeCosts>(
     requires lead { IsLead (G.basis planes.now.strip.graph.now) planes.now.source lead }
     ensures falls { AreLowered bounds.old bounds.new }
     ensures low { AreOverPin (G.basis planes.now.strip.graph.now) (C.costs planes.now.costs.now)
-        (planes_of (G.basis planes.now.strip.graph.now) (C.costs planes.now.costs.now)
-        planes.now.starts.now planes.now.goal
-        (record { source = planes.now.source; sink = planes.now.sink }))
-        known.head lead bounds.new }
+        (⟦<NetPlanes<'a, G, C> as HasFamily>⟧.family planes.now) known.head lead bounds.new }
 {
     for side in 0..4 {
         lower_by_side(planes, known, lead, side, bounds, row);
@@ -132,8 +127,8 @@ fn lower_by_output<G: StripGraph, C: NodeCosts>(
 }
 
 /// Lowers the bounds by the paths from the source over a pin that is shown, if it is an output pin.
-fn lower_by_shown<G: StripGraph, C: NodeCosts>(
-    planes: &NetPlanes<'_, G, C>,
+fn lower_by_shown<'a, G: StripGraph, C: NodeCosts>(
+    planes: &NetPlanes<'a, G, C>,
     known: Known,
     start: usize,
     number: usize,
@@ -150,10 +145,8 @@ fn lower_by_shown<G: StripGraph, C: NodeCosts>(
     ensures falls { AreLowered bounds.old bounds.new }
     ensures low { ((graph_of (G.basis planes.now.strip.graph.now)).node number).kind ≡ Opin →
         AreRivalsOver (G.basis planes.now.strip.graph.now) (C.costs planes.now.costs.now)
-        (planes_of (G.basis planes.now.strip.graph.now) (C.costs planes.now.costs.now)
-        planes.now.starts.now planes.now.goal
-        (record { source = planes.now.source; sink = planes.now.sink }))
-        known.head start number ((C.costs planes.now.costs.now) number) bounds.new }
+        (⟦<NetPlanes<'a, G, C> as HasFamily>⟧.family planes.now) known.head start number
+        ((C.costs planes.now.costs.now) number) bounds.new }
 {
     planes.strip.graph.laws();
     if let NodeKind::Opin = planes.strip.graph.node(number).kind {
@@ -168,8 +161,8 @@ fn lower_by_shown<G: StripGraph, C: NodeCosts>(
 }
 
 /// Lowers the bounds by the paths from the source.
-fn lower_by_source<G: StripGraph, C: NodeCosts>(
-    planes: &NetPlanes<'_, G, C>,
+fn lower_by_source<'a, G: StripGraph, C: NodeCosts>(
+    planes: &NetPlanes<'a, G, C>,
     known: Known,
     start: usize,
     bounds: &mut [u16],
@@ -182,11 +175,11 @@ fn lower_by_source<G: StripGraph, C: NodeCosts>(
     requires limited { AreLimited known.limits.most bounds.old }
     ensures falls { AreLowered bounds.old bounds.new }
     ensures low { AreFromSource (G.basis planes.now.strip.graph.now) (C.costs planes.now.costs.now)
-        (planes_of (G.basis planes.now.strip.graph.now) (C.costs planes.now.costs.now)
-        planes.now.starts.now planes.now.goal
-        (record { source = planes.now.source; sink = planes.now.sink }))
-        (record { source = planes.now.source; sink = planes.now.sink })
-        known.head start bounds.new }
+        (⟦<NetPlanes<'a, G, C> as HasFamily>⟧.family planes.now) (record {
+          source =
+              planes.now.source;
+          sink = planes.now.sink;
+        }) known.head start bounds.new }
 {
     planes.strip.graph.laws();
     for index in 0..planes.shown.len() {
@@ -212,8 +205,8 @@ fn clear(bounds: &mut [u16])
 }
 
 /// Lowers the bounds by the paths from a start that is no wire.
-fn lower_by_pin<G: StripGraph, C: NodeCosts>(
-    planes: &NetPlanes<'_, G, C>,
+fn lower_by_pin<'a, G: StripGraph, C: NodeCosts>(
+    planes: &NetPlanes<'a, G, C>,
     known: Known,
     number: usize,
     bounds: &mut [u16],
@@ -230,11 +223,11 @@ fn lower_by_pin<G: StripGraph, C: NodeCosts>(
         → ⊥ }
     ensures falls { AreLowered bounds.old bounds.new }
     ensures low { AreRivalsFrom (G.basis planes.now.strip.graph.now) (C.costs planes.now.costs.now)
-        (planes_of (G.basis planes.now.strip.graph.now) (C.costs planes.now.costs.now)
-        planes.now.starts.now planes.now.goal
-        (record { source = planes.now.source; sink = planes.now.sink }))
-        (record { source = planes.now.source; sink = planes.now.sink })
-        known.head number bounds.new }
+        (⟦<NetPlanes<'a, G, C> as HasFamily>⟧.family planes.now) (record {
+          source =
+              planes.now.source;
+          sink = planes.now.sink;
+        }) known.head number bounds.new }
 {
     planes.strip.graph.laws();
     match planes.strip.graph.node(number).kind {
@@ -252,8 +245,8 @@ fn lower_by_pin<G: StripGraph, C: NodeCosts>(
 }
 
 /// Lowers the bounds by the paths from the starts that are no wires.
-pub(crate) fn lower_by_pins<G: StripGraph, C: NodeCosts>(
-    planes: &NetPlanes<'_, G, C>,
+pub(crate) fn lower_by_pins<'a, G: StripGraph, C: NodeCosts>(
+    planes: &NetPlanes<'a, G, C>,
     known: Known,
     starts: &NetStarts,
     bounds: &mut [u16],
@@ -267,13 +260,13 @@ pub(crate) fn lower_by_pins<G: StripGraph, C: NodeCosts>(
     requires starts { HasStarts (G.basis planes.now.strip.graph.now) planes.now.starts.now
         starts.now }
     ensures falls { AreLowered bounds.old bounds.new }
-    ensures low { (number : ℕ) → Contains starts.now.pins.items number →
-        AreRivalsFrom (G.basis planes.now.strip.graph.now) (C.costs planes.now.costs.now)
-        (planes_of (G.basis planes.now.strip.graph.now) (C.costs planes.now.costs.now)
-        planes.now.starts.now planes.now.goal
-        (record { source = planes.now.source; sink = planes.now.sink }))
-        (record { source = planes.now.source; sink = planes.now.sink })
-        known.head number bounds.new }
+    ensures low { (number : ℕ) → Contains starts.now.pins.items number → AreRivalsFrom (G.basis
+        planes.now.strip.graph.now) (C.costs planes.now.costs.now)
+        (⟦<NetPlanes<'a, G, C> as HasFamily>⟧.family planes.now) (record {
+          source =
+              planes.now.source;
+          sink = planes.now.sink;
+        }) known.head number bounds.new }
 {
     for index in 0..starts.pins.len() {
         lower_by_pin(planes, known, starts.pins[index], bounds, row);
@@ -281,8 +274,8 @@ pub(crate) fn lower_by_pins<G: StripGraph, C: NodeCosts>(
 }
 
 /// Lowers the bounds by the paths from a start that is a wire.
-fn lower_by_wire<G: StripGraph, C: NodeCosts>(
-    planes: &NetPlanes<'_, G, C>,
+fn lower_by_wire<'a, G: StripGraph, C: NodeCosts>(
+    planes: &NetPlanes<'a, G, C>,
     head: Head,
     wire: StartWire,
     bounds: &mut [u16],
@@ -291,11 +284,11 @@ fn lower_by_wire<G: StripGraph, C: NodeCosts>(
     requires wire { IsStartWire (G.basis planes.now.strip.graph.now) wire }
     ensures falls { AreLowered bounds.old bounds.new }
     ensures low { AreRivalsFrom (G.basis planes.now.strip.graph.now) (C.costs planes.now.costs.now)
-        (planes_of (G.basis planes.now.strip.graph.now) (C.costs planes.now.costs.now)
-        planes.now.starts.now planes.now.goal
-        (record { source = planes.now.source; sink = planes.now.sink }))
-        (record { source = planes.now.source; sink = planes.now.sink })
-        head wire.number bounds.new }
+        (⟦<NetPlanes<'a, G, C> as HasFamily>⟧.family planes.now) (record {
+          source =
+              planes.now.source;
+          sink = planes.now.sink;
+        }) head wire.number bounds.new }
 {
     planes.strip.graph.laws();
     if wire.number >= head.start {
@@ -308,8 +301,8 @@ fn lower_by_wire<G: StripGraph, C: NodeCosts>(
 }
 
 /// Lowers the bounds by the paths from the starts that are wires.
-pub(crate) fn lower_by_wires<G: StripGraph, C: NodeCosts>(
-    planes: &NetPlanes<'_, G, C>,
+pub(crate) fn lower_by_wires<'a, G: StripGraph, C: NodeCosts>(
+    planes: &NetPlanes<'a, G, C>,
     head: Head,
     starts: &NetStarts,
     bounds: &mut [u16],
@@ -318,13 +311,13 @@ pub(crate) fn lower_by_wires<G: StripGraph, C: NodeCosts>(
     requires starts { HasStarts (G.basis planes.now.strip.graph.now) planes.now.starts.now
         starts.now }
     ensures falls { AreLowered bounds.old bounds.new }
-    ensures low { (wire : StartWire) → Contains starts.now.wires.items wire →
-        AreRivalsFrom (G.basis planes.now.strip.graph.now) (C.costs planes.now.costs.now)
-        (planes_of (G.basis planes.now.strip.graph.now) (C.costs planes.now.costs.now)
-        planes.now.starts.now planes.now.goal
-        (record { source = planes.now.source; sink = planes.now.sink }))
-        (record { source = planes.now.source; sink = planes.now.sink })
-        head wire.number bounds.new }
+    ensures low { (wire : StartWire) → Contains starts.now.wires.items wire → AreRivalsFrom (G.basis
+        planes.now.strip.graph.now) (C.costs planes.now.costs.now)
+        (⟦<NetPlanes<'a, G, C> as HasFamily>⟧.family planes.now) (record {
+          source =
+              planes.now.source;
+          sink = planes.now.sink;
+        }) head wire.number bounds.new }
 {
     for index in 0..starts.wires.len() {
         lower_by_wire(planes, head, starts.wires[index], bounds);

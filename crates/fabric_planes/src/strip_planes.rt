@@ -1,15 +1,17 @@
 //! The planes of a strip's graph, without a net.
-ghost use Rattle.std.specs.Prelude.{◌≡◌, ◌+◌, ◌<◌, ◌^◌, ℕ, length, slice_index, min};
-ghost use Rattle.rr_graph.specs.Graph.{graph_of};
-ghost use Rattle.fabric_planes.specs.Layout.{band_of, stride_of, in_column, place_count};
+ghost use Rattle.std.specs.Prelude.{◌≡◌, ◌+◌, ◌<◌, ◌≤◌, ◌^◌, ℕ};
+ghost use Rattle.rr_graph.specs.Graph.{Basis, graph_of};
+ghost use Rattle.fabric_planes.specs.Layout.{band_of, stride_of, place_count};
 ghost use Rattle.fabric_planes.specs.Laid.{IsLayout, IsWireOf};
-ghost use Rattle.fabric_planes.specs.Differences.{MOST_FAR, IsPinPlace, IsTargetAt, wires_to, far_table, shift_of};
+ghost use Rattle.fabric_planes.specs.Differences.{IsTarget, far_table, shift_of, target_offset};
 ghost use Rattle.fabric_planes.specs.Ends.{row_of};
 ghost use Rattle.fabric_planes.specs.Steps.{step_view};
-ghost use Rattle.fabric_planes.specs.Tables.{IsFirstAt};
+ghost use Rattle.fabric_planes.specs.Fars.{AreFar};
+ghost use Rattle.fabric_planes.specs.Tables.{IsFirstAt, IsShapeOf};
 
 use crate::distances::Target;
 use crate::layout::Layout;
+use crate::shape::Shape;
 use rr_graph::StripGraph;
 
 /// What is added to differences of places, for a target.
@@ -20,6 +22,17 @@ fn shift_of(target: Target, band: usize) -> usize
     match target {
         Target::Upright => 3 * band,
         Target::Level | Target::Block => band,
+    }
+}
+
+/// The offset of a target's wires in their column.
+fn target_offset(target: Target, shape: Shape) -> usize
+    ensures few { result ≤ 638 }
+    ensures value { (basis : Basis) → IsShapeOf basis shape → result ≡ target_offset basis target }
+{
+    match target {
+        Target::Upright => shape.upright(),
+        Target::Level | Target::Block => shape.level(),
     }
 }
 
@@ -69,24 +82,14 @@ impl<'a, G: StripGraph> StripPlanes<'a, G> {
         }
     }
 
-    /// The distances of the wires of each place from a target whose wire is at this place.
-    pub(crate) fn distances(&self, target: Target, place: usize) -> &'a [u8]
-        requires { place < place_count (G.basis self.now.graph.now) }
-        ensures long { length result.now ≡ place_count (G.basis self.now.graph.now) }
-        ensures far { (u v from number : ℕ) →
-            IsTargetAt (G.basis self.now.graph.now) target place u v →
-            IsWireOf (G.basis self.now.graph.now) from number →
-            slice_index result.now from ≡ min MOST_FAR (wires_to target
-            ((graph_of (G.basis self.now.graph.now)).node number).kind
-            ((graph_of (G.basis self.now.graph.now)).node number).x
-            ((graph_of (G.basis self.now.graph.now)).node number).y u v) }
-        ensures none { (u v x offset : ℕ) →
-            IsTargetAt (G.basis self.now.graph.now) target place u v →
-            IsPinPlace (G.basis self.now.graph.now) x offset →
-            slice_index result.now (in_column (G.basis self.now.graph.now) x offset) ≡ 0 }
+    /// The distances of the wires of each place from a target in a column and row.
+    pub(crate) fn distances(&self, target: Target, x: u32, y: u32) -> &'a [u8]
+        requires { IsTarget (G.basis self.now.graph.now) target x y }
+        ensures { AreFar (G.basis self.now.graph.now) target x y result.now }
     {
         self.graph.laws();
         let shape = self.layout.shape;
+        let place = shape.column(x) + (target_offset(target, shape) + y as usize);
         let places = shape.places();
         let table = self.table_to(target);
         let shift = shift_of(target, shape.band());

@@ -3,14 +3,14 @@ ghost use Rattle.std.specs.Prelude.{◌≡◌, ◌+◌, ◌-◌, ◌*◌, ◌^�
 ghost use Rattle.least_path.specs.LowerBound.{IsLowerBound};
 ghost use Rattle.rr_graph.specs.Graph.{graph_of};
 ghost use Rattle.fabric_planes.specs.Laid.{IsWireOf};
-ghost use Rattle.fabric_planes.specs.Layout.{place_count, planes_of};
+ghost use Rattle.fabric_planes.specs.Layout.{place_count};
 ghost use Rattle.fabric_planes.specs.Sides.{IsBySide};
 
 use crate::costs::NodeCosts;
-use crate::net_planes::NetPlanes;
+use crate::net_planes::{HasFamily, NetPlanes};
 use rr_graph::StripGraph;
 
-impl<G: StripGraph, C: NodeCosts> NetPlanes<'_, G, C> {
+impl<'a, G: StripGraph, C: NodeCosts> NetPlanes<'a, G, C> {
     /// A lower bound of the cost of a way from a wire that is at no side: the least of those by the
     /// sides, each by the wires up to there and the last wire and pin.
     #[inline(always)]
@@ -49,13 +49,9 @@ impl<G: StripGraph, C: NodeCosts> NetPlanes<'_, G, C> {
             (side * (G.basis self.now.strip.graph.now).arch.tracks + track)) sum →
             result ≤ sum }
         ensures bound { (number : ℕ) → IsWireOf (G.basis self.now.strip.graph.now) place number →
-            ((graph_of (G.basis self.now.strip.graph.now)).node number).n ≡ track →
-            IsLowerBound ((planes_of (G.basis self.now.strip.graph.now)
-            (C.costs self.now.costs.now) self.now.starts.now self.now.goal
-            (record { source = self.now.source; sink = self.now.sink })).plane track)
-            (planes_of (G.basis self.now.strip.graph.now)
-            (C.costs self.now.costs.now) self.now.starts.now self.now.goal
-            (record { source = self.now.source; sink = self.now.sink })).exit place (Some result) }
+            ((graph_of (G.basis self.now.strip.graph.now)).node number).n ≡ track → IsLowerBound
+            ((⟦<NetPlanes<'a, G, C> as HasFamily>⟧.family self.now).plane track)
+            (⟦<NetPlanes<'a, G, C> as HasFamily>⟧.family self.now).exit place (Some result) }
     {
         self.strip.graph.laws();
         if self.aheads[place] != 0 {
@@ -70,10 +66,9 @@ impl<G: StripGraph, C: NodeCosts> NetPlanes<'_, G, C> {
         requires track { track < (G.basis self.now.strip.graph.now).arch.tracks }
         requires place { place < place_count (G.basis self.now.strip.graph.now) }
         ensures few { result ≡ false → most < 2 ^ 64 - 1 }
-        ensures more { result ≡ false → IsLowerBound ((planes_of (G.basis self.now.strip.graph.now)
-            (C.costs self.now.costs.now) self.now.starts.now self.now.goal
-            (record { source = self.now.source; sink = self.now.sink })).plane track)
-            self.now.exit place (Some (most + 1)) }
+        ensures more { result ≡ false → IsLowerBound
+            ((⟦<NetPlanes<'a, G, C> as HasFamily>⟧.family self.now).plane track) self.now.exit
+            place (Some (most + 1)) }
     {
         match self.at_least(track, place) {
             Some(least) => least <= most,
@@ -88,27 +83,17 @@ impl<G: StripGraph, C: NodeCosts> NetPlanes<'_, G, C> {
         requires track { track < (G.basis self.now.strip.graph.now).arch.tracks }
         requires place { place < place_count (G.basis self.now.strip.graph.now) }
         ensures most { IfSome result (λ ahead. ahead ≤ most) }
-        ensures bound { IfSome result (λ ahead. (number : ℕ) →
-            IsWireOf (G.basis self.now.strip.graph.now) place number →
-            ((graph_of (G.basis self.now.strip.graph.now)).node number).n ≡ track →
-            IsLowerBound ((planes_of (G.basis self.now.strip.graph.now)
-            (C.costs self.now.costs.now) self.now.starts.now self.now.goal
-            (record { source = self.now.source; sink = self.now.sink })).plane track)
-            (planes_of (G.basis self.now.strip.graph.now) (C.costs self.now.costs.now)
-            self.now.starts.now self.now.goal
-            (record { source = self.now.source; sink = self.now.sink })).exit place
-            (Some ahead)) }
+        ensures bound { IfSome result (λ ahead. (number : ℕ) → IsWireOf (G.basis
+            self.now.strip.graph.now) place number → ((graph_of (G.basis
+            self.now.strip.graph.now)).node number).n ≡ track → IsLowerBound
+            ((⟦<NetPlanes<'a, G, C> as HasFamily>⟧.family self.now).plane track)
+            (⟦<NetPlanes<'a, G, C> as HasFamily>⟧.family self.now).exit place (Some ahead)) }
         ensures few { IfNone result (most < 2 ^ 64 - 1) }
-        ensures more { IfNone result ((number : ℕ) →
-            IsWireOf (G.basis self.now.strip.graph.now) place number →
-            ((graph_of (G.basis self.now.strip.graph.now)).node number).n ≡ track →
-            IsLowerBound ((planes_of (G.basis self.now.strip.graph.now)
-            (C.costs self.now.costs.now) self.now.starts.now self.now.goal
-            (record { source = self.now.source; sink = self.now.sink })).plane track)
-            (planes_of (G.basis self.now.strip.graph.now) (C.costs self.now.costs.now)
-            self.now.starts.now self.now.goal
-            (record { source = self.now.source; sink = self.now.sink })).exit place
-            (Some (most + 1))) }
+        ensures more { IfNone result ((number : ℕ) → IsWireOf (G.basis self.now.strip.graph.now)
+            place number → ((graph_of (G.basis self.now.strip.graph.now)).node number).n ≡ track →
+            IsLowerBound ((⟦<NetPlanes<'a, G, C> as HasFamily>⟧.family self.now).plane track)
+            (⟦<NetPlanes<'a, G, C> as HasFamily>⟧.family self.now).exit place (Some (most +
+            1))) }
     {
         if !self.may_cost(track, place, most) {
             return None;

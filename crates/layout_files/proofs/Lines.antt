@@ -1,6 +1,7 @@
 -- Lines of the three texts, as they are printed part by part.
 use Rattle.std.proofs.Common.{◌≡◌, ◌==◌, ℕ, nat_lt, List, [], ◌∷◌, ◌++◌, length, map, true, false, cond, Option, refl, sym, ap, ◌∙◌, codes, decimal, slice_get, append_assoc, append-nil}
 use Rattle.std.specs.List.{enumerate_from, flat_map, range_with_len}
+use Rattle.std.specs.Option.{option_map_or}
 use Rattle.std.proofs.lemmas.Bool.{true≢false}
 use Rattle.std.proofs.lemmas.Grind.{flat_map-append}
 use Rattle.std.proofs.lemmas.List.Folds.{flat_map-map}
@@ -16,7 +17,7 @@ use Rattle.layout_text.specs.LayoutText.{between_lines, ble_line, block_of, feed
 use Rattle.vpr_files.proofs.FileTexts.{global_heading_text, local_heading_text, net_text as net_lines_text, place_headings_text, route_headings_text}
 use Rattle.vpr_files.specs.NetFile.{or_open}
 use Rattle.vpr_files.specs.TextLines.{line_of, word_after_space, text_of}
-use Rattle.layout_files.specs.Printing.{connected_text, global_lines, heading_text, node_lines, place_headings, route_headings}
+use Rattle.layout_files.specs.Printing.{cluster_lines, connected_text, global_lines, heading_text, node_lines, place_headings, route_headings}
 
 -- ---- the `.net` text
 
@@ -60,6 +61,24 @@ output_text circuit arch laid net name is named =
     ∙ ap (λ rest. codes ".output out:" ++ rest) (pad_tail (net_name circuit net) (codes "pinlist: "))
     ∙ ap (λ n. text_of ((codes ".output" ∷ n ∷ []) ∷ (codes "pinlist:" ∷ net_name circuit net ∷ []) ∷ [] ∷ [])) (ap (laid_name_as circuit laid) is)
     ∙ ap (λ (block : Block). text_of (laid_lines_as circuit arch laid block)) is
+
+cluster_joined : (head name word pins bles end : List ℕ)
+    → ((((head ++ (name ++ (end ++ word))) ++ pins) ++ end) ++ bles) ++ end
+    ≡ (head ++ ((name ++ []) ++ end)) ++ ((word ++ (pins ++ end)) ++ (bles ++ end))
+cluster_joined head name word pins bles end = simp (append_assoc, append-nil)
+
+-- the lines of a cluster, from the parts that are printed
+pub cluster_text : (circuit : Circuit) (arch : Arch) (laid : LaidBlock) (name : List ℕ) (pins : List (Option ℕ)) (bles : List LaidBle)
+    → name ≡ option_map_or (λ ble. net_name circuit ble.name) (slice_get laid.bles 0) [] → pins ≡ laid.pins → bles ≡ laid.bles
+    → ((((codes ".clb " ++ (name ++ codes "\npinlist:")) ++ flat_map word_after_space (map (or_open (net_name circuit)) pins)) ++ 10 ∷ []) ++ text_of (map (ble_line circuit arch) bles)) ++ 10 ∷ []
+    ≡ text_of (cluster_lines circuit arch laid)
+cluster_text circuit arch laid name pins bles e f g =
+    rw (e, f, g) (
+    let named = option_map_or (λ (ble : LaidBle). net_name circuit ble.name) (slice_get laid.bles 0) [] in
+    let words = flat_map word_after_space (map (or_open (net_name circuit)) laid.pins) in
+    let lines = map (ble_line circuit arch) laid.bles in
+    cluster_joined (codes ".clb ") named (codes "pinlist:") words (text_of lines) (10 ∷ [])
+    ∙ ap (λ rest. (codes ".clb" ++ ((32 ∷ named) ++ []) ++ 10 ∷ []) ++ ((codes "pinlist:" ++ (words ++ 10 ∷ [])) ++ rest)) (sym (flat_map-append line_of lines ([] ∷ []))))
 
 -- the lines of the global nets, if there are any, and the empty line after them
 pub globals_text : (circuit : Circuit) (globals : List ℕ) → nat_lt 0 (length globals) ≡ true

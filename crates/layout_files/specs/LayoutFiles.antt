@@ -1,5 +1,5 @@
 -- When a layout is what its three files say.
-use Rattle.std.specs.Prelude.{ℕ, ◌≡◌, ◌≢◌, ◌-◌, Bool, true, false, List, [], All, Some, codes, length, position}
+use Rattle.std.specs.Prelude.{ℕ, ◌≡◌, ◌≢◌, ◌-◌, Bool, true, false, List, [], All, Some, Result, Ok, Err, ⊤, codes, length, position}
 use Rattle.arch_file.specs.declared.arch.Arch.{Arch}
 use Rattle.blif.specs.declared.circuit.Circuit.{Circuit}
 use Rattle.cluster.specs.declared.block.Block.{Block}
@@ -7,9 +7,12 @@ use Rattle.cluster.specs.declared.block.Block.TheVariants.{Cluster}
 use Rattle.grid.specs.declared.Strip.{Strip}
 use Rattle.implements.specs.Layouts.{LaidBlock, LaidNet, Layout}
 use Rattle.layout_text.specs.LayoutText.{net_text, place_text, route_text}
+use Rattle.line_text.specs.declared.text_error.TextError.{TextError}
+use Rattle.line_text.specs.declared.text_error.TextError.TheVariants.{NoMemory, Fault}
 use Rattle.rr_graph.specs.declared.node.Node.{Node}
 use Rattle.rr_graph.specs.declared.node.NodeKind.{NodeKind}
 use Rattle.rr_graph.specs.declared.node.NodeKind.TheVariants.{Source, Sink, Opin, Ipin, ChanX, ChanY}
+use Rattle.layout_files.specs.Fitting.{FitsFiles, HasFileNames}
 
 abbrev pub is_sink_kind : NodeKind → Bool
 is_sink_kind Sink = true
@@ -42,6 +45,13 @@ pub record HasPrintedForm (layout : Layout) : Type 0 where
   pub blocks : All IsBare layout.blocks
   pub nets : All HasWholePaths layout.nets
 
+-- The three texts are the print of this layout, which has the form of a print.
+pub record ArePrintOf (circuit : Circuit) (arch : Arch) (strip : Strip) (net place route : List ℕ) (layout : Layout) : Type 0 where
+  pub packing : net ≡ net_text circuit arch layout
+  pub places : place ≡ place_text circuit strip layout
+  pub routes : route ≡ route_text circuit strip layout
+  pub form : HasPrintedForm layout
+
 -- The three texts are the print of this layout. No net is called `open`, so in the `.net` text each
 -- `open` is a pin without a net.
 pub record AreFilesOf (circuit : Circuit) (arch : Arch) (strip : Strip) (net place route : List ℕ) (layout : Layout) : Type 0 where
@@ -50,3 +60,16 @@ pub record AreFilesOf (circuit : Circuit) (arch : Arch) (strip : Strip) (net pla
   pub routes : route ≡ route_text circuit strip layout
   pub form : HasPrintedForm layout
   pub named : All (λ name. name ≢ codes "open") circuit.nets
+
+-- a layout that files can say, and the three texts are its print
+pub record IsInFiles (circuit : Circuit) (arch : Arch) (strip : Strip) (net place route : List ℕ) (layout : Layout) : Type 0 where
+  pub files : AreFilesOf circuit arch strip net place route layout
+  pub names : HasFileNames circuit
+  pub fits : FitsFiles circuit arch layout
+
+-- What is read is the layout that the texts are the print of. Texts are refused, unless memory ran
+-- out, only if they are the print of no layout that has numbers and names as files can say them.
+abbrev pub IsReadingOf : {F : Type 0} → Circuit → Arch → Strip → List ℕ → List ℕ → List ℕ → Result Layout (TextError F) → Type 0
+IsReadingOf circuit arch strip net place route (Ok found) = AreFilesOf circuit arch strip net place route found × ((layout : Layout) → IsInFiles circuit arch strip net place route layout → found ≡ layout)
+IsReadingOf circuit arch strip net place route (Err NoMemory) = ⊤
+IsReadingOf circuit arch strip net place route (Err (Fault fault)) = (layout : Layout) → IsInFiles circuit arch strip net place route layout → ⊥

@@ -1,121 +1,163 @@
-//! The lines of one block of a `.net` file.
+//! The lines of a cluster of a `.net` file.
+ghost use Rattle.std.specs.Prelude.{◌≡◌, ◌≤◌, ◌-◌, IfOk, []};
+ghost use Rattle.layout_files.specs.Cursors.{size};
+ghost use Rattle.layout_files.specs.ReadingNets.{AreBlesRead, AreInputsRead, ArePinsRead, IsBleRead, IsFeedIn, IsInputRead, IsNetOnRead, IsNumberIn, IsPinRead};
+
+use crate::cursor::Cursor;
 use crate::names::net_named;
-use cluster::Block;
-use grid::Place;
+use crate::net_lines::NetContext;
 use implements::Feed;
-use layouts::{LaidBle, LaidBlock};
-use line_text::{NameSet, TextError, decimal_u32, is_word};
-use std::alloc::Global;
-use std::mem;
+use layouts::LaidBle;
+use line_text::{NameSet, decimal_u32, is_word};
+use std::alloc::AllocError;
 use strip_files::Fault;
 
-/// The lines of a block that were read so far.
-#[derive(Drop)]
-pub(crate) struct BlockLines {
-    pins: Vec<Option<u32>>,
-    bles: Vec<LaidBle>,
+/// Reads the nets on the pins.
+pub(crate) fn read_pins(
+    cursor: &mut Cursor<'_>,
+    names: &NameSet<'_>,
+    pins: &mut Vec<Option<u32>>,
+) -> Result<(), AllocError>
+    requires { pins.old.items ≡ [] }
+    ensures read { IfOk result (λ _. ArePinsRead names.now cursor.old pins.new.items cursor.new) }
+    ensures shorter { size cursor.new ≤ size cursor.old }
+{
+    while cursor.takes(" ") {
+        let pin = net_on(cursor, names);
+        pins.push(pin)?;
+    }
+    Ok(())
 }
 
-impl BlockLines {
-    /// No lines.
-    pub(crate) fn new(alloc: Global) -> Self {
-        BlockLines {
-            pins: Vec::new(alloc),
-            bles: Vec::new(alloc),
-        }
-    }
-
-    /// The block of these lines. Afterwards there are none.
-    pub(crate) fn take_block(&mut self, alloc: Global, block: Block, place: Place) -> LaidBlock {
-        let pins = mem::replace(&mut self.pins, Vec::new(alloc));
-        let bles = mem::replace(&mut self.bles, Vec::new(alloc));
-        LaidBlock::new(block, pins, bles, place)
-    }
-
-    /// Reads the nets on the pins, after the line's first word.
-    pub(crate) fn read_pins(
-        &mut self,
-        names: &NameSet<'_>,
-        words: &[&[u8]],
-    ) -> Result<(), TextError<Fault>> {
-        for word in words {
-            let net = match net_on(names, word) {
-                Ok(net) => net,
-                Err(fault) => return Err(TextError::Fault(fault)),
-            };
-            self.pins.push(net)?;
-        }
-        Ok(())
-    }
-
-    /// Reads a BLE: its name, its inputs, its output pin and its clock pin.
-    pub(crate) fn read_ble(
-        &mut self,
-        alloc: Global,
-        names: &NameSet<'_>,
-        words: &[&[u8]],
-    ) -> Result<(), TextError<Fault>> {
-        let [name, inputs @ .., output, clock] = words else {
-            return Err(TextError::Fault(Fault::BadElement));
-        };
-        let (Some(output), Some(clock)) = (pin_in(output), pin_in(clock)) else {
-            return Err(TextError::Fault(Fault::BadElement));
-        };
-        let net = match net_named(names, name) {
-            Ok(net) => net,
-            Err(fault) => return Err(TextError::Fault(fault)),
-        };
-        let feeds = read_feeds(alloc, inputs)?;
-        self.bles.push(LaidBle::new(net, feeds, output, clock))?;
-        Ok(())
-    }
-}
-
-/// The net on a pin.
-fn net_on(names: &NameSet<'_>, word: &[u8]) -> Result<Option<u32>, Fault> {
+/// Reads the net on a pin, or `open`.
+fn net_on(cursor: &mut Cursor<'_>, names: &NameSet<'_>) -> Option<u32>
+    ensures read { IsNetOnRead names.now cursor.old result cursor.new }
+    ensures shorter { size cursor.new ≤ size cursor.old }
+{
+    let word = cursor.word();
     if is_word(word, "open") {
-        return Ok(None);
+        return None;
     }
-    Ok(Some(net_named(names, word)?))
+    Some(net_named(cursor, names, word))
 }
 
-/// The number of a pin, if there is one. None if the word is neither a number nor `open`.
-fn pin_in(word: &[u8]) -> Option<Option<usize>> {
-    if is_word(word, "open") {
-        return Some(None);
+/// Reads the lines of the BLEs.
+pub(crate) fn read_bles(
+    cursor: &mut Cursor<'_>,
+    context: NetContext<'_, '_>,
+    bles: &mut Vec<LaidBle>,
+) -> Result<(), AllocError>
+    requires { bles.old.items ≡ [] }
+    ensures read { IfOk result (λ _. AreBlesRead context.entry.names.now context.entry.lut_size
+        cursor.old bles.new.items cursor.new) }
+    ensures shorter { size cursor.new ≤ size cursor.old }
+{
+    while cursor.takes("subblock: ") {
+        let ble = read_ble(cursor, context)?;
+        bles.push(ble)?;
     }
-    Some(Some(decimal_u32(word)? as usize))
+    Ok(())
 }
 
-/// Where the inputs come from. `open` is no input.
-fn read_feeds(alloc: Global, words: &[&[u8]]) -> Result<Vec<Feed>, TextError<Fault>> {
-    let mut feeds = Vec::new(alloc);
-    match add_feeds(&mut feeds, words) {
-        Ok(()) => Ok(feeds),
+/// Reads a BLE: its name, its inputs, its output pin and its clock pin.
+fn read_ble(cursor: &mut Cursor<'_>, context: NetContext<'_, '_>) -> Result<LaidBle, AllocError>
+    ensures read { IfOk result (λ ble. IsBleRead context.entry.names.now context.entry.lut_size
+        cursor.old ble cursor.new) }
+    ensures shorter { size cursor.new ≤ size cursor.old }
+{
+    cursor.expect(Fault::BadElement);
+    let word = cursor.word();
+    let name = net_named(cursor, context.names, word);
+    let mut inputs = Vec::new(context.alloc);
+    match read_inputs(cursor, context.lut_size, &mut inputs) {
+        Ok(()) => {
+            let output = read_pin(cursor);
+            let clock = read_pin(cursor);
+            cursor.text("\n");
+            Ok(LaidBle::new(name, inputs, output, clock))
+        }
         Err(error) => {
-            drop(feeds);
+            drop(inputs);
             Err(error)
         }
     }
 }
 
-/// Adds where the inputs come from.
-fn add_feeds(feeds: &mut Vec<Feed>, words: &[&[u8]]) -> Result<(), TextError<Fault>> {
-    for word in words {
-        if !is_word(word, "open") {
-            let Some(feed) = feed_in(word) else {
-                return Err(TextError::Fault(Fault::BadElement));
-            };
-            feeds.push(feed)?;
-        }
+/// Reads where the inputs of a table come from. `open` is no input.
+fn read_inputs(
+    cursor: &mut Cursor<'_>,
+    lut_size: u32,
+    inputs: &mut Vec<Feed>,
+) -> Result<(), AllocError>
+    requires { inputs.old.items ≡ [] }
+    ensures read { IfOk result (λ _. AreInputsRead lut_size cursor.old inputs.new.items cursor.new) }
+    ensures shorter { size cursor.new ≤ size cursor.old }
+{
+    for _place in 0..lut_size {
+        read_input(cursor, inputs)?;
     }
     Ok(())
 }
 
+/// Reads where an input comes from, and adds it to the others. `open` is no input.
+fn read_input(cursor: &mut Cursor<'_>, inputs: &mut Vec<Feed>) -> Result<(), AllocError>
+    ensures read { IfOk result (λ _. IsInputRead inputs.old.items cursor.old inputs.new.items
+        cursor.new) }
+    ensures shorter { size cursor.new ≤ size cursor.old }
+{
+    cursor.text(" ");
+    let word = cursor.word();
+    if is_word(word, "open") {
+        return Ok(());
+    }
+    let feed = feed_in(cursor, word);
+    inputs.push(feed)?;
+    Ok(())
+}
+
 /// Where an input comes from: `ble_PLACE`, or the number of a pin.
-fn feed_in(word: &[u8]) -> Option<Feed> {
+fn feed_in(cursor: &mut Cursor<'_>, word: &[u8]) -> Feed
+    ensures read { IsFeedIn word.now cursor.old result cursor.new }
+    ensures shorter { size cursor.new ≤ size cursor.old }
+{
     match word.strip_prefix(b"ble_".as_slice()) {
-        Some(place) => Some(Feed::Ble(decimal_u32(place)? as usize)),
-        None => Some(Feed::Pin(decimal_u32(word)? as usize)),
+        Some(place) => Feed::Ble(number_in(cursor, place)),
+        None => Feed::Pin(number_in(cursor, word)),
+    }
+}
+
+/// Reads the number of a pin, or `open`.
+fn read_pin(cursor: &mut Cursor<'_>) -> Option<usize>
+    ensures read { IsPinRead cursor.old result cursor.new }
+    ensures shorter { size cursor.new ≤ size cursor.old }
+{
+    cursor.text(" ");
+    let word = cursor.word();
+    if is_word(word, "open") {
+        return None;
+    }
+    Some(number_in(cursor, word))
+}
+
+/// The number that the word spells.
+fn number_in(cursor: &mut Cursor<'_>, word: &[u8]) -> usize
+    ensures read { IsNumberIn word.now cursor.old result cursor.new }
+    ensures shorter { size cursor.new ≤ size cursor.old }
+{
+    match decimal_u32(word) {
+        Some(number) => number as usize,
+        None => {
+            cursor.fail(fault_of(word));
+            0
+        }
+    }
+}
+
+/// What is told of a word that is no number: an empty one is one blank too many.
+fn fault_of(word: &[u8]) -> Fault {
+    if word.is_empty() {
+        Fault::OtherText
+    } else {
+        Fault::BadElement
     }
 }

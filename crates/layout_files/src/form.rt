@@ -1,5 +1,5 @@
 //! What the texts don't print of a layout.
-ghost use Rattle.std.specs.Prelude.{◌≡◌, ◌≢◌, All, IsTrue, codes, position};
+ghost use Rattle.std.specs.Prelude.{◌≡◌, ◌≢◌, All, ◌↔◌, IsTrue, codes, position};
 ghost use Rattle.layout_files.specs.LayoutFiles.{EndsAtSink, HasPrintedForm, HasWholePaths, IsBare, is_sink_kind};
 
 use blif::NetNames;
@@ -11,13 +11,13 @@ use rr_graph::{Node, NodeKind};
 /// Whether the layout's paths end at their sinks, global nets have no paths, and pads have neither
 /// pins nor BLEs.
 pub(crate) fn has_printed_form(layout: &Layout) -> bool
-    ensures { IsTrue result → HasPrintedForm layout.now }
+    ensures { IsTrue result ↔ HasPrintedForm layout.now }
 {
     are_bare(layout.blocks()) && have_whole_paths(layout.nets())
 }
 
 fn are_bare(blocks: &[LaidBlock]) -> bool
-    ensures { IsTrue result → All IsBare blocks.now }
+    ensures { IsTrue result ↔ All IsBare blocks.now }
 {
     for laid in blocks {
         if !is_bare(laid) {
@@ -28,7 +28,7 @@ fn are_bare(blocks: &[LaidBlock]) -> bool
 }
 
 fn is_bare(laid: &LaidBlock) -> bool
-    ensures { IsTrue result → IsBare laid.now }
+    ensures { IsTrue result ↔ IsBare laid.now }
 {
     match laid.block() {
         Block::Cluster(_) => true,
@@ -37,7 +37,7 @@ fn is_bare(laid: &LaidBlock) -> bool
 }
 
 fn have_whole_paths(nets: &[LaidNet]) -> bool
-    ensures { IsTrue result → All HasWholePaths nets.now }
+    ensures { IsTrue result ↔ All HasWholePaths nets.now }
 {
     for net in nets {
         if !has_whole_paths(net) {
@@ -48,13 +48,13 @@ fn have_whole_paths(nets: &[LaidNet]) -> bool
 }
 
 fn has_whole_paths(net: &LaidNet) -> bool
-    ensures { IsTrue result → HasWholePaths net.now }
+    ensures { IsTrue result ↔ HasWholePaths net.now }
 {
     (net.listed_blocks().is_empty() || net.paths().is_empty()) && end_at_sinks(net.paths())
 }
 
 fn end_at_sinks(paths: &[LaidPath]) -> bool
-    ensures { IsTrue result → All EndsAtSink paths.now }
+    ensures { IsTrue result ↔ All EndsAtSink paths.now }
 {
     for path in paths {
         if !ends_at_sink(path.nodes()) {
@@ -66,7 +66,7 @@ fn end_at_sinks(paths: &[LaidPath]) -> bool
 
 /// Whether the first sink is the last node.
 fn ends_at_sink(path: &[Node]) -> bool
-    ensures { IsTrue result → EndsAtSink path.now }
+    ensures { IsTrue result ↔ EndsAtSink path.now }
 {
     match first_sink(path) {
         Some(place) => place + 1 == path.len(),
@@ -81,7 +81,8 @@ fn first_sink(path: &[Node]) -> Option<usize>
     path.iter().position(|node| is_sink(node.kind))
 }
 
-fn is_sink(kind: NodeKind) -> bool
+/// Whether it is a sink.
+pub(crate) fn is_sink(kind: NodeKind) -> bool
     ensures { result ≡ is_sink_kind kind }
 {
     match kind {
@@ -93,7 +94,7 @@ fn is_sink(kind: NodeKind) -> bool
 
 /// Whether no net is called `open`.
 pub(crate) fn none_is_open(names: &NetNames) -> bool
-    ensures { IsTrue result → All (λ name. name ≢ codes "open") names.now }
+    ensures { IsTrue result ↔ All (λ name. name ≢ codes "open") names.now }
 {
     for net in 0..names.len() {
         if is_word(names.name(net), "open") {

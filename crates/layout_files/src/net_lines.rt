@@ -1,196 +1,187 @@
 //! The lines of a `.net` file: the global nets, and the blocks.
-use crate::block_lines::BlockLines;
+ghost use Rattle.std.specs.Prelude.{◌≡◌, ◌≤◌, ◌<◌, ◌+◌, ◌-◌, ◌^◌, if◌then◌else◌, slice_get, IfOk, []};
+ghost use Rattle.layout_files.specs.Cursors.{size};
+ghost use Rattle.layout_files.specs.Fitting.{is_cluster};
+ghost use Rattle.layout_files.specs.ReadingNets.{AreBlocksRead, AreGlobalsRead, IsBlockRead, IsClusterRead, IsGlobalRead, IsPackingRead, IsPadRead};
+
+use crate::block_lines::{read_bles, read_pins};
+use crate::cursor::Cursor;
 use crate::names::net_named;
-use crate::place_lines::PlacedBlock;
 use cluster::Block;
-use layouts::LaidBlock;
-use line_text::{NameSet, TextError, append_words, is_word, split_line};
-use std::alloc::Global;
-use strip_files::{Fault, File, FileFault, in_file};
+use grid::Place;
+use layouts::{LaidBle, LaidBlock};
+use line_text::NameSet;
+use std::alloc::{AllocError, Global};
+use strip_files::Fault;
 
 /// What the lines of a `.net` file refer to.
 #[derive(Clone, Copy)]
-pub(crate) struct NetContext<'a, 'c, 't> {
+pub(crate) struct NetContext<'a, 'c> {
+    pub(crate) alloc: Global,
     pub(crate) names: &'a NameSet<'c>,
-    pub(crate) placed: &'a [PlacedBlock<'t>],
+    /// The largest number of inputs of a table.
+    pub(crate) lut_size: u32,
 }
 
-/// The contents of a `.net` file.
-#[derive(Drop)]
-pub(crate) struct NetLines {
-    globals: Vec<u32>,
-    blocks: Vec<LaidBlock>,
-    /// The block whose lines are read.
-    block: Option<Block>,
-    lines: BlockLines,
-    clusters: u32,
+/// Reads the global nets and the blocks, which are at these places.
+pub(crate) fn read_packing(
+    cursor: &mut Cursor<'_>,
+    context: NetContext<'_, '_>,
+    places: &[Place],
+    globals: &mut Vec<u32>,
+    blocks: &mut Vec<LaidBlock>,
+) -> Result<(), AllocError>
+    requires globals { globals.old.items ≡ [] }
+    requires blocks { blocks.old.items ≡ [] }
+    ensures { IfOk result (λ _. IsPackingRead context.entry.names.now context.entry.lut_size places.now
+        cursor.old globals.new.items blocks.new.items cursor.new) }
+{
+    read_globals(cursor, context.names, globals)?;
+    read_blocks(cursor, context, places, blocks)
 }
 
-impl NetLines {
-    /// No contents.
-    pub(crate) fn new(alloc: Global) -> Self {
-        NetLines {
-            globals: Vec::new(alloc),
-            blocks: Vec::new(alloc),
-            block: None,
-            lines: BlockLines::new(alloc),
-            clusters: 0,
-        }
-    }
-
-    /// The global nets and the blocks.
-    pub(crate) fn into_parts(self) -> (Vec<u32>, Vec<LaidBlock>) {
-        let NetLines {
-            globals,
-            blocks,
-            block: _,
-            lines,
-            clusters: _,
-        } = self;
-        drop(lines);
-        (globals, blocks)
-    }
-
-    /// Reads the lines of a file. At a fault it has the contents before that line.
-    pub(crate) fn read(
-        &mut self,
-        alloc: Global,
-        context: NetContext<'_, '_, '_>,
-        text: &[u8],
-    ) -> Result<(), TextError<FileFault>> {
-        let mut words = Vec::new(alloc);
-        let outcome = self.read_lines(alloc, context, &mut words, text);
-        drop(words);
-        outcome
-    }
-
-    /// Reads the lines, with memory for the words of one line.
-    fn read_lines<'t>(
-        &mut self,
-        alloc: Global,
-        context: NetContext<'_, '_, '_>,
-        words: &mut Vec<&'t [u8]>,
-        text: &'t [u8],
-    ) -> Result<(), TextError<FileFault>> {
-        let mut number = 0usize;
-        let mut rest = text;
-        while !rest.is_empty() {
-            let (line, later) = split_line(rest);
-            number = number.saturating_add(1);
-            words.clear();
-            if append_words(words, line).is_err() {
-                return Err(TextError::NoMemory);
-            }
-            if let Err(error) = self.line(alloc, context, words.as_slice()) {
-                return Err(in_file(error, File::Net, number));
-            }
-            rest = later;
-        }
-        if self.block.is_some() || self.blocks.len() < context.placed.len() {
-            return Err(in_file(TextError::Fault(Fault::Unfinished), File::Net, number));
-        }
-        Ok(())
-    }
-
-    /// Reads a line, given by its words.
-    fn line(
-        &mut self,
-        alloc: Global,
-        context: NetContext<'_, '_, '_>,
-        words: &[&[u8]],
-    ) -> Result<(), TextError<Fault>> {
-        let Some((first, others)) = words.split_first() else {
-            return self.end_block(alloc, context.placed);
-        };
-        match (self.block, others) {
-            (Some(_), _) if is_word(first, "pinlist:") => self.pins(context.names, others),
-            (Some(Block::Cluster(_)), _) if is_word(first, "subblock:") => {
-                self.lines.read_ble(alloc, context.names, others)
-            }
-            (None, [name]) if is_word(first, ".global") => self.add_global(context.names, name),
-            (None, [name]) => self.begin_block(context, first, name),
-            _ => Err(TextError::Fault(Fault::UnknownLine)),
-        }
-    }
-
-    /// Reads the pins of the block. A pad has its net by its name.
-    fn pins(&mut self, names: &NameSet<'_>, words: &[&[u8]]) -> Result<(), TextError<Fault>> {
-        match self.block {
-            Some(Block::Cluster(_)) => self.lines.read_pins(names, words),
-            _ => Ok(()),
-        }
-    }
-
-    /// Adds a global net.
-    fn add_global(&mut self, names: &NameSet<'_>, name: &[u8]) -> Result<(), TextError<Fault>> {
-        match net_named(names, name) {
-            Ok(net) => {
-                self.globals.push(net)?;
-                Ok(())
-            }
-            Err(fault) => Err(TextError::Fault(fault)),
-        }
-    }
-
-    /// Begins a block of that name.
-    fn begin_block(
-        &mut self,
-        context: NetContext<'_, '_, '_>,
-        keyword: &[u8],
-        name: &[u8],
-    ) -> Result<(), TextError<Fault>> {
-        let block = match block_of(context.names, keyword, name, self.clusters) {
-            Ok(block) => block,
-            Err(fault) => return Err(TextError::Fault(fault)),
-        };
-        match context.placed.get(self.blocks.len()) {
-            Some(placed) if placed.name == name => {}
-            _ => return Err(TextError::Fault(Fault::OtherPlaced)),
-        }
-        if let Block::Cluster(number) = block {
-            self.clusters = number.saturating_add(1);
-        }
-        self.block = Some(block);
-        Ok(())
-    }
-
-    /// Ends the block whose lines are read, if there is one.
-    fn end_block(
-        &mut self,
-        alloc: Global,
-        placed: &[PlacedBlock<'_>],
-    ) -> Result<(), TextError<Fault>> {
-        let Some(block) = self.block else {
-            return Ok(());
-        };
-        let Some(at) = placed.get(self.blocks.len()) else {
-            return Err(TextError::Fault(Fault::OtherPlaced));
-        };
-        let laid = self.lines.take_block(alloc, block, at.place);
-        self.blocks.push(laid)?;
-        self.block = None;
-        Ok(())
-    }
-}
-
-/// The block of that keyword and name, if the next cluster has that number.
-fn block_of(
+/// Reads the lines of the global nets.
+fn read_globals(
+    cursor: &mut Cursor<'_>,
     names: &NameSet<'_>,
-    keyword: &[u8],
-    name: &[u8],
-    cluster: u32,
-) -> Result<Block, Fault> {
-    if is_word(keyword, ".input") {
-        return Ok(Block::InputPad(net_named(names, name)?));
+    globals: &mut Vec<u32>,
+) -> Result<(), AllocError>
+    requires { globals.old.items ≡ [] }
+    ensures { IfOk result (λ _. AreGlobalsRead names.now cursor.old globals.new.items cursor.new) }
+{
+    while cursor.takes(".global ") {
+        let net = read_global(cursor, names);
+        globals.push(net)?;
     }
-    if is_word(keyword, ".output") {
-        return match name.strip_prefix(b"out:".as_slice()) {
-            Some(net) => Ok(Block::OutputPad(net_named(names, net)?)),
-            None => Err(Fault::UnknownLine),
+    if globals.is_empty() {
+        return Ok(());
+    }
+    cursor.text("\n");
+    Ok(())
+}
+
+/// Reads the name of a global net, and the end of its line.
+fn read_global(cursor: &mut Cursor<'_>, names: &NameSet<'_>) -> u32
+    ensures read { IsGlobalRead names.now cursor.old result cursor.new }
+    ensures shorter { size cursor.new ≤ size cursor.old }
+{
+    cursor.expect(Fault::UnknownLine);
+    let word = cursor.word();
+    let net = net_named(cursor, names, word);
+    cursor.text("\n");
+    net
+}
+
+/// Reads the lines of the blocks.
+fn read_blocks(
+    cursor: &mut Cursor<'_>,
+    context: NetContext<'_, '_>,
+    places: &[Place],
+    blocks: &mut Vec<LaidBlock>,
+) -> Result<(), AllocError>
+    requires { blocks.old.items ≡ [] }
+    ensures { IfOk result (λ _. AreBlocksRead context.entry.names.now context.entry.lut_size places.now
+        cursor.old blocks.new.items cursor.new) }
+{
+    let mut clusters = 0u32;
+    while cursor.has_more() {
+        let place = match place_at(places, blocks.len()) {
+            Some(place) => place,
+            None => {
+                cursor.fail(Fault::OtherPlaced);
+                return Ok(());
+            }
         };
+        let laid = read_block(cursor, context, place, clusters)?;
+        clusters = clusters_after(clusters, laid.block());
+        blocks.push(laid)?;
     }
-    if is_word(keyword, ".clb") {
-        return Ok(Block::Cluster(cluster));
+    Ok(())
+}
+
+/// The place at this index, if there is one.
+fn place_at(places: &[Place], index: usize) -> Option<Place>
+    ensures { result ≡ slice_get places.now index }
+{
+    places.get(index).copied()
+}
+
+/// The number of clusters after one more block, if there are so many before it.
+fn clusters_after(clusters: u32, block: Block) -> u32
+    ensures { clusters + 1 < 2 ^ 32
+        → result ≡ (if is_cluster block then clusters + 1 else clusters) }
+{
+    match block {
+        Block::Cluster(_) => clusters.saturating_add(1),
+        Block::InputPad(_) | Block::OutputPad(_) => clusters,
     }
-    Err(Fault::UnknownLine)
+}
+
+/// Reads the lines of a block at a place, which has this number if it is a cluster.
+fn read_block(
+    cursor: &mut Cursor<'_>,
+    context: NetContext<'_, '_>,
+    place: Place,
+    number: u32,
+) -> Result<LaidBlock, AllocError>
+    ensures read { IfOk result (λ laid. IsBlockRead context.entry.names.now context.entry.lut_size place
+        number cursor.old laid cursor.new) }
+    ensures shorter { IfOk result (λ _. size cursor.new ≤ size cursor.old - 1) }
+{
+    cursor.expect(Fault::UnknownLine);
+    let alloc = context.alloc;
+    if cursor.takes(".input ") {
+        let block = Block::InputPad(read_pad(cursor, context.names));
+        return Ok(LaidBlock::new(block, Vec::new(alloc), Vec::new(alloc), place));
+    }
+    if cursor.takes(".output out:") {
+        let block = Block::OutputPad(read_pad(cursor, context.names));
+        return Ok(LaidBlock::new(block, Vec::new(alloc), Vec::new(alloc), place));
+    }
+    cursor.text(".clb ");
+    let mut pins = Vec::new(alloc);
+    let mut bles = Vec::new(alloc);
+    match read_cluster(cursor, context, &mut pins, &mut bles) {
+        Ok(()) => Ok(LaidBlock::new(Block::Cluster(number), pins, bles, place)),
+        Err(error) => {
+            drop(pins);
+            drop(bles);
+            Err(error)
+        }
+    }
+}
+
+/// Reads the name of a pad's net, and the line of its pin.
+fn read_pad(cursor: &mut Cursor<'_>, names: &NameSet<'_>) -> u32
+    ensures read { IsPadRead names.now cursor.old result cursor.new }
+    ensures shorter { size cursor.new ≤ size cursor.old }
+{
+    let word = cursor.word();
+    let net = net_named(cursor, names, word);
+    cursor.text("\npinlist: ");
+    cursor.word();
+    cursor.text("\n\n");
+    net
+}
+
+/// Reads the rest of the lines of a cluster, after its keyword.
+fn read_cluster(
+    cursor: &mut Cursor<'_>,
+    context: NetContext<'_, '_>,
+    pins: &mut Vec<Option<u32>>,
+    bles: &mut Vec<LaidBle>,
+) -> Result<(), AllocError>
+    requires pins { pins.old.items ≡ [] }
+    requires bles { bles.old.items ≡ [] }
+    ensures read { IfOk result (λ _. IsClusterRead context.entry.names.now context.entry.lut_size cursor.old
+        pins.new.items bles.new.items cursor.new) }
+    ensures shorter { size cursor.new ≤ size cursor.old }
+{
+    cursor.word();
+    cursor.text("\npinlist:");
+    read_pins(cursor, context.names, pins)?;
+    cursor.text("\n");
+    read_bles(cursor, context, bles)?;
+    cursor.text("\n");
+    Ok(())
 }

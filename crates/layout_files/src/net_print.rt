@@ -1,78 +1,62 @@
 //! Prints the `.net` text of a layout.
-ghost use Rattle.std.specs.Prelude.{◌≡◌, ◌++◌, OnOk, decimal, map, slice_get};
+ghost use Rattle.std.specs.Prelude.{◌≡◌, decimal, map, slice_get};
 ghost use Rattle.std.specs.List.{flat_map, range_with_len};
 ghost use Rattle.cluster.specs.Blocks.{net_name};
+ghost use Rattle.layout_files.specs.Cursors.{left_after};
 ghost use Rattle.layout_files.specs.Printing.{cluster_lines, global_lines};
 ghost use Rattle.layout_text.specs.LayoutText.{ble_line, feed_or_open, laid_lines, net_text};
 ghost use Rattle.vpr_files.specs.NetFile.{or_open};
 ghost use Rattle.vpr_files.specs.TextLines.{line_of, word_after_space, text_of};
 
-use crate::comparer::Comparer;
+use crate::cursor::Cursor;
 use crate::laid_names::{cluster_name, net_name};
 use arch_file::Arch;
 use blif::Circuit;
 use cluster::Block;
 use implements::Feed;
 use layouts::{LaidBle, LaidBlock, Layout};
-use line_text::Failed;
 use text_parts::Part;
 
 /// Prints the `.net` text of a layout.
 pub(crate) fn print_net_text(
-    print: &mut Comparer<'_>,
+    print: &mut Cursor<'_>,
     circuit: &Circuit,
     arch: &Arch,
     layout: &Layout,
-) -> Result<(), Failed>
-    ensures { OnOk result (print.new.bytes
-        ≡ print.old.bytes ++ net_text circuit.now arch.now layout.now) }
+)
+    ensures { print.new ≡ left_after print.old (net_text circuit.now arch.now layout.now) }
 {
-    print_globals(print, circuit, layout.globals())?;
+    print_globals(print, circuit, layout.globals());
     print_blocks(print, circuit, arch, layout.blocks())
 }
 
 /// Prints the lines of the global nets.
-fn print_globals(print: &mut Comparer<'_>, circuit: &Circuit, globals: &[u32]) -> Result<(), Failed>
-    ensures { OnOk result (print.new.bytes
-        ≡ print.old.bytes ++ text_of (global_lines circuit.now globals.now)) }
+fn print_globals(print: &mut Cursor<'_>, circuit: &Circuit, globals: &[u32])
+    ensures { print.new ≡ left_after print.old (text_of (global_lines circuit.now globals.now)) }
 {
     for net in globals {
         print.print(&[
             Part::Text(".global "),
             Part::Bytes(net_name(circuit, *net)),
             Part::Text("\n"),
-        ])?;
+        ]);
     }
     if globals.is_empty() {
-        Ok(())
-    } else {
-        print.print(&[Part::Text("\n")])
+        return;
     }
+    print.print(&[Part::Text("\n")])
 }
 
-fn print_blocks(
-    print: &mut Comparer<'_>,
-    circuit: &Circuit,
-    arch: &Arch,
-    blocks: &[LaidBlock],
-) -> Result<(), Failed>
-    ensures { OnOk result (print.new.bytes
-        ≡ print.old.bytes ++ text_of (flat_map (laid_lines circuit.now arch.now) blocks.now)) }
+fn print_blocks(print: &mut Cursor<'_>, circuit: &Circuit, arch: &Arch, blocks: &[LaidBlock])
+    ensures { print.new ≡ left_after print.old (text_of (flat_map (laid_lines circuit.now arch.now) blocks.now)) }
 {
     for laid in blocks {
-        print_block(print, circuit, arch, laid)?;
+        print_block(print, circuit, arch, laid);
     }
-    Ok(())
 }
 
-fn print_block(
-    print: &mut Comparer<'_>,
-    circuit: &Circuit,
-    arch: &Arch,
-    laid: &LaidBlock,
-) -> Result<(), Failed>
-    ensures { OnOk result (print.new.bytes
-        ≡ print.old.bytes ++ text_of (laid_lines circuit.now arch.now laid.now)) }
+fn print_block(print: &mut Cursor<'_>, circuit: &Circuit, arch: &Arch, laid: &LaidBlock)
+    ensures { print.new ≡ left_after print.old (text_of (laid_lines circuit.now arch.now laid.now)) }
 {
     match laid.block() {
         Block::InputPad(net) => {
@@ -99,77 +83,58 @@ fn print_block(
     }
 }
 
-fn print_cluster(
-    print: &mut Comparer<'_>,
-    circuit: &Circuit,
-    arch: &Arch,
-    laid: &LaidBlock,
-) -> Result<(), Failed>
-    ensures { OnOk result (print.new.bytes
-        ≡ print.old.bytes ++ text_of (cluster_lines circuit.now arch.now laid.now)) }
+fn print_cluster(print: &mut Cursor<'_>, circuit: &Circuit, arch: &Arch, laid: &LaidBlock)
+    ensures { print.new ≡ left_after print.old (text_of (cluster_lines circuit.now arch.now laid.now)) }
 {
     print.print(&[
         Part::Text(".clb "),
         Part::Bytes(cluster_name(circuit, laid.bles())),
         Part::Text("\npinlist:"),
-    ])?;
-    print_pins(print, circuit, laid.pins())?;
-    print.print(&[Part::Text("\n")])?;
-    print_bles(print, circuit, arch, laid.bles())?;
+    ]);
+    print_pins(print, circuit, laid.pins());
+    print.print(&[Part::Text("\n")]);
+    print_bles(print, circuit, arch, laid.bles());
     print.print(&[Part::Text("\n")])
 }
 
 /// Prints the net on each pin, or `open`.
-fn print_pins(
-    print: &mut Comparer<'_>,
-    circuit: &Circuit,
-    pins: &[Option<u32>],
-) -> Result<(), Failed>
-    ensures { OnOk result (print.new.bytes ≡ print.old.bytes
-        ++ flat_map word_after_space (map (or_open (net_name circuit.now)) pins.now)) }
+fn print_pins(print: &mut Cursor<'_>, circuit: &Circuit, pins: &[Option<u32>])
+    ensures { print.new ≡ left_after print.old (flat_map word_after_space (map (or_open (net_name circuit.now)) pins.now)) }
 {
     for pin in pins {
-        let name = match pin {
-            Some(net) => net_name(circuit, *net),
-            None => b"open",
-        };
-        print.print(&[Part::Text(" "), Part::Bytes(name)])?;
+        print.print(&[Part::Text(" "), Part::Bytes(net_or_open(circuit, *pin))]);
     }
-    Ok(())
 }
 
-fn print_bles(
-    print: &mut Comparer<'_>,
-    circuit: &Circuit,
-    arch: &Arch,
-    bles: &[LaidBle],
-) -> Result<(), Failed>
-    ensures { OnOk result (print.new.bytes
-        ≡ print.old.bytes ++ text_of (map (ble_line circuit.now arch.now) bles.now)) }
+/// The name of the net on a pin, or `open`.
+fn net_or_open(circuit: &Circuit, pin: Option<u32>) -> &[u8]
+    ensures { result.now ≡ or_open (net_name circuit.now) pin }
+{
+    match pin {
+        Some(net) => net_name(circuit, net),
+        None => b"open",
+    }
+}
+
+fn print_bles(print: &mut Cursor<'_>, circuit: &Circuit, arch: &Arch, bles: &[LaidBle])
+    ensures { print.new ≡ left_after print.old (text_of (map (ble_line circuit.now arch.now) bles.now)) }
 {
     for ble in bles {
-        print_ble(print, circuit, arch, ble)?;
+        print_ble(print, circuit, arch, ble);
     }
-    Ok(())
 }
 
 /// Prints the line of a BLE.
-fn print_ble(
-    print: &mut Comparer<'_>,
-    circuit: &Circuit,
-    arch: &Arch,
-    ble: &LaidBle,
-) -> Result<(), Failed>
-    ensures { OnOk result (print.new.bytes
-        ≡ print.old.bytes ++ line_of (ble_line circuit.now arch.now ble.now)) }
+fn print_ble(print: &mut Cursor<'_>, circuit: &Circuit, arch: &Arch, ble: &LaidBle)
+    ensures { print.new ≡ left_after print.old (line_of (ble_line circuit.now arch.now ble.now)) }
 {
     print.print(&[
         Part::Text("subblock: "),
         Part::Bytes(net_name(circuit, ble.name())),
-    ])?;
-    print_inputs(print, arch.lut_size, ble.inputs())?;
-    print_pin(print, ble.output())?;
-    print_pin(print, ble.clock())?;
+    ]);
+    print_inputs(print, arch.lut_size, ble.inputs());
+    print_pin(print, ble.output());
+    print_pin(print, ble.clock());
     print.print(&[Part::Text("\n")])
 }
 
@@ -181,21 +146,17 @@ fn feed_at(inputs: &[Feed], place: usize) -> Option<Feed>
 }
 
 /// Prints where the inputs come from, one word for each input of a table.
-fn print_inputs(print: &mut Comparer<'_>, lut_size: u32, inputs: &[Feed]) -> Result<(), Failed>
-    ensures { OnOk result (print.new.bytes ≡ print.old.bytes
-        ++ flat_map (λ place. word_after_space (feed_or_open (slice_get inputs.now place)))
-        (range_with_len 0 lut_size)) }
+fn print_inputs(print: &mut Cursor<'_>, lut_size: u32, inputs: &[Feed])
+    ensures { print.new ≡ left_after print.old (flat_map (λ place. word_after_space (feed_or_open (slice_get inputs.now place))) (range_with_len 0 lut_size)) }
 {
     for place in 0..lut_size as usize {
-        print_feed(print, feed_at(inputs, place))?;
+        print_feed(print, feed_at(inputs, place));
     }
-    Ok(())
 }
 
 /// Prints where an input comes from, or `open`.
-fn print_feed(print: &mut Comparer<'_>, feed: Option<Feed>) -> Result<(), Failed>
-    ensures { OnOk result (print.new.bytes ≡ print.old.bytes
-        ++ word_after_space (feed_or_open feed)) }
+fn print_feed(print: &mut Cursor<'_>, feed: Option<Feed>)
+    ensures { print.new ≡ left_after print.old (word_after_space (feed_or_open feed)) }
 {
     match feed {
         Some(Feed::Pin(pin)) => print.print(&[Part::Text(" "), Part::Long(pin as u64)]),
@@ -205,9 +166,8 @@ fn print_feed(print: &mut Comparer<'_>, feed: Option<Feed>) -> Result<(), Failed
 }
 
 /// Prints the number of a pin, or `open`.
-fn print_pin(print: &mut Comparer<'_>, pin: Option<usize>) -> Result<(), Failed>
-    ensures { OnOk result (print.new.bytes ≡ print.old.bytes
-        ++ word_after_space (or_open decimal pin)) }
+fn print_pin(print: &mut Cursor<'_>, pin: Option<usize>)
+    ensures { print.new ≡ left_after print.old (word_after_space (or_open decimal pin)) }
 {
     match pin {
         Some(number) => print.print(&[Part::Text(" "), Part::Long(number as u64)]),

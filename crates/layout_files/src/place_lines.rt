@@ -1,78 +1,85 @@
 //! The lines of a `.place` file: the places of the blocks.
-use grid::Place;
-use line_text::{TextError, split_line};
-use strip_files::{Fault, File, FileFault, StripSize, in_file, place_in, size_in};
+ghost use Rattle.std.specs.Prelude.{◌≡◌, ◌≤◌, ◌-◌, IfOk, []};
+ghost use Rattle.layout_files.specs.Cursors.{size};
+ghost use Rattle.layout_files.specs.Reading.{AreBlocksRead, ArePlacesRead, IsHeadingRead, IsPlaceRead, IsSizeRead};
 
-/// A block at its place.
-#[derive(Clone, Copy)]
-pub(crate) struct PlacedBlock<'t> {
-    pub(crate) name: &'t [u8],
-    pub(crate) place: Place,
+use crate::cursor::Cursor;
+use grid::{Place, Strip};
+use std::alloc::AllocError;
+use strip_files::Fault;
+use text_parts::Part;
+
+/// Reads the places of the blocks, by number.
+pub(crate) fn read_places(
+    cursor: &mut Cursor<'_>,
+    strip: Strip,
+    places: &mut Vec<Place>,
+) -> Result<(), AllocError>
+    requires { places.old.items ≡ [] }
+    ensures { IfOk result (λ _. ArePlacesRead strip cursor.old places.new.items cursor.new) }
+{
+    read_headings(cursor, strip);
+    read_blocks(cursor, places)
 }
 
-/// Reads the places of the blocks, by number. At a fault `placed` has those before its line.
-pub(crate) fn read_places<'t>(
-    placed: &mut Vec<PlacedBlock<'t>>,
-    size: StripSize,
-    text: &'t [u8],
-) -> Result<(), TextError<FileFault>> {
-    let mut number = 0usize;
-    let mut rest = text;
-    while !rest.is_empty() {
-        let (line, later) = split_line(rest);
-        number = number.saturating_add(1);
-        if let Err(error) = read_line(placed, size, number, line) {
-            return Err(in_file(error, File::Place, number));
-        }
-        rest = later;
+/// Reads the lines before the first block's.
+fn read_headings(cursor: &mut Cursor<'_>, strip: Strip)
+    ensures { IsHeadingRead strip cursor.old cursor.new }
+{
+    cursor.expect(Fault::UnknownLine);
+    cursor.text("Netlist file: ");
+    cursor.expect(Fault::OtherText);
+    cursor.word();
+    cursor.text(" Architecture file: device.arch\n");
+    read_size(cursor, strip);
+    cursor.text(" logic blocks\n");
+    cursor.expect(Fault::OtherText);
+    cursor.text("\n");
+    cursor.text("#block name x y subblk block number\n");
+    cursor.text("#---------- - - ------ ------------\n");
+}
+
+/// Reads the size of the strip.
+pub(crate) fn read_size(cursor: &mut Cursor<'_>, strip: Strip)
+    ensures { IsSizeRead strip cursor.old cursor.new }
+{
+    cursor.expect(Fault::BadSize);
+    cursor.text("Array size: ");
+    let columns = cursor.number();
+    cursor.text(" x ");
+    let rows = cursor.number();
+    if columns != strip.width || rows != strip.rows {
+        cursor.fail(Fault::OtherStrip);
     }
-    if number < 2 {
-        return Err(in_file(TextError::Fault(Fault::Unfinished), File::Place, number));
+}
+
+/// Reads the lines of the blocks.
+fn read_blocks(cursor: &mut Cursor<'_>, places: &mut Vec<Place>) -> Result<(), AllocError>
+    requires { places.old.items ≡ [] }
+    ensures { IfOk result (λ _. AreBlocksRead cursor.old places.new.items cursor.new) }
+{
+    while cursor.has_more() {
+        let place = read_place(cursor, places.len());
+        places.push(place)?;
     }
     Ok(())
 }
 
-/// Reads the line of that number.
-fn read_line<'t>(
-    placed: &mut Vec<PlacedBlock<'t>>,
-    size: StripSize,
-    number: usize,
-    line: &'t [u8],
-) -> Result<(), TextError<Fault>> {
-    match number {
-        1 if line.starts_with(b"Netlist file: ") => Ok(()),
-        1 => Err(TextError::Fault(Fault::UnknownLine)),
-        2 => match read_size(size, line, " logic blocks") {
-            Ok(()) => Ok(()),
-            Err(fault) => Err(TextError::Fault(fault)),
-        },
-        _ if line.is_empty() || line.starts_with(b"#") => Ok(()),
-        _ => read_place(placed, line),
-    }
-}
-
-/// Reads the line with the strip's size and these words at its end.
-pub(crate) fn read_size(size: StripSize, line: &[u8], end: &str) -> Result<(), Fault> {
-    let Some(read) = size_in(line, end) else {
-        return Err(Fault::BadSize);
-    };
-    if read.columns != size.columns || read.rows != size.rows {
-        return Err(Fault::OtherStrip);
-    }
-    Ok(())
-}
-
-/// Reads the line of a block.
-fn read_place<'t>(
-    placed: &mut Vec<PlacedBlock<'t>>,
-    line: &'t [u8],
-) -> Result<(), TextError<Fault>> {
-    let Some((name, place, number)) = place_in(line) else {
-        return Err(TextError::Fault(Fault::BadBlock));
-    };
-    if number as usize != placed.len() {
-        return Err(TextError::Fault(Fault::OutOfOrder));
-    }
-    placed.push(PlacedBlock { name, place })?;
-    Ok(())
+/// Reads the line of the block of that number, and returns its place.
+fn read_place(cursor: &mut Cursor<'_>, number: usize) -> Place
+    ensures read { IsPlaceRead number cursor.old result cursor.new }
+    ensures shorter { size cursor.new ≤ size cursor.old - 1 }
+{
+    cursor.expect(Fault::BadBlock);
+    cursor.word();
+    cursor.text(" ");
+    let x = cursor.number();
+    cursor.text(" ");
+    let y = cursor.number();
+    cursor.text(" ");
+    let subblock = cursor.number();
+    cursor.text(" #");
+    cursor.expect(Fault::OutOfOrder);
+    cursor.print(&[Part::Long(number as u64), Part::Text("\n")]);
+    Place { x, y, subblock }
 }

@@ -1,35 +1,33 @@
 //! Prints the `.place` text of a layout.
-ghost use Rattle.std.specs.Prelude.{◌≡◌, ◌++◌, OnOk, map};
+ghost use Rattle.std.specs.Prelude.{◌≡◌, map};
 ghost use Rattle.std.specs.List.{enumerate_from};
+ghost use Rattle.layout_files.specs.Cursors.{left_after};
 ghost use Rattle.layout_files.specs.Printing.{place_headings};
 ghost use Rattle.layout_text.specs.LayoutText.{place_line, place_text};
 ghost use Rattle.vpr_files.specs.TextLines.{line_of, text_of};
 
-use crate::comparer::Comparer;
+use crate::cursor::Cursor;
 use crate::laid_names::laid_name;
 use blif::Circuit;
 use grid::Strip;
 use layouts::{LaidBlock, Layout};
-use line_text::Failed;
 use text_parts::Part;
 
 /// Prints the `.place` text of a layout.
 pub(crate) fn print_place_text(
-    print: &mut Comparer<'_>,
+    print: &mut Cursor<'_>,
     circuit: &Circuit,
     strip: Strip,
     layout: &Layout,
-) -> Result<(), Failed>
-    ensures { OnOk result (print.new.bytes
-        ≡ print.old.bytes ++ place_text circuit.now strip layout.now) }
+)
+    ensures { print.new ≡ left_after print.old (place_text circuit.now strip layout.now) }
 {
-    print_headings(print, circuit, strip)?;
+    print_headings(print, circuit, strip);
     print_places(print, circuit, layout.blocks())
 }
 
-fn print_headings(print: &mut Comparer<'_>, circuit: &Circuit, strip: Strip) -> Result<(), Failed>
-    ensures { OnOk result (print.new.bytes
-        ≡ print.old.bytes ++ text_of (place_headings circuit.now strip)) }
+fn print_headings(print: &mut Cursor<'_>, circuit: &Circuit, strip: Strip)
+    ensures { print.new ≡ left_after print.old (text_of (place_headings circuit.now strip)) }
 {
     print.print(&[
         Part::Text("Netlist file: "),
@@ -45,30 +43,17 @@ fn print_headings(print: &mut Comparer<'_>, circuit: &Circuit, strip: Strip) -> 
 }
 
 /// Prints the lines of the blocks, with their numbers.
-fn print_places(
-    print: &mut Comparer<'_>,
-    circuit: &Circuit,
-    blocks: &[LaidBlock],
-) -> Result<(), Failed>
-    ensures { OnOk result (print.new.bytes ≡ print.old.bytes
-        ++ text_of (map (λ block. place_line circuit.now block.0 block.1)
-        (enumerate_from 0 blocks.now))) }
+fn print_places(print: &mut Cursor<'_>, circuit: &Circuit, blocks: &[LaidBlock])
+    ensures { print.new ≡ left_after print.old (text_of (map (λ block. place_line circuit.now block.0 block.1) (enumerate_from 0 blocks.now))) }
 {
     for (number, laid) in blocks.iter().enumerate() {
-        print_place(print, circuit, number, laid)?;
+        print_place(print, circuit, number, laid);
     }
-    Ok(())
 }
 
 /// Prints the line of the block of that number.
-fn print_place(
-    print: &mut Comparer<'_>,
-    circuit: &Circuit,
-    number: usize,
-    laid: &LaidBlock,
-) -> Result<(), Failed>
-    ensures { OnOk result (print.new.bytes
-        ≡ print.old.bytes ++ line_of (place_line circuit.now number laid.now)) }
+fn print_place(print: &mut Cursor<'_>, circuit: &Circuit, number: usize, laid: &LaidBlock)
+    ensures { print.new ≡ left_after print.old (line_of (place_line circuit.now number laid.now)) }
 {
     let name = laid_name(circuit, laid);
     let place = laid.place();

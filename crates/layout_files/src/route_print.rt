@@ -1,35 +1,36 @@
 //! Prints the `.route` text of a layout.
-ghost use Rattle.std.specs.Prelude.{◌≡◌, ◌++◌, OnOk, map};
+ghost use Rattle.std.specs.Prelude.{◌≡◌, ◌++◌, ◌∷◌, [], codes, decimal, map};
 ghost use Rattle.std.specs.List.{enumerate_from, flat_map};
+ghost use Rattle.layout_files.specs.Cursors.{left_after};
 ghost use Rattle.layout_files.specs.Printing.{connected_text, heading_text, node_lines, route_headings};
-ghost use Rattle.layout_text.specs.LayoutText.{between_lines, block_of, listed_line, route_text};
+ghost use Rattle.layout_text.specs.LayoutText.{between_lines, block_of, laid_name, listed_line, route_text};
+ghost use Rattle.vpr_files.specs.NodeText.{node_text_of, position_text};
 ghost use Rattle.vpr_files.specs.TextLines.{line_of, text_of};
 
-use crate::comparer::Comparer;
-use crate::laid_names::{laid_name, net_name};
+use crate::cursor::Cursor;
+use crate::laid_names::{LaidName, laid_name, net_name};
+use crate::node_words::{is_pad_row, kind_start, number_start};
 use blif::Circuit;
-use grid::Strip;
-use layouts::{LaidBlock, LaidNet, LaidPath, Layout};
-use line_text::Failed;
+use grid::{Place, Strip};
+use layouts::{LaidNet, LaidPath, Layout};
 use rr_graph::Node;
 use text_parts::Part;
 
-/// Prints the `.route` text of a layout. Fails also if a net lists a block that is not there.
+/// Prints the `.route` text of a layout.
 pub(crate) fn print_route_text(
-    print: &mut Comparer<'_>,
+    print: &mut Cursor<'_>,
     circuit: &Circuit,
     strip: Strip,
     layout: &Layout,
-) -> Result<(), Failed>
-    ensures { OnOk result (print.new.bytes
-        ≡ print.old.bytes ++ route_text circuit.now strip layout.now) }
+)
+    ensures { print.new ≡ left_after print.old (route_text circuit.now strip layout.now) }
 {
-    print_headings(print, strip)?;
+    print_headings(print, strip);
     print_nets(print, circuit, strip, layout)
 }
 
-fn print_headings(print: &mut Comparer<'_>, strip: Strip) -> Result<(), Failed>
-    ensures { OnOk result (print.new.bytes ≡ print.old.bytes ++ text_of (route_headings strip)) }
+fn print_headings(print: &mut Cursor<'_>, strip: Strip)
+    ensures { print.new ≡ left_after print.old (text_of (route_headings strip)) }
 {
     print.print(&[
         Part::Text("Array size: "),
@@ -41,69 +42,53 @@ fn print_headings(print: &mut Comparer<'_>, strip: Strip) -> Result<(), Failed>
 }
 
 /// Prints the nets, with their numbers.
-fn print_nets(
-    print: &mut Comparer<'_>,
-    circuit: &Circuit,
-    strip: Strip,
-    layout: &Layout,
-) -> Result<(), Failed>
-    ensures { OnOk result (print.new.bytes ≡ print.old.bytes
-        ++ text_of (flat_map
-        (λ net. between_lines circuit.now strip layout.now net.0 net.1 net.1.listed)
-        (enumerate_from 0 layout.now.nets))) }
+fn print_nets(print: &mut Cursor<'_>, circuit: &Circuit, strip: Strip, layout: &Layout)
+    ensures { print.new ≡ left_after print.old (text_of (flat_map (λ net. between_lines circuit.now strip layout.now net.0 net.1 net.1.listed) (enumerate_from 0 layout.now.nets))) }
 {
     for (number, net) in layout.nets().iter().enumerate() {
-        print_net(print, circuit, strip, layout, number, net)?;
+        print_net(print, circuit, strip, layout, number, net);
     }
-    Ok(())
 }
 
 /// Prints the net of that number.
 fn print_net(
-    print: &mut Comparer<'_>,
+    print: &mut Cursor<'_>,
     circuit: &Circuit,
     strip: Strip,
     layout: &Layout,
     number: usize,
     net: &LaidNet,
-) -> Result<(), Failed>
-    ensures { OnOk result (print.new.bytes ≡ print.old.bytes
-        ++ text_of (between_lines circuit.now strip layout.now number net.now net.now.listed)) }
+)
+    ensures { print.new ≡ left_after print.old (text_of (between_lines circuit.now strip layout.now number net.now net.now.listed)) }
 {
-    print_heading(print, circuit, number, net.net())?;
-    print_connected(print, circuit, strip, layout, net)?;
+    print_heading(print, circuit, number, net.net());
+    print_connected(print, circuit, strip, layout, net);
     print.print(&[Part::Text("\n")])
 }
 
 /// Prints what follows a net's name: the lines of the blocks that are listed with it, or, if no
 /// block is, the nodes of its paths.
 fn print_connected(
-    print: &mut Comparer<'_>,
+    print: &mut Cursor<'_>,
     circuit: &Circuit,
     strip: Strip,
     layout: &Layout,
     net: &LaidNet,
-) -> Result<(), Failed>
-    ensures { OnOk result (print.new.bytes ≡ print.old.bytes
-        ++ connected_text circuit.now strip layout.now net.now net.now.listed) }
+)
+    ensures { print.new ≡ left_after print.old (connected_text circuit.now strip layout.now net.now net.now.listed) }
 {
     if net.listed_blocks().is_empty() {
-        print.print(&[Part::Text(")\n\n")])?;
-        return print_paths(print, strip.rows, net.paths());
+        print.print(&[Part::Text(")\n\n")]);
+        print_paths(print, strip.rows, net.paths());
+        return;
     }
-    print.print(&[Part::Text("): global net connecting:\n\n")])?;
-    print_listed(print, circuit, layout, net.listed_blocks())
+    print.print(&[Part::Text("): global net connecting:\n\n")]);
+    print_listed(print, circuit, layout, net.listed_blocks());
 }
 
 /// Prints the first line of a net, up to its name.
-fn print_heading(
-    print: &mut Comparer<'_>,
-    circuit: &Circuit,
-    number: usize,
-    net: u32,
-) -> Result<(), Failed>
-    ensures { OnOk result (print.new.bytes
-        ≡ print.old.bytes ++ heading_text circuit.now number net) }
+fn print_heading(print: &mut Cursor<'_>, circuit: &Circuit, number: usize, net: u32)
+    ensures { print.new ≡ left_after print.old (heading_text circuit.now number net) }
 {
     print.print(&[
         Part::Text("Net "),
@@ -114,37 +99,62 @@ fn print_heading(
 }
 
 /// Prints the lines of the listed blocks.
-fn print_listed(
-    print: &mut Comparer<'_>,
-    circuit: &Circuit,
-    layout: &Layout,
-    listed: &[u32],
-) -> Result<(), Failed>
-    ensures { OnOk result (print.new.bytes ≡ print.old.bytes
-        ++ text_of (map (λ block. listed_line circuit.now block (block_of layout.now block))
-        listed.now)) }
+fn print_listed(print: &mut Cursor<'_>, circuit: &Circuit, layout: &Layout, listed: &[u32])
+    ensures { print.new ≡ left_after print.old (text_of (map (λ block. listed_line circuit.now block (block_of layout.now block)) listed.now)) }
 {
     for number in listed {
-        let Some(laid) = layout.blocks().get(*number as usize) else {
-            return Err(Failed);
-        };
-        print_block(print, circuit, *number, laid)?;
+        print_block(print, circuit, layout, *number);
     }
-    Ok(())
 }
 
-/// Prints the line of a listed block.
-fn print_block(
-    print: &mut Comparer<'_>,
-    circuit: &Circuit,
-    number: u32,
-    laid: &LaidBlock,
-) -> Result<(), Failed>
-    ensures { OnOk result (print.new.bytes
-        ≡ print.old.bytes ++ line_of (listed_line circuit.now number laid.now)) }
+/// Prints the line of the listed block of that number.
+fn print_block(print: &mut Cursor<'_>, circuit: &Circuit, layout: &Layout, number: u32)
+    ensures { print.new ≡ left_after print.old
+        (line_of (listed_line circuit.now number (block_of layout.now number))) }
 {
-    let name = laid_name(circuit, laid);
-    let place = laid.place();
+    let laid = listed_block(circuit, layout, number);
+    print_listed_line(print, number, laid.name, laid.place)
+}
+
+/// The listed block of that number. If there is none, it has no name, and is at place 0.
+fn listed_block<'c>(circuit: &'c Circuit, layout: &Layout, number: u32) -> Listed<'c>
+    ensures name { result.name.before.now ++ result.name.net.now
+        ≡ laid_name circuit.now (block_of layout.now number) }
+    ensures place { result.place ≡ (block_of layout.now number).place }
+{
+    match layout.blocks().get(number as usize) {
+        Some(laid) => Listed {
+            name: laid_name(circuit, laid),
+            place: laid.place(),
+        },
+        None => Listed {
+            name: LaidName {
+                before: &[],
+                net: &[],
+            },
+            place: Place {
+                x: 0,
+                y: 0,
+                subblock: 0,
+            },
+        },
+    }
+}
+
+/// The name and the place of a listed block.
+#[derive(Clone, Copy)]
+struct Listed<'c> {
+    name: LaidName<'c>,
+    place: Place,
+}
+
+/// Prints the line of a listed block of that name at a place.
+fn print_listed_line(print: &mut Cursor<'_>, number: u32, name: LaidName<'_>, place: Place)
+    ensures { print.new ≡ left_after print.old (line_of
+        (codes "Block" ∷ (name.entry.before.now ++ name.entry.net.now)
+        ∷ (codes "(#" ++ decimal number ++ codes ")") ∷ codes "at"
+        ∷ (position_text place.x place.y ++ codes ".") ∷ [])) }
+{
     print.print(&[
         Part::Text("Block "),
         Part::Bytes(name.before),
@@ -160,24 +170,34 @@ fn print_block(
 }
 
 /// Prints the nodes of paths.
-fn print_paths(print: &mut Comparer<'_>, rows: u32, paths: &[LaidPath]) -> Result<(), Failed>
-    ensures { OnOk result (print.new.bytes
-        ≡ print.old.bytes ++ text_of (flat_map (node_lines rows) paths.now)) }
+fn print_paths(print: &mut Cursor<'_>, rows: u32, paths: &[LaidPath])
+    ensures { print.new ≡ left_after print.old (text_of (flat_map (node_lines rows) paths.now)) }
 {
     for path in paths {
-        print_path(print, rows, path.nodes())?;
+        print_path(print, rows, path.nodes());
     }
-    Ok(())
 }
 
 /// Prints the nodes of a path, one on each line.
-fn print_path(print: &mut Comparer<'_>, rows: u32, path: &[Node]) -> Result<(), Failed>
-    ensures { OnOk result (print.new.bytes
-        ≡ print.old.bytes ++ text_of (node_lines rows path.now)) }
+fn print_path(print: &mut Cursor<'_>, rows: u32, path: &[Node])
+    ensures { print.new ≡ left_after print.old (text_of (node_lines rows path.now)) }
 {
     for node in path {
-        print.print_node(rows, *node)?;
-        print.print(&[Part::Text("\n")])?;
+        print_node(print, rows, *node);
     }
-    Ok(())
+}
+
+/// Prints the line of a node.
+fn print_node(print: &mut Cursor<'_>, rows: u32, node: Node)
+    ensures { print.new ≡ left_after print.old (line_of (node_text_of rows node ∷ [])) }
+{
+    print.print(&[
+        Part::Bytes(kind_start(node.kind)),
+        Part::Number(node.x),
+        Part::Text(","),
+        Part::Number(node.y),
+        Part::Bytes(number_start(node.kind, is_pad_row(rows, node.y))),
+        Part::Number(node.n),
+    ]);
+    print.print(&[Part::Text("\n")])
 }

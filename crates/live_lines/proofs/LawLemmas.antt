@@ -21,7 +21,7 @@ use Rattle.tagged_lines.proofs.TagLemmas.{apart, both, same, same_tag}
 use Rattle.live_lines.specs.Acts.{IsAnswered, Telling, Tells}
 use Rattle.live_lines.specs.Laws.{item_for, items_for, replies_for, reply_for, said_by}
 use Rattle.live_lines.specs.Live.{Asked, LiveState, Takes, TakesAsked, TellsItem, asked_by, asked_of, is_echo, is_open, is_passed, is_short, operator_asks, told_by, words_ask}
-use Rattle.live_lines.specs.Live.Asked.{Echoes, NoForm, Nothing, Operates, Says}
+use Rattle.live_lines.specs.Live.Asked.{Echoes, Figures, NoForm, Nothing, Operates, Says}
 use Rattle.live_lines.proofs.AnswerLemmas.{answer_whole}
 
 -- a line says something only under a name, and its tag is that name's
@@ -45,7 +45,8 @@ operated_named tag (Ok (Session name item ∷ acts)) = tt
 operated_named tag (Err fault) = tt
 
 words_named : (tag line said : List ℕ) (acts : Acts) → IsNamed tag (words_ask line said acts)
-words_named tag line said acts = either_named tag (is_echo line said) (Echoes (rest_of said)) (operator_asks acts) (λ e. tt) (operated_named tag acts)
+words_named tag line said acts = either_named tag (is_echo line said) (Echoes (rest_of said)) (cond (bytes_eq line (codes "op figures")) Figures (operator_asks acts)) (λ e. tt)
+    (either_named tag (bytes_eq line (codes "op figures")) Figures (operator_asks acts) (λ e. tt) (operated_named tag acts))
 
 named_by : (tag owner line rest : List ℕ) → owner_of tag ≡ owner → is_good_id (id_of tag) ≡ true → IsNamed tag (asked_by owner line rest)
 named_by tag [] line rest own good = tt
@@ -84,7 +85,8 @@ operated_not_of name (Ok (Session other item ∷ acts)) = tt
 operated_not_of name (Err fault) = tt
 
 words_not_of : (name line said : List ℕ) (acts : Acts) → IsNotOf name (words_ask line said acts)
-words_not_of name line said acts = either_not_of name (is_echo line said) (Echoes (rest_of said)) (operator_asks acts) (λ e. tt) (operated_not_of name acts)
+words_not_of name line said acts = either_not_of name (is_echo line said) (Echoes (rest_of said)) (cond (bytes_eq line (codes "op figures")) Figures (operator_asks acts)) (λ e. tt)
+    (either_not_of name (bytes_eq line (codes "op figures")) Figures (operator_asks acts) (λ e. tt) (operated_not_of name acts))
 
 other_name : (b : ℕ) (other name : List ℕ) → eqb b 64 ≡ true → bytes_eq (b ∷ other) (64 ∷ name) ≡ false → bytes_eq name other ≡ false
 other_name b other name is apart =
@@ -178,6 +180,7 @@ no_items : (tag name : List ℕ) (old : LiveState) (number : ℕ) (asked : Asked
 no_items tag name old number Nothing tellings told new apart (none, nothing, stays) = (ap (λ (s : LiveState). s.texts name) stays, ap (items_for name) none)
 no_items tag name old number NoForm tellings told new apart (none, nothing, stays) = (ap (λ (s : LiveState). s.texts name) stays, ap (items_for name) none)
 no_items tag name old number (Echoes words) tellings told new apart (none, nothing, stays) = (ap (λ (s : LiveState). s.texts name) stays, ap (items_for name) none)
+no_items tag name old number Figures tellings told new apart (text, are, none, nothing, stays) = (ap (λ (s : LiveState). s.texts name) stays, ap (items_for name) none)
 no_items tag name old number (Operates line) tellings told new apart (t, act, answered, one, is, stay) =
     (ap (λ texts. texts name) stay, ap (items_for name) one ∙ ap (λ a. item_for name a ++ []) act)
 no_items tag name old number (Says other rest) tellings told new apart (item, hears, tells) =
@@ -253,6 +256,7 @@ asked_replies : (tag name : List ℕ) (old : LiveState) (number : ℕ) (asked : 
 asked_replies tag name old number Nothing tellings told new is_named (none, nothing, stays) = ap (told_in (64 ∷ name)) nothing ∙ sym (ap (replies_for name) none)
 asked_replies tag name old number NoForm tellings told new is_named (none, nothing, stays) = ap (told_in (64 ∷ name)) nothing ∙ sym (ap (replies_for name) none)
 asked_replies tag name old number (Echoes words) tellings told new is_named (none, nothing, stays) = ap (told_in (64 ∷ name)) nothing ∙ sym (ap (replies_for name) none)
+asked_replies tag name old number Figures tellings told new is_named (text, are, none, nothing, stays) = ap (told_in (64 ∷ name)) nothing ∙ (no_reply_by name text true ∙ sym (ap (replies_for name) none))
 asked_replies tag name old number (Operates line) tellings told new is_named (t, act, answered, one, is, stay) =
     ap (told_in (64 ∷ name)) is
     ∙ (no_reply_by name t.text (is_open line)
@@ -342,6 +346,7 @@ asked_tags : (tag : List ℕ) (old : LiveState) (number : ℕ) (asked : Asked) (
 asked_tags tag old number Nothing tellings told new ok (none, nothing, stays) = ap have_tags nothing
 asked_tags tag old number NoForm tellings told new ok (none, nothing, stays) = ap have_tags nothing
 asked_tags tag old number (Echoes words) tellings told new ok (none, nothing, stays) = ap have_tags nothing
+asked_tags tag old number Figures tellings told new ok (text, are, none, nothing, stays) = ap have_tags nothing ∙ told_tags true text
 asked_tags tag old number (Operates line) tellings told new ok (t, act, answered, one, is, stay) = ap have_tags is ∙ told_tags (is_open line) t.text
 asked_tags tag old number (Says name rest) tellings told new (ok, own, good) (item, hears, tells) = item_tags tag name old.stage item tellings told new.stage (of_name_tag tag name ok own good) tells
 
@@ -376,6 +381,7 @@ asked_tells : (tag : List ℕ) (old : LiveState) (number : ℕ) (asked : Asked) 
 asked_tells tag old number Nothing tellings told new (none, nothing, stays) = no_tells old.stage tellings new.stage none (ap (λ (s : LiveState). s.stage) stays)
 asked_tells tag old number NoForm tellings told new (none, nothing, stays) = no_tells old.stage tellings new.stage none (ap (λ (s : LiveState). s.stage) stays)
 asked_tells tag old number (Echoes words) tellings told new (none, nothing, stays) = no_tells old.stage tellings new.stage none (ap (λ (s : LiveState). s.stage) stays)
+asked_tells tag old number Figures tellings told new (text, are, none, nothing, stays) = no_tells old.stage tellings new.stage none (ap (λ (s : LiveState). s.stage) stays)
 asked_tells tag old number (Operates line) tellings told new (t, act, answered, one, is, stay) = one_tells old.stage t tellings new.stage one answered
 asked_tells tag old number (Says name rest) tellings told new (item, hears, tells) = item_tells old.stage tag name item tellings told new.stage tells
 

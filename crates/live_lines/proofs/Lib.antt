@@ -2,6 +2,7 @@ mod AnswerLemmas
 mod EndLemmas
 mod EndSteps
 mod Examples
+mod FigureLemmas
 mod ItemLemmas
 mod KeptNames
 pub mod LawLemmas

@@ -1,16 +1,16 @@
 -- A line that was taken, by what it asks.
-use Rattle.std.proofs.Common.{◌≡◌, ℕ, List, [], ◌∷◌, false, Option, Some, None, codes, decimal, refl, sym, ap, subst, ◌∙◌, append-nil}
+use Rattle.std.proofs.Common.{◌≡◌, ℕ, List, [], ◌∷◌, false, true, Option, Some, None, codes, decimal, refl, sym, ap, subst, ◌∙◌, append-nil}
 use Rattle.std.specs.Io.KnownBytes.{Appends}
 use Rattle.std.proofs.KnownBytes.{Appends-nil}
 use Rattle.script_text.specs.declared.operator_line.OperatorLine.{OperatorLine}
 use Rattle.sessions.specs.declared.line.SessionLine.{SessionLine}
 use Rattle.operator.specs.Serving.{Stage}
 use Rattle.tagged_lines.specs.Tags.{answer_told, output_of, tagged_text}
-use Rattle.live_lines.specs.Live.{Asked, HasTag, LiveState, TakesItem, TakesLine, TakesOperator, operator_told, told_by}
+use Rattle.live_lines.specs.Live.{Asked, HasTag, LiveState, TakesItem, TakesLine, TakesOperator, TellsFigures, operator_told, told_by}
 use Rattle.std.specs.Borrow.{Bor}
 use Rattle.live_lines.specs.declared.asked.LineRequest.{LineRequest as AskedIn}
 use Rattle.live_lines.specs.declared.asked.LineRequest.TheVariants.{Says as SaysIn}
-use Rattle.live_lines.specs.Live.Asked.{Echoes, NoForm, Nothing, Operates, Says}
+use Rattle.live_lines.specs.Live.Asked.{Echoes, Figures, NoForm, Nothing, Operates, Says}
 use Rattle.rr_graph.specs.Graph.{Basis}
 use Rattle.service_core.specs.Service.{ServiceState}
 use Rattle.operator.specs.HeldJobs.{HeldList}
@@ -37,6 +37,9 @@ takes_no_form old number tag before after writes =
 
 pub takes_echo : (old : LiveState) (number : ℕ) (tag words : List ℕ) (before after : Option (List ℕ)) → Appends before after (output_of (told_by false words)) → TakesLine old number tag (Echoes words) before after old
 takes_echo old number tag words before after writes = record { tellings = []; told = told_by false words; takes = (refl, refl, refl); writes = writes }
+
+pub takes_figures : (old : LiveState) (number : ℕ) (tag : List ℕ) (before after : Option (List ℕ)) → TellsFigures old.stage number before after → TakesLine old number tag Figures before after old
+takes_figures old number tag before after (text, are, writes) = record { tellings = []; told = told_by true text; takes = (text, are, refl, refl, refl); writes = writes }
 
 pub takes_operator : (old new : Stage) (texts new_texts : Texts) (number : ℕ) (tag : List ℕ) (line : OperatorLine (List ℕ)) (before after : Option (List ℕ)) → new_texts ≡ texts → TakesOperator old line before after new →
     TakesLine (record { stage = old; texts = texts }) number tag (Operates line) before after (record { stage = new; texts = new_texts })

@@ -1,5 +1,6 @@
 pub mod Acts
 pub mod Ends
+pub mod Figures
 pub mod Laws
 pub mod Live
 pub mod Said

@@ -17,15 +17,18 @@ use Rattle.tagged_lines.specs.Tags.{Tagged, answer_told, id_of, is_good_id, outp
 use Rattle.live_lines.specs.declared.live.Live.{Live}
 use Rattle.live_lines.specs.declared.asked.TheConstants.{MAX_ECHO, MAX_OPERATOR_LINE}
 use Rattle.live_lines.specs.declared.asked.LineRequest.{LineRequest as AskedIn}
-use Rattle.live_lines.specs.declared.asked.LineRequest.TheVariants.{Nothing as NothingIn, NoForm as NoFormIn, Echoes as EchoesIn, Operates as OperatesIn, Says as SaysIn}
+use Rattle.live_lines.specs.declared.asked.LineRequest.TheVariants.{Nothing as NothingIn, NoForm as NoFormIn, Echoes as EchoesIn, Figures as FiguresIn, Operates as OperatesIn, Says as SaysIn}
+use Rattle.live_lines.specs.Figures.{AreFigures}
 use Rattle.live_lines.specs.Said.{HearsLine, IsEven, Texts, texts_of}
 
 -- what a line asks: nothing; something without a form, which is refused; that the operator is
--- answered these words; another line of the operator; or a line of that name's session
+-- answered these words, or how full the service is; another line of the operator; or a line of
+-- that name's session
 pub data Asked : Type 0 where
   Nothing : Asked
   NoForm : Asked
   Echoes : List ℕ → Asked
+  Figures : Asked
   Operates : OperatorLine (List ℕ) → Asked
   Says : List ℕ → List ℕ → Asked
 
@@ -55,7 +58,7 @@ is_echo line said = bytes_eq (tag_of line) (codes "op") && bytes_eq (tag_of said
 
 -- what a line of the operator asks, from what it says, and from a script of this one line
 abbrev pub words_ask : List ℕ → List ℕ → Acts → Asked
-words_ask line said acts = if is_echo line said then Echoes (rest_of said) else operator_asks acts
+words_ask line said acts = if is_echo line said then Echoes (rest_of said) else if bytes_eq line (codes "op figures") then Figures else operator_asks acts
 
 -- a line of the operator may not be longer than 1,048,576 bytes
 abbrev pub is_short : List ℕ → Bool
@@ -79,6 +82,7 @@ abbrev pub asks : AskedIn → Asked
 asks NothingIn = Nothing
 asks NoFormIn = NoForm
 asks (EchoesIn words) = Echoes words.now
+asks FiguresIn = Figures
 asks (OperatesIn line) = Operates (named_operator line)
 asks (SaysIn tag name rest) = Says name.now rest.now
 
@@ -131,6 +135,7 @@ abbrev pub TakesAsked : LiveState → ℕ → List ℕ → Asked → List Tellin
 TakesAsked old number tag Nothing tellings told new = (tellings ≡ []) × (told ≡ []) × (new ≡ old)
 TakesAsked old number tag NoForm tellings told new = (tellings ≡ []) × (told ≡ record { tag = codes "?"; text = decimal number } ∷ []) × (new ≡ old)
 TakesAsked old number tag (Echoes words) tellings told new = (tellings ≡ []) × (told ≡ for_operator words ∷ []) × (new ≡ old)
+TakesAsked old number tag Figures tellings told new = (text : List ℕ) × AreFigures old.stage.service number old.stage.names text × (tellings ≡ []) × (told ≡ told_by true text) × (new ≡ old)
 TakesAsked old number tag (Operates line) tellings told new = (t : Telling)
     × (t.act ≡ Operator line) × IsAnswered old.stage t.act t.calls t.text new.stage × (tellings ≡ t ∷ []) × (told ≡ operator_told line t.text) × (new.texts ≡ old.texts)
 TakesAsked old number tag (Says name line) tellings told new = (item : Option SessionLine)
@@ -175,3 +180,7 @@ pub record TakesOperator (old : Stage) (line : OperatorLine (List ℕ)) (before 
   pub act : telling.act ≡ Operator line
   pub answered : IsAnswered old telling.act telling.calls telling.text new
   pub writes : Appends before after (output_of (operator_told line telling.text))
+
+-- private: how full the service is was written
+abbrev pub TellsFigures : Stage → ℕ → Option (List ℕ) → Option (List ℕ) → Type 0
+TellsFigures old number before after = (text : List ℕ) × AreFigures old.service number old.names text × Appends before after (output_of (told_by true text))

@@ -1,6 +1,7 @@
 //! What a line asks.
-ghost use Rattle.std.specs.Prelude.{◌≡◌, ◌<◌, ◌^◌, Ok, length, map, IfOk};
+ghost use Rattle.std.specs.Prelude.{◌≡◌, ◌<◌, ◌^◌, Ok, codes, length, map, IfOk};
 ghost use Rattle.std.specs.List.{list_all};
+ghost use Rattle.std.specs.Str.{bytes_eq};
 ghost use Rattle.line_text.specs.Words.{is_blank as is_blank_byte};
 ghost use Rattle.script_text.specs.Script.{named_act, script_of};
 ghost use Rattle.tagged_lines.specs.Tags.{tag_of};
@@ -26,6 +27,8 @@ pub enum LineRequest<'l> {
     NoForm,
     /// That the operator is answered these words: 1 to 64 printing ASCII characters and blanks.
     Echoes(&'l [u8]),
+    /// How full the service is.
+    Figures,
     Operates(OperatorLine<&'l [u8]>),
     /// The tag, the name in it, and what the line says.
     Says(&'l [u8], &'l [u8], &'l [u8]),
@@ -119,7 +122,17 @@ fn words_ask<'l>(
         let (_, words) = split_tag(said);
         return Ok(LineRequest::Echoes(words));
     }
+    if is_figures(line) {
+        return Ok(LineRequest::Figures);
+    }
     operator_asks(alloc, line)
+}
+
+/// Whether a line is just `op figures`.
+fn is_figures(line: &[u8]) -> bool
+    ensures { result ≡ bytes_eq line.now (codes "op figures") }
+{
+    is_word(line, "op figures")
 }
 
 /// Whether a line has the tag `op` without an id, and says `echo`, one blank, and words that may be
@@ -151,7 +164,7 @@ fn is_echoed(byte: u8) -> bool
     (b' '..=b'~').contains(&byte)
 }
 
-/// What a line of the operator asks that is no `echo`.
+/// What a line of the operator asks that a script may have.
 fn operator_asks(alloc: Global, line: &[u8]) -> Result<LineRequest<'_>, AllocError>
     requires { length line.now < 2 ^ 63 }
     ensures { IfOk result (λ asked. asks asked ≡ operator_asks (script_of 1 line.now)) }

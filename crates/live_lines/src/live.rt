@@ -13,6 +13,7 @@ mod lending;
 
 use crate::asked::{LineRequest, asked_of};
 use crate::counted::count_lines;
+use crate::figures::push_figures;
 use crate::lasting::Lasting;
 use crate::said::{LastName, Said};
 use crate::trouble::Trouble;
@@ -40,7 +41,7 @@ pub struct Live<'g> {
 
 impl<'g> Live<'g> {
     ghost use Rattle.live_lines.specs.Ends.{Ends};
-    ghost use Rattle.live_lines.specs.Live.{IsSteady, TakesItem, TakesLine, TakesOperator, stage_of, state_of};
+    ghost use Rattle.live_lines.specs.Live.{IsSteady, TakesItem, TakesLine, TakesOperator, TellsFigures, stage_of, state_of};
     ghost use Rattle.live_lines.specs.Said.{IsEven, no_texts, texts_of};
 
     /// A service that has taken no line. The core must have admitted no tenancy.
@@ -67,7 +68,8 @@ impl<'g> Live<'g> {
     /// lines is `op`, that of a name's session `@NAME` or `@NAME/ID`. If the tag of an item's last
     /// line has an id, a line `done @NAME/ID` follows the reply. A comment or a line without a word
     /// has no reply. A line without a form changes nothing, and its reply is its number with the
-    /// tag `?`. Nor does `op echo WORDS` change anything: its reply is these words.
+    /// tag `?`. Nor do `op echo WORDS` and `op figures` change anything: the reply is these words,
+    /// or how full the service is.
     ///
     /// # Errors
     /// `NoMemory` if it runs out of memory, and `Failed` if the writer fails. The service takes no
@@ -89,6 +91,7 @@ impl<'g> Live<'g> {
             LineRequest::Nothing => Ok(()),
             LineRequest::NoForm => self.take_no_form(writer, number),
             LineRequest::Echoes(words) => self.write_to_operator(writer, false, words),
+            LineRequest::Figures => self.take_figures(writer, number),
             LineRequest::Operates(line) => self.take_operator(writer, line),
             LineRequest::Says(tag, name, rest) => match self.said.hear(name, rest)? {
                 Some(item) => self.take_item(writer, tag, name, item),
@@ -105,6 +108,17 @@ impl<'g> Live<'g> {
         let mut digits = Buffer::new();
         let digits = digits.format(number).as_bytes();
         Ok(write_at_once(self.alloc, writer, b"?", digits)?)
+    }
+
+    /// Writes how full the service is, to a line of that number.
+    fn take_figures<W: Sink>(&self, writer: &mut W, number: u64) -> Result<(), Trouble>
+        requires { IsSteady self.now }
+        ensures { OnOk result (TellsFigures (stage_of self.now) number (W.contents writer.old)
+            (W.contents writer.new)) }
+    {
+        let mut reply = MemorySink::new(self.alloc);
+        push_figures(&mut reply, &self.core, &self.operator, number)?;
+        self.write_to_operator(writer, true, reply.as_bytes())
     }
 
     /// Does what a line of the operator asks, and writes the reply.

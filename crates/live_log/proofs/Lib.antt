@@ -1,1 +1,5 @@
+mod AlikeSteps
+mod ChoiceSteps
+mod LastSteps
+mod ServingSteps
 mod WritingSteps

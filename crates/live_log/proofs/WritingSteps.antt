@@ -1,9 +1,13 @@
 -- Lines that are written one by one, those that are kept.
-use Rattle.std.proofs.Common.{◌≡◌, ℕ, Bool, List, [], ◌∷◌, ◌++◌, length, Option, refl, sym, ap, ◌∙◌, arith, append-nil, append_assoc}
+use Rattle.std.proofs.Common.{◌≡◌, ℕ, Bool, true, false, List, [], ◌∷◌, ◌++◌, length, Option, Bor, map, refl, sym, ap, ◌∙◌, arith, append-nil, append_assoc}
 use Rattle.line_text.specs.Lines.{physical_lines}
 use Rattle.line_text.specs.Writing.{TakesAll, TakesPart}
 use Rattle.line_text.proofs.WritingLemmas.{all_none, all_same, all_then, part_first, part_same, part_then}
-use Rattle.live_log.specs.Kept.{kept_lines, line_if}
+use Rattle.std.specs.List.{flat_map}
+use Rattle.std.proofs.lemmas.Grind.{flat_map-append}
+use Rattle.line_text.specs.Words.{texts}
+use Rattle.tagged_lines.specs.Tags.{with_feed}
+use Rattle.live_log.specs.Kept.{kept_lines, last_line, line_if}
 
 -- all that is kept is written, but for the lines that are left
 pub record Written {S : Type 0} (contents : S → Option (List ℕ)) (has_failed : S → Bool) (old now : S) (all : List Bool) (log : List ℕ) (marks : List Bool) (rest : List ℕ) : Type 0 where
@@ -14,9 +18,13 @@ pub record Written {S : Type 0} (contents : S → Option (List ℕ)) (has_failed
 pub written_none : {S : Type 0} (contents : S → Option (List ℕ)) (has_failed : S → Bool) (sink : S) (all : List Bool) (log : List ℕ) → Written contents has_failed sink sink all log all log
 written_none contents has_failed sink all log = record { done = []; takes = all_none contents has_failed sink; left = refl }
 
+first_chosen : (kept : Bool) (others : List Bool) (line : List ℕ) (lines : List (List ℕ)) → kept_lines (kept ∷ others) (line ∷ lines) ≡ line_if kept line ++ kept_lines others lines
+first_chosen true others line lines = refl
+first_chosen false others line lines = refl
+
 kept_first : (kept : Bool) (marks others : List Bool) (rest line after : List ℕ) → marks ≡ kept ∷ others → physical_lines rest ≡ line ∷ physical_lines after →
     kept_lines marks (physical_lines rest) ≡ line_if kept line ++ kept_lines others (physical_lines after)
-kept_first kept marks others rest line after first lines = ap (λ ms. kept_lines ms (physical_lines rest)) first ∙ ap (λ ls. kept_lines (kept ∷ others) ls) lines
+kept_first kept marks others rest line after first lines = ap (λ ms. kept_lines ms (physical_lines rest)) first ∙ (ap (λ ls. kept_lines (kept ∷ others) ls) lines ∙ first_chosen kept others line (physical_lines after))
 
 pub written_more : {S : Type 0} {contents : S → Option (List ℕ)} {has_failed : S → Bool} {old now next : S} {all : List Bool} {log : List ℕ} (kept : Bool) (marks others : List Bool) (rest line after : List ℕ) →
     Written contents has_failed old now all log marks rest → marks ≡ kept ∷ others → physical_lines rest ≡ line ∷ physical_lines after →
@@ -45,3 +53,14 @@ written_all marks (x ∷ rest) w none = absurd (omega arith)
 pub written_out : {S : Type 0} {contents : S → Option (List ℕ)} {has_failed : S → Bool} {old now : S} {all : List Bool} {log : List ℕ} (marks : List Bool) (rest : List ℕ) →
     Written contents has_failed old now all log marks rest → marks ≡ [] → TakesAll contents has_failed old now (kept_lines all (physical_lines log))
 written_out marks rest w none = all_same w.takes (sym (append-nil w.done) ∙ (ap (λ t. w.done ++ t) (sym (ap (λ ms. kept_lines ms (physical_lines rest)) none)) ∙ w.left))
+
+-- the comment that says a tag, with its end
+abbrev pub comment : Bor (List ℕ) → List ℕ
+comment tag = with_feed (last_line tag.now)
+
+pub comments : (tags : List (Bor (List ℕ))) → flat_map comment tags ≡ flat_map with_feed (map last_line (texts tags))
+comments [] = refl
+comments (tag ∷ tags) = ap (λ t. comment tag ++ t) (comments tags)
+
+pub both_written : (kept lines : List (List ℕ)) → flat_map with_feed kept ++ flat_map with_feed lines ≡ flat_map with_feed (kept ++ lines)
+both_written kept lines = sym (flat_map-append with_feed kept lines)

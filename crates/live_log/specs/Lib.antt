@@ -1,1 +1,5 @@
+pub mod Alike
+pub mod Choice
 pub mod Kept
+pub mod LastTags
+pub mod Questions

@@ -1,17 +1,22 @@
 //! Lines in groups that are kept or dropped together.
-ghost use Rattle.std.specs.Prelude.{◌≡◌, ◌+◌, length, IfOk, OnOk};
+ghost use Rattle.std.specs.Prelude.{◌≡◌, ◌==◌, ◌∷◌, ◌++◌, [], length, true, false, IfOk, OnOk};
+ghost use Rattle.live_log.specs.Choice.{FitFlags, FitsFlag};
 
 use std::alloc::{AllocError, Global};
-
-/// The group of lines that are kept whatever follows.
-pub(crate) const KEPT: usize = 0;
-
-/// The group of lines that are dropped.
-pub(crate) const DROPPED: usize = 1;
 
 /// The most groups around a line that are looked at: its text, a routing, the layout, the packing,
 /// the netlist and the tenancy.
 const MAX_DEPTH: usize = 6;
+
+/// What becomes of a line.
+#[derive(Clone, Copy)]
+pub(crate) enum Mark {
+    /// It is kept whatever follows.
+    Kept,
+    Dropped,
+    /// It is kept if the group with that number is.
+    Within(usize),
+}
 
 /// A group of lines.
 #[derive(Clone, Copy)]
@@ -19,51 +24,57 @@ struct Group {
     /// Whether its lines are kept, if those of the group around it are.
     stands: bool,
     /// The group around it.
-    around: usize,
+    around: Option<usize>,
 }
 
 /// Lines in groups that are kept or dropped together.
 #[derive(Drop)]
 pub(crate) struct Marks {
     groups: Vec<Group>,
-    lines: Vec<usize>,
+    lines: Vec<Mark>,
 }
 
 impl Marks {
     /// Marks without lines.
-    pub(crate) fn new(alloc: Global) -> Result<Self, AllocError>
-        ensures { IfOk result (λ marks. length marks.lines.items ≡ 0) }
+    pub(crate) fn new(alloc: Global) -> Self
+        ensures { result.lines.items ≡ [] }
     {
-        let mut groups = Vec::with_capacity(alloc, 2)?;
-        groups.push(Group {
-            stands: true,
-            around: KEPT,
-        })?;
-        groups.push(Group {
-            stands: false,
-            around: KEPT,
-        })?;
-        Ok(Marks {
-            groups,
+        Marks {
+            groups: Vec::new(alloc),
             lines: Vec::new(alloc),
-        })
+        }
     }
 
     /// Whether no line was added.
-    pub(crate) fn is_empty(&self) -> bool {
+    pub(crate) fn is_empty(&self) -> bool
+        ensures { result ≡ (length self.now.lines.items == 0) }
+    {
         self.lines.is_empty()
     }
 
-    /// Adds a line, which belongs to that group.
-    pub(crate) fn add_line(&mut self, group: usize) -> Result<(), AllocError>
-        ensures { OnOk result (length self.new.lines.items ≡ length self.old.lines.items + 1) }
+    /// Adds a line.
+    pub(crate) fn add_line(&mut self, mark: Mark) -> Result<(), AllocError>
+        ensures { OnOk result (self.new.lines.items ≡ self.old.lines.items ++ mark ∷ []) }
     {
-        self.lines.push(group)?;
+        self.lines.push(mark)?;
         Ok(())
     }
 
     /// A new group in that one, whose lines are kept for now.
     pub(crate) fn begin_in(&mut self, around: usize) -> Result<usize, AllocError>
+        ensures { self.new.lines ≡ self.old.lines }
+    {
+        self.begin_group(Some(around))
+    }
+
+    /// A new group, whose lines are kept for now.
+    pub(crate) fn begin(&mut self) -> Result<usize, AllocError>
+        ensures { self.new.lines ≡ self.old.lines }
+    {
+        self.begin_group(None)
+    }
+
+    fn begin_group(&mut self, around: Option<usize>) -> Result<usize, AllocError>
         ensures { self.new.lines ≡ self.old.lines }
     {
         let group = self.groups.len();
@@ -72,13 +83,6 @@ impl Marks {
             around,
         })?;
         Ok(group)
-    }
-
-    /// A new group, whose lines are kept for now.
-    pub(crate) fn begin(&mut self) -> Result<usize, AllocError>
-        ensures { self.new.lines ≡ self.old.lines }
-    {
-        self.begin_in(KEPT)
     }
 
     /// Drops the lines of a group.
@@ -95,18 +99,32 @@ impl Marks {
         ensures { self.new.lines ≡ self.old.lines }
     {
         if let Some(put) = self.groups.get_mut(group) {
-            put.around = around;
+            put.around = Some(around);
+        }
+    }
+
+    /// Whether a line is kept.
+    fn is_kept(&self, mark: Mark) -> bool
+        ensures { FitsFlag mark result }
+    {
+        match mark {
+            Mark::Kept => true,
+            Mark::Dropped => false,
+            Mark::Within(group) => self.is_group_kept(group),
         }
     }
 
     /// Whether the lines of a group are kept: it stands, and so do the groups around it.
-    fn is_kept(&self, group: usize) -> bool {
-        let mut group = group;
+    fn is_group_kept(&self, group: usize) -> bool {
+        let mut around = Some(group);
         for _ in 0..MAX_DEPTH {
+            let Some(group) = around else {
+                return true;
+            };
             if !self.stands(group) {
                 return false;
             }
-            group = self.around(group);
+            around = self.around(group);
         }
         true
     }
@@ -120,20 +138,20 @@ impl Marks {
     }
 
     /// The group around a group.
-    fn around(&self, group: usize) -> usize {
+    fn around(&self, group: usize) -> Option<usize> {
         match self.groups.get(group) {
             Some(group) => group.around,
-            None => DROPPED,
+            None => None,
         }
     }
 
     /// For each line, whether it is kept.
     pub(crate) fn kept_flags(&self, alloc: Global) -> Result<Vec<bool>, AllocError>
-        ensures { IfOk result (λ kept. length kept.items ≡ length self.now.lines.items) }
+        ensures { IfOk result (λ kept. FitFlags self.now.lines.items kept.items) }
     {
         let mut kept = Vec::with_capacity(alloc, self.lines.len())?;
-        for group in self.lines.as_slice() {
-            kept.push(self.is_kept(*group))?;
+        for mark in self.lines.as_slice() {
+            kept.push(self.is_kept(*mark))?;
         }
         Ok(kept)
     }

@@ -66,8 +66,8 @@ impl Who {
         self.work.layout.unwrap_or(self.packing())
     }
 
-    /// The group of the lines that a running job takes.
-    pub(crate) fn last(&self) -> usize {
+    /// The innermost group that was begun: that of the lines that a running job takes.
+    pub(crate) fn innermost(&self) -> usize {
         self.work.routing.unwrap_or(self.layout())
     }
 }

@@ -1,12 +1,24 @@
 //! What lines and replies say.
+ghost use Rattle.std.specs.Prelude.{◌≡◌};
+ghost use Rattle.live_log.specs.Choice.{asks_only, has_no_form, is_done, verb_of};
+
 use line_text::{is_word, skip_blanks, split_line, split_word};
 use tagged_lines::split_tag;
 
 /// The first two words of what a line says.
-pub(crate) fn two_words(said: &[u8]) -> (&[u8], &[u8]) {
+pub(crate) fn two_words(said: &[u8]) -> (&[u8], &[u8])
+    ensures { result.0.now ≡ verb_of said.now }
+{
     let (first, rest) = split_word(skip_blanks(said));
     let (second, _) = split_word(skip_blanks(rest));
     (first, second)
+}
+
+/// Whether a line of the operator with that first word only asks.
+pub(crate) fn asks_only(verb: &[u8]) -> bool
+    ensures { result ≡ asks_only verb.now }
+{
+    is_word(verb, "list") || is_word(verb, "owners")
 }
 
 /// Whether a line says `wait`.
@@ -21,12 +33,16 @@ pub(crate) fn is_blank(said: &[u8]) -> bool {
 }
 
 /// Whether a reply says that a line has no form.
-pub(crate) fn has_no_form(reply: &[u8]) -> bool {
+pub(crate) fn has_no_form(reply: &[u8]) -> bool
+    ensures { result ≡ has_no_form reply.now }
+{
     reply.starts_with(b"? ")
 }
 
 /// Whether what was asked is done.
-pub(crate) fn is_done(reply: &[u8]) -> bool {
+pub(crate) fn is_done(reply: &[u8]) -> bool
+    ensures { result ≡ is_done reply.now }
+{
     let (_, said) = split_tag(reply);
     said.starts_with(b"ok")
 }

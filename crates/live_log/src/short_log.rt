@@ -1,24 +1,58 @@
 //! A shorter log.
-ghost use Rattle.std.specs.Prelude.{◌≡◌};
+ghost use Rattle.std.specs.Prelude.{◌≡◌, IfOk, length, map};
+ghost use Rattle.std.specs.List.{flat_map};
 ghost use Rattle.line_text.specs.Lines.{physical_lines};
+ghost use Rattle.line_text.specs.Words.{texts};
 ghost use Rattle.line_text.specs.Writing.{Writes};
-ghost use Rattle.live_log.specs.Kept.{kept_lines, line_if};
+ghost use Rattle.tagged_lines.specs.Tags.{with_feed};
+ghost use Rattle.live_log.specs.Kept.{kept_lines, last_line, line_if, lines_in};
 
+use crate::last_tags::LAST;
 use line_text::{Failed, Sink, split_line, write_slices};
+use std::alloc::{AllocError, Global};
 
-/// A shorter log: some of the lines of a log.
+/// A shorter log: some of the lines of a log, and after them a comment for each name that has ids.
 #[derive(Drop)]
 pub struct ShortLog<'l> {
     pub(crate) log: &'l [u8],
     pub(crate) kept: Vec<bool>,
+    /// The last tag of each name.
+    pub(crate) last: Vec<&'l [u8]>,
 }
 
 impl<'l> ShortLog<'l> {
-    /// Writes the lines that are kept, each ended by LF. Takes no memory.
+    /// The whole log, without comments.
+    pub(crate) fn into_whole(self, alloc: Global) -> Result<Self, AllocError>
+        requires { length self.kept.items ≡ length (physical_lines self.log.now) }
+        ensures log { IfOk result (λ whole. whole.log.now ≡ self.entry.log.now) }
+        ensures lines { IfOk result (λ whole. lines_in whole ≡ physical_lines self.entry.log.now) }
+    {
+        let ShortLog { log, kept, last } = self;
+        let count = kept.len();
+        drop(kept);
+        drop(last);
+        Ok(ShortLog {
+            log,
+            kept: Vec::from_elem(alloc, true, count)?,
+            last: Vec::new(alloc),
+        })
+    }
+
+    /// Writes the lines, each ended by LF: those of the log that are kept, byte for byte, and a
+    /// comment `# last @NAME/ID` for each name that has ids. Takes no memory.
     ///
     /// # Errors
     /// `Failed` if the sink fails. It has then taken a beginning of them.
     pub fn write<W: Sink>(&self, sink: &mut W) -> Result<(), Failed>
+        ensures { Writes W.contents W.has_failed sink.old sink.new
+            (flat_map with_feed (lines_in self.now)) result }
+    {
+        self.write_kept(sink)?;
+        write_last(sink, self.last.as_slice())
+    }
+
+    /// Writes the lines that are kept, each ended by LF.
+    fn write_kept<W: Sink>(&self, sink: &mut W) -> Result<(), Failed>
         ensures { Writes W.contents W.has_failed sink.old sink.new
             (kept_lines self.now.kept.items (physical_lines self.now.log.now)) result }
     {
@@ -47,4 +81,23 @@ fn write_line<W: Sink>(sink: &mut W, kept: bool, line: &[u8]) -> Result<(), Fail
     } else {
         Ok(())
     }
+}
+
+/// Writes a comment for each of the tags.
+fn write_last<W: Sink>(sink: &mut W, tags: &[&[u8]]) -> Result<(), Failed>
+    ensures { Writes W.contents W.has_failed sink.old sink.new
+        (flat_map with_feed (map last_line (texts tags.now))) result }
+{
+    for tag in tags {
+        write_comment(sink, tag)?;
+    }
+    Ok(())
+}
+
+/// Writes the comment that says a tag.
+fn write_comment<W: Sink>(sink: &mut W, tag: &[u8]) -> Result<(), Failed>
+    ensures { Writes W.contents W.has_failed sink.old sink.new
+        (with_feed (last_line tag.now)) result }
+{
+    write_slices(sink, &[LAST, tag, b"\n"])
 }

@@ -1,17 +1,17 @@
 //! What a command makes void of what a tenancy did before.
 ghost use Rattle.std.specs.Prelude.{◌≡◌};
 
-use crate::marks::{DROPPED, Marks};
+use crate::marks::{Mark, Marks};
 use crate::names::{NO_WORK, Who, Work};
 use crate::replies::told_state;
 use line_text::is_word;
 use std::alloc::AllocError;
 
-/// Notes that a command was done, and drops what it makes void. Returns the group of its line.
+/// Notes that a command was done, and drops what it makes void. Returns what becomes of its line.
 ///
 /// A placing gives up the one before it. A job that was given up is as if it had not begun, unless
 /// the operator took a job of the tenancy.
-pub(crate) fn note_done(marks: &mut Marks, who: &mut Who, reply: &[u8]) -> Result<usize, AllocError>
+pub(crate) fn note_done(marks: &mut Marks, who: &mut Who, reply: &[u8]) -> Result<Mark, AllocError>
     ensures { marks.new.lines ≡ marks.old.lines }
 {
     let state = told_state(reply);
@@ -24,16 +24,16 @@ pub(crate) fn note_done(marks: &mut Marks, who: &mut Who, reply: &[u8]) -> Resul
     } else if is_word(state, "Empty") {
         who.is_loaded = false;
         who.work = NO_WORK;
-        Ok(who.life)
+        Ok(Mark::Within(who.life))
     } else if who.is_taken {
-        Ok(who.last())
+        Ok(Mark::Within(who.innermost()))
     } else {
         Ok(give_up(marks, who, state))
     }
 }
 
 /// A packing begins.
-fn begin_packing(marks: &mut Marks, who: &mut Who) -> Result<usize, AllocError>
+fn begin_packing(marks: &mut Marks, who: &mut Who) -> Result<Mark, AllocError>
     ensures { marks.new.lines ≡ marks.old.lines }
 {
     let group = marks.begin_in(who.netlist())?;
@@ -43,11 +43,11 @@ fn begin_packing(marks: &mut Marks, who: &mut Who) -> Result<usize, AllocError>
         layout: None,
         routing: None,
     };
-    Ok(group)
+    Ok(Mark::Within(group))
 }
 
 /// A placing begins, and the one before it is void, with its routing.
-fn begin_layout(marks: &mut Marks, who: &mut Who) -> Result<usize, AllocError>
+fn begin_layout(marks: &mut Marks, who: &mut Who) -> Result<Mark, AllocError>
     ensures { marks.new.lines ≡ marks.old.lines }
 {
     if !who.is_taken {
@@ -56,24 +56,24 @@ fn begin_layout(marks: &mut Marks, who: &mut Who) -> Result<usize, AllocError>
     let group = marks.begin_in(who.packing())?;
     who.work.layout = Some(group);
     who.work.routing = None;
-    Ok(group)
+    Ok(Mark::Within(group))
 }
 
 /// A routing begins.
-fn begin_routing(marks: &mut Marks, who: &mut Who) -> Result<usize, AllocError>
+fn begin_routing(marks: &mut Marks, who: &mut Who) -> Result<Mark, AllocError>
     ensures { marks.new.lines ≡ marks.old.lines }
 {
     let group = marks.begin_in(who.layout())?;
     who.work.routing = Some(group);
-    Ok(group)
+    Ok(Mark::Within(group))
 }
 
-/// A job is given up, and the tenancy is back in that state. Returns the group of the line that
-/// gives it up.
-fn give_up(marks: &mut Marks, who: &mut Who, state: &[u8]) -> usize
+/// A job is given up, and the tenancy is back in that state. Returns what becomes of the line
+/// that gives it up.
+fn give_up(marks: &mut Marks, who: &mut Who, state: &[u8]) -> Mark
     ensures { marks.new.lines ≡ marks.old.lines }
 {
-    let last = who.last();
+    let last = who.innermost();
     let part = if is_word(state, "Loaded") {
         let packing = who.work.packing;
         who.work.packing = None;
@@ -90,7 +90,11 @@ fn give_up(marks: &mut Marks, who: &mut Who, state: &[u8]) -> usize
         None
     };
     drop_part(marks, part);
-    if part.is_some() { DROPPED } else { last }
+    if part.is_some() {
+        Mark::Dropped
+    } else {
+        Mark::Within(last)
+    }
 }
 
 /// Notes that a netlist was loaded, by an `upload` or a `change`, and drops what it makes void.

@@ -13,7 +13,7 @@ use Rattle.sessions.specs.Reading.{TextSoFar, items_to_come}
 use Rattle.tagged_lines.specs.Tags.{rest_of}
 use Rattle.live_lines.specs.Laws.{said_by}
 use Rattle.live_lines.specs.Live.{Asked, LiveState, asked_of}
-use Rattle.live_lines.specs.Live.Asked.{Echoes, NoForm, Nothing, Operates, Says}
+use Rattle.live_lines.specs.Live.Asked.{Echoes, Figures, NoForm, Nothing, Operates, Says}
 use Rattle.line_service.specs.Conversation.{AreAnswered}
 use Rattle.live_input.specs.Serving.{AnswersLine}
 use Rattle.live_machine.specs.Account.{IsAccount, IsSaid, is_nobodys, line_in, lines_in, log_drained, nobodys_lines, told_drained}
@@ -137,6 +137,7 @@ heard_line : (begun : LiveState) (first : ℕ) (lines : List (List ℕ)) (taken 
 heard_line begun first lines taken old new line Nothing b is serves = books_nobody begun first lines taken old new line false b (ap is_nobodys is) (ap is_by_hand is) serves
 heard_line begun first lines taken old new line NoForm b is serves = books_nobody begun first lines taken old new line false b (ap is_nobodys is) (ap is_by_hand is) serves
 heard_line begun first lines taken old new line (Echoes words) b is serves = books_nobody begun first lines taken old new line false b (ap is_nobodys is) (ap is_by_hand is) serves
+heard_line begun first lines taken old new line Figures b is serves = books_nobody begun first lines taken old new line false b (ap is_nobodys is) (ap is_by_hand is) serves
 heard_line begun first lines taken old new line (Operates asked) b is hears = heard_operator begun first lines taken old new line asked b is hears
 heard_line begun first lines taken old new line (Says name said) b is hears =
     let (of, ok, rest) = said_of name said line is in

@@ -8,7 +8,7 @@ use Rattle.sessions.specs.declared.line.SessionLine.{SessionLine}
 use Rattle.sessions.specs.Reading.{TextSoFar}
 use Rattle.live_lines.specs.Laws.{said_by}
 use Rattle.live_lines.specs.Live.{Asked, LiveState, asked_of}
-use Rattle.live_lines.specs.Live.Asked.{Echoes, NoForm, Nothing, Operates, Says}
+use Rattle.live_lines.specs.Live.Asked.{Echoes, Figures, NoForm, Nothing, Operates, Says}
 use Rattle.live_lines.proofs.LawLemmas.{says}
 use Rattle.live_machine.specs.Account.{is_nobodys, nobodys_line, nobodys_lines}
 use Rattle.live_machine.specs.Held.{Held, held_of}
@@ -78,6 +78,7 @@ so_nobody : (asked : Asked) (heard line : List ℕ) → is_nobodys asked ≡ tru
 so_nobody Nothing heard line is so = so
 so_nobody NoForm heard line is so = so
 so_nobody (Echoes words) heard line is so = so
+so_nobody Figures heard line is so = so
 so_nobody (Operates asked) heard line is so = so
 so_nobody (Says name said) heard line is so = absurd (cc)
 

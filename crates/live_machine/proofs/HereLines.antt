@@ -20,13 +20,13 @@ use Rattle.operator.specs.Serving.{Stage}
 use Rattle.tagged_lines.specs.Tags.{Tagged, id_of, is_good_id, owner_of, rest_of, tag_of}
 use Rattle.live_lines.specs.Acts.{IsAnswered, Telling}
 use Rattle.live_lines.specs.Live.{Asked, LiveState, TakesAsked, TellsItem, asked_by, asked_of, is_echo, is_passed, is_short, operator_asks, words_ask}
-use Rattle.live_lines.specs.Live.Asked.{Echoes, NoForm, Nothing, Operates, Says}
+use Rattle.live_lines.specs.Live.Asked.{Echoes, Figures, NoForm, Nothing, Operates, Says}
 use Rattle.live_input.specs.Serving.{AnswersLine}
 use Rattle.live_machine.specs.Held.{form_of, is_wait}
 use Rattle.live_machine.specs.Machine.{is_busy, is_by_hand, is_outside}
 use Rattle.live_machine.specs.Workers.{IsHome, NeedNotWait, without_workers}
 use Rattle.live_machine.proofs.HereHome.{IsAtHome, idle_home}
-use Rattle.live_machine.proofs.HereServed.{served_here, stage_here}
+use Rattle.live_machine.proofs.HereServed.{figures_here, served_here, stage_here}
 use Rattle.live_machine.proofs.HereWaits.{session_here}
 
 -- what a line of a name says
@@ -46,7 +46,8 @@ operated_said rest (Ok (Session name item ∷ acts)) = tt
 operated_said rest (Err fault) = tt
 
 words_said : (rest line said : List ℕ) (acts : Acts) → IsSaidOf rest (words_ask line said acts)
-words_said rest line said acts = either_said rest (is_echo line said) (Echoes (rest_of said)) (operator_asks acts) tt (operated_said rest acts)
+words_said rest line said acts = either_said rest (is_echo line said) (Echoes (rest_of said)) (cond (bytes_eq line (codes "op figures")) Figures (operator_asks acts)) tt
+    (either_said rest (bytes_eq line (codes "op figures")) Figures (operator_asks acts) tt (operated_said rest acts))
 
 said_by_tag : (owner line rest : List ℕ) → IsSaidOf rest (asked_by owner line rest)
 said_by_tag [] line rest = tt
@@ -97,6 +98,7 @@ idle_waits : (live : LiveState) (asked : Asked) (line : List ℕ) → NeedNotWai
 idle_waits live Nothing line need = tt
 idle_waits live NoForm line need = tt
 idle_waits live (Echoes words) line need = tt
+idle_waits live Figures line need = tt
 idle_waits live (Operates operates) line need = tt
 idle_waits live (Says name said) line need =
     λ waits. idle_home live.stage.service (last_id live.stage.names name) (not_busy (is_outside (live.texts name)) (is_wait (form_of line)) (is_busy (without_workers live) name) waits need)
@@ -127,6 +129,7 @@ asked_here : (old new : LiveState) (number : ℕ) (tag line : List ℕ) (asked :
 asked_here old new number tag line Nothing tellings told said hand home (none, nothing, same) = (tellings, (none, nothing, ap without_workers same))
 asked_here old new number tag line NoForm tellings told said hand home (none, nothing, same) = (tellings, (none, nothing, ap without_workers same))
 asked_here old new number tag line (Echoes words) tellings told said hand home (none, nothing, same) = (tellings, (none, nothing, ap without_workers same))
+asked_here old new number tag line Figures tellings told said hand home (text, are, none, nothing, same) = (tellings, (text, figures_here old.stage.service number old.stage.names text are, none, nothing, ap without_workers same))
 asked_here old new number tag line (Operates operates) tellings told said hand home (t, act, answered, one, is, stay) = (tellings, (t, act, operator_here old.stage t.act operates t.calls t.text new.stage act hand answered, one, is, stay))
 asked_here old new number tag line (Says name rest) tellings told said hand home (item, hears, tells) =
     let waits : item ≡ Some Wait → IsHome old name =

@@ -1,15 +1,18 @@
 -- What the operator is told, whatever workers have.
-use Rattle.std.proofs.Common.{◌≡◌, ℕ, ◌+◌, List, [], ◌∷◌, ◌++◌, length, false, Option, Some, None, refl, sym, ap, subst, ◌∙◌}
+use Rattle.std.proofs.Common.{◌≡◌, ℕ, ◌+◌, ◌-◌, List, [], ◌∷◌, ◌++◌, codes, decimal, length, false, Option, Some, None, refl, sym, ap, subst, ◌∙◌}
 use Rattle.std.specs.Prelude.{option_map}
+use Rattle.std.proofs.lemmas.List.{length-map}
 use Rattle.script_text.specs.declared.operator_line.OperatorLine.{OperatorLine}
 use Rattle.script_text.specs.declared.operator_line.OperatorLine.TheVariants.{Admit, Evict, Move, List as ListAll, Owners, Step, Take, Put}
 use Rattle.strips.specs.Plan.{offset_of}
+use Rattle.service_core.specs.declared.service.TheConstants.{MAX_ADMISSIONS}
 use Rattle.service_core.specs.History.{History}
 use Rattle.service_core.specs.Run.{Call}
 use Rattle.service_core.specs.Run.Call.{Admit as AdmitCall, Evict as EvictCall, Move as MoveCall}
 use Rattle.service_core.specs.Service.{ServiceState, live_of}
 use Rattle.operator.specs.OperatorText.{last_id, list_text, listed_text}
 use Rattle.operator.specs.Serving.{IsAdmission, IsServed, Stage}
+use Rattle.live_lines.specs.Figures.{AreFigures, IsRow}
 use Rattle.live_lines.specs.Live.Asked.{Operates}
 use Rattle.live_machine.specs.Machine.{is_by_hand}
 use Rattle.live_machine.specs.Workers.{all_here}
@@ -34,6 +37,18 @@ list_here service (newest ∷ older) =
     let id : ℕ = length older + 1 in
     ap (λ x. x ++ listed_text (live_of (all_here service).histories id) (offset id) id newest) (list_here service older)
     ∙ ap (λ x. list_text service older ++ x) (ap (λ o. listed_text o (offset id) id newest) (live_rested service.histories id) ∙ listed_here (live_of service.histories id) (offset id) id newest)
+
+-- a tenancy's figures
+row_here : (o : Option History) (id : ℕ) (name row : List ℕ) → IsRow o id name row → IsRow (option_map rested o) id name row
+row_here None id name row own = own
+row_here (Some h) id name row own = own
+
+pub figures_here : (service : ServiceState) (number : ℕ) (names : List (List ℕ)) (text : List ℕ) → AreFigures service number names text → AreFigures (all_here service) number names text
+figures_here service number [] text is = is ∙ ap (λ n. codes "served " ++ decimal number ++ codes "\nadmissions_left " ++ decimal (MAX_ADMISSIONS - n) ++ 10 ∷ []) (sym (length-map service.histories rested))
+figures_here service number (newest ∷ older) text (before, row, rest, own, is) =
+    let id : ℕ = length older + 1 in
+    let P : Option History → Type 0 = λ o. IsRow o id newest row in
+    (before, row, figures_here service number older before rest, subst P (sym (live_rested service.histories id)) (row_here (live_of service.histories id) id newest row own), is)
 
 pub served_here : (old : Stage) (line : OperatorLine (List ℕ)) (calls : List Call) (text : List ℕ) (new : Stage) → is_by_hand (Operates line) ≡ false → IsServed old line calls text new → IsServed (stage_here old) line calls text (stage_here new)
 served_here old (Admit name width) calls text new hand served =

@@ -15,7 +15,7 @@ use Rattle.service_core.specs.Service.{live_of}
 use Rattle.tagged_lines.specs.Tags.{rest_of}
 use Rattle.live_lines.specs.Laws.{said_by}
 use Rattle.live_lines.specs.Live.{Asked, LiveState, asked_of}
-use Rattle.live_lines.specs.Live.Asked.{Echoes, NoForm, Nothing, Operates, Says}
+use Rattle.live_lines.specs.Live.Asked.{Echoes, Figures, NoForm, Nothing, Operates, Says}
 use Rattle.live_lines.proofs.LawLemmas.{says}
 use Rattle.live_machine.specs.Account.{is_nobodys, lines_in}
 use Rattle.live_machine.specs.Held.{Held, HeldItem, HearsForm, HearsIn, calls_off, form_of, held_of, with_held, without_name}
@@ -345,6 +345,7 @@ line_in : (begun : LiveState) (first : ℕ) (lines : List (List ℕ)) (taken : L
 line_in begun first lines taken old new line Nothing b is serves all = nobody_in old new line false (λ other. let P : Asked → Type 0 = IsNoEviction other in subst P (sym is) tt) serves all
 line_in begun first lines taken old new line NoForm b is serves all = nobody_in old new line false (λ other. let P : Asked → Type 0 = IsNoEviction other in subst P (sym is) tt) serves all
 line_in begun first lines taken old new line (Echoes words) b is serves all = nobody_in old new line false (λ other. let P : Asked → Type 0 = IsNoEviction other in subst P (sym is) tt) serves all
+line_in begun first lines taken old new line Figures b is serves all = nobody_in old new line false (λ other. let P : Asked → Type 0 = IsNoEviction other in subst P (sym is) tt) serves all
 line_in begun first lines taken old new line (Operates asked) b is hears all = operator_in begun first lines taken old new line asked b is hears all
 line_in begun first lines taken old new line (Says name said) b is hears all =
     let (of, ok, rest) = said_of name said line is in

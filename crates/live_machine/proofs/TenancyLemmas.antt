@@ -29,7 +29,7 @@ use Rattle.operator.specs.Serving.{IsAdmission, IsServed, Stage}
 use Rattle.tagged_lines.specs.Tags.{Tagged, tag_of}
 use Rattle.live_lines.specs.Acts.{IsAnswered, Telling}
 use Rattle.live_lines.specs.Live.{Asked, LiveState, TakesAsked, TellsItem, asked_of}
-use Rattle.live_lines.specs.Live.Asked.{Echoes, NoForm, Nothing, Operates, Says}
+use Rattle.live_lines.specs.Live.Asked.{Echoes, Figures, NoForm, Nothing, Operates, Says}
 use Rattle.live_input.specs.Serving.{AnswersLine}
 use Rattle.live_machine.proofs.AliveLemmas.{IsQuiet, admitted_alive, alive, evicted_alive, ids_apart, moved_alive, not_alive, run_alive}
 use Rattle.live_machine.proofs.HeldLemmas.{one_name}
@@ -171,6 +171,7 @@ asked_keeps : (tag name : List ℕ) (old : LiveState) (number : ℕ) (asked : As
 asked_keeps tag name old number Nothing tellings told new stays live (none, nothing, same) = keeps_same name old.stage new.stage live (ap (λ (s : LiveState). s.stage) same)
 asked_keeps tag name old number NoForm tellings told new stays live (none, nothing, same) = keeps_same name old.stage new.stage live (ap (λ (s : LiveState). s.stage) same)
 asked_keeps tag name old number (Echoes words) tellings told new stays live (none, nothing, same) = keeps_same name old.stage new.stage live (ap (λ (s : LiveState). s.stage) same)
+asked_keeps tag name old number Figures tellings told new stays live (text, are, none, nothing, same) = keeps_same name old.stage new.stage live (ap (λ (s : LiveState). s.stage) same)
 asked_keeps tag name old number (Operates line) tellings told new stays live (t, act, answered, one, is, texts) =
     let P : Act (List ℕ) → Type 0 = λ a. IsAnswered old.stage a t.calls t.text new.stage in
     served_keeps name old.stage line t.calls t.text new.stage stays live (subst P act answered)

@@ -187,9 +187,10 @@ impl<'g> Machine<'g> {
                 self.mark(name)
             }
             LineRequest::Operates(asked) => self.operate(asked, line),
-            LineRequest::Nothing | LineRequest::NoForm | LineRequest::Echoes(_) => {
-                self.server.serve(line)
-            }
+            LineRequest::Nothing
+            | LineRequest::NoForm
+            | LineRequest::Echoes(_)
+            | LineRequest::Figures => self.server.serve(line),
         }
     }
 }

@@ -84,7 +84,7 @@ fn asks_step(alloc: Global, line: &[u8], name: &[u8]) -> Result<bool, AllocError
     match asked_of(alloc, line)? {
         LineRequest::Operates(OperatorLine::Step(other, 1)) => Ok(other == name),
         LineRequest::Operates(_) | LineRequest::Nothing | LineRequest::NoForm => Ok(false),
-        LineRequest::Echoes(_) | LineRequest::Says(_, _, _) => Ok(false),
+        LineRequest::Echoes(_) | LineRequest::Figures | LineRequest::Says(_, _, _) => Ok(false),
     }
 }
 

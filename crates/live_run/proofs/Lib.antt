@@ -2,4 +2,5 @@ mod LineRuns
 mod ReadLemmas
 pub mod RetellLemmas
 mod RunLemmas
+mod SumLemmas
 pub mod WholeParts

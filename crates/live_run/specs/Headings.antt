@@ -1,15 +1,9 @@
 -- The line that a log begins with.
-use Rattle.std.specs.Prelude.{ℕ, ◌*◌, ◌%◌, ◌^◌, ◌==◌, List, [], ◌∷◌, ◌++◌, bit_xor, codes, decimal, fold, if◌then◌else◌}
+use Rattle.std.specs.Prelude.{ℕ, ◌==◌, List, [], ◌∷◌, ◌++◌, codes, decimal, if◌then◌else◌}
 use Rattle.std.specs.List.{concat}
 use Rattle.live_run.specs.declared.options.Options.{Options}
+use Rattle.live_run.specs.Sums.{sum_of}
 use Rattle.live_run.specs.declared.options.TheConstants.{TENANT_MEMORY}
-
--- the FNV-1a sum of a text, of 64 bits
-abbrev pub with_byte : ℕ → ℕ → ℕ
-with_byte sum byte = (bit_xor sum byte * 0x100000001b3) % 2 ^ 64
-
-abbrev pub sum_of : List ℕ → ℕ
-sum_of text = fold with_byte 0xcbf29ce484222325 text
 
 -- the sizes; the memory of a tenancy, if it isn't the usual one; and the architecture's sum
 abbrev pub sizes_words : Options → List ℕ

@@ -5,4 +5,5 @@ pub mod Lines
 pub mod Outcomes
 pub mod Retelling
 pub mod Runs
+pub mod Sums
 pub mod WholePart

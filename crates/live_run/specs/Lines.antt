@@ -1,5 +1,5 @@
 -- Which words give which option.
-use Rattle.std.specs.Prelude.{ℕ, ◌≡◌, true, not, ◌||◌, Option, Some, None, codes, is_some, option_map}
+use Rattle.std.specs.Prelude.{ℕ, ◌≡◌, true, not, ◌||◌, ◌&&◌, Option, Some, None, codes, is_some, option_map}
 use Rattle.option_words.specs.declared.given.Given.{Given}
 use Rattle.option_words.specs.Values.{is_given, number_of, text_of}
 use Rattle.live_run.specs.declared.options.CommandLine.{CommandLine}
@@ -17,7 +17,8 @@ abbrev pub IsToldOf : Given → Option ℕ → Type 0
 IsToldOf given None = text_of given (codes "told") ≡ None
 IsToldOf given (Some line) = number_of 64 given (codes "told") ≡ Some line
 
--- each option is the one of its name; a line of the log needs a log
+-- each option is the one of its name; a line of the log needs a log, and so does who follows one,
+-- without a line of it
 pub record IsLineOf (given : Given) (line : CommandLine) : Type 0 where
   pub options : AreOptionsOf given line.options
   pub workers : number_of 32 given (codes "workers") ≡ Some line.workers
@@ -26,3 +27,5 @@ pub record IsLineOf (given : Given) (line : CommandLine) : Type 0 where
   pub told : IsToldOf given line.told
   pub needs : (not (is_some line.told) || is_some line.log) ≡ true
   pub ready : is_given given (codes "ready") ≡ line.ready
+  pub follows : is_given given (codes "follow") ≡ line.follows
+  pub follows_one : (not line.follows || (is_some line.log && not (is_some line.told))) ≡ true

@@ -1,17 +1,13 @@
 //! The first line of a log.
 ghost use Rattle.std.specs.Prelude.{◌≡◌, IfOk};
 ghost use Rattle.line_text.specs.Writing.{Writes};
-ghost use Rattle.live_run.specs.Headings.{heading, memory_words, sizes_words, sum_of, sum_words};
+ghost use Rattle.live_run.specs.Headings.{heading, memory_words, sizes_words, sum_words};
 
 use crate::options::{Options, TENANT_MEMORY};
+use crate::sums::sum_of;
 use itoa::Buffer;
 use line_text::{Failed, MemorySink, Sink, write_slices};
 use std::alloc::{AllocError, Global};
-
-/// The first number of the sum of a text, and what it is multiplied by for each byte (FNV-1a).
-const SUM_BEGINS: u64 = 0xcbf2_9ce4_8422_2325;
-
-const SUM_TIMES: u64 = 0x0000_0100_0000_01b3;
 
 /// The line that a log of these options and that architecture begins with. It names what counts for
 /// the replies: the sizes, and the memory of a tenancy if that isn't the usual one.
@@ -87,15 +83,4 @@ fn write_sum<K: Sink>(sink: &mut K, architecture: &[u8]) -> Result<(), Failed>
         sink,
         &[b", architecture ", digits.format(sum).as_bytes(), b"\n"],
     )
-}
-
-/// The FNV-1a sum of a text, of 64 bits.
-fn sum_of(text: &[u8]) -> u64
-    ensures { result ≡ sum_of text.now }
-{
-    let mut sum = SUM_BEGINS;
-    for byte in text {
-        sum = (sum ^ u64::from(*byte)).wrapping_mul(SUM_TIMES);
-    }
-    sum
 }

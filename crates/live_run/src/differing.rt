@@ -14,6 +14,9 @@ const NAMES: [&str; 5] = [
 /// More words than the first line of a log has.
 const MOST_WORDS: u32 = 16;
 
+/// What is said at the end if the first line is another one.
+const OTHERS: &str = "log: its first line names other options";
+
 /// What the first line of a log begins with.
 const FIRST: &[u8] = b"# fpgad_live ";
 
@@ -25,6 +28,8 @@ pub enum LogDifference {
     /// Whether its first line has another value of `--tracks`, of `--columns`, of `--rows`, of
     /// `--tenant-memory`, and another architecture.
     Others([bool; 5]),
+    /// The line of that number says another sum than that of the lines before it.
+    Changed(u64),
 }
 
 impl LogDifference {
@@ -43,18 +48,24 @@ impl LogDifference {
     }
 }
 
-/// A line for each difference.
+/// The message for standard error, without its last line's end.
 impl fmt::Display for LogDifference {
     fn fmt<W: fmt::Write>(&self, f: &mut fmt::Formatter<W>) -> fmt::Result {
         match self {
-            LogDifference::NoLog => write!(f, "log: it does not begin as a log does\n"),
+            LogDifference::NoLog => { write!(f, "log: it does not begin as a log does\n{OTHERS}") }
             LogDifference::Others(others) => {
                 for (is_other, name) in others.iter().zip(NAMES.iter()) {
                     if *is_other {
                         write!(f, "log: its first line has another {name}\n")?;
                     }
                 }
-                Ok(())
+                write!(f, "{OTHERS}")
+            }
+            LogDifference::Changed(line) => {
+                write!(
+                    f,
+                    "log: line {line}: its sum differs: what is before it has changed"
+                )
             }
         }
     }

@@ -4,7 +4,8 @@
 //!   answered. [`first_line`] is the line that a log begins with.
 //! - [`serve`] serves the lines of a dialogue as they come, after those of a log if there is one.
 //! - [`run_line`] serves as a command line says. [`Outcome`] says how a service ended.
-//! - [`log_at`] opens a log, as what it kept and what comes ([`KeptLog`]).
+//! - [`log_at`] opens a log, as what it kept ([`LogLines`]) and what comes ([`KeptLog`]). A log
+//!   that another service still writes is followed, if that is wanted.
 //!   [`LogDifference`] says in what a file is another log.
 //! - [`LockLog`] keeps a log to one service at a time.
 //! - [`is_told`] says the replies to which of the log's lines are written at a start.
@@ -14,7 +15,9 @@
 
 mod beginning;
 mod differing;
+mod following;
 mod kept_log;
+mod log_lines;
 mod log_lock;
 mod options;
 mod outcome;
@@ -24,12 +27,14 @@ mod ready;
 mod retelling;
 mod serving;
 mod streams;
+mod sums;
 mod whole_lines;
 mod whole_part;
 
 pub use beginning::first_line;
 pub use differing::LogDifference;
 pub use kept_log::KeptLog;
+pub use log_lines::LogLines;
 pub use log_lock::LockLog;
 pub use options::{CommandLine, Options, RESULTS_VERSION};
 pub use outcome::Outcome;

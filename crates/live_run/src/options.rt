@@ -11,12 +11,13 @@ use service_core::Device;
 
 /// The version of what lines are answered, which `fpgad_live --version` prints. It is raised
 /// whenever the same options and the same lines would be answered by other bytes.
-pub const RESULTS_VERSION: u32 = 1;
+pub const RESULTS_VERSION: u32 = 2;
 
 /// What follows the options in the help.
 const HELP: &str = "\
 A line of input is a request; NAME is 1 to 32 letters, digits and `_`:
-  op admit NAME WIDTH | evict NAME | move NAME OFFSET | list | owners | echo WORDS | end
+  op admit NAME WIDTH | evict NAME | move NAME OFFSET | list | owners | end
+  op echo WORDS | figures
   op step NAME N | take NAME | put JOB, without workers
   @NAME upload | change, then lines `@NAME ..` with a BLIF netlist, and a line `@NAME .`
   @NAME pack | place SEED EFFORT | route | wait | cancel | withdraw
@@ -92,6 +93,13 @@ pub(crate) const PROGRAM: Program = Program {
             value_name: "N",
             help: "At a start, writes the replies to the log's lines after line N again",
             takes: Takes::Long,
+            default: None,
+        },
+        OptionWord {
+            name: "follow",
+            value_name: "",
+            help: "If another service uses the log, follows it, and goes on when that one ends",
+            takes: Takes::Nothing,
             default: None,
         },
         OptionWord {
@@ -206,4 +214,6 @@ pub struct CommandLine<'a> {
     pub workers: u32,
     /// Whether the service says when it is ready.
     pub ready: bool,
+    /// Whether it follows a log that another service still writes, and goes on when that one ends.
+    pub follows: bool,
 }

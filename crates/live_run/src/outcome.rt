@@ -19,7 +19,8 @@ pub enum Outcome {
     ArchRefused(ArchFault),
     /// The log's file can't be opened or read.
     LogUnreadable,
-    /// The log does not begin with the line that names the options of this run.
+    /// The log does not begin with the line that names the options of this run, or what it has
+    /// after that was changed.
     LogDiffers(LogDifference),
     /// The log's file is the standard input, output or error, too.
     LogIsStream,
@@ -73,9 +74,7 @@ impl fmt::Display for Outcome {
             Outcome::ArchRefused(fault) => write!(f, "arch: {fault}"),
             Outcome::LogUnreadable => write!(f, "log: unreadable"),
             Outcome::LogInUse => write!(f, "log: another service uses it"),
-            Outcome::LogDiffers(difference) => {
-                write!(f, "{difference}log: its first line names other options")
-            }
+            Outcome::LogDiffers(difference) => write!(f, "{difference}"),
             Outcome::LogIsStream => write!(f, "log: it is standard input, output or error too"),
             Outcome::Stopped(FailedDevice::Input) => write!(f, "input: failed"),
             Outcome::Stopped(FailedDevice::Log) => write!(f, "log: failed"),

@@ -4,6 +4,7 @@ ghost use Rattle.live_run.specs.Commands.{RunsLine};
 
 use crate::beginning::first_line;
 use crate::kept_log::{KeptLog, open_log};
+use crate::log_lines::LogLines;
 use crate::log_lock::LockLog;
 use crate::options::CommandLine;
 use crate::outcome::Outcome;
@@ -11,7 +12,7 @@ use crate::serving::serve;
 use dialogue::{Connection, Dialogue, FileLog};
 use line_text::{MAX_TEXT, ReadError, Sink, Source, StdSource, read_all};
 use std::fs::File;
-use std::io::{Eprint, Read, Take};
+use std::io::{Eprint, Read};
 use std::rt::Files;
 use std::sync::Wait;
 
@@ -53,7 +54,7 @@ where
 {
     match line.log {
         None => {
-            let none: Option<StdSource<Take<H::File>>> = None;
+            let none: Option<LogLines<'_, H, H::File>> = None;
             serve(rt, line, architecture, none, connection)
         }
         Some(path) => match log_at(rt, line, path, architecture) {
@@ -67,19 +68,20 @@ where
 }
 
 /// Opens the log at that path, of these options and that architecture. A new log gets its first
-/// line.
-pub fn log_at<H: Files + AllocGlobal>(
-    rt: &H,
+/// line, an old one the sum of its lines. A log that another service has locked is followed, if the
+/// command line says so.
+pub fn log_at<'h, H: Files + Wait + AllocGlobal>(
+    rt: &'h H,
     line: &CommandLine<'_>,
     path: &str,
     architecture: &[u8],
-) -> Result<KeptLog<H::File>, Outcome>
+) -> Result<KeptLog<'h, H, H::File>, Outcome>
 where
     H::File: LockLog,
     ensures { IfErr result (λ outcome. outcome ≢ Outcome.Done) }
 {
     match first_line(rt.alloc(), &line.options, architecture) {
-        Ok(first) => open_log(rt, path, first.as_slice()),
+        Ok(first) => open_log(rt, path, first.as_slice(), line.follows),
         Err(_) => Err(Outcome::NoMemory),
     }
 }

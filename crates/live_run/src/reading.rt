@@ -15,6 +15,10 @@ const NO_ARCH: &str = "--arch FILE is missing";
 
 const NO_LOG: &str = "--told N needs --log FILE";
 
+const NOTHING_TO_FOLLOW: &str = "--follow needs --log FILE";
+
+const TOLD_TWICE: &str = "--follow and --told N exclude each other";
+
 /// The options that these words give, the first being the program's name. An error is clap's; a
 /// request for help is one.
 pub fn read_options<'a, S: AsStr>(alloc: Global, words: &'a [S]) -> Result<CommandLine<'a>, Error> {
@@ -42,6 +46,13 @@ impl<'a> CommandLine<'a> {
         if told.is_some() && log.is_none() {
             return Err(NO_LOG);
         }
+        let follows = given.is_given("follow");
+        if follows && log.is_none() {
+            return Err(NOTHING_TO_FOLLOW);
+        }
+        if follows && told.is_some() {
+            return Err(TOLD_TWICE);
+        }
         Ok(CommandLine {
             options: options_of(given)?,
             arch: given.text("arch").ok_or(NO_ARCH)?,
@@ -49,6 +60,7 @@ impl<'a> CommandLine<'a> {
             told,
             workers: given.number("workers")?,
             ready: given.is_given("ready"),
+            follows,
         })
     }
 }

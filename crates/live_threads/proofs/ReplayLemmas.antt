@@ -11,7 +11,7 @@ use Rattle.line_feed.specs.Pieces.{IsKept, TakesPiece, kept_of}
 use Rattle.line_service.specs.Conversation.{AreAnswered}
 use Rattle.line_service.proofs.TalkLemmas.{answered_append}
 use Rattle.live_lines.specs.Live.{Asked, LiveState, asked_of}
-use Rattle.live_lines.specs.Live.Asked.{Echoes, NoForm, Nothing, Operates, Says}
+use Rattle.live_lines.specs.Live.Asked.{Echoes, Figures, NoForm, Nothing, Operates, Says}
 use Rattle.live_input.specs.Serving.{AnswersLine, kept_lines}
 use Rattle.live_machine.specs.Machine.{is_busy, is_by_hand, is_outside}
 use Rattle.live_machine.specs.Workers.{IsHome, NeedNotWait, without_workers}
@@ -46,6 +46,7 @@ served_alone laws old new number line reply asked is none can answers = by asked
     by Nothing is none can = plain Nothing is refl tt
     by NoForm is none can = plain NoForm is refl tt
     by (Echoes words) is none can = plain (Echoes words) is refl tt
+    by Figures is none can = plain Figures is refl tt
     by (Operates (Admit name width)) is none can = plain (Operates (Admit name width)) is refl tt
     by (Operates (Evict name)) is none can = plain (Operates (Evict name)) is refl tt
     by (Operates (Move name offset)) is none can = plain (Operates (Move name offset)) is refl tt

@@ -15,6 +15,8 @@ struct Letters {
     /// The reader has put lines into its ring.
     has_lines: bool,
     end: Option<InputEnd>,
+    /// The log has been served, and lines of the input are taken.
+    is_ready: bool,
     /// The service has ended, and nothing more is taken.
     is_over: bool,
 }
@@ -38,7 +40,7 @@ pub(crate) struct Mailbox {
     letters: Mutex<Letters>,
     /// Notified when something came.
     news: Condvar,
-    /// Notified when lines were taken, or the service is over.
+    /// Notified when the log has been served, when lines were taken, or the service is over.
     room: Condvar,
 }
 
@@ -61,6 +63,7 @@ impl Mailbox {
                 steps: Vec::new(alloc),
                 has_lines: false,
                 end: None,
+                is_ready: false,
                 is_over: false,
             }),
             news: Condvar::new(),
@@ -112,6 +115,21 @@ impl Mailbox {
         drop(letters);
         self.news.notify_one();
         goes_on
+    }
+
+    /// Says that the log has been served.
+    pub(crate) fn note_ready<R: Wait>(&self, rt: &R) {
+        self.letters.lock(rt).is_ready = true;
+        self.room.notify_one();
+    }
+
+    /// Waits until the log has been served. Returns whether the service goes on.
+    pub(crate) fn await_ready<R: Wait>(&self, rt: &R) -> bool {
+        let letters = self.letters.lock(rt);
+        let letters = self.room.wait_while(rt, letters, |letters| {
+            !letters.is_ready && !letters.is_over
+        });
+        !letters.is_over
     }
 
     /// Says that lines were taken.

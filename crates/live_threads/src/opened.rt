@@ -133,6 +133,7 @@ fn serve_resumed<H: Wait + AllocGlobal + Eprint, P: Source + Drop, O: Outlet>(
 {
     match resume(site, live, past, told, outlet) {
         Ok(machine) => {
+            site.crew.mailbox.note_ready(site.rt);
             say_ready(site.rt, site.ready);
             serve_machine(site.rt, site.crew, lines, machine, outlet)
         }

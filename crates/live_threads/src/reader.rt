@@ -25,8 +25,9 @@ pub(crate) struct ReaderEnd {
     pub(crate) end: Option<InputEnd>,
 }
 
-/// Reads the lines of an input up to its end, as long as the service goes on. The lines of one read
-/// go into the ring as one text, each cut to the bytes that are kept of it and ended by LF.
+/// Reads the lines of an input up to its end, once the log has been served, and as long as the
+/// service goes on. The lines of one read go into the ring as one text, each cut to the bytes that
+/// are kept of it and ended by LF.
 pub(crate) fn read_lines<S: Source + Drop, R: Wait + AllocGlobal>(
     rt: &R,
     crew: &Crew,
@@ -38,6 +39,10 @@ pub(crate) fn read_lines<S: Source + Drop, R: Wait + AllocGlobal>(
 {
     let mut lines = lines;
     let mut source = Replay::new(reader);
+    if !crew.mailbox.await_ready(rt) {
+        drop(source);
+        return ReaderEnd { lines, end: None };
+    }
     let end = match LineFeed::new(rt.alloc()) {
         Ok(mut feed) => feed_lines(rt, crew, &mut lines, &mut feed, &mut source),
         Err(_) => Some(InputEnd::NoMemory),

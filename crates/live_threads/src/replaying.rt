@@ -296,7 +296,7 @@ impl<'g, R: Wait + AllocGlobal> Replayed<'g, R> {
                 self.await_home(name);
             }
             LineRequest::Operates(_) | LineRequest::Echoes(_) => {}
-            LineRequest::Nothing | LineRequest::NoForm => {}
+            LineRequest::Nothing | LineRequest::NoForm | LineRequest::Figures => {}
         }
     }
 
@@ -321,7 +321,7 @@ impl<'g, R: Wait + AllocGlobal> Replayed<'g, R> {
                 self.order_step(name)
             }
             LineRequest::Operates(_) | LineRequest::Echoes(_) => Ok(()),
-            LineRequest::Nothing | LineRequest::NoForm => Ok(()),
+            LineRequest::Nothing | LineRequest::NoForm | LineRequest::Figures => Ok(()),
         }
     }
 

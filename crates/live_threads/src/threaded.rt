@@ -8,13 +8,13 @@ use crate::outlet::{Devices, Outlet};
 use crate::running::{RunEnd, serve_with_workers};
 use arch_file::{ArchError, read_arch};
 use dialogue::FileLog;
-use line_text::{ReadError, Sink, Source, StdSource};
-use live_run::{CommandLine, KeptLog, LockLog, Outcome, log_at, read_architecture};
+use line_text::{ReadError, Sink, Source};
+use live_run::{CommandLine, KeptLog, LockLog, LogLines, Outcome, log_at, read_architecture};
 use service_core::{Device, Service};
 use sessions::device_graph;
 use std::alloc::{AllocGlobal, Global};
 use std::fs::OpenFile;
-use std::io::{Eprint, Read, Take, Write};
+use std::io::{Eprint, Read, Write};
 use std::rt::Files;
 use std::sync::Wait;
 use std::thread::Threads;
@@ -22,8 +22,8 @@ use std::time::Clock;
 
 /// The lines of a log, and where a service keeps and tells.
 #[derive(Drop)]
-struct Streams<F: Read + Write + OpenFile + Drop, W: Sink + Drop> {
-    past: Option<StdSource<Take<F>>>,
+struct Streams<'h, R: Wait, F: Read + Write + OpenFile + LockLog + Drop, W: Sink + Drop> {
+    past: Option<LogLines<'h, R, F>>,
     devices: Devices<W, FileLog<F>>,
 }
 
@@ -110,12 +110,12 @@ fn device_of(alloc: Global, line: &CommandLine<'_>, architecture: &[u8]) -> Resu
 }
 
 /// Opens the log of a command line, if it names one.
-fn open_streams<H: Files + AllocGlobal, W: Sink + Drop>(
-    rt: &H,
+fn open_streams<'h, H: Files + Wait + AllocGlobal, W: Sink + Drop>(
+    rt: &'h H,
     line: &CommandLine<'_>,
     architecture: &[u8],
     writer: W,
-) -> Result<Streams<H::File, W>, Outcome>
+) -> Result<Streams<'h, H, H::File, W>, Outcome>
 where
     H::File: LockLog,
     ensures past { IfOk result (λ s. is_some s.past ≡ is_some line.now.log) }
@@ -148,21 +148,22 @@ where
 
 /// Serves over that device.
 fn run_device<
+    'h,
     H: Files + Threads + Wait + Clock + AllocGlobal + Eprint + Sync,
     S: Source + Drop,
     W: Sink + Drop + Send,
 >(
-    rt: &H,
+    rt: &'h H,
     line: &CommandLine<'_>,
     device: Device,
-    streams: Streams<H::File, W>,
+    streams: Streams<'h, H, H::File, W>,
     reader: S,
 ) -> RunEnd<W, FileLog<H::File>>
 where
     H::File: LockLog + Send,
     requires { IsDevice device }
-    ensures { RunsOver line.now.told (option_map (⟦<StdSource<Take<H::File>> as Source>⟧.remaining) streams.past) device
-        (⟦<Devices<W, FileLog<H::File>> as Outlet>⟧.view streams.devices) (S.remaining reader)
+    ensures { RunsOver line.now.told (option_map (⟦<LogLines<'h, H, H::File> as Source>⟧.remaining) streams.entry.past) device
+        (⟦<Devices<W, FileLog<H::File>> as Outlet>⟧.view streams.entry.devices) (S.remaining reader)
         (option_map (⟦<Devices<W, FileLog<H::File>> as Outlet>⟧.view) result.devices)
         result.outcome }
 {

@@ -29,9 +29,6 @@ use Rattle.pathfinder.proofs.NodeNumbers.{number_found, number_there, is_number}
 use Rattle.pathfinder.proofs.ToldTrees.{to_map, from_map, all_mapped, nodes_told, to_nodes, from_nodes, to_pairs, from_pairs, leads_told}
 
 module _ (basis : Basis) (lawful : IsRoutingGraph basis (graph_of basis)) where
-  abbrev node_at : ℕ → Node
-  node_at = (graph_of basis).node
-
   abbrev told : Tree → List (List Node)
   told tree = map (map (graph_of basis).node) tree
 

@@ -4,7 +4,8 @@ use Rattle.std.proofs.lemmas.Bool.{lt-ltb}
 use Rattle.std.proofs.lemmas.List.Sums.{sum_by-cons}
 use Rattle.std.proofs.lemmas.List.FromFn.{length-map-range_with_len, sum_by-map-range_with_len_more}
 use Rattle.rr_graph.specs.Graph.{Basis, graph_of}
-use Rattle.pathfinder.specs.Negotiation.{Tree, Routed, Standing, More, Done, GaveUp, NoPath, is_feasible, next_routing, routing_with_trees, occupancy, rerouted_trees, accumulated_overuse, routed_after}
+use Rattle.pathfinder.specs.declared.routing.TheConstants.{MAX_ITERATIONS}
+use Rattle.pathfinder.specs.Negotiation.{Tree, Routed, Standing, More, Done, GaveUp, is_feasible, next_routing, routing_with_trees, occupancy, rerouted_trees, accumulated_overuse, routed_after}
 use Rattle.pathfinder.specs.Routings.{IsAfter, RoutingState}
 use Rattle.pathfinder.specs.Overuse.{IsMost, IsOveruse, count_over, over_in, overuse_at}
 use Rattle.pathfinder.specs.PlacedNets.{wiring_of}
@@ -89,15 +90,13 @@ long_judged : (w : Wiring) (iterations : ℕ) (routed : Routed) (new : Result (L
 long_judged w iterations routed (Err net) long = long
 long_judged w iterations routed (Ok trees) long = by (is_feasible w trees)
   where
-    by : (fair : Bool) → length (cond {A = Routed} fair (record { trees = trees; history = routed.history; standing = Done }) (record { trees = trees; history = accumulated_overuse w routed.history trees; standing = if iterations + 1 == 30 then GaveUp else More })).history ≡ w.count
+    by : (fair : Bool) → length (cond {A = Routed} fair (record { trees = trees; history = routed.history; standing = Done }) (record { trees = trees; history = accumulated_overuse w routed.history trees; standing = if iterations + 1 == MAX_ITERATIONS then GaveUp else More })).history ≡ w.count
     by true = long
     by false = length-map-range_with_len (λ node. slice_index routed.history node + (occupancy trees node - w.capacity node)) 0 w.count
 
 long_iterated : (w : Wiring) (nets : List Net) (iterations : ℕ) (routed : Routed) (standing : Standing) → length routed.history ≡ w.count → length (next_routing w nets iterations routed standing).history ≡ w.count
 long_iterated w nets iterations routed More long = long_judged w iterations routed (rerouted_trees w iterations routed.history [] nets routed.trees) long
-long_iterated w nets iterations routed Done long = long
-long_iterated w nets iterations routed GaveUp long = long
-long_iterated w nets iterations routed (NoPath net) long = long
+long_iterated w nets iterations routed _ long = long
 
 pub long_after : (w : Wiring) (nets : List Net) (iterations : ℕ) → length (routed_after w nets iterations).history ≡ w.count
 unfolding routed_after

@@ -58,10 +58,6 @@ same_place a b x y s = ap (λ k. place_at k a.y a.subblock) x ∙ ap (λ k. plac
 
 -- two blocks with equal sinks have equal places
 same_sink : (strip : Strip) (a b : Block) (p q : Place) → IsInRow strip (kind_of a) p → IsInRow strip (kind_of b) q → sink_at a p ≡ sink_at b q → p ≡ q
-same_sink strip (InputPad a) (InputPad b) p q s t e = same_place p q (ap (λ (n : Node). n.x) e) (ap (λ (n : Node). n.y) e) (ap (λ (n : Node). n.n) e)
-same_sink strip (InputPad a) (OutputPad b) p q s t e = same_place p q (ap (λ (n : Node). n.x) e) (ap (λ (n : Node). n.y) e) (ap (λ (n : Node). n.n) e)
-same_sink strip (OutputPad a) (InputPad b) p q s t e = same_place p q (ap (λ (n : Node). n.x) e) (ap (λ (n : Node). n.y) e) (ap (λ (n : Node). n.n) e)
-same_sink strip (OutputPad a) (OutputPad b) p q s t e = same_place p q (ap (λ (n : Node). n.x) e) (ap (λ (n : Node). n.y) e) (ap (λ (n : Node). n.n) e)
 same_sink strip (Cluster a) (Cluster b) p q (_, s) (_, t) e = same_place p q (ap (λ (n : Node). n.x) e) (ap (λ (n : Node). n.y) e) (s ∙ sym t)
 same_sink strip (Cluster a) (InputPad b) p q ((l, h), _) (inl t, _) e = absurd (omega (arith, l, t, ap (λ (n : Node). n.y) e))
 same_sink strip (Cluster a) (InputPad b) p q ((l, h), _) (inr t, _) e = absurd (omega (arith, h, t, ap (λ (n : Node). n.y) e))
@@ -71,6 +67,7 @@ same_sink strip (InputPad a) (Cluster b) p q (inl t, _) ((l, h), _) e = absurd (
 same_sink strip (InputPad a) (Cluster b) p q (inr t, _) ((l, h), _) e = absurd (omega (arith, h, t, ap (λ (n : Node). n.y) e))
 same_sink strip (OutputPad a) (Cluster b) p q (inl t, _) ((l, h), _) e = absurd (omega (arith, l, t, ap (λ (n : Node). n.y) e))
 same_sink strip (OutputPad a) (Cluster b) p q (inr t, _) ((l, h), _) e = absurd (omega (arith, h, t, ap (λ (n : Node). n.y) e))
+same_sink strip _ _ p q s t e = same_place p q (ap (λ (n : Node). n.x) e) (ap (λ (n : Node). n.y) e) (ap (λ (n : Node). n.n) e)
 
 -- pairs that are in a relation after a function is applied
 AllPairs-map : {X Y : Type 0} (R : Y → Y → Type 0) (f : X → Y) (xs : List X) → AllPairs (λ x y. R (f x) (f y)) xs → AllPairs R (map f xs)

@@ -82,16 +82,13 @@ separates_next members p i member rising at found e =
 
 -- a row has all tracks before one that it has
 earlier_track : (arch : Arch) (strip : Strip) (kind : NodeKind) (y m : ℕ) → is_wire kind ≡ true → is_slot arch strip kind y (suc m) ≡ true → is_slot arch strip kind y m ≡ true
-earlier_track arch strip Source y m wire h = absurd (false≢true wire)
-earlier_track arch strip Sink y m wire h = absurd (false≢true wire)
-earlier_track arch strip Opin y m wire h = absurd (false≢true wire)
-earlier_track arch strip Ipin y m wire h = absurd (false≢true wire)
 earlier_track arch strip ChanX y m wire h =
     let parts = and_parts (nat_le y strip.rows) (nat_lt (suc m) arch.tracks) h in
     and_from (nat_le y strip.rows) (nat_lt m arch.tracks) parts.0 (lt-ltb m arch.tracks (omega (arith, ltb-true (suc m) arch.tracks parts.1)))
 earlier_track arch strip ChanY y m wire h =
     let parts = and_parts (is_block_row strip y) (nat_lt (suc m) arch.tracks) h in
     and_from (is_block_row strip y) (nat_lt m arch.tracks) parts.0 (lt-ltb m arch.tracks (omega (arith, ltb-true (suc m) arch.tracks parts.1)))
+earlier_track arch strip _ y m wire h = absurd (false≢true wire)
 
 -- a member of the column
 contained : (nodes : Numbering) (kind : NodeKind) (y n : ℕ) → IsNumbering nodes → y < 68 → n < 256 → is_slot nodes.arch nodes.strip kind y n ≡ true → Contains nodes.members.items (member_of kind y n)
@@ -115,12 +112,9 @@ track_index nodes kind y first (suc m) lawful low few wire is at =
 -- ---- the wire of a's own track in a row
 
 wire_is : (kind : NodeKind) → is_wire kind ≡ true → IsWire kind
-wire_is Source h = false≢true h
-wire_is Sink h = false≢true h
-wire_is Opin h = false≢true h
-wire_is Ipin h = false≢true h
 wire_is ChanX h = tt
 wire_is ChanY h = tt
+wire_is _ h = false≢true h
 
 -- the members between the positions of two rows
 row_member : (nodes : Numbering) (kind : NodeKind) (y r : ℕ) → IsNumbering nodes → y < 68 → r < column_count nodes →
@@ -214,42 +208,17 @@ wire_added nodes a row x y first kind lawful low few wa wb there at_first old is
 
 -- no edge leads to a node of this kind
 led_kind : (arch : Arch) (strip : Strip) (ka kb : NodeKind) (a b : Node) → joins arch strip ka kb a b ≡ true → may_lead ka kb ≡ true
-led_kind arch strip Source Source a b h = absurd (false≢true h)
-led_kind arch strip Source Sink a b h = absurd (false≢true h)
 led_kind arch strip Source Opin a b h = refl
-led_kind arch strip Source Ipin a b h = absurd (false≢true h)
-led_kind arch strip Source ChanX a b h = absurd (false≢true h)
-led_kind arch strip Source ChanY a b h = absurd (false≢true h)
-led_kind arch strip Sink Source a b h = absurd (false≢true h)
-led_kind arch strip Sink Sink a b h = absurd (false≢true h)
-led_kind arch strip Sink Opin a b h = absurd (false≢true h)
-led_kind arch strip Sink Ipin a b h = absurd (false≢true h)
-led_kind arch strip Sink ChanX a b h = absurd (false≢true h)
-led_kind arch strip Sink ChanY a b h = absurd (false≢true h)
-led_kind arch strip Opin Source a b h = absurd (false≢true h)
-led_kind arch strip Opin Sink a b h = absurd (false≢true h)
-led_kind arch strip Opin Opin a b h = absurd (false≢true h)
-led_kind arch strip Opin Ipin a b h = absurd (false≢true h)
 led_kind arch strip Opin ChanX a b h = refl
 led_kind arch strip Opin ChanY a b h = refl
-led_kind arch strip Ipin Source a b h = absurd (false≢true h)
 led_kind arch strip Ipin Sink a b h = refl
-led_kind arch strip Ipin Opin a b h = absurd (false≢true h)
-led_kind arch strip Ipin Ipin a b h = absurd (false≢true h)
-led_kind arch strip Ipin ChanX a b h = absurd (false≢true h)
-led_kind arch strip Ipin ChanY a b h = absurd (false≢true h)
-led_kind arch strip ChanX Source a b h = absurd (false≢true h)
-led_kind arch strip ChanX Sink a b h = absurd (false≢true h)
-led_kind arch strip ChanX Opin a b h = absurd (false≢true h)
 led_kind arch strip ChanX Ipin a b h = refl
 led_kind arch strip ChanX ChanX a b h = refl
 led_kind arch strip ChanX ChanY a b h = refl
-led_kind arch strip ChanY Source a b h = absurd (false≢true h)
-led_kind arch strip ChanY Sink a b h = absurd (false≢true h)
-led_kind arch strip ChanY Opin a b h = absurd (false≢true h)
 led_kind arch strip ChanY Ipin a b h = refl
 led_kind arch strip ChanY ChanX a b h = refl
 led_kind arch strip ChanY ChanY a b h = refl
+led_kind arch strip _ _ a b h = absurd (false≢true h)
 
 -- a node to which an edge leads can be reached
 reached : (nodes : Numbering) (a b : Node) → leads nodes a b ≡ true → may_reach a b.kind b.x ≡ true

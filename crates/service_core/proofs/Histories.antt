@@ -10,7 +10,7 @@ use Rattle.tenant_slot.proofs.Runs.{state_after-append, replies_to-append, step-
 use Rattle.service_core.specs.declared.entry.Entry.{Entry}
 use Rattle.service_core.specs.History.{IsReplayed, events_of}
 use Rattle.service_core.specs.Tenancy.{IsHistory}
-use Rattle.service_core.specs.Texts.{FitInto}
+use Rattle.service_core.specs.Texts.{CountAs}
 
 pub state_after-push : (first : State) (es : List Entry) (e : Entry) → state_after first (events_of (es ++ e ∷ [])) ≡ (step (state_after first (events_of es)) e.event).0
 state_after-push first es e =
@@ -31,13 +31,13 @@ IsReplayed-push arch strip es e was told =
       few = omega (arith, length-append es (e ∷ []), was.few, was.count, served.1);
     }
 
-pub IsHistory-push : (id : ℕ) (arch : Arch) (strip : Strip) (es : List Entry) (e : Entry) (here : State) (new : SlotState) (held limit : ℕ) → FitInto held (es ++ e ∷ []) → held ≤ limit → IsReplayed arch strip es → here ≡ state_after (start arch strip) (events_of es) → step here e.event ≡ (new.state, Some e.reply) → new.id ≡ id → IsHistory id arch strip (Some new) (es ++ e ∷ []) held limit
+pub IsHistory-push : (id : ℕ) (arch : Arch) (strip : Strip) (es : List Entry) (e : Entry) (here : State) (new : SlotState) (held limit : ℕ) → CountAs held (es ++ e ∷ []) → held ≤ limit → IsReplayed arch strip es → here ≡ state_after (start arch strip) (events_of es) → step here e.event ≡ (new.state, Some e.reply) → new.id ≡ id → IsHistory id arch strip (Some new) (es ++ e ∷ []) held limit
 IsHistory-push id arch strip es e here new held limit in_held in_limit was is steps its_id =
     let same : step (state_after (start arch strip) (events_of es)) e.event ≡ (new.state, Some e.reply) = rw (← is) steps in
     record {
       replayed = IsReplayed-push arch strip es e was (ap (λ (p : State × Option Reply). p.1) same);
       same_id = its_id;
       state = sym (state_after-push (start arch strip) es e ∙ ap (λ (p : State × Option Reply). p.0) same);
-      fits = in_held;
+      counted = in_held;
       within = in_limit;
     }

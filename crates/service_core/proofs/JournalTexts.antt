@@ -1,5 +1,5 @@
 -- The texts of a journal with one more entry.
-use Rattle.std.proofs.Common.{◌≡◌, ℕ, ◌+◌, ◌≤◌, List, [], ◌∷◌, ◌++◌, length, Some, inl, inr, subst, arith}
+use Rattle.std.proofs.Common.{◌≡◌, ◌∙◌, ℕ, ◌+◌, ◌≤◌, List, [], ◌∷◌, ◌++◌, length, Some, inl, inr, subst, arith}
 use Rattle.std.specs.Prelude.{All, Contains, slice_get}
 use Rattle.std.proofs.lemmas.List.Elements.{All-append, All-contains_itself, All-get_or, All-nil, All-push, All-weaker, Contains-append_left, Contains-append_right}
 use Rattle.std.proofs.lemmas.List.Sums.{sum_by-append}
@@ -9,11 +9,18 @@ use Rattle.tenant_slot.specs.declared.command.Command.{Command}
 use Rattle.tenant_slot.specs.declared.event.Event.TheVariants.{Command as Asked}
 use Rattle.tenant_slot.specs.declared.reply.Reply.{Reply}
 use Rattle.service_core.specs.declared.entry.Entry.{Entry}
-use Rattle.service_core.specs.Texts.{Adds, AddsBytes, FitInto, bytes_of, command_texts, entry_texts, event_texts, reply_texts}
+use Rattle.service_core.specs.Texts.{Adds, AddsBytes, CountAs, FitInto, all_bytes, bytes_of, command_texts, entry_texts, event_texts, reply_texts}
 
 -- an empty journal has no texts
-pub FitInto-none : FitInto 0 []
-FitInto-none = record { texts = []; total = omega arith; each = All-nil (λ (entry : Entry). All (Contains []) (entry_texts entry)) }
+pub CountAs-none : CountAs 0 []
+CountAs-none = record {
+  fits = record { texts = []; total = omega arith; each = All-nil (λ (entry : Entry). All (Contains []) (entry_texts entry)) };
+  most = omega arith;
+}
+
+-- one more entry has its own texts
+all_bytes-push : (entries : List Entry) (e : Entry) → all_bytes (entries ++ e ∷ []) ≡ all_bytes entries + bytes_of (entry_texts e)
+all_bytes-push entries e = sum_by-append (λ (entry : Entry). bytes_of (entry_texts entry)) entries (e ∷ []) ∙ omega arith
 
 -- texts that fit into some bytes fit into more
 pub FitInto-more : (held limit : ℕ) (entries : List Entry) → FitInto held entries → held ≤ limit → FitInto limit entries
@@ -31,10 +38,14 @@ FitInto-with held bytes entries e own fits few has =
     }
 
 -- an entry without texts
-pub FitInto-push : (held : ℕ) (entries : List Entry) (e : Entry) → FitInto held entries → entry_texts e ≡ [] → FitInto held (entries ++ e ∷ [])
-FitInto-push held entries e fits none =
+pub CountAs-push : (held : ℕ) (entries : List Entry) (e : Entry) → CountAs held entries → entry_texts e ≡ [] → CountAs held (entries ++ e ∷ [])
+CountAs-push held entries e counted none =
+    let fits = counted.fits in
     let P : Entry → Type 0 = λ entry. All (Contains fits.texts) (entry_texts entry) in
-    record { texts = fits.texts; total = fits.total; each = All-push P entries e fits.each (rw none (All-nil (Contains fits.texts))) }
+    record {
+      fits = record { texts = fits.texts; total = fits.total; each = All-push P entries e fits.each (rw none (All-nil (Contains fits.texts))) };
+      most = omega (arith, counted.most, all_bytes-push entries e);
+    }
 
 -- texts contain themselves
 own_there : (before own : List (List ℕ)) → All (Contains (before ++ own)) own
@@ -45,14 +56,25 @@ all_at : (P : Entry → Type 0) (entries : List Entry) (k : ℕ) (entry : Entry)
 all_at P entries k entry all there = subst P (get_or_from_slice_get entries k entry entry there) (All-get_or P entries k entry (slice_get_within entries k entry there) all)
 
 -- a command and its reply, whose text is counted unless it is there
-pub Adds-reply : (entries : List Entry) (command : Command) (reply : Reply) (added : ℕ) → AddsBytes entries reply added → Adds entries command reply (bytes_of (command_texts command) + added)
-Adds-reply entries command reply added (inl is) held fits =
+fits_reply : (entries : List Entry) (command : Command) (reply : Reply) (added : ℕ) → AddsBytes entries reply added → (held : ℕ) → FitInto held entries → FitInto (held + (bytes_of (command_texts command) + added)) (entries ++ record { event = Asked command; reply = reply } ∷ [])
+fits_reply entries command reply added (inl is) held fits =
     let e : Entry = record { event = Asked command; reply = reply } in
     FitInto-with held (bytes_of (command_texts command) + added) entries e (command_texts command ++ reply_texts reply) fits (omega (arith, is, sum_by-append length (command_texts command) (reply_texts reply))) (own_there fits.texts (command_texts command ++ reply_texts reply))
-Adds-reply entries command reply added (inr again) held fits =
+fits_reply entries command reply added (inr again) held fits =
     let e : Entry = record { event = Asked command; reply = reply } in
     let found : Entry = again.1.1 in
     let all : All (Contains fits.texts) (entry_texts found) = all_at (λ (entry : Entry). All (Contains fits.texts) (entry_texts entry)) entries again.1.0 found fits.each again.1.2 in
     let texts : All (Contains fits.texts) (reply_texts reply) = subst (λ r. All (Contains fits.texts) (reply_texts r)) again.1.3 (all_back (Contains fits.texts) (event_texts found.event) (reply_texts found.reply) all) in
     let old : All (Contains (fits.texts ++ command_texts command)) (reply_texts reply) = All-weaker (Contains fits.texts) (Contains (fits.texts ++ command_texts command)) (λ text there. Contains-append_left fits.texts (command_texts command) text there) (reply_texts reply) texts in
     FitInto-with held (bytes_of (command_texts command) + added) entries e (command_texts command) fits (omega arith) (All-append (Contains (fits.texts ++ command_texts command)) (command_texts command) (reply_texts reply) (own_there fits.texts (command_texts command)) old)
+
+-- and it is counted at most as often as it is there
+most_added : (entries : List Entry) (reply : Reply) (added : ℕ) → AddsBytes entries reply added → added ≤ bytes_of (reply_texts reply)
+most_added entries reply added (inl is) = omega (arith, is)
+most_added entries reply added (inr again) = omega (arith, again.0)
+
+pub Adds-reply : (entries : List Entry) (command : Command) (reply : Reply) (added : ℕ) → AddsBytes entries reply added → Adds entries command reply (bytes_of (command_texts command) + added)
+Adds-reply entries command reply added adds held counted = record {
+  fits = fits_reply entries command reply added adds held counted.fits;
+  most = omega (arith, counted.most, most_added entries reply added adds, sum_by-append length (command_texts command) (reply_texts reply), all_bytes-push entries (record { event = Asked command; reply = reply }));
+}

@@ -23,7 +23,7 @@ use Rattle.tenant_slot.specs.Slot.{GivesBack, SlotState, is_takeable, next_job}
 use Rattle.service_core.specs.declared.entry.Entry.{Entry}
 use Rattle.service_core.specs.History.{History, IsReplayed, events_of, slot_of, state_of, with_entry, with_here}
 use Rattle.service_core.specs.Run.{IsStepOf, step_entry}
-use Rattle.service_core.specs.Texts.{FitInto}
+use Rattle.service_core.specs.Texts.{CountAs}
 
 -- whether its next step is here
 abbrev pub slot_here : Option SlotState → Option Bool
@@ -38,12 +38,12 @@ abbrev pub if_live : Option History → Option History
 if_live o = option_and_then (λ h. if h.live then Some h else None) o
 
 -- the journal is that of the tenancy alone, a live tenancy's slot is in the state that it results
--- in, and the journal's texts fit into the bytes that they are counted as, which are within a limit
+-- in, and the journal's texts count as some bytes, which are within a limit
 pub record IsHistory (id : ℕ) (arch : Arch) (strip : Strip) (slot : Option SlotState) (entries : List Entry) (held limit : ℕ) : Type 0 where
   pub replayed : IsReplayed arch strip entries
   pub same_id : IfSome slot (λ s. s.id ≡ id)
   pub state : IfSome slot (λ s. s.state ≡ state_after (start arch strip) (events_of entries))
-  pub fits : FitInto held entries
+  pub counted : CountAs held entries
   pub within : held ≤ limit
 
 -- the possible results of a live tenancy's command: the command with its reply, which is one more

@@ -54,6 +54,16 @@ pub record FitInto (bytes : ℕ) (entries : List Entry) : Type 0 where
   pub total : bytes_of texts ≤ bytes
   pub each : All (λ entry. All (Contains texts) (entry_texts entry)) entries
 
+-- the bytes of all texts of a journal, each as often as it is there
+abbrev pub all_bytes : List Entry → ℕ
+all_bytes entries = sum_by (λ entry. bytes_of (entry_texts entry)) entries
+
+-- The texts of a journal count as this number of bytes: each text once at least, and no text more
+-- often than it is there.
+pub record CountAs (bytes : ℕ) (entries : List Entry) : Type 0 where
+  pub fits : FitInto bytes entries
+  pub most : bytes ≤ all_bytes entries
+
 -- private: the reply is that of an entry
 abbrev pub IsRepeated : List Entry → Reply → Type 0
 IsRepeated entries reply = (k : ℕ) × (entry : Entry) × (slice_get entries k ≡ Some entry) × (entry.reply ≡ reply)
@@ -62,6 +72,6 @@ IsRepeated entries reply = (k : ℕ) × (entry : Entry) × (slice_get entries k 
 abbrev pub AddsBytes : List Entry → Reply → ℕ → Type 0
 AddsBytes entries reply bytes = (bytes ≡ bytes_of (reply_texts reply)) ⊎ ((bytes ≡ 0) × IsRepeated entries reply)
 
--- private: with the command and its reply, the journal's texts take at most these bytes more
+-- private: with the command and its reply, the journal's texts count as these bytes more
 abbrev pub Adds : List Entry → Command → Reply → ℕ → Type 0
-Adds entries command reply bytes = (held : ℕ) → FitInto held entries → FitInto (held + bytes) (entries ++ record { event = Asked command; reply = reply } ∷ [])
+Adds entries command reply bytes = (held : ℕ) → CountAs held entries → CountAs (held + bytes) (entries ++ record { event = Asked command; reply = reply } ∷ [])

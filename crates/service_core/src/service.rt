@@ -8,6 +8,7 @@ ghost use Rattle.service_core.specs.Kept.{CanTakeUp, ChecksAdmission, IsDevice, 
 ghost use Rattle.service_core.specs.Owners.{HasOneOwner, ListsOwnersOf};
 ghost use Rattle.service_core.specs.Headline.{AreParted};
 
+mod journals;
 mod strip_sizes;
 
 use crate::device::Device;

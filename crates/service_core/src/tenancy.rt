@@ -7,7 +7,7 @@ ghost use Rattle.tenant_slot.specs.Answer.{Answers};
 ghost use Rattle.tenant_slot.specs.Slot.{IsOrigin, is_takeable};
 ghost use Rattle.service_core.specs.History.{slot_of, state_of};
 ghost use Rattle.tenant_slot.specs.RoutedSet.{routed_set};
-ghost use Rattle.service_core.specs.Texts.{Adds, FitInto};
+ghost use Rattle.service_core.specs.Texts.{Adds, CountAs, FitInto};
 ghost use Rattle.service_core.specs.Tenancy.{GivesHistoryBack, GivesUp, GivesUpOrKeeps, PutsHistory, ServesHistory, StandsIn, TakesHistory, closed_history};
 
 use crate::entry::Entry;
@@ -105,6 +105,13 @@ impl Tenancy {
         ensures { option_copied result ≡ slice_get self.now.entries place }
     {
         self.journal.get(place as usize)
+    }
+
+    /// The bytes that the journal's texts count as. A text that many entries share counts once.
+    pub(crate) fn text_bytes(&self) -> u64
+        ensures { CountAs result self.now.entries }
+    {
+        self.held
     }
 
     /// The most bytes that the journal's texts may have, which they never exceed.

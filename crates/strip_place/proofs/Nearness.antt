@@ -18,16 +18,6 @@ pub record IsNearSoFar (at_each : ℕ → ℕ) (with_block near next : ℕ) : Ty
   pub again : (next ≡ 65535) ⊎ (cond {A = ℕ} (eqb near next) 1 0 < at_each next)
   pub start : with_block ≡ 0 → near ≡ 65535
 
-pub near_none : (at_each : ℕ → ℕ) → ((c : ℕ) → at_each c ≡ 0) → IsNearSoFar at_each 0 65535 65535
-near_none at_each none = record {
-  near_inside = omega arith;
-  next_inside = omega arith;
-  some = λ some. absurd (omega arith);
-  below = λ c lt. none c;
-  again = inl refl;
-  start = λ z. refl;
-}
-
 pub near_more : (old new : ℕ → ℕ) (with_block near next value : ℕ) → value ≤ 65535 → ((c : ℕ) → c ≤ 65535 → new c ≡ old c + cond (eqb value c) 1 0) → IsNearSoFar old with_block near next → IsNearSoFar new (with_block + 1) (min value near) (min next (max near value))
 near_more old new with_block near next value small more so_far = record {
   near_inside = omega (arith, small);
@@ -152,16 +142,6 @@ pub record IsBoxSoFar (columns rows : ℕ → ℕ) (count : ℕ) (box : NetBox) 
   pub top : IsNearSoFar (mirrored_counts rows) count box.top box.next_top
   pub columns_inside : (column : ℕ) → 65535 < column → columns column ≡ 0
   pub rows_inside : (row : ℕ) → 65535 < row → rows row ≡ 0
-
-pub box_none : (columns rows : ℕ → ℕ) (box : NetBox) → ((c : ℕ) → columns c ≡ 0) → ((c : ℕ) → rows c ≡ 0) → box ≡ record { left = 65535; right = 65535; bottom = 65535; top = 65535; next_left = 65535; next_right = 65535; next_bottom = 65535; next_top = 65535 } → IsBoxSoFar columns rows 0 box
-box_none columns rows box no_columns no_rows is = rw is (record {
-  left = near_none columns no_columns;
-  right = near_none (mirrored_counts columns) (λ c. no_columns (65535 - c));
-  bottom = near_none rows no_rows;
-  top = near_none (mirrored_counts rows) (λ c. no_rows (65535 - c));
-  columns_inside = λ c past. no_columns c;
-  rows_inside = λ c past. no_rows c;
-})
 
 pub box_more : (columns new_columns rows new_rows : ℕ → ℕ) (count : ℕ) (box : NetBox) (block : Point) → block.x ≤ 65535 → block.y ≤ 65535 → ((c : ℕ) → new_columns c ≡ columns c + cond (eqb block.x c) 1 0) → ((c : ℕ) → new_rows c ≡ rows c + cond (eqb block.y c) 1 0) → IsBoxSoFar columns rows count box → IsBoxSoFar new_columns new_rows (count + 1) (with_block box (sides_of block))
 box_more columns new_columns rows new_rows count box block x_small y_small across up so_far = record {

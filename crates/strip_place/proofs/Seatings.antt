@@ -41,10 +41,6 @@ least_site strip kind taken some =
     let is : least.0 ≡ least_free strip kind taken = sym (ap (λ (o : Option ℕ). unwrap_or o 0) least.1.found) in
     subst (λ site. IsLeast taken (first_site strip kind) (site_count strip kind) site) is least.1
 
-same_as_itself : (kind : Kind) → is_same_kind kind kind ≡ true
-same_as_itself Logic = refl
-same_as_itself Pad = refl
-
 pub least_seat : (strip : Strip) (kind : Kind) (taken : List ℕ) (blocks : List Comer) → HasRoom strip taken ((kind, None) ∷ blocks) → IsLeast taken (first_site strip kind) (site_count strip kind) (least_free strip kind taken)
 least_seat strip Logic taken blocks room = least_site strip Logic taken (omega (arith, room.room Logic))
 least_seat strip Pad taken blocks room = least_site strip Pad taken (omega (arith, room.room Pad))

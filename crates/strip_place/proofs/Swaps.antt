@@ -1,5 +1,5 @@
 -- Two blocks that change places, and the bounding boxes of their nets.
-use Rattle.std.proofs.Common.{◌≡◌, ◌≢◌, ℕ, ◌+◌, ◌-◌, ◌<◌, ◌≤◌, cond, eqb, List, [], ◌∷◌, ◌++◌, length, set, get_or, map, refl, sym, ap, ◌∙◌, ◌⊎◌, inl, inr, arith, get_or-set_same, get_or-set_other, length-set}
+use Rattle.std.proofs.Common.{◌≡◌, ◌≢◌, ℕ, ◌+◌, ◌-◌, ◌<◌, ◌≤◌, cond, eqb, List, [], ◌∷◌, ◌++◌, length, set, get_or, map, refl, sym, ap, subst, ◌∙◌, ◌⊎◌, inl, inr, arith, get_or-set_same, get_or-set_other, length-set}
 use Rattle.std.specs.Prelude.{nat_le, sum_by}
 use Rattle.std.proofs.lemmas.List.{get_or_append_left, get_or_push, length_push, take_all}
 use Rattle.std.proofs.lemmas.List.Sums.{sum_by_more}
@@ -10,7 +10,7 @@ use Rattle.strip_place.specs.Points.{Point}
 use Rattle.strip_place.specs.Extents.{HasCome, count_at, mirrored_counts}
 use Rattle.strip_place.specs.Sides.{sides_of}
 use Rattle.strip_place.specs.Nets.{AreNets, AreTouched, net_at, times_on}
-use Rattle.strip_place.specs.Boxes.{AreBothRenewed, AreBoxes, AreRenewed, IsBox, IsBoxBy, IsRenewed, at_column, at_row, boxed_length, box_at, half_after, length_after, no_box, reach_of, reached_length}
+use Rattle.strip_place.specs.Boxes.{AreBothRenewed, AreBoxes, AreRenewed, IsBox, IsBoxBy, IsRenewed, at_column, at_row, boxed_length, box_at, half_after, half_of, length_after, no_box, reach_of, reached_length}
 use Rattle.strip_place.specs.Wiring.{no_point, point_at, points_after}
 use Rattle.strip_place.proofs.Ends.{HaveSwapped, coordinate_at, counted, swapped_once, swapped_same}
 use Rattle.strip_place.proofs.Nearness.{near_same}
@@ -52,30 +52,33 @@ renewed_none points nets touched boxes = record {
   small = omega arith;
 }
 
-pub renewed_more : (points : List Point) (nets : List (List ℕ)) (touched : List ℕ) (count number : ℕ) (old new last : List NetBox) (total more half : ℕ) → count < length touched → number ≡ get_or touched count 0 → 0 < length (net_at nets number)
-    → IsRenewed points (net_at nets number) number new last half → more ≡ total + half → AreRenewed points nets touched count old new total → AreRenewed points nets touched (count + 1) old last more
-renewed_more points nets touched count number old new last total more half lt at some once sum so_far = record {
+pub renewed_more : (points : List Point) (nets : List (List ℕ)) (touched : List ℕ) (count number : ℕ) (old new last : List NetBox) (found : NetBox) (total more : ℕ) → count < length touched → number ≡ get_or touched count 0 → 0 < length (net_at nets number)
+    → IsRenewed points (net_at nets number) number new last found → more ≡ total + half_of found → AreRenewed points nets touched count old new total → AreRenewed points nets touched (count + 1) old last more
+renewed_more points nets touched count number old new last found total more lt at some once sum so_far = record {
   long = once.long ∙ so_far.long;
   done = λ k below. elim (cases_eq (get_or touched k 0) number) [
-    | inl e ↦ rw e once.exact
+    | inl e ↦ rw e exact
     | inr ne ↦ rw (once.others (get_or touched k 0) ne) (so_far.done k (earlier k below ne (cases_eq k count)))
   ];
   kept = λ other was. elim (cases_eq other number) [
-    | inl e ↦ rw e once.exact
+    | inl e ↦ rw e exact
     | inr ne ↦ rw (once.others other ne) (so_far.kept other was)
   ];
   others = λ other off. once.others other (λ e. off count (omega arith) (sym at ∙ sym e)) ∙ so_far.others other (λ k below. off k (omega arith));
   total_is =
-      (let reach = box_reach points (net_at nets number) (box_at last number) some once.exact in
+      (let reach = box_reach points (net_at nets number) found some once.exact in
       let all = sum_by_more (λ number. reach_of points (net_at nets number)) touched count 0 lt in
       let there : reach_of points (net_at nets number) ≡ reach_of points (net_at nets (get_or touched count 0)) = ap (λ n. reach_of points (net_at nets n)) at in
-      omega (arith, sum, so_far.total_is, once.half_is, reach, all, there));
-  small = omega (arith, sum, so_far.small, once.small);
+      omega (arith, sum, so_far.total_is, reach, all, there));
+  small = omega (arith, sum, so_far.small);
 }
   where
     earlier : (k : ℕ) → k < count + 1 → (get_or touched k 0 ≡ number → ⊥) → (k ≡ count) ⊎ (k ≡ count → ⊥) → k < count
     earlier k below ne (inl e) = absurd (ne (ap (λ j. get_or touched j 0) e ∙ sym at))
     earlier k below ne (inr other) = omega arith
+
+    exact : IsBox points (net_at nets number) (box_at last number)
+    exact = subst (IsBox points (net_at nets number)) (sym once.own) once.exact
 
 -- the boxes of both lists are updated
 pub both_renewed : (points : List Point) (nets : List (List ℕ)) (first second : List ℕ) (old mid new : List NetBox) (one two : ℕ) → AreRenewed points nets first (length first) old mid one → AreRenewed points nets second (length second) mid new two → AreBothRenewed points nets first second old new (one + two)

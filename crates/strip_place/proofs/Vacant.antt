@@ -23,9 +23,6 @@ among_before taken site other is = grind (arith, nat_tests, among_push taken sit
 pub among_other : (taken : List ℕ) (site other : ℕ) → other ≢ site → is_among (taken ++ site ∷ []) other ≡ is_among taken other
 among_other taken site other differs = grind (arith, nat_tests, among_push taken site other, differs)
 
-pub among_either : (taken : List ℕ) (site other : ℕ) → is_among (taken ++ site ∷ []) other ≡ true → (other ≡ site) ⊎ (is_among taken other ≡ true)
-among_either taken site other is = elim (cases_eq other site) [ inl same ↦ inl same | inr differs ↦ inr (sym (among_other taken site other differs) ∙ is) ]
-
 -- taking a site outside the range takes none of it
 pub free_past : (taken : List ℕ) (site start count : ℕ) → (site < start) ⊎ (start + count ≤ site) → free_count (taken ++ site ∷ []) start count ≡ free_count taken start count
 free_past taken site start zero outside = refl

@@ -115,14 +115,12 @@ length_after boxes from to numbers = sum_by (λ number. half_after (box_at boxes
 abbrev pub reached_length : List Point → List (List ℕ) → List ℕ → ℕ
 reached_length points nets numbers = sum_by (λ number. reach_of points (net_at nets number)) numbers
 
--- the net with this number has the box of its blocks' points, and this length; the other boxes are
--- unchanged
-pub record IsRenewed (points : List Point) (net : List ℕ) (number : ℕ) (old new : List NetBox) (half : ℕ) : Type 0 where
+-- the net with this number has this box, that of its blocks' points; the other boxes are unchanged
+pub record IsRenewed (points : List Point) (net : List ℕ) (number : ℕ) (old new : List NetBox) (found : NetBox) : Type 0 where
   pub long : length new ≡ length old
-  pub exact : IsBox points net (box_at new number)
+  pub exact : IsBox points net found
+  pub own : box_at new number ≡ found
   pub others : (other : ℕ) → other ≢ number → box_at new other ≡ box_at old other
-  pub half_is : half ≡ half_of (box_at new number)
-  pub small : half < 131072
 
 -- of the nets with these numbers the first `count` have the boxes of their blocks' points, and this
 -- total length

@@ -97,7 +97,8 @@ pub(crate) fn renew_both(
 }
 
 /// Updates the boxes of the nets with these numbers, after a block on each made the move and a
-/// block on each of the others made the opposite move. Returns their total length.
+/// block on each of the others made the opposite move. Returns their total length. Each side has a
+/// sum of its own, as in [`weigh`].
 fn renew(
     boxes: &mut [NetBox],
     nets: &Lists,
@@ -110,15 +111,22 @@ fn renew(
     ensures { AreRenewed points.now nets.now touched.now (length touched.now) boxes.old boxes.new
         result }
 {
-    let mut total = 0;
+    let mut left = 0;
+    let mut right = 0;
+    let mut bottom = 0;
+    let mut top = 0;
     for number in touched {
         let net = nets.row(*number as usize);
-        total += u64::from(renew_one(boxes, net, points, made, others, *number));
+        let found = renew_one(boxes, net, points, made, others, *number);
+        left += u32::from(found.left);
+        right += u32::from(found.right);
+        bottom += u32::from(found.bottom);
+        top += u32::from(found.top);
     }
-    total
+    2 * u64::from(FAR) * touched.len() as u64 - u64::from(left + right + bottom + top)
 }
 
-/// Updates the box of a net: from all its blocks, if it has few. Returns the net's length.
+/// Updates the box of a net, from all its blocks if it has few, and returns it.
 #[inline(always)]
 fn renew_one(
     boxes: &mut [NetBox],
@@ -127,46 +135,26 @@ fn renew_one(
     made: Move,
     others: &[u32],
     number: u32,
-) -> u32
+) -> NetBox
     requires net { IsNetOf (length points.now) net.now }
     requires number { number < length boxes.old }
     requires follows { IsFollowed points.now net.now others.now number (box_at boxes.old number)
         made.from made.to }
     ensures { IsRenewed points.now net.now number boxes.old boxes.new result }
 {
-    if net.len() > FEW_BLOCKS {
-        return renew_large(boxes, net, points, made, others, number);
-    }
-    let found = NetBox::of(net, points);
+    let found = if net.len() > FEW_BLOCKS {
+        large_net_box(boxes[number as usize], net, points, made, others, number)
+    } else {
+        NetBox::of(net, points)
+    };
     boxes[number as usize] = found;
-    found.half_perimeter()
-}
-
-/// Updates the box of a large net. Returns the net's length.
-#[inline(never)]
-fn renew_large(
-    boxes: &mut [NetBox],
-    net: &[u32],
-    points: &[Point],
-    made: Move,
-    others: &[u32],
-    number: u32,
-) -> u32
-    requires net { IsNetOf (length points.now) net.now }
-    requires number { number < length boxes.old }
-    requires follows { IsFollowed points.now net.now others.now number (box_at boxes.old number)
-        made.from made.to }
-    ensures { IsRenewed points.now net.now number boxes.old boxes.new result }
-{
-    let stood = boxes[number as usize];
-    let found = large_net_box(stood, net, points, made, others, number);
-    boxes[number as usize] = found;
-    found.half_perimeter()
+    found
 }
 
 /// The new bounding box of a large net, given its box before. It is unchanged if both exchanged
 /// blocks are on the net, extended to the block's new point if the block was deep inside the old
 /// box, and otherwise recomputed from all blocks.
+#[inline(never)]
 fn large_net_box(
     stood: NetBox,
     net: &[u32],

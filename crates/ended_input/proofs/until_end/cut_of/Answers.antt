@@ -1,4 +1,4 @@
-use Rattle.std.proofs.Common.{arith, rules, subst, sym}
+use Rattle.std.proofs.Common.{arith}
 use Rattle.ended_input.proofs.UntilEndLemmas.{cuts_next_place, seen_held}
 use Rattle.ended_input.proofs.until_end.cut_of.Goals as goal
 

@@ -1,4 +1,4 @@
-use Rattle.std.proofs.Common.{ℕ, ◌-◌, ◌≤◌, length}
+use Rattle.std.proofs.Common.{◌-◌, ◌≤◌, length}
 use Rattle.ended_input.proofs.UntilEndLemmas.{CutsAt}
 use Rattle.ended_input.proofs.until_end.cut_of.Given as goal
 

@@ -1,4 +1,4 @@
-use Rattle.std.proofs.Common.{◌≡◌, ℕ, ◌<◌, ◌-◌, ◌++◌, drop, length, arith, length-append, length-take, length-drop}
+use Rattle.std.proofs.Common.{◌≡◌, ◌<◌, ◌-◌, ◌++◌, drop, length, arith, length-append, length-take, length-drop}
 use Rattle.ended_input.proofs.UntilEndLemmas.{fills}
 use Rattle.ended_input.proofs.until_end.fill.Goals as goal
 

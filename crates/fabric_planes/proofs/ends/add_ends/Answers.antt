@@ -31,16 +31,16 @@ rows_joined basis view base xs ys =
 
 pub overflow_add-end : goal.overflow_add-end
 overflow_add-end g c =
-    omega (arith, listed_low (g.G.StripGraph.basis c.args.graph.now) c.laws.ensures.lawful c.args.wire c.requires.within c.ends-ends.result.list.now c.ends-ends.result.base c.loop-end.end-index c.ends-ends.ensures (c.loop-end-test.true), c.laws.ensures.few)
+    omega (arith, listed_low (g.G.StripGraph.basis c.args.graph.now) c.laws.ensures.lawful c.args.number c.requires.within c.ends-ends.result.list.now c.ends-ends.result.base c.loop-end.end-index c.ends-ends.ensures (c.loop-end-test.true), c.laws.ensures.few)
 
 pub add_end-requires-clause-within : goal.add_end-requires-clause-within
 add_end-requires-clause-within g c =
-    listed_low (g.G.StripGraph.basis c.args.graph.now) c.laws.ensures.lawful c.args.wire c.requires.within c.ends-ends.result.list.now c.ends-ends.result.base c.loop-end.end-index c.ends-ends.ensures (c.loop-end-test.true)
+    listed_low (g.G.StripGraph.basis c.args.graph.now) c.laws.ensures.lawful c.args.number c.requires.within c.ends-ends.result.list.now c.ends-ends.result.base c.loop-end.end-index c.ends-ends.ensures (c.loop-end-test.true)
 
 pub loop-end-preserved : goal.loop-end-preserved
 loop-end-preserved g c =
     let basis = g.G.StripGraph.basis c.args.graph.now in
-    let all = (graph_of basis).ends c.args.wire in
+    let all = (graph_of basis).ends c.args.number in
     let list = c.ends-ends.result.list.now in
     let k = c.loop-end.end-index in
     let row : List ℕ → List ℕ = row_from basis c.args.view c.base_of-base.result in

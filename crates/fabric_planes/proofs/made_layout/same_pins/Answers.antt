@@ -21,14 +21,9 @@ said a to from d = (λ is. to (d.0 is), λ is. d.1 (from is))
 
 class_eq-Decides : (a b : PinClass) → Decides (class_eq.it a b) (a ≡ b)
 class_eq-Decides Input Input = (λ is. refl, λ is. refl)
-class_eq-Decides Input Output = (λ is. cc, λ is. cc)
-class_eq-Decides Input Clock = (λ is. cc, λ is. cc)
-class_eq-Decides Output Input = (λ is. cc, λ is. cc)
 class_eq-Decides Output Output = (λ is. refl, λ is. refl)
-class_eq-Decides Output Clock = (λ is. cc, λ is. cc)
-class_eq-Decides Clock Input = (λ is. cc, λ is. cc)
-class_eq-Decides Clock Output = (λ is. cc, λ is. cc)
 class_eq-Decides Clock Clock = (λ is. refl, λ is. refl)
+class_eq-Decides _ _ = (λ is. cc, λ is. cc)
 
 abbrev sides_of : Bool → Bool → Bool → Bool → Sides
 sides_of a b c d = record { top = a; bottom = b; left = c; right = d }

@@ -1,13 +1,13 @@
 use Rattle.std.proofs.Common.{◌≡◌, ℕ, ◌+◌, ◌++◌, ◌∷◌, [], ◌∙◌, List, map, sym, ap, arith}
 use Rattle.std.specs.List.{range_with_len}
 use Rattle.std.proofs.lemmas.List.FromFn.{map-range_with_len_more}
-use Rattle.fabric_planes.specs.PinRows.{apart_entry}
+use Rattle.fabric_planes.specs.PinRows.{apart_at}
 use Rattle.fabric_planes.proofs.pin_rows.aparts.Goals as goal
 
 pub loop-at-preserved : goal.loop-at-preserved
-loop-at-preserved c =
+loop-at-preserved g c =
     let at = c.loop-at.at in
-    let f : ℕ → ℕ = apart_entry c.args.arch.now c.args.strip c.args.shape.pins in
+    let f : ℕ → ℕ = apart_at (g.G.StripGraph.basis c.args.graph.now) in
     let none : 0 + at ≡ at = omega arith in
     c.in_ok-push.ensures.items
     ∙ (ap (λ (items : List ℕ). items ++ c.apart_at.result ∷ []) c.loop-at.invariant

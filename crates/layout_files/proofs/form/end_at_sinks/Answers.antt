@@ -1,4 +1,4 @@
-use Rattle.std.proofs.Common.{◌∙◌, All, subst}
+use Rattle.std.proofs.Common.{◌∙◌, All, refl, subst}
 use Rattle.std.proofs.lemmas.List.{take_all}
 use Rattle.std.proofs.lemmas.List.Elements.{All-more}
 use Rattle.layout_files.specs.LayoutFiles.{EndsAtSink}
@@ -7,7 +7,7 @@ use Rattle.layout_files.proofs.form.end_at_sinks.Goals as goal
 pub loop-path-preserved : goal.loop-path-preserved
 loop-path-preserved c =
     All-more EndsAtSink c.args.paths.now c.loop-path.path-index c.path-item.result c.loop-path-test.true c.loop-path.invariant
-    (subst EndsAtSink (c.nodes.ensures ∙ c.path-item.is) (c.ends_at_sink.ensures c.if-not-ends_at_sink.false))
+    (subst EndsAtSink (c.nodes.ensures ∙ c.path-item.is) (c.ends_at_sink.ensures.0 c.if-not-ends_at_sink.false))
 
 pub returns : goal.returns
-returns c = λ t. subst (λ paths. All EndsAtSink paths) (take_all c.loop-path.path-index c.args.paths.now c.loop-path-test.false) c.loop-path.invariant
+returns c = (λ t. subst (λ paths. All EndsAtSink paths) (take_all c.loop-path.path-index c.args.paths.now c.loop-path-test.false) c.loop-path.invariant, λ all. refl)

@@ -1,4 +1,4 @@
-use Rattle.std.proofs.Common.{All, subst}
+use Rattle.std.proofs.Common.{All, refl, subst}
 use Rattle.std.proofs.lemmas.List.{take_all}
 use Rattle.std.proofs.lemmas.List.Elements.{All-more}
 use Rattle.layout_files.specs.LayoutFiles.{HasWholePaths}
@@ -7,7 +7,7 @@ use Rattle.layout_files.proofs.form.have_whole_paths.Goals as goal
 pub loop-net-preserved : goal.loop-net-preserved
 loop-net-preserved c =
     All-more HasWholePaths c.args.nets.now c.loop-net.net-index c.net-item.result c.loop-net-test.true c.loop-net.invariant
-    (subst HasWholePaths c.net-item.is (c.has_whole_paths.ensures c.if-not-has_whole_paths.false))
+    (subst HasWholePaths c.net-item.is (c.has_whole_paths.ensures.0 c.if-not-has_whole_paths.false))
 
 pub returns : goal.returns
-returns c = λ t. subst (λ nets. All HasWholePaths nets) (take_all c.loop-net.net-index c.args.nets.now c.loop-net-test.false) c.loop-net.invariant
+returns c = (λ t. subst (λ nets. All HasWholePaths nets) (take_all c.loop-net.net-index c.args.nets.now c.loop-net-test.false) c.loop-net.invariant, λ all. refl)

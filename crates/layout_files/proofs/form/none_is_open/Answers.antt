@@ -1,9 +1,9 @@
-use Rattle.std.proofs.Common.{◌≡◌, ◌∙◌, All, ◌≢◌, true, false, codes, subst, sym, arith}
+use Rattle.std.proofs.Common.{◌≡◌, ◌∙◌, All, refl, ◌≢◌, false, codes, subst, sym, arith}
 use Rattle.std.proofs.lemmas.Bool.{true≢false}
 use Rattle.std.specs.Str.{bytes_eq}
 use Rattle.std.proofs.lemmas.List.{take_all}
 use Rattle.std.proofs.lemmas.List.Elements.{All-more}
-use Rattle.std.proofs.lemmas.Option.{get_or_from_slice_get}
+use Rattle.std.proofs.lemmas.Option.{get_or_from_slice_get, slice_get_within}
 use Rattle.std.proofs.lemmas.Slice.Eq.{bytes_eq-Decides}
 use Rattle.layout_files.proofs.form.none_is_open.Goals as goal
 
@@ -16,4 +16,10 @@ loop-net-preserved c =
     (λ e. other (sym (get_or_from_slice_get c.args.names.now c.loop-net.net name name c.name.ensures) ∙ e))
 
 pub returns : goal.returns
-returns c = λ t. subst (λ names. All (λ name. name ≢ codes "open") names) (take_all c.loop-net.net c.args.names.now (let f = c.loop-net-test.false in omega (arith, f, c.len-net-end.ensures))) c.loop-net.invariant
+returns c = (λ t. subst (λ names. All (λ name. name ≢ codes "open") names) (take_all c.loop-net.net c.args.names.now (let f = c.loop-net-test.false in omega (arith, f, c.len-net-end.ensures))) c.loop-net.invariant, λ all. refl)
+
+pub returns-then-is_word : goal.returns-then-is_word
+returns-then-is_word c =
+    let name = c.name.result.now in
+    let same : name ≡ codes "open" = (bytes_eq-Decides name (codes "open")).0 (sym c.is_word.ensures ∙ c.if-is_word.true) in
+    (λ t. absurd (true≢false (sym t)), λ all. absurd (all c.loop-net.net name (slice_get_within c.args.names.now c.loop-net.net name c.name.ensures) (get_or_from_slice_get c.args.names.now c.loop-net.net name name c.name.ensures ∙ same)))

@@ -10,17 +10,17 @@ use Rattle.layout_files.proofs.net_print.print_ble.Goals as goal
 
 pub returns : goal.returns
 returns c =
-    let start = c.args.print.now.bytes in
-    let named = c.print.new.self.bytes in
-    let fed = c.print_inputs.new.print.bytes in
-    let left = c.print_pin.new.print.bytes in
-    let clocked = c.print_pin-2.new.print.bytes in
+    let start = c.args.print.now in
+    let named = c.print.new.self in
+    let fed = c.print_inputs.new.print in
+    let left = c.print_pin.new.print in
+    let clocked = c.print_pin-2.new.print in
     let name : List ℕ = codes "subblock: " ++ (c.net_name.result.now ++ []) in
     let inputs : List ℕ = flat_map (λ place. word_after_space (feed_or_open (slice_get c.inputs.result.now place))) (range_with_len 0 c.args.arch.now.lut_size) in
     let output : List ℕ = word_after_space (or_open decimal c.output.result) in
     let clock : List ℕ = word_after_space (or_open decimal c.clock.result) in
-    finish start clocked c.print-2.new.self.bytes (name ++ inputs ++ output ++ clock) (10 ∷ []) (line_of (ble_line c.args.circuit.now c.args.arch.now c.args.ble.now)) c.print-2.result
-    (printed_then start left clocked (name ++ inputs ++ output) clock (printed_then start fed left (name ++ inputs) output (printed_then start named fed name inputs c.in_ok-print.ensures c.in_ok-print_inputs.ensures) c.in_ok-print_pin.ensures) c.in_ok-print_pin-2.ensures)
+    finish start clocked c.print-2.new.self (name ++ inputs ++ output ++ clock) (10 ∷ []) (line_of (ble_line c.args.circuit.now c.args.arch.now c.args.ble.now))
+    (printed_then start left clocked (name ++ inputs ++ output) clock (printed_then start fed left (name ++ inputs) output (printed_then start named fed name inputs c.print.ensures.left c.print_inputs.ensures) c.print_pin.ensures) c.print_pin-2.ensures)
     (ble_text c.args.circuit.now c.args.arch.now c.args.ble.now c.net_name.result.now c.inputs.result.now c.output.result c.clock.result
     (c.net_name.ensures ∙ ap (net_name c.args.circuit.now) c.name.ensures) c.inputs.ensures c.output.ensures c.clock.ensures)
-    c.print-2.ensures
+    c.print-2.ensures.left

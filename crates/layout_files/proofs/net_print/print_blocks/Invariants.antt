@@ -1,9 +1,10 @@
-use Rattle.std.proofs.Common.{◌≡◌, ◌++◌, take}
+use Rattle.std.proofs.Common.{◌≡◌, take}
 use Rattle.std.specs.List.{flat_map}
 use Rattle.vpr_files.specs.TextLines.{text_of}
 use Rattle.layout_text.specs.LayoutText.{laid_lines}
+use Rattle.layout_files.specs.Cursors.{left_after}
 use Rattle.layout_files.proofs.net_print.print_blocks.Given as goal
 
 -- those before this one are printed
 abbrev pub invariant-loop-laid : goal.invariant-loop-laid
-invariant-loop-laid l = l.print.bytes ≡ l.initial.print.bytes ++ flat_map (λ laid. text_of (laid_lines l.circuit l.arch laid)) (take l.laid-index l.blocks)
+invariant-loop-laid l = l.print ≡ left_after l.initial.print (flat_map (λ laid. text_of (laid_lines l.circuit l.arch laid)) (take l.laid-index l.blocks))

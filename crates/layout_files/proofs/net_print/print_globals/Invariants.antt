@@ -1,9 +1,10 @@
-use Rattle.std.proofs.Common.{◌≡◌, ◌++◌, [], ◌∷◌, codes, take}
+use Rattle.std.proofs.Common.{◌≡◌, [], ◌∷◌, codes, take}
 use Rattle.std.specs.List.{flat_map}
 use Rattle.vpr_files.specs.TextLines.{line_of}
 use Rattle.cluster.specs.Blocks.{net_name}
+use Rattle.layout_files.specs.Cursors.{left_after}
 use Rattle.layout_files.proofs.net_print.print_globals.Given as goal
 
 -- those before this one are printed
 abbrev pub invariant-loop-net : goal.invariant-loop-net
-invariant-loop-net l = l.print.bytes ≡ l.initial.print.bytes ++ flat_map (λ net. line_of (codes ".global" ∷ net_name l.circuit net ∷ [])) (take l.net-index l.globals)
+invariant-loop-net l = l.print ≡ left_after l.initial.print (flat_map (λ net. line_of (codes ".global" ∷ net_name l.circuit net ∷ [])) (take l.net-index l.globals))

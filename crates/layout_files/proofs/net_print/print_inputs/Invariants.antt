@@ -1,9 +1,10 @@
-use Rattle.std.proofs.Common.{◌≡◌, ◌++◌, slice_get, take}
+use Rattle.std.proofs.Common.{◌≡◌, slice_get, take}
 use Rattle.std.specs.List.{flat_map, range_with_len}
 use Rattle.vpr_files.specs.TextLines.{word_after_space}
 use Rattle.layout_text.specs.LayoutText.{feed_or_open}
+use Rattle.layout_files.specs.Cursors.{left_after}
 use Rattle.layout_files.proofs.net_print.print_inputs.Given as goal
 
 -- those before this one are printed
 abbrev pub invariant-loop-place : goal.invariant-loop-place
-invariant-loop-place l = l.print.bytes ≡ l.initial.print.bytes ++ flat_map (λ place. word_after_space (feed_or_open (slice_get l.inputs place))) (take l.place (range_with_len 0 l.lut_size))
+invariant-loop-place l = l.print ≡ left_after l.initial.print (flat_map (λ place. word_after_space (feed_or_open (slice_get l.inputs place))) (take l.place (range_with_len 0 l.lut_size)))

@@ -12,7 +12,7 @@ loop-number-preserved c =
     let blocks = c.args.blocks.now in
     let number = c.loop-number.number in
     one_more (λ block. line_of (place_line c.args.circuit.now block.0 block.1)) (enumerate_from 0 blocks) number (number, c.index-blocks-number.result) _ _ _
-    (numbered blocks number c.index-blocks-number.result c.loop-number-test.true c.index-blocks-number.is) c.loop-number.invariant c.in_ok-print_place.ensures
+    (numbered blocks number c.index-blocks-number.result c.loop-number-test.true c.index-blocks-number.is) c.loop-number.invariant c.print_place.ensures
 
 pub returns : goal.returns
 returns c =

@@ -1,9 +1,10 @@
-use Rattle.std.proofs.Common.{◌≡◌, ◌++◌, take}
+use Rattle.std.proofs.Common.{◌≡◌, take}
 use Rattle.std.specs.List.{enumerate_from, flat_map}
 use Rattle.vpr_files.specs.TextLines.{line_of}
 use Rattle.layout_text.specs.LayoutText.{place_line}
+use Rattle.layout_files.specs.Cursors.{left_after}
 use Rattle.layout_files.proofs.place_print.print_places.Given as goal
 
 -- those before this one are printed
 abbrev pub invariant-loop-number : goal.invariant-loop-number
-invariant-loop-number l = l.print.bytes ≡ l.initial.print.bytes ++ flat_map (λ block. line_of (place_line l.circuit block.0 block.1)) (take l.number (enumerate_from 0 l.blocks))
+invariant-loop-number l = l.print ≡ left_after l.initial.print (flat_map (λ block. line_of (place_line l.circuit block.0 block.1)) (take l.number (enumerate_from 0 l.blocks)))

@@ -12,8 +12,8 @@ returns c =
     let layout = c.args.layout.now in
     let net = c.args.net.now in
     let text : List ℕ → List ℕ = λ listed. text_of (map (λ block. listed_line circuit block (block_of layout block)) listed) in
-    finish c.args.print.now.bytes c.print-2.new.self.bytes c.print_listed.new.print.bytes (codes "): global net connecting:\n\n") (text c.listed_blocks-2.result.now) (connected_text circuit c.args.strip layout net net.listed) c.print_listed.result
-    c.in_ok-print-2.ensures
+    finish c.args.print.now c.print-2.new.self c.print_listed.new.print (codes "): global net connecting:\n\n") (text c.listed_blocks-2.result.now) (connected_text circuit c.args.strip layout net net.listed)
+    c.print-2.ensures.left
     (ap (λ listed. codes "): global net connecting:\n\n" ++ text listed) c.listed_blocks-2.ensures
     ∙ connected_listed circuit c.args.strip layout net net.listed (ap (λ (listed : List ℕ). length listed == 0) (sym c.listed_blocks.ensures) ∙ sym c.is_empty.ensures ∙ c.if-is_empty.false))
     c.print_listed.ensures

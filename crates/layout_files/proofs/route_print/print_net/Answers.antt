@@ -8,11 +8,11 @@ use Rattle.layout_files.proofs.route_print.print_net.Goals as goal
 
 pub returns : goal.returns
 returns c =
-    let start = c.args.print.now.bytes in
-    let headed = c.print_heading.new.print.bytes in
-    let connected = c.print_connected.new.print.bytes in
+    let start = c.args.print.now in
+    let headed = c.print_heading.new.print in
+    let connected = c.print_connected.new.print in
     let heading : List ℕ = heading_text c.args.circuit.now c.args.number c.args.net.now.net in
     let rest : List ℕ = connected_text c.args.circuit.now c.args.strip c.args.layout.now c.args.net.now c.args.net.now.listed in
-    finish start connected c.print.new.self.bytes (heading ++ rest) (10 ∷ []) (text_of (between_lines c.args.circuit.now c.args.strip c.args.layout.now c.args.number c.args.net.now c.args.net.now.listed)) c.print.result
-    (printed_then start headed connected heading rest (printed_as start headed (heading_text c.args.circuit.now c.args.number c.net.result) heading c.in_ok-print_heading.ensures (ap (heading_text c.args.circuit.now c.args.number) c.net.ensures)) c.in_ok-print_connected.ensures)
-    (net_printed c.args.circuit.now c.args.strip c.args.layout.now c.args.number c.args.net.now c.args.net.now.listed) c.print.ensures
+    finish start connected c.print.new.self (heading ++ rest) (10 ∷ []) (text_of (between_lines c.args.circuit.now c.args.strip c.args.layout.now c.args.number c.args.net.now c.args.net.now.listed))
+    (printed_then start headed connected heading rest (printed_as start headed (heading_text c.args.circuit.now c.args.number c.net.result) heading c.print_heading.ensures (ap (heading_text c.args.circuit.now c.args.number) c.net.ensures)) c.print_connected.ensures)
+    (net_printed c.args.circuit.now c.args.strip c.args.layout.now c.args.number c.args.net.now c.args.net.now.listed) c.print.ensures.left

@@ -15,7 +15,7 @@ loop-number-preserved c =
     let net = c.net-item.result in
     let found = c.nets-net-items.ensures in
     one_more (λ net. text_of (between_lines c.args.circuit.now c.args.strip c.args.layout.now net.0 net.1 net.1.listed)) (enumerate_from 0 nets) number (number, net) _ _ _
-    (numbered nets number net (let t = c.loop-number-test.true in omega (arith, t, ap length found)) (c.net-item.is ∙ ap (λ (all : List LaidNet). get_or all number net) found)) c.loop-number.invariant c.in_ok-print_net.ensures
+    (numbered nets number net (let t = c.loop-number-test.true in omega (arith, t, ap length found)) (c.net-item.is ∙ ap (λ (all : List LaidNet). get_or all number net) found)) c.loop-number.invariant c.print_net.ensures
 
 pub returns : goal.returns
 returns c =

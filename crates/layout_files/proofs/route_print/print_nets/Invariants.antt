@@ -1,9 +1,10 @@
-use Rattle.std.proofs.Common.{◌≡◌, ◌++◌, take}
+use Rattle.std.proofs.Common.{◌≡◌, take}
 use Rattle.std.specs.List.{enumerate_from, flat_map}
 use Rattle.vpr_files.specs.TextLines.{text_of}
 use Rattle.layout_text.specs.LayoutText.{between_lines}
+use Rattle.layout_files.specs.Cursors.{left_after}
 use Rattle.layout_files.proofs.route_print.print_nets.Given as goal
 
 -- those before this one are printed
 abbrev pub invariant-loop-number : goal.invariant-loop-number
-invariant-loop-number l = l.print.bytes ≡ l.initial.print.bytes ++ flat_map (λ net. text_of (between_lines l.circuit l.strip l.layout net.0 net.1 net.1.listed)) (take l.number (enumerate_from 0 l.layout.nets))
+invariant-loop-number l = l.print ≡ left_after l.initial.print (flat_map (λ net. text_of (between_lines l.circuit l.strip l.layout net.0 net.1 net.1.listed)) (take l.number (enumerate_from 0 l.layout.nets)))

@@ -2,7 +2,7 @@ use Rattle.std.proofs.Common.{◌≤◌, ◌∷◌, [], length, sym}
 use Rattle.std.proofs.lemmas.List.Folds.{flat_map-map}
 use Rattle.vpr_files.specs.TextLines.{line_of}
 use Rattle.vpr_files.specs.NodeText.{node_text_of}
-use Rattle.layout_files.proofs.Printing.{all_printed, printed_as}
+use Rattle.layout_files.proofs.Printing.{all_printed, next_printed, printed_as}
 use Rattle.layout_files.proofs.route_print.print_path.Goals as goal
 
 pub returns : goal.returns
@@ -10,3 +10,7 @@ returns c =
     let xs = c.args.path.now in
     let past : length xs ≤ c.loop-node.node-index = c.loop-node-test.false in
     printed_as _ _ _ _ (all_printed (λ node. line_of (node_text_of c.args.rows node ∷ [])) xs c.loop-node.node-index _ _ past c.loop-node.invariant) (sym (flat_map-map line_of (λ node. node_text_of c.args.rows node ∷ []) xs))
+
+pub loop-node-preserved : goal.loop-node-preserved
+loop-node-preserved c =
+    next_printed (λ node. line_of (node_text_of c.args.rows node ∷ [])) c.args.path.now c.loop-node.node-index _ c.args.print.now c.loop-node.print c.print_node.new.print c.loop-node-test.true c.loop-node.invariant c.print_node.ensures

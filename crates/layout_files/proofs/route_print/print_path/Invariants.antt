@@ -1,8 +1,9 @@
 use Rattle.std.proofs.Common.{◌≡◌, ◌++◌, [], ◌∷◌, take}
 use Rattle.std.specs.List.{flat_map}
 use Rattle.vpr_files.specs.NodeText.{node_text_of}
+use Rattle.layout_files.specs.Cursors.{left_after}
 use Rattle.layout_files.proofs.route_print.print_path.Given as goal
 
 -- those before this one are printed
 abbrev pub invariant-loop-node : goal.invariant-loop-node
-invariant-loop-node l = l.print.bytes ≡ l.initial.print.bytes ++ flat_map (λ node. node_text_of l.rows node ++ (10 ∷ [])) (take l.node-index l.path)
+invariant-loop-node l = l.print ≡ left_after l.initial.print (flat_map (λ node. node_text_of l.rows node ++ (10 ∷ [])) (take l.node-index l.path))

@@ -1,9 +1,10 @@
-use Rattle.std.proofs.Common.{◌≡◌, ◌++◌, take}
+use Rattle.std.proofs.Common.{◌≡◌, take}
 use Rattle.std.specs.List.{flat_map}
 use Rattle.vpr_files.specs.TextLines.{text_of}
 use Rattle.layout_files.specs.Printing.{node_lines}
+use Rattle.layout_files.specs.Cursors.{left_after}
 use Rattle.layout_files.proofs.route_print.print_paths.Given as goal
 
 -- those before this one are printed
 abbrev pub invariant-loop-path : goal.invariant-loop-path
-invariant-loop-path l = l.print.bytes ≡ l.initial.print.bytes ++ flat_map (λ path. text_of (node_lines l.rows path)) (take l.path-index l.paths)
+invariant-loop-path l = l.print ≡ left_after l.initial.print (flat_map (λ path. text_of (node_lines l.rows path)) (take l.path-index l.paths))

@@ -4,7 +4,11 @@ use Rattle.std.proofs.lemmas.List.FromFn.{map-range_with_len_more}
 use Rattle.fabric_planes.specs.ArrivalRows.{first_row, first_rows}
 use Rattle.fabric_planes.specs.Pins.{AreArrivals}
 use Rattle.fabric_planes.proofs.ArrivalNumbers.{are_arrivals}
+use Rattle.fabric_planes.proofs.Strips.{node_fields}
 use Rattle.fabric_planes.proofs.arrival_rows.ArrivalRows.list_firsts.Goals as goal
+
+pub first_row-requires-clause-near : goal.first_row-requires-clause-near
+first_row-requires-clause-near g c = node_fields c.laws.ensures.basis c.args.sink c.requires.there
 
 pub loop-side-preserved : goal.loop-side-preserved
 loop-side-preserved g c =
@@ -14,7 +18,7 @@ loop-side-preserved g c =
     let none : 0 + side ≡ side = omega arith in
     c.in_ok-push.ensures.items
     ∙ (ap (λ (xs : List ℕ). xs ++ c.first_row.result ∷ []) c.loop-side.invariant
-    ∙ (ap (λ (r : ℕ). map f (range_with_len 0 side) ++ r ∷ []) (c.first_row.ensures basis c.requires.shape c.strip-strip.ensures) ∙ sym (map-range_with_len_more f 0 side side none)))
+    ∙ (ap (λ (r : ℕ). map f (range_with_len 0 side) ++ r ∷ []) c.first_row.ensures ∙ sym (map-range_with_len_more f 0 side side none)))
 
 pub returns : goal.returns
 returns g c =

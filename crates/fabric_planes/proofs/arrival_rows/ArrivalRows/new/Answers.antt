@@ -1,10 +1,11 @@
 use Rattle.std.proofs.Common.{subst}
-use Rattle.fabric_planes.specs.declared.arrival_rows.Arrival.{Arrival}
-use Rattle.fabric_planes.specs.ArrivalRows.{AddsRow}
-use Rattle.fabric_planes.proofs.ArrivalNumbers.{row_added}
+use Rattle.fabric_planes.specs.declared.ends.Listed.{Listed}
+use Rattle.fabric_planes.specs.ArrivalRows.{arrival_at}
+use Rattle.fabric_planes.specs.Ends.{AddsRow}
+use Rattle.fabric_planes.proofs.ListedRows.{row_added}
 use Rattle.fabric_planes.proofs.arrival_rows.ArrivalRows.new.Goals as goal
 
 pub loop-number-preserved : goal.loop-number-preserved
 loop-number-preserved g c =
     let basis = g.G.StripGraph.basis c.args.graph.now in
-    row_added basis c.loop-number.number c.loop-number.rows c.add_row.new.rows c.loop-number.invariant (subst (λ (a : Arrival). AddsRow basis a c.loop-number.rows c.add_row.new.rows) c.arrival_at-arrival.ensures c.in_ok-add_row.ensures)
+    row_added basis (arrival_at basis) c.loop-number.number c.loop-number.rows c.add_row.new.rows c.loop-number.invariant (subst (λ (listed : Listed). AddsRow basis listed c.loop-number.rows c.add_row.new.rows) c.arrival_at-arrival.ensures c.in_ok-add_row.ensures)

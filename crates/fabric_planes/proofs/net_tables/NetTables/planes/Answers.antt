@@ -14,14 +14,14 @@ invariant_of-result g c =
     let cost = g.C.NodeCosts.costs c.args.costs.now in
     let tables = c.requires.tables in
     let bounds = tables.bounds in
-    let starts = c.args.starts.now in
-    let goal = c.args.goal in
+    let starts = c.args.wanted.starts.now in
+    let goal = c.args.wanted.goal in
     let source = c.node.result in
     let sink = c.node-sink.result in
-    let is_source : (graph_of basis).node c.args.source ≡ source = sym c.node.ensures in
+    let is_source : (graph_of basis).node c.args.wanted.source ≡ source = sym c.node.ensures in
     let is_sink : (graph_of basis).node goal ≡ sink = sym c.node-sink.ensures in
     let t : Terminals = record { source = source; sink = sink } in
-    let same : terminals_of basis c.args.source goal ≡ t =
+    let same : terminals_of basis c.args.wanted.source goal ≡ t =
     ap (λ (v : Node). record { source = v; sink = (graph_of basis).node goal }) is_source ∙ ap (λ (v : Node). record { source = source; sink = v }) is_sink in
     let pins = c.as_slice-2.ensures.value in
     let lasts = c.as_slice-3.ensures.value in
@@ -40,11 +40,11 @@ invariant_of-result g c =
       are_pins = subst (ArePins basis t) (sym c.as_slice-5.ensures.value) (subst (λ (t : Terminals). ArePins basis t c.args.self.now.shown.items) same tables.pins.are_pins);
       are_prices = c.as_slice-7.ensures basis cost c.requires.priced;
       are_by_place = c.by_place.ensures basis cost c.requires.priced;
-      top_far = c.to_top.ensures;
-      bottom_far = c.to_bottom.ensures;
-      right_far = c.to_right.ensures;
-      left_far = c.to_left.ensures;
-      are_own_sides = subst (λ (v : Node). AreSides basis v c.as_slice-6.result.now) is_source (subst (AreSides basis ((graph_of basis).node c.args.source)) (sym c.as_slice-6.ensures.value) tables.own_sides);
+      top_far = c.fars.ensures;
+      bottom_far = c.fars-2.ensures;
+      right_far = c.fars-3.ensures;
+      left_far = c.fars-4.ensures;
+      are_own_sides = subst (λ (v : Node). AreSides basis v c.as_slice-6.result.now) is_source (subst (AreSides basis ((graph_of basis).node c.args.wanted.source)) (sym c.as_slice-6.ensures.value) tables.own_sides);
       are_arrivals = subst (AreArrivals basis sink c.args.layout.now.arrivals.rows) (sym c.as_slice-8.ensures.value)
           (subst (λ (v : Node). AreArrivals basis v c.args.layout.now.arrivals.rows c.args.self.now.first_arrivals.items) is_sink tables.arrivals);
       have_ends = subst (λ (pins : List PinAt). HaveEnds (planes_of basis cost starts goal t) c.args.layout.now.pins.rows pins) (sym c.as_slice-5.ensures.value)

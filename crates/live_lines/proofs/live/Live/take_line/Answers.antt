@@ -4,9 +4,9 @@ use Rattle.script_text.specs.Script.{named_operator}
 use Rattle.std.specs.Prelude.{ℕ, List}
 use Rattle.tagged_lines.specs.Tags.{tag_of}
 use Rattle.live_lines.specs.Live.{TakesItem, asks, stage_of, state_of}
-use Rattle.live_lines.specs.Live.Asked.{Echoes, NoForm, Nothing, Operates, Says}
+use Rattle.live_lines.specs.Live.Asked.{Echoes, Figures, NoForm, Nothing, Operates, Says}
 use Rattle.live_lines.specs.Said.{texts_of}
-use Rattle.live_lines.proofs.LineLemmas.{own_tag, takes_as, takes_echo, takes_item, takes_no_form, takes_none, takes_nothing, takes_operator}
+use Rattle.live_lines.proofs.LineLemmas.{own_tag, takes_as, takes_echo, takes_figures, takes_item, takes_no_form, takes_none, takes_nothing, takes_operator}
 use Rattle.live_lines.proofs.live.Live.take_line.Goals as goal
 
 pub returns-in-Nothing-clause-takes : goal.returns-in-Nothing-clause-takes
@@ -24,6 +24,12 @@ returns-in-Echoes-clause-takes g c =
     on_ok c.write_to_operator.result
     (λ w. takes_as _ _ _ _ (Echoes c.in-Echoes.words.now) _ _ _ (sym c.in_ok-asked_of.ensures.asks ∙ ap asks c.in-Echoes.is) (takes_echo (state_of c.args.self.now) c.args.number _ c.in-Echoes.words.now _ (g.W.Sink.contents c.write_to_operator.new.writer) w))
     c.write_to_operator.ensures
+
+pub returns-in-Figures-clause-takes : goal.returns-in-Figures-clause-takes
+returns-in-Figures-clause-takes g c =
+    on_ok c.take_figures.result
+    (λ w. takes_as _ _ _ _ Figures _ _ _ (sym c.in_ok-asked_of.ensures.asks ∙ ap asks c.in-Figures.is) (takes_figures (state_of c.args.self.now) c.args.number _ _ (g.W.Sink.contents c.take_figures.new.writer) w))
+    c.take_figures.ensures
 
 pub returns-in-Operates-clause-takes : goal.returns-in-Operates-clause-takes
 returns-in-Operates-clause-takes g c =

@@ -1,6 +1,7 @@
-use Rattle.std.proofs.Common.{◌≡◌, length}
+use Rattle.std.proofs.Common.{take}
+use Rattle.live_log.specs.Choice.{FitFlags}
 use Rattle.live_log.proofs.marks.Marks.kept_flags.Given as goal
 
--- each line so far has its mark
-abbrev pub invariant-loop-group : goal.invariant-loop-group
-invariant-loop-group l = length l.kept.items ≡ l.group-index
+-- each line so far has the flag that fits its mark
+abbrev pub invariant-loop-mark : goal.invariant-loop-mark
+invariant-loop-mark l = FitFlags (take l.mark-index l.mark-items) l.kept.items

@@ -1,21 +1,16 @@
-use Rattle.std.proofs.Common.{◌≡◌, ◌∷◌, rules}
+use Rattle.std.proofs.Common.{◌++◌, map, ap, ◌∙◌}
+use Rattle.std.specs.List.{flat_map}
+use Rattle.line_text.proofs.WritingLemmas.{writes_same, writes_then}
 use Rattle.line_text.specs.Lines.{physical_lines}
-use Rattle.line_text.proofs.WritingLemmas.{writes_part}
-use Rattle.live_log.proofs.WritingSteps.{written_all, written_more, written_part}
+use Rattle.line_text.specs.Words.{texts}
+use Rattle.tagged_lines.specs.Tags.{with_feed}
+use Rattle.live_log.specs.Kept.{lines_kept, last_line}
+use Rattle.live_log.proofs.WritingSteps.{both_written}
 use Rattle.live_log.proofs.short_log.ShortLog.write.Goals as goal
 
-pub returns-in_err-write_line : goal.returns-in_err-write_line
-returns-in_err-write_line g c =
-    let first : c.loop-rest.marks.now ≡ c.in-Some.kept.now ∷ c.in-Some.others.now = c.in-Some.ensures.cases.0 in
-    let lines : physical_lines c.loop-rest.rest.now ≡ c.split_line.result.0.now ∷ physical_lines c.split_line.result.1.now = c.split_line.ensures.lines (search rules) in
-    writes_part c.from_residual.result c.from_residual.ensures.0
-    (written_part c.in-Some.kept.now c.loop-rest.marks.now c.in-Some.others.now c.loop-rest.rest.now c.split_line.result.0.now c.split_line.result.1.now c.loop-rest.invariant first lines c.in_err-write_line.ensures)
-
-pub loop-rest-preserved : goal.loop-rest-preserved
-loop-rest-preserved g c =
-    let first : c.loop-rest.marks.now ≡ c.in-Some.kept.now ∷ c.in-Some.others.now = c.in-Some.ensures.cases.0 in
-    let lines : physical_lines c.loop-rest.rest.now ≡ c.split_line.result.0.now ∷ physical_lines c.split_line.result.1.now = c.split_line.ensures.lines (search rules) in
-    written_more c.in-Some.kept.now c.loop-rest.marks.now c.in-Some.others.now c.loop-rest.rest.now c.split_line.result.0.now c.split_line.result.1.now c.loop-rest.invariant first lines c.in_ok-write_line.ensures
-
 pub returns : goal.returns
-returns g c = written_all c.loop-rest.marks.now c.loop-rest.rest.now c.loop-rest.invariant (search rules)
+returns g c =
+    let kept = lines_kept c.args.self.now.kept.items (physical_lines c.args.self.now.log.now) in
+    writes_same g.W.Sink.contents g.W.Sink.has_failed c.args.sink.now c.write_last.new.sink _ _ c.write_last.result
+    (both_written kept (map last_line (texts c.as_slice.result.now)) ∙ ap (λ tags. flat_map with_feed (kept ++ map last_line (texts tags))) c.as_slice.ensures.value)
+    (writes_then c.in_ok-write_kept.ensures c.write_last.new.sink _ c.write_last.result c.write_last.ensures)

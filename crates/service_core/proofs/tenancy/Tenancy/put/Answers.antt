@@ -6,7 +6,7 @@ use Rattle.tenant_slot.specs.Slot.{IsOrigin, SlotState}
 use Rattle.service_core.specs.declared.entry.Entry.{Entry}
 use Rattle.service_core.specs.History.{events_of, slot_of}
 use Rattle.service_core.proofs.Histories.{IsHistory-push}
-use Rattle.service_core.proofs.JournalTexts.{FitInto-push}
+use Rattle.service_core.proofs.JournalTexts.{CountAs-push}
 use Rattle.service_core.proofs.Slots.{Stands, history_is, put_stands, slot_is}
 use Rattle.service_core.proofs.tenancy.Tenancy.put.Goals as goal
 
@@ -26,7 +26,7 @@ invariant_of-self-2 c =
     let slot : c.in-Some.slot ≡ slot_of c.args.self.now = rw (← c.self.view_is, c.in-Some.is) (slot_is c.in-Some.slot _ _ id state) in
     let stands : Stands c.args.self.now c.in-Some.slot c.put_from-reply.new.self c.args.done c.put_from-reply.result.0 c.put_from-reply.result.1 = put_stands c.args.self.now c.in-Some.slot c.put_from-reply.new.self c.args.done _ _ slot c.put_from-reply.ensures in
     let its : c.put_from-reply.new.self.id ≡ c.self.inside.id = rw (← c.self.view_is) at stands.id in
-    rw items (IsHistory-push c.self.inside.id c.self.inside.arch c.self.inside.strip c.self.inside.journal.items e c.in-Some.slot.state c.put_from-reply.new.self c.self.inside.held c.self.inside.text_limit (FitInto-push c.self.inside.held c.self.inside.journal.items e c.self.invariant.fits refl) c.self.invariant.within c.self.invariant.replayed state stands.steps its)
+    rw items (IsHistory-push c.self.inside.id c.self.inside.arch c.self.inside.strip c.self.inside.journal.items e c.in-Some.slot.state c.put_from-reply.new.self c.self.inside.held c.self.inside.text_limit (CountAs-push c.self.inside.held c.self.inside.journal.items e c.self.invariant.counted refl) c.self.invariant.within c.self.invariant.replayed state stands.steps its)
 
 pub returns : goal.returns
 returns c =

@@ -7,7 +7,7 @@ use Rattle.tenant_slot.proofs.Runs.{step-accepted}
 use Rattle.service_core.specs.declared.entry.Entry.{Entry}
 use Rattle.service_core.specs.History.{events_of}
 use Rattle.service_core.specs.History.{state_of}
-use Rattle.service_core.specs.Texts.{FitInto}
+use Rattle.service_core.specs.Texts.{CountAs}
 use Rattle.service_core.proofs.Booking.{slot_gives_up, stands_for}
 use Rattle.service_core.proofs.Held.{IsOnStrip, events_stay}
 use Rattle.service_core.proofs.Histories.{IsHistory-push, state_after-push}
@@ -23,11 +23,11 @@ invariant_of-self-in-Ok c =
     rw (c.accept.ensures.slot, c.in-Ok.ensures.reply) (step-accepted c.in-Some.slot c.in-Ok.answer (Asked c.args.command) said.0.room said.1) in
     let its : c.accept.new.self.id ≡ c.self.inside.id = search rules in
     let journal : c.as_slice-journal.result.now ≡ c.self.inside.journal.items = search rules in
-    let P : List Entry → Type 0 = λ es. FitInto (c.self.inside.held + c.in-Ok.recorded.bytes) (es ++ record { event = Asked c.args.command; reply = c.in-Ok.recorded.reply } ∷ []) in
-    let fits : FitInto (c.self.inside.held + c.in-Ok.recorded.bytes) (c.self.inside.journal.items ++ e ∷ []) =
-    subst P journal (rw c.in-Ok.ensures.reply (c.in-Ok.ensures.adds c.self.inside.held (subst (FitInto c.self.inside.held) (sym journal) c.self.invariant.fits))) in
+    let P : List Entry → Type 0 = λ es. CountAs (c.self.inside.held + c.in-Ok.recorded.bytes) (es ++ record { event = Asked c.args.command; reply = c.in-Ok.recorded.reply } ∷ []) in
+    let counted : CountAs (c.self.inside.held + c.in-Ok.recorded.bytes) (c.self.inside.journal.items ++ e ∷ []) =
+    subst P journal (rw c.in-Ok.ensures.reply (c.in-Ok.ensures.adds c.self.inside.held (subst (CountAs c.self.inside.held) (sym journal) c.self.invariant.counted))) in
     let within : c.self.inside.held + c.in-Ok.recorded.bytes ≤ c.self.inside.text_limit = omega (arith, c.in-Ok.ensures.within, c.self.invariant.within) in
-    rw items (IsHistory-push c.self.inside.id c.self.inside.arch c.self.inside.strip c.self.inside.journal.items e c.in-Some.slot.state c.accept.new.self (c.self.inside.held + c.in-Ok.recorded.bytes) c.self.inside.text_limit fits within c.self.invariant.replayed here steps its)
+    rw items (IsHistory-push c.self.inside.id c.self.inside.arch c.self.inside.strip c.self.inside.journal.items e c.in-Some.slot.state c.accept.new.self (c.self.inside.held + c.in-Ok.recorded.bytes) c.self.inside.text_limit counted within c.self.invariant.replayed here steps its)
 
 pub give_up-requires : goal.give_up-requires
 give_up-requires c =

@@ -1,0 +1,12 @@
+use Rattle.std.proofs.Common.{◌≡◌, ap, ◌∙◌}
+use Rattle.live_input.specs.Serving.{begins, state_in}
+use Rattle.live_run.specs.Limits.{device_of}
+use Rattle.desk_log.proofs.Along.{safe_log}
+use Rattle.desk_log.proofs.printing.shorten_log.Goals as goal
+
+pub returns : goal.returns
+returns g c =
+    let begun = begins (device_of c.args.options c.args.arch) in
+    let whole : state_in c.in_ok-whole.whole ≡ begun = c.in_ok-whole.ensures.whole ∙ ap begins c.device-device.ensures in
+    let short : state_in c.in_ok-whole.short ≡ begun = c.in_ok-whole.ensures.short ∙ ap begins c.device-device.ensures in
+    safe_log c.shorten_checked-checked.result c.in_ok-whole.whole c.in_ok-whole.short c.args.log.now begun whole short c.shorten_checked-checked.ensures.checked

@@ -1,0 +1,113 @@
+//! What is printed of a log.
+ghost use Rattle.std.specs.Prelude.{List, ℕ, ◌≡◌, IfOk, OnOk};
+ghost use Rattle.line_text.specs.Writing.{TakesAll};
+ghost use Rattle.live_input.specs.Serving.{begins, is_ready, state_in};
+ghost use Rattle.live_run.specs.Limits.{device_of};
+ghost use Rattle.service_core.specs.Kept.{IsDevice};
+ghost use Rattle.sessions.specs.Fitting.{own_graph};
+ghost use Rattle.desk_log.specs.Printed.{IsPrinted, IsSafeLog};
+
+use arch_file::Arch;
+use desk_common::Outcome;
+use line_text::{Failed, Sink, write_slices};
+use live_input::LiveLines;
+use live_log::{CheckedLog, shorten_checked};
+use live_run::Options;
+use service_core::{Device, Service};
+use sessions::device_graph;
+use std::alloc::{AllocError, Global};
+use strips::DeviceGraph;
+
+/// Prints the shorter log of a service with these options, over that architecture, if its service
+/// answers as the whole log's does; else the whole log, and says so.
+pub(crate) fn print_over<W: Sink, E: Sink>(
+    alloc: Global,
+    options: Options,
+    arch: Arch,
+    log: &[u8],
+    writer: &mut W,
+    teller: &mut E,
+) -> Result<(), Outcome>
+    requires { IsDevice (device_of options arch) }
+    ensures { OnOk result ((text : List ℕ) × TakesAll W.contents W.has_failed writer.old writer.new
+        text × IsPrinted (device_of options arch) log.now text) }
+{
+    match shorten_log(alloc, options, arch, log, teller) {
+        Ok(checked) => {
+            let written = checked.log.write(writer);
+            if let Some(name) = checked.differing {
+                let _ = tell_differing(teller, name);
+            }
+            drop(checked);
+            written.or(Err(Outcome::OutputFailed))
+        }
+        Err(_) => Err(Outcome::NoMemory),
+    }
+}
+
+/// Says that the whole log is printed.
+fn tell_differing<E: Sink>(teller: &mut E, name: &[u8]) -> Result<(), Failed> {
+    write_slices(
+        teller,
+        &[
+            b"log: the shorter log differs for ",
+            name,
+            b": the whole log is printed\n",
+        ],
+    )
+}
+
+/// The shorter log of a service with these options, over that architecture.
+fn shorten_log<'l, E: Sink>(
+    alloc: Global,
+    options: Options,
+    arch: Arch,
+    log: &'l [u8],
+    teller: &mut E,
+) -> Result<CheckedLog<'l>, AllocError>
+    requires { IsDevice (device_of options arch) }
+    ensures { IfOk result (IsSafeLog (begins (device_of options arch)) log.now) }
+{
+    let second = arch.clone()?;
+    let device = options.device(arch);
+    let graph = device_graph(alloc, &device)?;
+    let (mut whole, mut short) = two_services(
+        alloc,
+        &graph,
+        device,
+        options.device(second),
+        options.text_limit(),
+    )?;
+    let checked = shorten_checked(alloc, &mut whole, &mut short, log, teller);
+    whole.close();
+    short.close();
+    checked
+}
+
+/// Two services that have taken no line, over two like devices with that graph.
+fn two_services<'g>(
+    alloc: Global,
+    graph: &'g DeviceGraph,
+    device: Device,
+    other: Device,
+    text_limit: u64,
+) -> Result<(LiveLines<'g>, LiveLines<'g>), AllocError>
+    requires device { IsDevice device }
+    requires other { other ≡ device }
+    requires graph { graph.now ≡ own_graph device }
+    ensures ready { IfOk result (λ services. is_ready services.0 × is_ready services.1) }
+    ensures whole { IfOk result (λ services. state_in services.0 ≡ begins device) }
+    ensures short { IfOk result (λ services. state_in services.1 ≡ begins device) }
+{
+    let core = Service::with_text_limit(alloc, device, text_limit)?;
+    match Service::with_text_limit(alloc, other, text_limit) {
+        Ok(second) => Ok((
+            LiveLines::new(alloc, graph, core),
+            LiveLines::new(alloc, graph, second),
+        )),
+        Err(failed) => {
+            LiveLines::new(alloc, graph, core).close();
+            Err(failed)
+        }
+    }
+}

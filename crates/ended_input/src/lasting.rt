@@ -1,0 +1,77 @@
+//! The input of a service that lives for months.
+ghost use Rattle.std.specs.Prelude.{◌≡◌, OnErr};
+ghost use Rattle.std.specs.Io.{ReadsAtMost};
+ghost use Rattle.std.specs.Io.KnownBytes.{Keeps, ReadConsumes};
+
+use line_text::{Failed, Source};
+use std::io::{ErrorKind, Read};
+
+/// The largest number of tries of a call that is interrupted.
+const MAX_TRIES: u32 = 1_000_000;
+
+/// A source over a reader of the standard library, which can be read 2^64 - 1 times. An interrupted
+/// call is made again. From the reader's first failure on it returns [`Failed`].
+#[derive(Drop)]
+pub struct LastingSource<R: Read + Drop> {
+    reader: R,
+    failed: bool,
+    reads: u64,
+}
+
+impl<R: Read + Drop> LastingSource<R> {
+    /// A source of the bytes that are left in the reader.
+    pub fn new(reader: R) -> Self
+        ensures { ⟦<LastingSource<R> as Source>⟧.remaining result ≡ R.remaining reader }
+    {
+        LastingSource {
+            reader,
+            failed: false,
+            reads: u64::MAX,
+        }
+    }
+}
+
+/// One read, made again if it is interrupted.
+fn read_once<R: Read>(reader: &mut R, buffer: &mut [u8]) -> Result<usize, Failed>
+    ensures bound { ReadsAtMost result buffer.new }
+    ensures bytes { ReadConsumes (R.remaining reader.old) (R.remaining reader.new) result
+        buffer.new }
+    ensures err { OnErr result (Keeps (R.remaining reader.old) (R.remaining reader.new)) }
+{
+    for _ in 0..MAX_TRIES {
+        match reader.read(buffer) {
+            Ok(count) => return Ok(count),
+            Err(e) => {
+                if e.kind() != ErrorKind::Interrupted {
+                    return Err(Failed);
+                }
+            }
+        }
+    }
+    Err(Failed)
+}
+
+impl<R: Read + Drop> Source for LastingSource<R> {
+    ghost use Rattle.std.specs.Prelude.{◌==◌, ◌||◌, true, false};
+    ghost use Rattle.line_text.specs.Device.{or_true};
+
+    ghost remaining = { λ s. R.remaining s.reader };
+
+    ghost has_failed = { λ s. s.failed || s.reads == 0 };
+
+    ghost reads_left = { λ s. s.reads };
+
+    ghost spent = { λ s none. or_true s.failed s.reads none };
+
+    fn read(&mut self, buffer: &mut [u8]) -> Result<usize, Failed> {
+        self.reads = self.reads.saturating_sub(1);
+        if self.failed || self.reads == 0 {
+            return Err(Failed);
+        }
+        let answer = read_once(&mut self.reader, buffer);
+        if answer.is_err() {
+            self.failed = true;
+        }
+        answer
+    }
+}

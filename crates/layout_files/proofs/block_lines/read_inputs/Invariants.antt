@@ -1,0 +1,14 @@
+use Rattle.std.proofs.Common.{◌≡◌, ◌≤◌, ◌<◌, ◌^◌, ◌-◌, List, ℕ, All, ◌∷◌, ◌++◌, Some, take}
+use Rattle.implements.specs.declared.feed.Feed.{Feed}
+use Rattle.layout_files.specs.Cursors.{size}
+use Rattle.layout_files.specs.Fitting.{feed_number}
+use Rattle.layout_files.specs.ReadingNets.{inputs_text}
+use Rattle.layout_files.proofs.block_lines.read_inputs.Given as goal
+
+-- the inputs before this place are read, and the words of the others are left
+abbrev pub invariant-loop-place : goal.invariant-loop-place
+invariant-loop-place l = record {
+  read : (inputs : List Feed) (after : List ℕ) → All (λ feed. feed_number feed < 2 ^ 32) inputs → l.initial.cursor ≡ Some (inputs_text inputs 0 l.lut_size ++ (32 ∷ after))
+      → (l.inputs.items ≡ take l._place inputs) × (l.cursor ≡ Some (inputs_text inputs l._place (l.lut_size - l._place) ++ (32 ∷ after)));
+  shorter : size l.cursor ≤ size l.initial.cursor;
+}

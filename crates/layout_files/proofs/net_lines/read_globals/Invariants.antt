@@ -1,0 +1,19 @@
+use Rattle.std.proofs.Common.{◌≡◌, ◌<◌, List, ℕ, All, [], ◌∷◌, ◌++◌, Some, None, length, codes}
+use Rattle.blif.specs.declared.circuit.Circuit.{Circuit}
+use Rattle.cluster.specs.Blocks.{net_name}
+use Rattle.vpr_files.specs.TextLines.{line_of, text_of}
+use Rattle.layout_files.specs.Cursors.{left_after, size}
+use Rattle.layout_files.specs.Fitting.{HasFileNames}
+use Rattle.layout_files.specs.Printing.{global_lines}
+use Rattle.layout_files.proofs.Halfway.{Halfway}
+use Rattle.layout_files.proofs.ReadingNets.{globals_end}
+use Rattle.layout_files.proofs.net_lines.read_globals.Given as goal
+
+-- some global nets are read, and the lines of the others are left
+abbrev pub invariant-loop-cursor : goal.invariant-loop-cursor
+invariant-loop-cursor l = (circuit : Circuit) (globals after : List ℕ) → l.names ≡ circuit.nets → HasFileNames circuit → All (λ net. net < length circuit.nets) globals → left_after (Some after) (codes ".global ") ≡ None
+    → l.initial.cursor ≡ Some (text_of (global_lines circuit globals) ++ after)
+    → Halfway (λ k net. line_of (codes ".global" ∷ net_name circuit net ∷ [])) (λ net. net) globals (globals_end globals after) l.globals.items l.cursor
+
+abbrev pub decreases-loop-cursor : goal.decreases-loop-cursor
+decreases-loop-cursor l = size l.cursor

@@ -1,0 +1,15 @@
+use Rattle.std.proofs.Common.{◌∙◌, ◌++◌, ◌∷◌, [], ap, codes, decimal, refl}
+use Rattle.vpr_files.specs.NodeText.{node_text_of, number_word}
+use Rattle.vpr_files.proofs.FileTexts.{node_text}
+use Rattle.layout_files.proofs.Printing.{printed_as, printed_then}
+use Rattle.layout_files.proofs.route_print.print_node.Goals as goal
+
+pub returns : goal.returns
+returns c =
+    let rows = c.args.rows in
+    let node = c.args.node in
+    printed_then c.args.print.now c.print.new.self c.print-2.new.self (node_text_of rows node) (10 ∷ [])
+    (printed_as c.args.print.now c.print.new.self _ _ c.print.ensures.left
+    (node_text rows node c.kind_start.result.now (decimal node.x) (decimal node.y) c.number_start.result.now (decimal node.n)
+    c.kind_start.ensures refl refl (c.number_start.ensures ∙ ap (λ pad. codes ") " ++ number_word node.kind pad ++ codes " ") c.is_pad_row.ensures) refl))
+    c.print-2.ensures.left

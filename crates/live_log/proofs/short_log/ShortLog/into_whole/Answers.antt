@@ -1,0 +1,15 @@
+use Rattle.std.proofs.Common.{◌≡◌, ◌++◌, true, length, map, replicate, append-nil, rules, arith, ap, ◌∙◌}
+use Rattle.line_text.specs.Lines.{physical_lines}
+use Rattle.line_text.specs.Words.{texts}
+use Rattle.live_log.specs.Kept.{lines_kept, last_line}
+use Rattle.live_log.proofs.ServingSteps.{all_chosen}
+use Rattle.live_log.proofs.short_log.ShortLog.into_whole.Goals as goal
+
+pub returns-clause-lines : goal.returns-clause-lines
+returns-clause-lines c =
+    let lines = physical_lines c.args.self.log.now in
+    let kept : c.in_ok-from_elem.field-0.items ≡ replicate c.len-count.result true = search rules in
+    let count : c.len-count.result ≡ length lines = omega (arith, c.len-count.ensures, c.requires) in
+    ap (λ k. lines_kept k lines ++ map last_line (texts c.new.result.items)) kept
+    ∙ (ap (λ tags. lines_kept (replicate c.len-count.result true) lines ++ map last_line (texts tags)) c.new.ensures.items
+    ∙ (append-nil (lines_kept (replicate c.len-count.result true) lines) ∙ all_chosen lines c.len-count.result count))
