@@ -2,8 +2,8 @@
 //! input as it comes.
 #![tactic(auto)]
 
-use ended_input::{LastingSource, UntilEnd};
-use line_text::StdSink;
+use ended_input::UntilEnd;
+use line_text::{StdSink, StdSource};
 use live_promises::{ProgramEnd, serve};
 use live_run::{RESULTS_VERSION, WholeLines};
 use std::fs::File;
@@ -17,7 +17,7 @@ fn main(rt: HostRuntime) -> ExitCode {
         return write_version(&rt);
     }
     let streams = fill_streams(&rt);
-    let reader = WholeLines::new(&rt, UntilEnd::new(LastingSource::new(rt.reader())));
+    let reader = WholeLines::new(&rt, UntilEnd::new(StdSource::with_most_reads(rt.reader())));
     let writer = StdSink::new(io::writer(&rt));
     let ProgramEnd {
         status,

@@ -1,5 +1,5 @@
 //! A source over a reader of the standard library.
-ghost use Rattle.std.specs.Prelude.{◌≡◌, ◌^◌, ◌<◌, length, take, IfOk, OnErr, false};
+ghost use Rattle.std.specs.Prelude.{◌≡◌, ◌^◌, ◌-◌, ◌<◌, length, take, IfOk, OnErr, false};
 ghost use Rattle.std.specs.Io.{ReadsAtMost};
 ghost use Rattle.std.specs.Io.KnownBytes.{Consumes, IsAtEnd, Keeps};
 
@@ -30,6 +30,20 @@ impl<R: Read + Drop> StdSource<R> {
             reader,
             failed: false,
             reads: 1 << 32,
+        }
+    }
+
+    /// A source of the bytes that are left in the reader, for a service that lives for months: it
+    /// can be read 2^64 - 1 times.
+    pub fn with_most_reads(reader: R) -> Self
+        ensures bytes { ⟦<StdSource<R> as Source>⟧.remaining result ≡ R.remaining reader }
+        ensures works { ⟦<StdSource<R> as Source>⟧.has_failed result ≡ false }
+        ensures reads { ⟦<StdSource<R> as Source>⟧.reads_left result ≡ 2 ^ 64 - 1 }
+    {
+        StdSource {
+            reader,
+            failed: false,
+            reads: u64::MAX,
         }
     }
 }
