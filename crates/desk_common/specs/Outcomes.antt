@@ -1,9 +1,10 @@
 -- How an errand ends.
-use Rattle.std.specs.Prelude.{ℕ, Result, Ok, Err}
+use Rattle.std.specs.Prelude.{ℕ, ◌≡◌, Result, Ok, Err, ⊤}
 use Rattle.line_text.specs.declared.source.Failed.{Failed}
 use Rattle.line_text.specs.declared.source.ReadError.{ReadError}
 use Rattle.line_text.specs.declared.source.ReadError.TheVariants.{NoMemory as ReadNoMemory, Failed as ReadFailed}
 use Rattle.desk_common.specs.declared.outcome.Outcome.{Outcome}
+use Rattle.desk_common.specs.declared.paths.FileRole.{FileRole}
 use Rattle.desk_common.specs.declared.outcome.Outcome.TheVariants.{DeviceRefused, Done, InputFailed, OutputFailed, FileFailed, LayoutRefused, LinesRefused, NoMemory, OtherCircuit}
 
 -- the status that the program ends with
@@ -28,6 +29,13 @@ written_so (Err failed) = OutputFailed
 abbrev pub read_so : ReadError → Outcome
 read_so ReadNoMemory = NoMemory
 read_so ReadFailed = InputFailed
+
+-- how an errand ends whose file with that role could not be read or written: memory ran out, or
+-- this is known of the file
+abbrev pub IsFileFailure : FileRole → Type 0 → Outcome → Type 0
+IsFileFailure role known NoMemory = ⊤
+IsFileFailure role known (FileFailed failed) = (failed ≡ role) × known
+IsFileFailure role known other = ⊥
 
 -- how an errand ends that was done, or failed so
 abbrev pub done_so : Result (Unit {0}) Outcome → Outcome

@@ -49,7 +49,7 @@ pub enum Outcome {
     OtherCircuit,
     /// No net has the name.
     NoNet,
-    /// The first line of a log names other options, or another architecture.
+    /// A log is that of another service, or was changed. The cause is written to standard error.
     LogDiffers,
     NoMemory,
 }
@@ -126,7 +126,7 @@ impl fmt::Display for Outcome {
             Outcome::LayoutRefused(fault) => write!(f, "{fault}"),
             Outcome::OtherCircuit => write!(f, "the files do not implement the netlist"),
             Outcome::NoNet => write!(f, "there is no net with this name"),
-            Outcome::LogDiffers => write!(f, "log: its first line names other options"),
+            Outcome::LogDiffers => write!(f, "log: refused"),
             Outcome::NoMemory => write!(f, "out of memory"),
         }
     }

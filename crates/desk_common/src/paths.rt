@@ -1,4 +1,8 @@
 //! Files that tools read and write.
+ghost use Rattle.std.specs.Prelude.{◌≡◌, IfErr, ⊤};
+ghost use Rattle.desk_common.specs.Outcomes.{IsFileFailure};
+ghost use Rattle.desk_common.specs.declared.outcome.Outcome.TheVariants.{FileFailed};
+
 use crate::outcome::Outcome;
 use line_text::{ReadError, Sink, StdSource, read_all, write_all, write_slices};
 use std::alloc::Global;
@@ -49,7 +53,9 @@ pub fn read_file<H: Files + AllocGlobal, E: Sink>(
     path: &str,
     most: u64,
     teller: &mut E,
-) -> Result<Vec<u8>, Outcome> {
+) -> Result<Vec<u8>, Outcome>
+    ensures { IfErr result (IsFileFailure role ⊤) }
+{
     match File::open(rt, path) {
         Ok(file) => read_open(rt, role, path, file.take(most), teller),
         Err(error) => Err(told_failed(rt.alloc(), role, path, error, teller)),
@@ -63,7 +69,9 @@ fn read_open<H: Files + AllocGlobal, F: Read + Drop, E: Sink>(
     path: &str,
     file: F,
     teller: &mut E,
-) -> Result<Vec<u8>, Outcome> {
+) -> Result<Vec<u8>, Outcome>
+    ensures { IfErr result (IsFileFailure role ⊤) }
+{
     match read_all(rt.alloc(), &mut StdSource::new(file)) {
         Ok(bytes) => Ok(bytes),
         Err(ReadError::NoMemory) => Err(Outcome::NoMemory),
@@ -81,7 +89,9 @@ fn told_failed<E: Sink>(
     path: &str,
     error: Error,
     teller: &mut E,
-) -> Outcome {
+) -> Outcome
+    ensures { result ≡ FileFailed role }
+{
     if let Ok(line) = format!(in alloc; "{path}: {error}\n") {
         let _ = write_all(teller, line.as_bytes());
         drop(line);
@@ -98,7 +108,9 @@ pub fn write_path<H: Files + AllocGlobal, E: Sink>(
     path: &str,
     bytes: &[u8],
     teller: &mut E,
-) -> Result<(), Outcome> {
+) -> Result<(), Outcome>
+    ensures { IfErr result (IsFileFailure role ⊤) }
+{
     let Ok(part) = format!(in rt.alloc(); "{path}.part") else {
         return Err(Outcome::NoMemory);
     };

@@ -1,4 +1,7 @@
 //! What the service would reply, for standard error.
+ghost use Rattle.std.specs.Prelude.{◌≡◌};
+ghost use Rattle.desk_common.specs.declared.outcome.Outcome.TheVariants.{NetlistRefused};
+
 use crate::outcome::Outcome;
 use arch_file::read_arch;
 use blif::{BlifFault, BlifFaultKind};
@@ -27,7 +30,9 @@ pub fn told_refused<E: Sink>(
     source: NetlistSource<'_>,
     refusal: Refusal,
     teller: &mut E,
-) -> Outcome {
+) -> Outcome
+    ensures { result ≡ NetlistRefused }
+{
     let more = more_of(alloc, source, &refusal);
     let line = match &refusal {
         Refusal::BadBlif(fault) => fault.line,

@@ -1,8 +1,15 @@
--- What the options of a tool that reads a layout say.
-use Rattle.std.specs.Prelude.{◌≡◌, Some, codes, IfSome}
+-- What the options of a tool that reads a layout say, and what its `.place` file adds.
+use Rattle.std.specs.Prelude.{ℕ, ◌≡◌, List, Option, Some, codes, IfSome}
+use Rattle.blif.specs.declared.circuit.Circuit.{Circuit}
+use Rattle.grid.specs.declared.Strip.{Strip}
+use Rattle.implements.specs.Layouts.{Layout}
+use Rattle.layout_files.specs.Cursors.{IsPlain}
+use Rattle.layout_text.specs.LayoutText.{place_text}
 use Rattle.option_words.specs.declared.given.Given.{Given}
 use Rattle.option_words.specs.Values.{number_of, text_of}
 use Rattle.layout_verdict.specs.declared.shape.StripShape.{StripShape}
+use Rattle.strip_files.specs.SizeLines.{HasSize, IsWithin}
+use Rattle.strip_files.specs.declared.size.StripSize.{StripSize}
 use Rattle.desk_layouts.specs.declared.layout_input.LayoutPaths.{LayoutPaths}
 
 -- each path and each number is that of its option
@@ -19,3 +26,21 @@ pub record IsAskedFor (given : Given) (paths : LayoutPaths) : Type 0 where
 -- the strip has the tracks that are asked for, and the columns and the rows if they are given
 abbrev pub IsAskedShape : LayoutPaths → StripShape → Type 0
 IsAskedShape paths shape = (shape.tracks ≡ paths.tracks) × IfSome paths.columns (λ columns. shape.columns ≡ columns) × IfSome paths.rows (λ rows. shape.rows ≡ rows)
+
+-- the text is the print of the places of a layout, on a strip of this width and with these rows
+pub record ArePlacesOn (place : List ℕ) (width rows : ℕ) : Type 0 where
+  pub circuit : Circuit
+  pub strip : Strip
+  pub layout : Layout
+  pub model : IsPlain circuit.model
+  pub width_is : strip.width ≡ width
+  pub rows_are : strip.rows ≡ rows
+  pub text : place ≡ place_text circuit strip layout
+
+-- the size that such a text says is found
+abbrev pub IsSizeOfPlaces : List ℕ → Option StripSize → Type 0
+IsSizeOfPlaces place found = (width rows : ℕ) → IsWithin width rows → ArePlacesOn place width rows → HasSize found width rows
+
+-- no shape of another size is asked for on which these are the places of a layout
+abbrev pub IsOnlyShape : LayoutPaths → List ℕ → StripShape → Type 0
+IsOnlyShape paths place shape = (asked : StripShape) → IsAskedShape paths asked → ArePlacesOn place asked.columns asked.rows → (asked.columns ≡ shape.columns) × (asked.rows ≡ shape.rows)

@@ -1,5 +1,5 @@
 -- What a device is loaded with.
-use Rattle.std.specs.Prelude.{ℕ, ◌≡◌, true, List, Contains, Option, Ok}
+use Rattle.std.specs.Prelude.{ℕ, ◌≡◌, ◌⊎◌, Bool, true, List, Contains, Option, Ok, ⊤}
 use Rattle.line_text.specs.Lines.{JoinedLine, lines_of}
 use Rattle.blif.specs.LookupTables.{LookupTable}
 use Rattle.implements.specs.Holding.{holds_table}
@@ -9,7 +9,12 @@ use Rattle.configuration.specs.ConfigurationText.{configuration_text}
 use Rattle.configuration.specs.Lines.{ConfigurationLine}
 use Rattle.configuration.specs.Wired.{AreBlesApart, Configures, HasOneDriver, HasValues, Spot}
 use Rattle.layout_verdict.specs.declared.laid_circuit.LaidCircuit.{LaidCircuit}
+use Rattle.desk_common.specs.declared.outcome.Outcome.{Outcome}
+use Rattle.desk_common.specs.declared.outcome.Outcome.TheVariants.{FileFailed, NoMemory, OutputFailed}
+use Rattle.desk_common.specs.declared.paths.FileRole.{FileRole}
+use Rattle.desk_common.specs.declared.paths.FileRole.TheVariants.{Verilog}
 use Rattle.desk_layouts.specs.Checked.{AreRead, IsLaidIn}
+use Rattle.desk_layouts.specs.Refused.{IsRefusal}
 use Rattle.desk_layouts.specs.declared.given_files.GivenFiles.{GivenFiles}
 use Rattle.desk_layouts.specs.declared.layout_input.LayoutPaths.{LayoutPaths}
 
@@ -45,3 +50,15 @@ pub record IsConfigured (known : List ℕ → Option (List ℕ)) (paths : Layout
   pub given : GivenFiles
   pub read : AreRead known paths given
   pub configuration : IsConfigurationOf paths given text
+
+-- why a configuration is not written: the output failed, or the file for its Verilog, of which
+-- this is known, or memory ran out
+abbrev pub IsUnwritten : Type 0 → Bool → Outcome → Type 0
+IsUnwritten written failed NoMemory = ⊤
+IsUnwritten written failed OutputFailed = failed ≡ true
+IsUnwritten written failed (FileFailed role) = (role ≡ Verilog) × written
+IsUnwritten written failed other = ⊥
+
+-- private: or the files are refused
+abbrev pub IsUnwrittenOr : Type 0 → Bool → LayoutPaths → GivenFiles → Outcome → Type 0
+IsUnwrittenOr written failed paths given outcome = IsUnwritten written failed outcome ⊎ IsRefusal paths given outcome

@@ -1,3 +1,4 @@
 pub mod Asked
 pub mod Checked
 pub mod Configured
+pub mod Refused

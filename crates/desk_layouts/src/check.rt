@@ -1,8 +1,9 @@
 //! The tool that checks a layout against its netlist.
-ghost use Rattle.std.specs.Prelude.{IfOk, codes};
+ghost use Rattle.std.specs.Prelude.{IfErr, IfOk, codes};
 ghost use Rattle.layout_verdict.specs.declared.laid_circuit.LaidCircuit.{LaidCircuit};
 ghost use Rattle.line_text.specs.Writing.{TakesAll};
 ghost use Rattle.desk_layouts.specs.Checked.{IsChecked, IsLaidIn};
+ghost use Rattle.desk_layouts.specs.Refused.{IsFailure, IsRefusal};
 
 use crate::file_texts::FileTexts;
 use crate::given_files::GivenFiles;
@@ -50,6 +51,8 @@ pub fn run<F: FileTexts + AllocGlobal, W: Sink, E: Sink>(
     ensures checked { IfOk result (λ _. IsChecked (F.text files.now) paths.entry) }
     ensures printed { IfOk result (λ _. TakesAll W.contents W.has_failed writer.old writer.new
         (codes "implements\n")) }
+    ensures failed { IfErr result (IsFailure (F.fails files.now) ⊥ (F.text files.now)
+        (W.has_failed writer.new) paths.entry) }
 {
     let given = GivenFiles::read(files, paths, teller)?;
     let checked = check(files.alloc(), paths, &given, teller);
@@ -68,7 +71,8 @@ fn check<E: Sink>(
     given: &GivenFiles,
     teller: &mut E,
 ) -> Result<(), Outcome>
-    ensures { IfOk result (λ _. (laid : LaidCircuit) × IsLaidIn paths.entry given.now laid) }
+    ensures laid { IfOk result (λ _. (laid : LaidCircuit) × IsLaidIn paths.entry given.now laid) }
+    ensures refused { IfErr result (IsRefusal paths.entry given.now) }
 {
     match circuit_in(alloc, paths, given, teller) {
         Ok(laid) => {

@@ -1,12 +1,15 @@
 //! The tool that writes what a device is loaded with.
-ghost use Rattle.std.specs.Prelude.{◌≡◌, ℕ, List, Ok, IfOk};
+ghost use Rattle.std.specs.Prelude.{◌≡◌, ℕ, List, Ok, IfErr, IfOk};
+ghost use Rattle.std.specs.Option.{ForSome};
+ghost use Rattle.desk_common.specs.Outcomes.{IsFileFailure};
 ghost use Rattle.blif.specs.LawfulCircuits.{IsCircuit};
 ghost use Rattle.grid.specs.Sizes.{IsStripSize};
 ghost use Rattle.layout_verdict.specs.Verdicts.{IsImplemented};
 ghost use Rattle.line_text.specs.Lines.{JoinedLine, lines_of};
 ghost use Rattle.line_text.specs.Writing.{TakesAll};
 ghost use Rattle.desk_layouts.specs.Asked.{IsAskedFor};
-ghost use Rattle.desk_layouts.specs.Configured.{IsConfigurationOf, IsConfigured, Works, text_with};
+ghost use Rattle.desk_layouts.specs.Configured.{IsConfigurationOf, IsConfigured, IsUnwritten, IsUnwrittenOr, Works, text_with};
+ghost use Rattle.desk_layouts.specs.Refused.{IsFailure};
 
 use crate::file_texts::FileTexts;
 use crate::given_files::GivenFiles;
@@ -90,9 +93,12 @@ pub fn run<F: FileTexts + AllocGlobal, W: Sink, E: Sink>(
     writer: &mut W,
     teller: &mut E,
 ) -> Result<(), Outcome>
-    ensures { IfOk result (λ _. (text : List ℕ)
+    ensures printed { IfOk result (λ _. (text : List ℕ)
         × IsConfigured (F.text files.now) wishes.entry.paths text
         × TakesAll W.contents W.has_failed writer.old writer.new text) }
+    ensures failed { IfErr result (IsFailure (F.fails files.now)
+        (ForSome wishes.entry.verilog (λ path. F.fails files.now path.now)) (F.text files.now)
+        (W.has_failed writer.new) wishes.entry.paths) }
 {
     let given = GivenFiles::read(files, wishes.paths, teller)?;
     let printed = print_checked(files, wishes, &given, writer, teller);
@@ -109,9 +115,12 @@ fn print_checked<F: FileTexts + AllocGlobal, W: Sink, E: Sink>(
     writer: &mut W,
     teller: &mut E,
 ) -> Result<(), Outcome>
-    ensures { IfOk result (λ _. (text : List ℕ)
+    ensures printed { IfOk result (λ _. (text : List ℕ)
         × IsConfigurationOf wishes.entry.paths given.now text
         × TakesAll W.contents W.has_failed writer.old writer.new text) }
+    ensures failed { IfErr result (IsUnwrittenOr
+        (ForSome wishes.entry.verilog (λ path. F.fails files.now path.now))
+        (W.has_failed writer.new) wishes.entry.paths given.now) }
 {
     match circuit_in(files.alloc(), wishes.paths, given, teller) {
         Ok(laid) => {
@@ -136,9 +145,11 @@ fn print_laid<F: FileTexts + AllocGlobal, W: Sink, E: Sink>(
     requires implemented { IsImplemented laid.now }
     requires circuit { IsCircuit laid.now.circuit }
     requires strip { IsStripSize laid.now.strip }
-    ensures { IfOk result (λ _. (lines : List JoinedLine) × (lines_of netlist.now ≡ Ok lines)
-        × Works lines laid.now
+    ensures printed { IfOk result (λ _. (lines : List JoinedLine)
+        × (lines_of netlist.now ≡ Ok lines) × Works lines laid.now
         × TakesAll W.contents W.has_failed writer.old writer.new (text_with lines laid.now)) }
+    ensures failed { IfErr result (IsUnwritten
+        (ForSome verilog.entry (λ path. F.fails files.now path.now)) (W.has_failed writer.new)) }
 {
     laws_of_configurations();
     values_are_rows();
@@ -164,8 +175,10 @@ fn print_lines<F: FileTexts + AllocGlobal, W: Sink, E: Sink>(
     writer: &mut W,
     teller: &mut E,
 ) -> Result<(), Outcome>
-    ensures { IfOk result (λ _. TakesAll W.contents W.has_failed writer.old writer.new
+    ensures printed { IfOk result (λ _. TakesAll W.contents W.has_failed writer.old writer.new
         (text_with lines.now laid.now)) }
+    ensures failed { IfErr result (IsUnwritten
+        (ForSome verilog.entry (λ path. F.fails files.now path.now)) (W.has_failed writer.new)) }
 {
     let design = Design {
         netlist: lines,
@@ -190,7 +203,9 @@ fn save_verilog<F: FileTexts + AllocGlobal, E: Sink>(
     path: &str,
     design: Design<'_>,
     teller: &mut E,
-) -> Result<(), Outcome> {
+) -> Result<(), Outcome>
+    ensures { IfErr result (IsFileFailure FileRole.Verilog (F.fails files.now path.now)) }
+{
     match verilog_text(files.alloc(), design) {
         Ok(text) => {
             let saved = files.write_text(FileRole::Verilog, path, text.as_slice(), teller);

@@ -1,5 +1,5 @@
 //! The files of a layout, as they are read.
-ghost use Rattle.std.specs.Prelude.{◌≡◌, IfOk};
+ghost use Rattle.std.specs.Prelude.{◌≡◌, IfErr, IfOk};
 
 use crate::file_texts::FileTexts;
 use crate::layout_input::LayoutPaths;
@@ -26,6 +26,7 @@ pub struct GivenFiles {
 
 impl GivenFiles {
     ghost use Rattle.desk_layouts.specs.Checked.{AreRead, texts_with};
+    ghost use Rattle.desk_layouts.specs.Refused.{IsUnread};
 
     /// The bytes of the files with these paths. Of a file that can't be read, the path and the
     /// reason are written to the teller.
@@ -34,7 +35,8 @@ impl GivenFiles {
         paths: LayoutPaths<'_>,
         teller: &mut E,
     ) -> Result<Self, Outcome>
-        ensures { IfOk result (AreRead (F.text files.now) paths.entry) }
+        ensures read { IfOk result (AreRead (F.text files.now) paths.entry) }
+        ensures failed { IfErr result (IsUnread (F.fails files.now) paths.entry) }
     {
         let arch = files.read_text(FileRole::Architecture, paths.arch, MAX_READ, teller)?;
         let netlist = files.read_text(FileRole::Netlist, paths.netlist, MAX_READ, teller)?;

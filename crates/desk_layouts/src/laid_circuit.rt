@@ -1,8 +1,10 @@
 //! The circuit and the layout of the files that a tool is given.
-ghost use Rattle.std.specs.Prelude.{IfOk};
+ghost use Rattle.std.specs.Prelude.{◌≡◌, IfErr, IfOk};
+ghost use Rattle.desk_common.specs.declared.outcome.Outcome.TheVariants.{OtherCircuit};
 ghost use Rattle.layout_verdict.specs.Texts.{IsReadFrom};
 ghost use Rattle.layout_verdict.specs.Verdicts.{IsImplemented};
 ghost use Rattle.desk_layouts.specs.Checked.{IsLaidIn};
+ghost use Rattle.desk_layouts.specs.Refused.{IsRefusal, IsRefusalOf};
 
 use crate::given_files::GivenFiles;
 use crate::layout_input::{LayoutPaths, shape_of};
@@ -23,7 +25,8 @@ pub(crate) fn circuit_in<E: Sink>(
     given: &GivenFiles,
     teller: &mut E,
 ) -> Result<LaidCircuit, Outcome>
-    ensures { IfOk result (IsLaidIn paths.entry given.now) }
+    ensures laid { IfOk result (IsLaidIn paths.entry given.now) }
+    ensures refused { IfErr result (IsRefusal paths.entry given.now) }
 {
     let Some(shape) = shape_of(paths, given.place.as_slice()) else {
         return Err(Outcome::NoMemory);
@@ -36,9 +39,7 @@ pub(crate) fn circuit_in<E: Sink>(
     let texts = given.texts(shape);
     let laid = laid_circuit(alloc, paths.arch, source, &texts, teller);
     drop(texts);
-    if let Err(Outcome::LayoutRefused(fault)) = &laid {
-        tell_file(paths, given, *fault, teller);
-    }
+    tell_file(paths, given, &laid, teller);
     laid
 }
 
@@ -52,7 +53,8 @@ pub(crate) fn laid_circuit<E: Sink>(
     texts: &LayoutTexts<'_>,
     teller: &mut E,
 ) -> Result<LaidCircuit, Outcome>
-    ensures { IfOk result (λ laid. IsReadFrom texts.now laid × IsImplemented laid) }
+    ensures laid { IfOk result (λ laid. IsReadFrom texts.now laid × IsImplemented laid) }
+    ensures refused { IfErr result (IsRefusalOf texts.now) }
 {
     match verdict_of(alloc, texts) {
         Verdict::Implements(laid) => Ok(laid),
@@ -70,7 +72,9 @@ pub(crate) fn laid_circuit<E: Sink>(
 }
 
 /// Writes what is wrong with a layout, and returns how the errand ended.
-fn told_wrong<E: Sink>(laid: LaidCircuit, wrong: Wrong, teller: &mut E) -> Outcome {
+fn told_wrong<E: Sink>(laid: LaidCircuit, wrong: Wrong, teller: &mut E) -> Outcome
+    ensures { result ≡ OtherCircuit }
+{
     let subject = Subject {
         circuit: &laid.circuit,
         arch: &laid.arch,

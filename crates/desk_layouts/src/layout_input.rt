@@ -1,6 +1,7 @@
 //! What the tools take that read a layout: its architecture, its netlist and its three files.
 ghost use Rattle.std.specs.Prelude.{◌≡◌, IfOk, IfSome};
-ghost use Rattle.desk_layouts.specs.Asked.{IsAskedFor, IsAskedShape};
+ghost use Rattle.desk_layouts.specs.Asked.{IsAskedFor, IsAskedShape, IsOnlyShape, IsSizeOfPlaces};
+ghost use Rattle.std.specs.Option.{option_map_or};
 ghost use Rattle.option_words.specs.Values.{number_of, text_of};
 
 use desk_common::{DEVICE, NO_DEVICE};
@@ -148,21 +149,32 @@ fn number_in(given: &Given<'_>, name: &str) -> Result<Option<u32>, &'static str>
 }
 
 /// The size in a `.place` file with this text, in its second line. `None` if it isn't there.
-pub(crate) fn size_in_places(place: &[u8]) -> Option<StripSize> {
+pub(crate) fn size_in_places(place: &[u8]) -> Option<StripSize>
+    ensures { IsSizeOfPlaces place.now result }
+{
     let (_, rest) = split_line(place);
     let (line, _) = split_line(rest);
     size_in(line, " logic blocks")
 }
 
+/// The columns and the rows of a size. 1 of each if there is none.
+fn numbers_of(size: Option<StripSize>) -> (u32, u32)
+    ensures columns { result.0 ≡ option_map_or (λ size. size.columns) size 1 }
+    ensures rows { result.1 ≡ option_map_or (λ size. size.rows) size 1 }
+{
+    match size {
+        Some(size) => (size.columns, size.rows),
+        None => (1, 1),
+    }
+}
+
 /// The shape of the strip: a size that isn't given is the one in the `.place` file with this text,
 /// or 1 if that has none, which is a fault of the file.
 pub(crate) fn shape_of(paths: LayoutPaths<'_>, place: &[u8]) -> Option<StripShape>
-    ensures { IfSome result (IsAskedShape paths.entry) }
+    ensures asked { IfSome result (IsAskedShape paths.entry) }
+    ensures only { IfSome result (IsOnlyShape paths.entry place.now) }
 {
-    let (columns, rows) = match size_in_places(place) {
-        Some(size) => (size.columns, size.rows),
-        None => (1, 1),
-    };
+    let (columns, rows) = numbers_of(size_in_places(place));
     let columns = paths.columns.unwrap_or(columns);
     let rows = paths.rows.unwrap_or(rows);
     StripShape::new(columns, rows, paths.tracks)

@@ -1,20 +1,22 @@
 //! The file of a layout that is refused.
 use crate::given_files::GivenFiles;
 use crate::layout_input::LayoutPaths;
+use desk_common::Outcome;
 use layout_files::LayoutFault;
+use layout_verdict::LaidCircuit;
 use line_text::{Sink, split_line};
 use strip_files::File;
 use text_parts::{Part, write_parts};
 
-/// Writes the path of the file with the fault, as which of the three files it is read, and the
-/// cause if it shows: lines that end with CR, or a file of another kind.
+/// If a file is refused, writes its path, as which of the three files it is read, and the cause if
+/// it shows: lines that end with CR, or a file of another kind.
 pub(crate) fn tell_file<E: Sink>(
     paths: LayoutPaths<'_>,
     given: &GivenFiles,
-    fault: LayoutFault,
+    laid: &Result<LaidCircuit, Outcome>,
     teller: &mut E,
 ) {
-    let LayoutFault::Line(fault) = fault else {
+    let Err(Outcome::LayoutRefused(LayoutFault::Line(fault))) = laid else {
         return;
     };
     let (path, text) = match fault.file {

@@ -1,10 +1,10 @@
 //! The tool that makes the log of a live service shorter.
-use crate::printing::print_over;
+use crate::printing::print_checked;
 use arch_file::{ArchError, read_arch};
 use desk_common::{
     COLUMNS, DEVICE, FileRole, NO_DEVICE, Outcome, ROWS, read_file, write_arch_fault,
 };
-use line_text::{MAX_TEXT, Sink};
+use line_text::{MAX_TEXT, Sink, write_all};
 use live_run::{Options, first_line};
 use option_words::{Given, OptionWord, Program, Takes};
 use std::alloc::Global;
@@ -25,6 +25,7 @@ each `op echo` but the last, and what was refused.
 Ids and offsets stay, and a comment says the last id that each name used. Journals have fewer entries then, and `? N` counts the lines of the shorter log.
 The shorter log is checked: a second service is served it, and both are asked for each tenancy's state and files.
 Unless they answer alike, the whole log is printed, and standard error says so.
+A log of which a sum differs is refused.
 
 Example: fpgad_desk log --arch my.arch --tracks 8 --columns 20 --rows 10 day.log > short.log && mv short.log day.log",
     options: &[
@@ -126,10 +127,11 @@ fn print<W: Sink, E: Sink>(
 ) -> Result<(), Outcome> {
     let log = whole_lines(log);
     if log.starts_with(FIRST) && !begins_so(alloc, wishes, arch, log)? {
+        let _ = write_all(teller, b"log: its first line names other options\n");
         return Err(Outcome::LogDiffers);
     }
     match read_arch(alloc, arch, wishes.options.tracks) {
-        Ok(arch) => print_over(alloc, wishes.options, arch, log, writer, teller),
+        Ok(arch) => print_checked(alloc, wishes.options, arch, log, writer, teller),
         Err(ArchError::NoMemory) => Err(Outcome::NoMemory),
         Err(ArchError::Fault(fault)) => {
             let _ = write_arch_fault(teller, wishes.arch, fault);

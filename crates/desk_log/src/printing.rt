@@ -1,26 +1,67 @@
 //! What is printed of a log.
-ghost use Rattle.std.specs.Prelude.{List, ℕ, ◌≡◌, IfOk, OnOk};
+ghost use Rattle.std.specs.Prelude.{List, ℕ, ◌≡◌, IfOk, None, OnOk};
 ghost use Rattle.line_text.specs.Writing.{TakesAll};
-ghost use Rattle.live_input.specs.Serving.{begins, is_ready, state_in};
+ghost use Rattle.live_input.specs.Serving.{begins, is_ready, kept_lines, state_in};
 ghost use Rattle.live_run.specs.Limits.{device_of};
+ghost use Rattle.live_run.specs.Sums.{first_differing, no_lines};
 ghost use Rattle.service_core.specs.Kept.{IsDevice};
 ghost use Rattle.sessions.specs.Fitting.{own_graph};
 ghost use Rattle.desk_log.specs.Printed.{IsPrinted, IsSafeLog};
 
 use arch_file::Arch;
 use desk_common::Outcome;
-use line_text::{Failed, Sink, write_slices};
+use itoa::Buffer;
+use line_text::{Failed, MemorySource, Sink, write_slices};
 use live_input::LiveLines;
 use live_log::{CheckedLog, shorten_checked};
-use live_run::Options;
+use live_run::{Options, changed_line};
 use service_core::{Device, Service};
 use sessions::device_graph;
 use std::alloc::{AllocError, Global};
 use strips::DeviceGraph;
 
 /// Prints the shorter log of a service with these options, over that architecture, if its service
+/// answers as the whole log's does; else the whole log, and says so. A log of which a line says
+/// another sum than that of the lines before it is refused, and the first such line is told.
+pub(crate) fn print_checked<W: Sink, E: Sink>(
+    alloc: Global,
+    options: Options,
+    arch: Arch,
+    log: &[u8],
+    writer: &mut W,
+    teller: &mut E,
+) -> Result<(), Outcome>
+    requires { IsDevice (device_of options arch) }
+    ensures sums { OnOk result (first_differing no_lines (kept_lines log.now) ≡ None) }
+    ensures printed { OnOk result ((text : List ℕ) × TakesAll W.contents W.has_failed writer.old
+        writer.new text × IsPrinted (device_of options arch) log.now text) }
+{
+    match changed_line(alloc, MemorySource::new(log)) {
+        Ok(None) => print_over(alloc, options, arch, log, writer, teller),
+        Ok(Some(number)) => {
+            let _ = tell_changed(teller, number);
+            Err(Outcome::LogDiffers)
+        }
+        Err(error) => Err(Outcome::of_reading(error)),
+    }
+}
+
+/// Says which line of the log says another sum.
+fn tell_changed<E: Sink>(teller: &mut E, number: u64) -> Result<(), Failed> {
+    let mut digits = Buffer::new();
+    write_slices(
+        teller,
+        &[
+            b"log: line ",
+            digits.format(number).as_bytes(),
+            b": its sum differs: what is before it has changed\n",
+        ],
+    )
+}
+
+/// Prints the shorter log of a service with these options, over that architecture, if its service
 /// answers as the whole log's does; else the whole log, and says so.
-pub(crate) fn print_over<W: Sink, E: Sink>(
+fn print_over<W: Sink, E: Sink>(
     alloc: Global,
     options: Options,
     arch: Arch,

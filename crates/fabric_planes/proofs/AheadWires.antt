@@ -40,6 +40,10 @@ block_far sink ka xa ya side kb xb yb at =
 level_far : (sink : Node) (v : ℕ) (ka : NodeKind) (xa ya : ℕ) (kb : NodeKind) (xb yb : ℕ) → kb ≡ ChanX → xb ≡ sink.x → yb ≡ v → IsFarFrom Level sink.x v ka xa ya kb xb yb
 level_far sink v ka xa ya kb xb yb k x y = at_is Level sink.x v ka xa ya kb ChanX xb sink.x yb v k x y (omega arith)
 
+-- a node of the graph is one of the strip
+pub node_there : {basis : Basis} → IsBasis basis → (number : ℕ) → number < (graph_of basis).count → (v : Node) → (graph_of basis).node number ≡ v → is_node basis.arch basis.strip v ≡ true
+node_there {basis} is number within v e = subst (λ (v : Node). is_node basis.arch basis.strip v ≡ true) e ((lawful is).nodes number within)
+
 -- a source or a sink is in a column and row of the strip
 pub terminal_inside : {basis : Basis} → IsBasis basis → (v : Node) → (IsWire v.kind → ⊥) → is_node basis.arch basis.strip v ≡ true → IsInStrip basis v
 terminal_inside is v no_wire there = let pin = pin_facts is v no_wire there in record { x = pin.to; y = omega (arith, pin.row) }

@@ -2,8 +2,9 @@
 use Rattle.std.proofs.Common.{◌≡◌, ℕ, zero, suc, ◌+◌, ◌*◌, ◌<◌, ◌≤◌, true, List, [], ◌∷◌, All, length, refl, ap, sym, subst, ◌∙◌, inl, inr, arith}
 use Rattle.std.specs.Prelude.{slice_index}
 use Rattle.std.proofs.lemmas.Bool.{cases_lt, cases_eq, false≢true}
+use Rattle.std.proofs.lemmas.List.{get_or_past}
 use Rattle.std.proofs.lemmas.Nat.{mul-le}
-use Rattle.std.proofs.lemmas.List.Elements.{All-cons, All-nil, All-from_get_or}
+use Rattle.std.proofs.lemmas.List.Elements.{All-cons, All-get_or, All-nil, All-from_get_or}
 use Rattle.arch_file.specs.declared.arch.Sides.{Sides}
 use Rattle.rr_graph.specs.declared.node.Node.{Node}
 use Rattle.rr_graph.specs.Geometry.{sides_at}
@@ -12,9 +13,9 @@ use Rattle.fabric_planes.specs.Aheads.{AreSides, HaveBounds}
 use Rattle.fabric_planes.specs.Laid.{IsWireOf}
 use Rattle.fabric_planes.specs.Layout.{place_of}
 use Rattle.fabric_planes.specs.Pins.{AreByPlace}
-use Rattle.fabric_planes.specs.SideBounds.{AreFew, AreLow, ArePinBounds, AreSidesBounded, IsSideBounded}
+use Rattle.fabric_planes.specs.SideBounds.{AreFew, AreLow, ArePinBounds, AreSidesBounded, IsSideBounded, by_side}
 use Rattle.fabric_planes.specs.Sides.{is_on_side}
-use Rattle.fabric_planes.specs.declared.side_bounds.PinBounds.{PinBounds}
+use Rattle.fabric_planes.specs.declared.pin_bounds.PinBounds.{PinBounds}
 use Rattle.fabric_planes.proofs.Priced.{by_place_low}
 use Rattle.fabric_planes.proofs.Strips.{track_low}
 
@@ -37,6 +38,17 @@ before_side tracks side other n less few =
     let e : (other + 1) * tracks ≡ other * tracks + tracks = grind arith in
     omega (arith, m, e, few)
 
+-- each number is few, also one that is not there
+few_at : (xs : List ℕ) (k : ℕ) → All (λ bound. bound ≤ 20000) xs → slice_index xs k ≤ 20000
+few_at xs k few = elim (cases_lt k (length xs)) [
+  | inl low ↦ All-get_or (λ bound. bound ≤ 20000) xs k 0 low few
+  | inr high ↦ omega (arith, get_or_past xs k 0 high)
+]
+
+-- no side yet
+pub no_side : (tracks : ℕ) (sides by_place pins lasts : List ℕ) → length lasts ≡ 4 * tracks → All (λ bound. bound ≤ 20000) lasts → AreSidesBounded tracks sides by_place pins 0 lasts
+no_side tracks sides by_place pins lasts long few = record { long = long; here = λ side n less few within. absurd (omega (arith, less)); few = λ k. few_at lasts k few }
+
 -- one more side
 pub one_side_more : (tracks side : ℕ) (sides by_place pins old new : List ℕ) → AreSidesBounded tracks sides by_place pins side old → IsSideBounded tracks side (slice_index sides side) by_place (slice_index pins side) old new
     → AreSidesBounded tracks sides by_place pins (side + 1) new
@@ -53,10 +65,6 @@ one_side_more tracks side sides by_place pins old new known next = record {
 }
 
 -- ---- the bounds of a sink
-
--- the bounds by the numbers of the sides
-abbrev pub by_side : PinBounds → List ℕ
-by_side pins = pins.top ∷ pins.bottom ∷ pins.right ∷ pins.left ∷ []
 
 pub few_by_side : (pins : PinBounds) (list : List ℕ) → list ≡ by_side pins → AreFew pins → All (λ bound. bound ≤ 19000) list
 few_by_side pins list same few = subst (λ (xs : List ℕ). All (λ bound. bound ≤ 19000) xs) (sym same)

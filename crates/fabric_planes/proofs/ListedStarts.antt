@@ -1,12 +1,9 @@
 -- The starts that are in a track's plane.
-use Rattle.std.proofs.Common.{◌≡◌, ℕ, zero, suc, ◌+◌, ◌<◌, ◌⊎◌, List, [], ◌∷◌, ◌++◌, length, refl, sym, ap, ◌∙◌, subst, inl, inr, arith, Bool, true, false}
-use Rattle.std.specs.Prelude.{Contains, slice_index_or, ◌==◌, Some}
-use Rattle.std.specs.Bool.{MatchBool}
-use Rattle.std.proofs.lemmas.Bool.{cases_Bool, cases_lt, eqb-true, eq-eqb, false≢true}
+use Rattle.std.proofs.Common.{◌≡◌, ℕ, zero, suc, ◌+◌, ◌<◌, ◌⊎◌, List, [], ◌∷◌, ◌++◌, length, refl, sym, ap, ◌∙◌, subst, inl, inr, arith, true}
+use Rattle.std.specs.Prelude.{Contains, slice_index_or, Some}
+use Rattle.std.proofs.lemmas.Bool.{cases_lt}
 use Rattle.std.proofs.lemmas.List.{map-append}
 use Rattle.std.proofs.lemmas.List.Elements.{Contains-append_left, Contains-append_right, Contains-append_cases}
-use Rattle.rr_graph.specs.declared.node.NodeKind.{NodeKind}
-use Rattle.rr_graph.specs.declared.node.NodeKind.TheVariants.{ChanX, ChanY}
 use Rattle.rr_graph.specs.declared.node.Node.{Node}
 use Rattle.rr_graph.specs.Geometry.{IsWire}
 use Rattle.rr_graph.specs.Graph.{Basis, IsBasis, graph_of}
@@ -16,7 +13,7 @@ use Rattle.plane_search.specs.Starts.{places_of}
 use Rattle.plane_search.specs.declared.planes.Start.{Start}
 use Rattle.fabric_planes.specs.declared.pins.PinAt.{PinAt}
 use Rattle.fabric_planes.specs.Labels.{node_at, family_of}
-use Rattle.fabric_planes.specs.Layout.{Terminals, place_of, place_count, shows, labels_of, planes_of, IsNetSearch}
+use Rattle.fabric_planes.specs.Layout.{Terminals, place_of, shows, labels_of, planes_of, IsNetSearch}
 use Rattle.fabric_planes.specs.Pins.{IsShownPin, ArePins}
 use Rattle.fabric_planes.specs.Starts.{AreSomeStarts}
 use Rattle.fabric_planes.specs.Tables.{AreFirsts}
@@ -24,24 +21,9 @@ use Rattle.fabric_planes.proofs.Labeled.{at_place, has_place, place_has}
 use Rattle.fabric_planes.proofs.Numbers.{same_shows, listed_there}
 use Rattle.fabric_planes.proofs.Strips.{are_labels}
 
--- a test says whether it holds
-match_test : (b : Bool) → MatchBool b (b ≡ true) (b ≡ true → ⊥)
-match_test true = refl
-match_test false = λ q. false≢true q
-
--- a wire is shown in the planes of its track
-pub wire_shows : (strip : _) (t : Terminals) (track : ℕ) (kind : NodeKind) (v : Node) → IsWire kind → MatchBool (v.n == track) (shows strip t track kind v ≡ true) (shows strip t track kind v ≡ true → ⊥)
-wire_shows strip t track ChanX v w = match_test (v.n == track)
-wire_shows strip t track ChanY v w = match_test (v.n == track)
-wire_shows strip t track _ v w = absurd w
-
 module _ (basis : Basis) (t : Terminals) (cost : ℕ → ℕ) (starts : List ℕ) (goal : ℕ) where
   abbrev pub IsShownIn : ℕ → ℕ → Type 0
   IsShownIn track number = shows basis.strip t track ((graph_of basis).node number).kind ((graph_of basis).node number) ≡ true
-
-  -- each way to the goal costs at least this
-  abbrev pub LowIn : ℕ → ℕ → ℕ → ℕ → Type 0
-  LowIn track exit place ahead = IsLowerBound ((planes_of basis cost starts goal t).plane track) exit place (Some ahead)
 
 module _ {basis : Basis} (is : IsBasis basis) (t : Terminals) (cost : ℕ → ℕ) (starts : List ℕ) (goal : ℕ) (search : IsNetSearch basis cost starts goal t) where
   abbrev node : ℕ → Node
@@ -72,27 +54,6 @@ module _ {basis : Basis} (is : IsBasis basis) (t : Terminals) (cost : ℕ → �
 
     pub none_shown : (place number : ℕ) → ((k : ℕ) (d : PinAt) → k < length pins → (slice_index_or pins k d).place ≡ place → ⊥) → place_of basis (node number) ≡ place → IsShownPin basis t number → ⊥
     none_shown place number none at s = are_pins.all number s (λ k d b e. none k d b (e ∙ at))
-
-    pub listed_match : (place number other : ℕ) → (pin : PinAt) × Contains pins pin × (pin.place ≡ place) × (pin.number ≡ other) → place_of basis (node number) ≡ place
-        → MatchBool (other == number) (IsShownPin basis t number) (IsShownPin basis t number → ⊥)
-    listed_match place number other found at = elim (cases_Bool (other == number)) [
-      | inl e ↦ rw e (listed_shown place number other found (eqb-true other number e))
-      | inr e ↦ rw e (other_listed place number other found at (λ q. false≢true (sym e ∙ eq-eqb other number q)))
-    ]
-
-  -- a node that is no wire is shown if its pin is
-  pub shown_match : (track number : ℕ) (v : Node) (b : Bool) → number < (graph_of basis).count → node number ≡ v → (IsWire v.kind → ⊥) → MatchBool b (IsShownPin basis t number) (IsShownPin basis t number → ⊥)
-      → MatchBool b (shows basis.strip t track v.kind v ≡ true) (shows basis.strip t track v.kind v ≡ true → ⊥)
-  shown_match track number v true within e no_wire s = subst (λ (v : Node). shows basis.strip t track v.kind v ≡ true) e (pin_shows track number s)
-  shown_match track number v false within e no_wire n = λ s.
-      n (shows_pin track number within (λ w. no_wire (subst (λ (v : Node). IsWire v.kind) e w)) (subst (λ (v : Node). shows basis.strip t track v.kind v ≡ true) (sym e) s))
-
-  -- ---- lists of starts
-
-  -- the place of a node that is shown
-  pub shown_low : (track number : ℕ) → number < (graph_of basis).count → IsShown track number → place_of basis (node number) < place_count basis
-  unfolding labels_of
-  shown_low track number b s = (are_labels is cost starts goal t search).low track number b s
 
   -- ---- entries
 

@@ -2,7 +2,7 @@
 use Rattle.std.proofs.Common.{◌≡◌, ℕ, zero, suc, ◌<◌, ◌≤◌, List, get_or, subst, sym, arith}
 use Rattle.arch_file.specs.declared.arch.Sides.{Sides}
 use Rattle.fabric_planes.specs.SideBounds.{AreLow, AreNoDearer}
-use Rattle.fabric_planes.specs.declared.side_bounds.PinBounds.{PinBounds}
+use Rattle.fabric_planes.specs.declared.pin_bounds.PinBounds.{PinBounds}
 
 -- lesser bounds are still bounds
 pub low_still : (sides : Sides) (pins others : PinBounds) (cost : ℕ) → AreNoDearer pins others → AreLow sides others cost → AreLow sides pins cost

@@ -1,7 +1,9 @@
 -- Bounds of rivals, as they are lowered.
-use Rattle.std.proofs.Common.{◌≡◌, ℕ, ◌+◌, ◌<◌, List, ◌++◌, length, take, refl, sym, ◌∙◌, subst, inl, inr, arith}
+use Rattle.std.proofs.Common.{◌≡◌, ℕ, ◌+◌, ◌<◌, ◌≤◌, List, ◌++◌, length, take, refl, ap, sym, ◌∙◌, subst, inl, inr, arith}
 use Rattle.std.proofs.Math.Seq.{take-append_seam}
-use Rattle.std.proofs.lemmas.Bool.{cases_lt}
+use Rattle.std.specs.Prelude.{slice_index, slice_set}
+use Rattle.std.proofs.lemmas.Bool.{cases_eq, cases_lt}
+use Rattle.std.proofs.lemmas.List.{get_or-set_same, get_or-set_other, length-set}
 use Rattle.fabric_planes.specs.Bounds.{AreLowered}
 use Rattle.fabric_planes.specs.RivalBounds.{AreLimited}
 
@@ -11,8 +13,29 @@ lowered_itself xs = record { long = refl; falls = λ track. omega arith }
 pub lowered_then : (xs ys zs : List ℕ) → AreLowered xs ys → AreLowered ys zs → AreLowered xs zs
 lowered_then xs ys zs a b = record { long = b.long ∙ a.long; falls = λ track. omega (arith, a.falls track, b.falls track) }
 
-pub limited_then : (most : ℕ) (xs ys : List ℕ) → AreLimited most xs → AreLowered xs ys → AreLimited most ys
-limited_then most xs ys a b = record { low = λ track. omega (arith, a.low track, b.falls track) }
+pub limited_then : (tracks most : ℕ) (xs ys : List ℕ) → AreLimited tracks most xs → AreLowered xs ys → AreLimited tracks most ys
+limited_then tracks most xs ys a b = record { long = b.long ∙ a.long; low = λ track. omega (arith, a.low track, b.falls track) }
+
+-- one number is no greater than before
+pub lowered_set : (old now : List ℕ) (k v : ℕ) → AreLowered old now → k < length now → v ≤ slice_index now k → AreLowered old (slice_set now k v)
+lowered_set old now k v a within less = record {
+  long = length-set now k v ∙ a.long;
+  falls = λ track. elim (cases_eq track k) [
+    | inl same ↦ (let e : slice_index (slice_set now k v) track ≡ v = ap (slice_index (slice_set now k v)) same ∙ get_or-set_same now k v 0 within in
+        let f : slice_index now track ≡ slice_index now k = ap (slice_index now) same in
+        omega (arith, e, f, less, a.falls track))
+    | inr other ↦ (let e : slice_index (slice_set now k v) track ≡ slice_index now track = get_or-set_other now k track v 0 other in omega (arith, e, a.falls track))
+  ];
+}
+
+-- what holds of each of the first numbers holds of one more
+pub each_set : (P : ℕ → ℕ → Type 0) → (now : List ℕ) (k v : ℕ) → k < length now → ((i : ℕ) → i < k → P i (slice_index now i)) → P k v → (i : ℕ) → i < k + 1 → P i (slice_index (slice_set now k v) i)
+each_set P now k v within low here i b = elim (cases_eq i k) [
+  | inl same ↦ (let e : slice_index (slice_set now k v) i ≡ v = ap (slice_index (slice_set now k v)) same ∙ get_or-set_same now k v 0 within in
+      subst (λ (r : ℕ). P i r) (sym e) (subst (λ (j : ℕ). P j v) (sym same) here))
+  | inr other ↦ (let e : slice_index (slice_set now k v) i ≡ slice_index now i = get_or-set_other now k i v 0 other in
+      subst (λ (r : ℕ). P i r) (sym e) (low i (omega (arith, b, other))))
+]
 
 -- what holds of the bounds for the first indices, and of lesser bounds too, holds for one more
 pub each_more : (P : ℕ → List ℕ → Type 0) → ((i : ℕ) (xs ys : List ℕ) → P i xs → AreLowered xs ys → P i ys) → (now new : List ℕ) (k : ℕ) → ((i : ℕ) → i < k → P i now) → AreLowered now new → P k new → (i : ℕ) → i < k + 1 → P i new

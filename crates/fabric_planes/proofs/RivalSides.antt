@@ -5,7 +5,7 @@ use Rattle.rr_graph.specs.declared.node.Node.{Node}
 use Rattle.rr_graph.specs.Graph.{Basis, IsBasis, graph_of}
 use Rattle.plane_search.specs.Planes.{Family}
 use Rattle.fabric_planes.specs.Aheads.{AreSides}
-use Rattle.fabric_planes.specs.Bounds.{IsMetAt, IsOutput, IsRow, IsWireBound}
+use Rattle.fabric_planes.specs.Bounds.{IsMetAt, IsOutput, IsWireBound}
 use Rattle.fabric_planes.specs.Layout.{place_of}
 use Rattle.fabric_planes.specs.RivalBounds.{head_over, IsLead}
 use Rattle.fabric_planes.specs.Rivals.{ComesFirst}
@@ -38,8 +38,3 @@ module _ {basis : Basis} (is : IsBasis basis) where
 
     pub no_bound : (more wire bound : ℕ) → ⊥ → IsWireBound basis cost f more wire bound
     no_bound more wire bound none way leads = absurd none
-
-    -- a bound that is no greater than that of the row
-    pub row_bound : (pin v : Node) (side more wire less : ℕ) (row : List ℕ) → v ≡ pin → IsRow basis cost f v side more row → IsMetAt basis pin side wire → less ≤ slice_index row (node wire).n → IsWireBound basis cost f more wire less
-    row_bound pin v side more wire less row e is_row met l =
-        bound_less more wire (slice_index row (node wire).n) less l (is_row wire (subst (λ (v : Node). IsMetAt basis v side wire) (sym e) met))

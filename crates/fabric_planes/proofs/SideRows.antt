@@ -1,7 +1,7 @@
 -- Bounds of the ways from the wires that an output pin meets.
-use Rattle.std.proofs.Common.{◌≡◌, ℕ, ◌+◌, ◌-◌, ◌*◌, ◌<◌, ◌≤◌, List, [], ◌∷◌, take, drop, min, refl, sym, ◌∙◌, arith}
+use Rattle.std.proofs.Common.{◌≡◌, ℕ, ◌+◌, ◌-◌, ◌*◌, ◌<◌, ◌≤◌, List, [], ◌∷◌, length, take, drop, min, refl, sym, ◌∙◌, arith}
 use Rattle.std.specs.Prelude.{slice_index}
-use Rattle.std.proofs.lemmas.List.{get_or-take, get_or-drop}
+use Rattle.std.proofs.lemmas.List.{get_or-take, get_or-drop, length-drop, length-take-le}
 use Rattle.std.proofs.Math.Nat.{mul-le-mul_left}
 use Rattle.rr_graph.specs.declared.node.Node.{Node}
 use Rattle.rr_graph.specs.Graph.{Basis, IsBasis, graph_of}
@@ -17,6 +17,10 @@ use Rattle.fabric_planes.proofs.WireBounds.{By, fars_near, sharp_low, wire_bound
 -- a row of a table
 pub part_at : (xs : List ℕ) (a b n i : ℕ) → b ≡ a + n → i < n → slice_index (take (b - a) (drop a xs)) i ≡ slice_index xs (a + i)
 part_at xs a b n i e l = get_or-take (b - a) (drop a xs) i 0 (omega (arith, e, l)) ∙ get_or-drop a xs i 0
+
+-- how long it is
+pub part_long : (xs : List ℕ) (a b n m : ℕ) → b ≡ a + n → n ≡ m → b ≤ length xs → length (take (b - a) (drop a xs)) ≡ m
+part_long xs a b n m e f fits = length-take-le (b - a) (drop a xs) (omega (arith, length-drop a xs, fits)) ∙ omega (arith, e, f)
 
 pub row_within : (place count n : ℕ) → place < count → (place + 1) * n ≤ count * n
 row_within place count n l = let h : n * (place + 1) ≤ n * count = mul-le-mul_left n (omega (arith, l)) in omega (arith, h)

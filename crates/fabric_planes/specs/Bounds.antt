@@ -29,10 +29,6 @@ pub record IsMetAt (basis : Basis) (pin : Node) (side wire : ℕ) : Type 0 where
   pub at : IsAtSide pin side ((graph_of basis).node wire).kind ((graph_of basis).node wire).x ((graph_of basis).node wire).y
   pub met : meets basis.arch basis.strip pin ((graph_of basis).node wire) ≡ true
 
--- the numbers of the row are bounds of the ways from the wires at a side that the pin meets
-abbrev pub IsRow : Basis → (ℕ → ℕ) → Family → Node → ℕ → ℕ → List ℕ → Type 0
-IsRow basis cost f pin side more row = (wire : ℕ) → IsMetAt basis pin side wire → IsWireBound basis cost f more wire (slice_index row ((graph_of basis).node wire).n)
-
 -- no number is greater than before
 pub record AreLowered (old new : List ℕ) : Type 0 where
   pub long : length new ≡ length old

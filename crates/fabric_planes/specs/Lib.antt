@@ -9,7 +9,6 @@ pub mod Steps
 pub mod Tables
 pub mod Laid
 pub mod Differences
-pub mod Spots
 pub mod Aheads
 pub mod SideBounds
 pub mod Pins

@@ -1,5 +1,5 @@
 -- Private: bounds of the paths that come before a known one, as they are made.
-use Rattle.std.specs.Prelude.{◌≡◌, ℕ, ◌+◌, ◌<◌, ◌≤◌, List, slice_index, slice_index_or, sum_by}
+use Rattle.std.specs.Prelude.{◌≡◌, ℕ, ◌+◌, ◌<◌, ◌≤◌, List, length, slice_index, slice_index_or, sum_by}
 use Rattle.rr_graph.specs.declared.node.NodeKind.TheVariants.{Source, Opin}
 use Rattle.rr_graph.specs.declared.node.Node.{Node}
 use Rattle.rr_graph.specs.Geometry.{IsWire}
@@ -26,9 +26,15 @@ pub record IsLead (basis : Basis) (source : Node) (lead : Lead) : Type 0 where
   pub output : IsOutput basis source ((graph_of basis).node lead.pin)
   pub few : lead.more ≤ 10000
 
--- no bound is more than one above the limit
-pub record AreLimited (most : ℕ) (bounds : List ℕ) : Type 0 where
+-- there is a bound for each track, and none is more than one above the limit
+pub record AreLimited (tracks most : ℕ) (bounds : List ℕ) : Type 0 where
+  pub long : length bounds ≡ tracks
   pub low : (track : ℕ) → slice_index bounds track ≤ most + 1
+
+-- the bounds of the first tracks are ones of the ways over a side of the pin's block or pad
+abbrev pub AreOver : Basis → (ℕ → ℕ) → Family → Lead → ℕ → ℕ → List ℕ → Type 0
+AreOver basis cost f lead side count bounds = (wire : ℕ) → IsMetAt basis ((graph_of basis).node lead.pin) side wire → ((graph_of basis).node wire).n < count
+    → IsWireBound basis cost f lead.more wire (slice_index bounds ((graph_of basis).node wire).n)
 
 -- the bounds are ones of the paths that come before the head, over a side of the pin's block or pad
 abbrev pub AreOverSide : Basis → (ℕ → ℕ) → Family → Head → Lead → ℕ → List ℕ → Type 0

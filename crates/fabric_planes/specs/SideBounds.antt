@@ -1,12 +1,12 @@
 -- Private: the bounds at the sides of a sink's block or pad, as they are made.
-use Rattle.std.specs.Prelude.{◌≡◌, ℕ, ◌+◌, ◌*◌, ◌<◌, ◌≤◌, List, All, length, slice_index, true}
+use Rattle.std.specs.Prelude.{◌≡◌, ℕ, ◌+◌, ◌*◌, ◌<◌, ◌≤◌, List, [], ◌∷◌, All, length, slice_index, true}
 use Rattle.arch_file.specs.declared.arch.Sides.{Sides}
 use Rattle.rr_graph.specs.declared.node.Node.{Node}
 use Rattle.rr_graph.specs.Geometry.{is_together, sides_at}
 use Rattle.rr_graph.specs.Graph.{Basis, graph_of}
 use Rattle.fabric_planes.specs.Aheads.{AreLeast, HaveBounds}
 use Rattle.fabric_planes.specs.Sides.{IsOwnPin}
-use Rattle.fabric_planes.specs.declared.side_bounds.PinBounds.{PinBounds}
+use Rattle.fabric_planes.specs.declared.pin_bounds.PinBounds.{PinBounds}
 use Rattle.fabric_planes.specs.declared.side_bounds.SideBounds.{SideBounds}
 
 -- the cost of a pin on these sides is at least the bound of each
@@ -22,6 +22,10 @@ pub record AreNoDearer (pins others : PinBounds) : Type 0 where
   pub bottom : pins.bottom ≤ others.bottom
   pub right : pins.right ≤ others.right
   pub left : pins.left ≤ others.left
+
+-- the bounds by the numbers of the sides
+abbrev pub by_side : PinBounds → List ℕ
+by_side pins = pins.top ∷ pins.bottom ∷ pins.right ∷ pins.left ∷ []
 
 -- no bound is above the most that counts
 pub record AreFew (pins : PinBounds) : Type 0 where

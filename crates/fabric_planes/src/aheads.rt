@@ -1,46 +1,44 @@
 //! The wires up to a sink.
-ghost use Rattle.std.specs.Prelude.{◌≡◌, ◌<◌, true};
-ghost use Rattle.rr_graph.specs.Geometry.{is_node};
-ghost use Rattle.rr_graph.specs.declared.node.NodeKind.TheVariants.{Sink};
 ghost use Rattle.fabric_planes.specs.Aheads.{AreAheads, AreFars};
 
 use crate::arrival_rows::wire_beside;
+use crate::costs::NodeCosts;
 use crate::distances::Target;
+use crate::quest::Quest;
+use crate::side::Side;
 use crate::strip_planes::StripPlanes;
-use rr_graph::{Node, StripGraph};
+use rr_graph::StripGraph;
 
-impl<'a, G: StripGraph> StripPlanes<'a, G> {
+impl<'a, G: StripGraph, C: NodeCosts> Quest<'a, G, C> {
     /// For each place at most the number of wires up to one at a side of the sink's block or pad.
-    pub(crate) fn aheads(&self, sink: Node) -> &'a [u8]
-        requires there { is_node (G.basis self.now.graph.now).arch
-            (G.basis self.now.graph.now).strip sink ≡ true }
-        requires kind { sink.kind ≡ Sink }
-        ensures { AreAheads (G.basis self.now.graph.now) sink result.now }
+    pub(crate) fn aheads(&self) -> &'a [u8]
+        ensures { AreAheads (G.basis self.now.priced.now.graph.now) self.now.sink result.now }
     {
-        self.graph.laws();
+        let (graph, layout) = (self.priced.graph, self.priced.layout);
+        let (strip, sink) = (StripPlanes { graph, layout }, self.sink);
+        graph.laws();
         if sink.y == 0 {
-            self.distances(Target::Level, sink.x, 0)
-        } else if self.layout.shape.rows < sink.y {
-            self.distances(Target::Level, sink.x, sink.y - 1)
+            strip.distances(Target::Level, sink.x, 0)
+        } else if layout.shape.rows < sink.y {
+            strip.distances(Target::Level, sink.x, sink.y - 1)
         } else {
-            self.distances(Target::Block, sink.x, sink.y)
+            strip.distances(Target::Block, sink.x, sink.y)
         }
     }
 
     /// For each place at most the number of wires up to the one at a side of the sink's block or
     /// pad. If there is none, any distances do.
-    pub(crate) fn fars(&self, sink: Node, side: u32) -> &'a [u8]
-        requires there { is_node (G.basis self.now.graph.now).arch
-            (G.basis self.now.graph.now).strip sink ≡ true }
-        requires kind { sink.kind ≡ Sink }
-        requires side { side < 4 }
-        ensures { AreFars (G.basis self.now.graph.now) sink side result.now }
+    pub(crate) fn fars(&self, side: Side) -> &'a [u8]
+        ensures { AreFars (G.basis self.now.priced.now.graph.now) self.now.sink side.number
+            result.now }
     {
-        self.graph.laws();
-        let wire = wire_beside(sink, side, 0);
-        if side < 2 {
-            return self.distances(Target::Level, wire.x, wire.y);
+        let (graph, layout) = (self.priced.graph, self.priced.layout);
+        let strip = StripPlanes { graph, layout };
+        graph.laws();
+        let wire = wire_beside(self.sink, side.number as u32, 0);
+        if side.number < 2 {
+            return strip.distances(Target::Level, wire.x, wire.y);
         }
-        self.distances(Target::Upright, wire.x, wire.y)
+        strip.distances(Target::Upright, wire.x, wire.y)
     }
 }

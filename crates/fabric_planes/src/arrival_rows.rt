@@ -1,13 +1,14 @@
 //! The rows of the ends of the wires at the sides of blocks and pads.
 ghost use Rattle.std.specs.Prelude.{◌≡◌, ◌<◌, true, IfOk, OnOk};
-ghost use Rattle.rr_graph.specs.Geometry.{is_node};
-ghost use Rattle.rr_graph.specs.declared.node.NodeKind.TheVariants.{Sink};
 ghost use Rattle.fabric_planes.specs.ArrivalRows.{arrival_at, column_of, first_row, index_of, row_count, wire_beside};
 ghost use Rattle.fabric_planes.specs.Pins.{AreArrivals};
-ghost use Rattle.fabric_planes.specs.Tables.{IsNearby, IsShapeOf};
+ghost use Rattle.fabric_planes.specs.Tables.{IsNearby};
 
-use crate::ends::{Listed, View, add_row};
-use crate::shape::Shape;
+use crate::costs::NodeCosts;
+use crate::ends::{Listed, View};
+use crate::quest::Quest;
+use crate::shaped_graph::ShapedGraph;
+use crate::side::Side;
 use rows::Rows;
 use rr_graph::{Node, NodeKind, StripGraph};
 use std::alloc::{AllocError, Global};
@@ -48,52 +49,53 @@ pub(crate) fn wire_beside(sink: Node, side: u32, track: u32) -> Node
     }
 }
 
-/// What the row with this number is for: the wire of a track at a side of a sink's block or pad.
-/// The row of a sink that the strip doesn't have is empty.
-fn arrival_at<G: StripGraph>(graph: &G, shape: Shape, number: u32) -> Listed
-    requires { IsShapeOf (G.basis graph.now) shape }
-    ensures { result ≡ arrival_at (G.basis graph.now) number }
-{
-    graph.laws();
-    let strip = graph.strip();
-    let (by_side, track) = (number / shape.tracks, number % shape.tracks);
-    let (side, site) = (by_side % 4, by_side / 4 / 4);
-    let sink = Node {
-        x: column_of(strip.width, by_side / 4 % 4),
-        kind: NodeKind::Sink,
-        y: site / strip.io_rat,
-        n: site % strip.io_rat,
-    };
-    let node = match graph.number(sink) {
-        Some(_) => wire_beside(sink, side, track),
-        None => sink,
-    };
-    let view = View { track, node: sink };
-    Listed { view, node }
-}
+impl<'a, G: StripGraph> ShapedGraph<'a, G> {
+    /// What the row with this number is for: the wire of a track at a side of a sink's block or
+    /// pad. The row of a sink that the strip doesn't have is empty.
+    fn arrival_at(&self, number: u32) -> Listed
+        ensures { result ≡ arrival_at (G.basis self.now.graph.now) number }
+    {
+        let (graph, shape) = (self.graph, self.shape);
+        graph.laws();
+        let strip = graph.strip();
+        let (by_side, track) = (number / shape.tracks, number % shape.tracks);
+        let (side, site) = (by_side % 4, by_side / 4 / 4);
+        let sink = Node {
+            x: column_of(strip.width, by_side / 4 % 4),
+            kind: NodeKind::Sink,
+            y: site / strip.io_rat,
+            n: site % strip.io_rat,
+        };
+        let node = match graph.number(sink) {
+            Some(_) => wire_beside(sink, side, track),
+            None => sink,
+        };
+        let view = View { track, node: sink };
+        Listed { view, node }
+    }
 
-/// The number of rows.
-fn row_count<G: StripGraph>(graph: &G, shape: Shape) -> u32
-    requires { IsShapeOf (G.basis graph.now) shape }
-    ensures { result ≡ row_count (G.basis graph.now) }
-{
-    graph.laws();
-    let strip = graph.strip();
-    (shape.rows + 2) * strip.io_rat * 16 * shape.tracks
-}
+    /// The number of rows.
+    fn row_count(&self) -> u32
+        ensures { result ≡ row_count (G.basis self.now.graph.now) }
+    {
+        let (graph, shape) = (self.graph, self.shape);
+        graph.laws();
+        let strip = graph.strip();
+        (shape.rows + 2) * strip.io_rat * 16 * shape.tracks
+    }
 
-/// The row of the first track's wire at a side of the sink's block or pad.
-fn first_row<G: StripGraph>(graph: &G, shape: Shape, sink: Node, side: u32) -> usize
-    requires shape { IsShapeOf (G.basis graph.now) shape }
-    requires near { IsNearby sink }
-    requires side { side < 4 }
-    ensures { result ≡ first_row (G.basis graph.now) sink side }
-{
-    graph.laws();
-    let strip = graph.strip();
-    let site = sink.y * strip.io_rat + sink.n;
-    let column = index_of(strip.width, sink.x);
-    (((site * 4 + column) * 4 + side) * shape.tracks) as usize
+    /// The row of the first track's wire at a side of the sink's block or pad.
+    fn first_row(&self, sink: Node, side: Side) -> usize
+        requires { IsNearby sink }
+        ensures { result ≡ first_row (G.basis self.now.graph.now) sink side.number }
+    {
+        let (graph, shape) = (self.graph, self.shape);
+        graph.laws();
+        let strip = graph.strip();
+        let site = sink.y * strip.io_rat + sink.n;
+        let column = index_of(strip.width, sink.x);
+        (((site * 4 + column) * 4 + side.number as u32) * shape.tracks) as usize
+    }
 }
 
 /// The rows of the ends of the wires at the sides of blocks and pads. They are made once for a
@@ -109,42 +111,35 @@ impl ArrivalRows {
     /// The rows of a strip's graph.
     pub(crate) fn new<G: StripGraph>(
         alloc: Global,
-        graph: &G,
-        shape: Shape,
+        shaped: &ShapedGraph<'_, G>,
     ) -> Result<Self, AllocError>
-        requires { IsShapeOf (G.basis graph.now) shape }
-        ensures { IfOk result (λ arrivals. AreArrivalRows (G.basis graph.now) arrivals) }
+        ensures { IfOk result (λ arrivals. AreArrivalRows (G.basis shaped.now.graph.now)
+            arrivals) }
     {
-        graph.laws();
-        let count = row_count(graph, shape);
+        shaped.graph.laws();
+        let count = shaped.row_count();
         let mut rows = Rows::new(alloc);
         let mut list = Vec::new(alloc);
         for number in 0..count {
-            let arrival = arrival_at(graph, shape, number);
-            add_row(&mut rows, graph, shape, arrival, &mut list)?;
+            let arrival = shaped.arrival_at(number);
+            shaped.add_row(&mut rows, arrival, &mut list)?;
         }
         Ok(ArrivalRows { rows })
     }
+}
 
+impl<'a, G: StripGraph, C: NodeCosts> Quest<'a, G, C> {
     /// Lists for each side of the sink's block or pad the row of the first track's wire.
-    pub(crate) fn list_firsts<G: StripGraph>(
-        &self,
-        graph: &G,
-        shape: Shape,
-        sink: Node,
-        firsts: &mut Vec<usize>,
-    ) -> Result<(), AllocError>
-        requires rows { AreArrivalRows (G.basis graph.now) self.now }
-        requires shape { IsShapeOf (G.basis graph.now) shape }
-        requires there { is_node (G.basis graph.now).arch (G.basis graph.now).strip sink ≡ true }
-        requires kind { sink.kind ≡ Sink }
-        ensures { OnOk result (AreArrivals (G.basis graph.now) sink self.now.rows
-            firsts.new.items) }
+    pub(crate) fn list_firsts(&self, firsts: &mut Vec<usize>) -> Result<(), AllocError>
+        ensures { OnOk result (AreArrivals (G.basis self.now.priced.now.graph.now) self.now.sink
+            self.now.priced.now.layout.now.arrivals.rows firsts.new.items) }
     {
+        let (graph, shape) = (self.priced.graph, self.priced.layout.shape);
         graph.laws();
+        let shaped = ShapedGraph { graph, shape };
         firsts.clear();
-        for side in 0..4 {
-            firsts.push(first_row(graph, shape, sink, side))?;
+        for number in 0..4 {
+            firsts.push(shaped.first_row(self.sink, Side { number }))?;
         }
         Ok(())
     }

@@ -10,20 +10,18 @@ ghost use Rattle.fabric_planes.specs.declared.net_starts.StartWire.{StartWire};
 use crate::bounds::Bounds;
 use crate::costs::NodeCosts;
 use crate::net_planes::{HasFamily, NetPlanes};
-use crate::net_starts::{NetStarts, StartWire};
+use crate::net_starts::StartWire;
+use crate::plane_place::PlanePlace;
 use least_path::Ends;
 use plane_search::{Planes, Start};
 use rr_graph::StripGraph;
 use std::alloc::AllocError;
 
-/// A net's planes with its starts, and with bounds of the paths of each track.
+/// A net's planes with bounds of the paths of each track.
 #[derive(Drop)]
 pub struct BoundedPlanes<'a, G: StripGraph, C: NodeCosts> {
     pub(crate) planes: &'a NetPlanes<'a, G, C>,
-    pub(crate) starts: &'a NetStarts,
     pub(crate) bounds: &'a Bounds,
-    ghost are_starts: { HasStarts (G.basis planes.now.strip.graph.now) planes.now.starts.now
-        starts.now },
     ghost are_bounds: { AreBounds (planes_of (G.basis planes.now.strip.graph.now)
         (C.costs planes.now.costs.now) planes.now.starts.now planes.now.goal
         (record { source = planes.now.source; sink = planes.now.sink }))
@@ -40,7 +38,8 @@ impl<'a, G: StripGraph, C: NodeCosts> BoundedPlanes<'a, G, C> {
         requires { track < (G.basis self.now.planes.now.strip.graph.now).arch.tracks }
         ensures some { OnOk result (AreSomeStarts (⟦<NetPlanes<'a, G, C> as HasFamily>⟧.family
             self.now.planes.now) track starts.new.items) }
-        ensures pins { OnOk result ((number : ℕ) → Contains self.now.starts.now.pins.items number →
+        ensures pins { OnOk result ((number : ℕ) → Contains
+            self.now.planes.now.listed.now.pins.items number →
             shows (G.basis self.now.planes.now.strip.graph.now).strip
             (record { source = self.now.planes.now.source; sink = self.now.planes.now.sink }) track
             ((graph_of (G.basis self.now.planes.now.strip.graph.now)).node number).kind
@@ -49,16 +48,14 @@ impl<'a, G: StripGraph, C: NodeCosts> BoundedPlanes<'a, G, C> {
             (place_of (G.basis self.now.planes.now.strip.graph.now)
             ((graph_of (G.basis self.now.planes.now.strip.graph.now)).node number))) }
     {
-        let (planes, net, bounds) = (self.planes, self.starts, self.bounds);
+        let (planes, bounds) = (self.planes, self.bounds);
+        let net = planes.listed;
         planes.strip.graph.laws();
         let ahead = bounds.all[track] as u64;
         starts.clear();
         for index in 0..net.pins.len() {
-            if let Some(start) = planes.start_at(track, net.pins[index]) {
-                starts.push(Start {
-                    place: start.place,
-                    ahead,
-                })?;
+            if let Some(place) = planes.pin_place(net.pins[index]) {
+                starts.push(Start { place, ahead })?;
             }
         }
         Ok(())
@@ -67,7 +64,7 @@ impl<'a, G: StripGraph, C: NodeCosts> BoundedPlanes<'a, G, C> {
     /// The start that is a wire, with a bound; `None` if it is not one of the track, or too far.
     fn wire_start(&self, track: usize, most: u64, wire: StartWire) -> Option<Start>
         requires track { track < (G.basis self.now.planes.now.strip.graph.now).arch.tracks }
-        requires wire { Contains self.now.starts.now.wires.items wire }
+        requires wire { Contains self.now.planes.now.listed.now.wires.items wire }
         ensures there { IfSome result (λ start. IsStartOf
             (⟦<NetPlanes<'a, G, C> as HasFamily>⟧.family self.now.planes.now) track wire start) }
         ensures none { IfNone result (wire.track ≡ track → IsTooFar
@@ -80,7 +77,12 @@ impl<'a, G: StripGraph, C: NodeCosts> BoundedPlanes<'a, G, C> {
             return None;
         }
         let place = wire.place as usize;
-        match planes.within(track, place, most) {
+        let at = PlanePlace {
+            planes,
+            track,
+            place,
+        };
+        match at.within(most) {
             Some(ahead) => Some(Start { place, ahead }),
             None => None,
         }
@@ -95,10 +97,11 @@ impl<'a, G: StripGraph, C: NodeCosts> BoundedPlanes<'a, G, C> {
             self.now.planes.now) track starts.new.items) }
         ensures kept { OnOk result (KeepsStarts starts.old.items starts.new.items) }
         ensures wires { OnOk result (AddsWires (⟦<NetPlanes<'a, G, C> as HasFamily>⟧.family
-            self.now.planes.now) track most (length self.now.starts.now.wires.items)
-            self.now.starts.now.wires.items starts.new.items) }
+            self.now.planes.now) track most (length self.now.planes.now.listed.now.wires.items)
+            self.now.planes.now.listed.now.wires.items starts.new.items) }
     {
-        let (planes, net) = (self.planes, self.starts);
+        let planes = self.planes;
+        let net = planes.listed;
         planes.strip.graph.laws();
         for index in 0..net.wires.len() {
             if let Some(start) = self.wire_start(track, most, net.wires[index]) {
@@ -147,25 +150,46 @@ impl<'a, G: StripGraph, C: NodeCosts> Planes for BoundedPlanes<'a, G, C> {
     #[inline(always)]
     fn number(&self, track: usize, place: usize) -> usize {
         let planes = self.planes;
-        planes.number(track, place)
+        planes.strip.graph.laws();
+        let at = PlanePlace {
+            planes,
+            track,
+            place,
+        };
+        at.number()
     }
 
     #[inline(always)]
     fn ends(&self, track: usize, place: usize) -> Ends<'_> {
         let planes = self.planes;
-        planes.place_ends(track, place)
+        let at = PlanePlace {
+            planes,
+            track,
+            place,
+        };
+        at.ends()
     }
 
     #[inline(always)]
     fn cost(&self, track: usize, place: usize) -> u64 {
         let planes = self.planes;
-        planes.cost(track, place)
+        let at = PlanePlace {
+            planes,
+            track,
+            place,
+        };
+        at.cost()
     }
 
     #[inline(always)]
     fn at_least(&self, track: usize, place: usize) -> Option<u64> {
         let planes = self.planes;
-        planes.at_least(track, place)
+        let at = PlanePlace {
+            planes,
+            track,
+            place,
+        };
+        at.at_least()
     }
 
     fn bound(&self, track: usize) -> u64 {

@@ -1,13 +1,11 @@
 //! Lower bounds of the paths of all tracks at once.
-ghost use Rattle.std.specs.Prelude.{◌≡◌, length, OnOk};
+ghost use Rattle.std.specs.Prelude.{OnOk};
 ghost use Rattle.fabric_planes.specs.PlaneBounds.{AreBounds};
 ghost use Rattle.fabric_planes.specs.RivalBounds.{AreLimited};
-ghost use Rattle.fabric_planes.specs.Starts.{HasStarts};
 
 use crate::costs::NodeCosts;
 use crate::net_planes::{HasFamily, NetPlanes};
-use crate::net_starts::NetStarts;
-use crate::rival_bounds::{Known, lower_by_pins, lower_by_wires};
+use crate::rival_bounds::Known;
 use crate::rivals::Head;
 use rr_graph::StripGraph;
 use std::alloc::{AllocError, Global};
@@ -31,7 +29,6 @@ pub struct Bounds {
     pub(crate) all: Vec<u16>,
     /// Of those that come before a known path.
     pub(crate) rivals: Vec<u16>,
-    pub(crate) row: Vec<u16>,
 }
 
 impl Bounds {
@@ -40,21 +37,7 @@ impl Bounds {
         Bounds {
             all: Vec::new(alloc),
             rivals: Vec::new(alloc),
-            row: Vec::new(alloc),
         }
-    }
-
-    /// Sets all bounds to one more than the limit, or to 20000, which is more than any bound.
-    fn begin(&mut self, tracks: usize, most: u64) -> Result<(), AllocError>
-        ensures all { OnOk result (length self.new.all.items ≡ tracks) }
-        ensures row { OnOk result (length self.new.row.items ≡ tracks) }
-        ensures limited { OnOk result (AreLimited most self.new.all.items) }
-    {
-        let first = most.min(19999) as u16 + 1;
-        self.all.clear();
-        self.all.resize(tracks, first)?;
-        self.row.resize(tracks, 0)?;
-        Ok(())
     }
 
     /// Fills in for each track a lower bound of its paths. A bound may be less than it could be if
@@ -62,22 +45,35 @@ impl Bounds {
     pub fn fill_all<'a, G: StripGraph, C: NodeCosts>(
         &mut self,
         planes: &NetPlanes<'a, G, C>,
-        starts: &NetStarts,
         most: u64,
     ) -> Result<(), AllocError>
-        requires { HasStarts (G.basis planes.now.strip.graph.now) planes.now.starts.now starts.now }
         ensures { OnOk result (AreBounds (⟦<NetPlanes<'a, G, C> as HasFamily>⟧.family
             planes.now) self.new.all.items) }
     {
         planes.strip.graph.laws();
-        self.begin(planes.strip.layout.shape.tracks as usize, most)?;
+        planes.begin(most, &mut self.all)?;
         let known = Known {
+            planes,
             head: LAST,
             limits: planes.limits(most),
         };
-        let (all, row) = (self.all.as_mut_slice(), self.row.as_mut_slice());
-        lower_by_pins(planes, known, starts, all, row);
-        lower_by_wires(planes, LAST, starts, all);
+        let all = self.all.as_mut_slice();
+        known.lower_by_pins(all);
+        known.lower_by_wires(all);
+        Ok(())
+    }
+}
+
+impl<'a, G: StripGraph, C: NodeCosts> NetPlanes<'a, G, C> {
+    /// Sets for each track a bound to one more than the limit, or to 20000, which is more than any
+    /// bound.
+    pub(crate) fn begin(&self, most: u64, bounds: &mut Vec<u16>) -> Result<(), AllocError>
+        ensures { OnOk result (AreLimited (G.basis self.now.strip.graph.now).arch.tracks most
+            bounds.new.items) }
+    {
+        let first = most.min(19999) as u16 + 1;
+        bounds.clear();
+        bounds.resize(self.strip.layout.shape.tracks as usize, first)?;
         Ok(())
     }
 }

@@ -2,7 +2,6 @@
 ghost use Rattle.std.specs.Prelude.{◌≡◌, ◌+◌, ◌*◌, ◌<◌, ◌≤◌, ◌^◌, IfOk, min};
 ghost use Rattle.rr_graph.specs.Node.{rank_of};
 ghost use Rattle.fabric_planes.specs.Differences.{wires_to, far_at, far_table};
-ghost use Rattle.fabric_planes.specs.Spots.{IsSpot};
 ghost use Rattle.fabric_planes.specs.Distances.{west_of, south_of, ends_apart, is_same_wire, wires_by};
 
 use crate::shape::Shape;
@@ -27,6 +26,8 @@ struct Spot {
     kind: NodeKind,
     x: u32,
     y: u32,
+    ghost few_columns: { x < 2 ^ 20 },
+    ghost few_rows: { y < 2 ^ 20 },
 }
 
 /// The kind's rank in node order.
@@ -46,7 +47,6 @@ fn rank_of(kind: NodeKind) -> u32
 impl Spot {
     /// The point at the left end.
     fn west(self) -> u32
-        requires { self.x < 2 ^ 20 }
         ensures { result ≡ west_of self.kind self.x }
     {
         match self.kind {
@@ -57,7 +57,6 @@ impl Spot {
 
     /// The point at the lower end.
     fn south(self) -> u32
-        requires { self.y < 2 ^ 20 }
         ensures { result ≡ south_of self.kind self.y }
     {
         match self.kind {
@@ -68,8 +67,6 @@ impl Spot {
 
     /// The distance of the nearest ends of two wires.
     fn ends_apart(self, other: Spot) -> u32
-        requires own { IsSpot self }
-        requires other { IsSpot other }
         ensures few { result < 2 ^ 23 }
         ensures value { result ≡ ends_apart self.kind self.x self.y other.kind other.x other.y }
     {
@@ -89,8 +86,6 @@ impl Spot {
 
     /// The least number of wires on a way from the first to the second, without the first.
     fn wires_to(self, other: Spot) -> u32
-        requires own { IsSpot self }
-        requires other { IsSpot other }
         ensures few { result ≤ 2 ^ 23 }
         ensures value { result ≡ wires_by self.kind self.x self.y other.kind other.x other.y }
     {
@@ -102,25 +97,32 @@ impl Spot {
     }
 }
 
-/// The distance of a wire from a target in a column and row.
-fn wires_to(target: Target, from: Spot, x: u32, y: u32) -> u32
-    requires from { IsSpot from }
-    requires x { x < 2 ^ 20 }
-    requires y { y < 2 ^ 20 }
-    ensures { result ≡ wires_to target from.kind from.x from.y x y }
+/// The distance of a wire from a target, in the column and row of a wire that is given.
+fn wires_to(target: Target, from: Spot, there: Spot) -> u32
+    ensures { result ≡ wires_to target from.kind from.x from.y there.x there.y }
 {
-    let kind = NodeKind::ChanX;
-    let above = Spot { kind, x, y };
-    let kind = NodeKind::ChanY;
-    let after = Spot { kind, x, y };
+    let Spot { x, y, .. } = there;
+    let (level, upright) = (NodeKind::ChanX, NodeKind::ChanY);
+    let above = Spot { kind: level, x, y };
+    let after = Spot {
+        kind: upright,
+        x,
+        y,
+    };
     match target {
         Target::Level => from.wires_to(above),
         Target::Upright => from.wires_to(after),
         Target::Block => {
-            let y = y.saturating_sub(1);
-            let under = Spot { y, ..above };
-            let x = x.saturating_sub(1);
-            let before = Spot { x, ..after };
+            let under = Spot {
+                kind: level,
+                x,
+                y: y.saturating_sub(1),
+            };
+            let before = Spot {
+                kind: upright,
+                x: x.saturating_sub(1),
+                y,
+            };
             let level = from.wires_to(above).min(from.wires_to(under));
             level.min(from.wires_to(after).min(from.wires_to(before)))
         }
@@ -128,23 +130,26 @@ fn wires_to(target: Target, from: Spot, x: u32, y: u32) -> u32
 }
 
 /// An entry of the table: the distance for places that differ by so many columns and this offset.
-fn far_at(target: Target, columns: u32, band: u32, x: u32, y: u32) -> u32
-    requires columns { columns < 2 ^ 10 }
-    requires band { band < 2 ^ 10 }
+fn far_at(target: Target, shape: Shape, x: u32, y: u32) -> u32
     requires x { x < 2 ^ 20 }
     requires y { y < 2 ^ 20 }
     ensures few { result ≤ 254 }
-    ensures value { result ≡ far_at target columns band x y }
+    ensures value { result ≡ far_at target (shape.width + 3) (shape.rows + 2) x y }
 {
+    let (columns, band) = (shape.width + 3, shape.rows + 2);
     if 4 * band <= y {
         return 0;
     }
     let wires = if y < 2 * band {
         let kind = NodeKind::ChanX;
-        wires_to(target, Spot { kind, x, y }, columns, band)
+        let from = Spot { kind, x, y };
+        let (x, y) = (columns, band);
+        wires_to(target, from, Spot { kind, x, y })
     } else {
         let kind = NodeKind::ChanY;
-        wires_to(target, Spot { kind, x, y }, columns, 3 * band)
+        let from = Spot { kind, x, y };
+        let (x, y) = (columns, 3 * band);
+        wires_to(target, from, Spot { kind, x, y })
     };
     MOST_FAR.min(wires)
 }
@@ -159,7 +164,7 @@ pub(crate) fn far_table(alloc: Global, shape: Shape, target: Target) -> Result<V
     let stride = shape.stride() as u32;
     let mut table = Vec::new(alloc);
     for at in 0..(2 * columns + 1) * stride {
-        table.push(far_at(target, columns, band, at / stride, at % stride) as u8)?;
+        table.push(far_at(target, shape, at / stride, at % stride) as u8)?;
     }
     Ok(table)
 }

@@ -3,9 +3,8 @@ ghost use Rattle.std.specs.Prelude.{◌≡◌, ◌<◌, ◌++◌, [], ◌∷◌,
 ghost use Rattle.rr_graph.specs.Graph.{Basis, graph_of};
 ghost use Rattle.fabric_planes.specs.Layout.{place_of, shows};
 ghost use Rattle.fabric_planes.specs.Ends.{AddsRow, base_of, row_from, row_of, seen_from};
-ghost use Rattle.fabric_planes.specs.Tables.{IsShapeOf};
 
-use crate::shape::Shape;
+use crate::shaped_graph::ShapedGraph;
 use grid::Strip;
 use rows::Rows;
 use rr_graph::{Node, NodeKind, StripGraph, is_together};
@@ -40,79 +39,78 @@ fn is_shown(strip: Strip, view: View, node: Node) -> bool
     }
 }
 
-/// The place two columns before that of a node.
-fn base_of<G: StripGraph>(graph: &G, shape: Shape, number: usize) -> usize
-    requires shape { IsShapeOf (G.basis graph.now) shape }
-    requires within { number < (graph_of (G.basis graph.now)).count }
-    ensures { result ≡ base_of (G.basis graph.now) number }
-{
-    graph.laws();
-    shape
-        .place(graph.node(number))
-        .saturating_sub(2 * shape.stride())
-}
-
-/// Appends the place of a node, less the base, if the node is listed.
-fn add_end<G: StripGraph>(
-    list: &mut Vec<u32>,
-    graph: &G,
-    shape: Shape,
-    view: View,
-    base: usize,
-    number: usize,
-) -> Result<(), AllocError>
-    requires shape { IsShapeOf (G.basis graph.now) shape }
-    requires within { number < (graph_of (G.basis graph.now)).count }
-    ensures { IfOk result (λ _. list.new.items ≡ list.old.items
-        ++ row_from (G.basis graph.now) view base (number ∷ [])) }
-{
-    graph.laws();
-    let node = graph.node(number);
-    if is_shown(graph.strip(), view, node) {
-        list.push(shape.place(node).saturating_sub(base) as u32)?;
+impl<'a, G: StripGraph> ShapedGraph<'a, G> {
+    /// The place two columns before that of a node.
+    fn base_of(&self, number: usize) -> usize
+        requires within { number < (graph_of (G.basis self.now.graph.now)).count }
+        ensures { result ≡ base_of (G.basis self.now.graph.now) number }
+    {
+        let (graph, shape) = (self.graph, self.shape);
+        graph.laws();
+        shape
+            .place(graph.node(number))
+            .saturating_sub(2 * shape.stride())
     }
-    Ok(())
-}
 
-/// Appends the places of the ends of a node's edges that are listed, each less the place two
-/// columns before the node's.
-pub(crate) fn add_ends<G: StripGraph>(
-    list: &mut Vec<u32>,
-    graph: &G,
-    shape: Shape,
-    view: View,
-    number: usize,
-) -> Result<(), AllocError>
-    requires shape { IsShapeOf (G.basis graph.now) shape }
-    requires within { number < (graph_of (G.basis graph.now)).count }
-    ensures { IfOk result (λ _. list.new.items ≡ list.old.items
-        ++ row_of (G.basis graph.now) view number) }
-{
-    graph.laws();
-    let base = base_of(graph, shape, number);
-    let ends = graph.ends(number);
-    for end in ends.list {
-        add_end(list, graph, shape, view, base, *end as usize + ends.base)?;
+    /// Appends the place of a node, less the base, if the node is listed.
+    fn add_end(
+        &self,
+        list: &mut Vec<u32>,
+        view: View,
+        base: usize,
+        number: usize,
+    ) -> Result<(), AllocError>
+        requires within { number < (graph_of (G.basis self.now.graph.now)).count }
+        ensures { IfOk result (λ _. list.new.items ≡ list.old.items
+            ++ row_from (G.basis self.now.graph.now) view base (number ∷ [])) }
+    {
+        let (graph, shape) = (self.graph, self.shape);
+        graph.laws();
+        let node = graph.node(number);
+        if is_shown(graph.strip(), view, node) {
+            list.push(shape.place(node).saturating_sub(base) as u32)?;
+        }
+        Ok(())
     }
-    Ok(())
-}
 
-/// Adds the row of a node, an empty one if the strip doesn't have the node.
-pub(crate) fn add_row<G: StripGraph>(
-    rows: &mut Rows,
-    graph: &G,
-    shape: Shape,
-    listed: Listed,
-    list: &mut Vec<u32>,
-) -> Result<(), AllocError>
-    requires { IsShapeOf (G.basis graph.now) shape }
-    ensures { IfOk result (λ _. AddsRow (G.basis graph.now) listed rows.old rows.new) }
-{
-    graph.laws();
-    list.clear();
-    match graph.number(listed.node) {
-        Some(number) => add_ends(list, graph, shape, listed.view, number)?,
-        None => (),
+    /// Appends the places of the ends of a node's edges that are listed, each less the place two
+    /// columns before the node's.
+    pub(crate) fn add_ends(
+        &self,
+        list: &mut Vec<u32>,
+        view: View,
+        number: usize,
+    ) -> Result<(), AllocError>
+        requires within { number < (graph_of (G.basis self.now.graph.now)).count }
+        ensures { IfOk result (λ _. list.new.items ≡ list.old.items
+            ++ row_of (G.basis self.now.graph.now) view number) }
+    {
+        let graph = self.graph;
+        graph.laws();
+        let base = self.base_of(number);
+        let ends = graph.ends(number);
+        for end in ends.list {
+            self.add_end(list, view, base, *end as usize + ends.base)?;
+        }
+        Ok(())
     }
-    rows.push(list)
+
+    /// Adds the row of a node, an empty one if the strip doesn't have the node.
+    pub(crate) fn add_row(
+        &self,
+        rows: &mut Rows,
+        listed: Listed,
+        list: &mut Vec<u32>,
+    ) -> Result<(), AllocError>
+        ensures { IfOk result (λ _. AddsRow (G.basis self.now.graph.now) listed rows.old rows.new) }
+    {
+        let graph = self.graph;
+        graph.laws();
+        list.clear();
+        match graph.number(listed.node) {
+            Some(number) => self.add_ends(list, listed.view, number)?,
+            None => (),
+        }
+        rows.push(list)
+    }
 }

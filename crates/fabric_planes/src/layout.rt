@@ -2,13 +2,14 @@
 ghost use Rattle.std.specs.Prelude.{◌≡◌, ◌<◌, ◌≤◌, true, IfOk};
 ghost use Rattle.std.specs.Bool.{MatchBool};
 ghost use Rattle.rr_graph.specs.Graph.{graph_of};
-ghost use Rattle.fabric_planes.specs.Tables.{IsShapeOf, IsFirstWire, AreFirsts};
+ghost use Rattle.fabric_planes.specs.Tables.{IsFirstWire, AreFirsts};
 
 use crate::arrival_rows::ArrivalRows;
 use crate::distances::{Target, far_table};
 use crate::pin_rows::PinRows;
 use crate::shape::Shape;
-use crate::steps::Steps;
+use crate::shaped_graph::ShapedGraph;
+use crate::steps::{FirstWires, Steps};
 use rr_graph::{Node, NodeKind, StripGraph};
 use std::alloc::{AllocError, Global};
 
@@ -26,10 +27,13 @@ fn is_first_wire(node: Node) -> bool
 }
 
 /// For each place the number of its first wire.
-fn firsts_of<G: StripGraph>(alloc: Global, graph: &G, shape: Shape) -> Result<Vec<u32>, AllocError>
-    requires { IsShapeOf (G.basis graph.now) shape }
-    ensures { IfOk result (λ firsts. AreFirsts (G.basis graph.now) firsts.items) }
+fn firsts_of<G: StripGraph>(
+    alloc: Global,
+    shaped: &ShapedGraph<'_, G>,
+) -> Result<Vec<u32>, AllocError>
+    ensures { IfOk result (λ firsts. AreFirsts (G.basis shaped.now.graph.now) firsts.items) }
 {
+    let (graph, shape) = (shaped.graph, shaped.shape);
     let mut firsts = Vec::from_elem(alloc, NO_WIRE, shape.places())?;
     for number in 0..graph.count() {
         let node = graph.node(number);
@@ -68,13 +72,18 @@ impl Layout {
         ensures { IfOk result (λ layout. IsLayout (G.basis graph.now) layout) }
     {
         let shape = Shape::new(graph);
-        let firsts = firsts_of(alloc, graph, shape)?;
-        let steps = Steps::new(alloc, graph, shape, &firsts)?;
+        let shaped = ShapedGraph { graph, shape };
+        let firsts = firsts_of(alloc, &shaped)?;
+        let wires = FirstWires {
+            shaped: &shaped,
+            firsts: firsts.as_slice(),
+        };
+        let steps = Steps::new(alloc, &wires)?;
         let to_level = far_table(alloc, shape, Target::Level)?;
         let to_upright = far_table(alloc, shape, Target::Upright)?;
         let to_block = far_table(alloc, shape, Target::Block)?;
-        let arrivals = ArrivalRows::new(alloc, graph, shape)?;
-        let pins = PinRows::new(alloc, graph, shape)?;
+        let arrivals = ArrivalRows::new(alloc, &shaped)?;
+        let pins = PinRows::new(alloc, &shaped)?;
         Ok(Layout {
             shape,
             firsts,

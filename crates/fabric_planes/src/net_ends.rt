@@ -6,42 +6,49 @@ ghost use Rattle.fabric_planes.specs.Layout.{place_count};
 
 use crate::costs::NodeCosts;
 use crate::net_planes::{HasFamily, NetPlanes};
+use crate::plane_place::PlanePlace;
+use crate::side::Side;
 use crate::steps::NO_CLASS;
 use least_path::Ends;
 use rr_graph::StripGraph;
 
-impl<'a, G: StripGraph, C: NodeCosts> NetPlanes<'a, G, C> {
+impl<'a, G: StripGraph, C: NodeCosts> PlanePlace<'a, G, C> {
     /// The ends of the edges from a wire at a side: to the wires around it, and to pins.
-    fn arrival_ends(&self, track: usize, place: usize, side: usize) -> Ends<'_>
-        requires track { track < (G.basis self.now.strip.graph.now).arch.tracks }
-        requires place { place < place_count (G.basis self.now.strip.graph.now) }
-        requires wire { slice_index self.now.strip.layout.now.steps.classes.items place ≡ NO_CLASS → ⊥ }
-        requires side { side < 4 }
-        requires at { slice_index self.now.sides.now side ≡ place }
+    fn arrival_ends(&self, side: Side) -> Ends<'a>
+        requires wire { slice_index self.now.planes.now.strip.layout.now.steps.classes.items
+            self.now.place ≡ NO_CLASS → ⊥ }
+        requires at { slice_index self.now.planes.now.sides.now side.number ≡ self.now.place }
         ensures value { map (λ end. end + result.base) result.list.now ≡
-            ((⟦<NetPlanes<'a, G, C> as HasFamily>⟧.family self.now).plane track).ends place }
+            ((⟦<NetPlanes<'a, G, C> as HasFamily>⟧.family self.now.planes.now).plane
+            self.now.track).ends self.now.place }
         ensures rising { IsNonDecreasing result.list.now }
     {
-        self.strip.graph.laws();
+        let planes = self.planes;
+        let (track, place) = (self.track, self.place);
+        planes.strip.graph.laws();
         Ends {
-            list: self.arrivals.row(self.first_arrivals[side] + track),
-            base: place - self.back,
+            list: planes
+                .arrivals
+                .row(planes.first_arrivals[side.number] + track),
+            base: place - planes.back,
         }
     }
 
     /// The ends of the edges from a pin, or from a place where nothing is.
-    fn ends_of_pin(&self, track: usize, place: usize) -> Ends<'_>
-        requires track { track < (G.basis self.now.strip.graph.now).arch.tracks }
-        requires place { place < place_count (G.basis self.now.strip.graph.now) }
-        requires no_wire { slice_index self.now.strip.layout.now.steps.classes.items place ≡ NO_CLASS }
+    fn ends_of_pin(&self) -> Ends<'a>
+        requires no_wire { slice_index self.now.planes.now.strip.layout.now.steps.classes.items
+            self.now.place ≡ NO_CLASS }
         ensures value { map (λ end. end + result.base) result.list.now ≡
-            ((⟦<NetPlanes<'a, G, C> as HasFamily>⟧.family self.now).plane track).ends place }
+            ((⟦<NetPlanes<'a, G, C> as HasFamily>⟧.family self.now.planes.now).plane
+            self.now.track).ends self.now.place }
         ensures rising { IsNonDecreasing result.list.now }
     {
-        self.strip.graph.laws();
-        match self.pin_at(place) {
+        let planes = self.planes;
+        let (track, place) = (self.track, self.place);
+        planes.strip.graph.laws();
+        match planes.pin_at(place) {
             Some(pin) => Ends {
-                list: self.pin_ends.row(pin.row + pin.per_track * track),
+                list: planes.pin_ends.row(pin.row + pin.per_track * track),
                 base: pin.base,
             },
             None => Ends { list: &[], base: 0 },
@@ -50,54 +57,57 @@ impl<'a, G: StripGraph, C: NodeCosts> NetPlanes<'a, G, C> {
 
     /// The ends of the edges from a place, whatever it is.
     #[inline(never)]
-    fn near_ends(&self, track: usize, place: usize) -> Ends<'_>
-        requires track { track < (G.basis self.now.strip.graph.now).arch.tracks }
-        requires place { place < place_count (G.basis self.now.strip.graph.now) }
+    fn near_ends(&self) -> Ends<'a>
         ensures value { map (λ end. end + result.base) result.list.now ≡
-            ((⟦<NetPlanes<'a, G, C> as HasFamily>⟧.family self.now).plane track).ends place }
+            ((⟦<NetPlanes<'a, G, C> as HasFamily>⟧.family self.now.planes.now).plane
+            self.now.track).ends self.now.place }
         ensures rising { IsNonDecreasing result.list.now }
     {
-        self.strip.graph.laws();
-        if self.strip.layout.steps.classes[place] == NO_CLASS {
-            return self.ends_of_pin(track, place);
+        let planes = self.planes;
+        let place = self.place;
+        planes.strip.graph.laws();
+        if planes.strip.layout.steps.classes[place] == NO_CLASS {
+            return self.ends_of_pin();
         }
-        match self.side_of(place) {
-            Some(side) => self.arrival_ends(track, place, side),
-            None => self.step_ends(track, place),
+        match planes.side_of(place) {
+            Some(side) => self.arrival_ends(side),
+            None => self.step_ends(),
         }
     }
 
     /// The ends of the edges from a place before which wires are ahead.
     #[inline(always)]
-    fn far_ends(&self, track: usize, place: usize) -> Ends<'_>
-        requires track { track < (G.basis self.now.strip.graph.now).arch.tracks }
-        requires place { place < place_count (G.basis self.now.strip.graph.now) }
-        requires far { slice_index self.now.aheads.now place ≡ 0 → ⊥ }
+    fn far_ends(&self) -> Ends<'a>
+        requires far { slice_index self.now.planes.now.aheads.now self.now.place ≡ 0 → ⊥ }
         ensures value { map (λ end. end + result.base) result.list.now ≡
-            ((⟦<NetPlanes<'a, G, C> as HasFamily>⟧.family self.now).plane track).ends place }
+            ((⟦<NetPlanes<'a, G, C> as HasFamily>⟧.family self.now.planes.now).plane
+            self.now.track).ends self.now.place }
         ensures rising { IsNonDecreasing result.list.now }
     {
-        self.strip.graph.laws();
-        if self.strip.layout.steps.classes[place] == NO_CLASS {
-            return self.ends_of_pin(track, place);
+        let planes = self.planes;
+        let place = self.place;
+        planes.strip.graph.laws();
+        if planes.strip.layout.steps.classes[place] == NO_CLASS {
+            return self.ends_of_pin();
         }
-        self.step_ends(track, place)
+        self.step_ends()
     }
 
     /// The ends of the edges from a place in its plane, in rising order.
     #[inline(always)]
-    pub(crate) fn place_ends(&self, track: usize, place: usize) -> Ends<'_>
-        requires track { track < (G.basis self.now.strip.graph.now).arch.tracks }
-        requires place { place < place_count (G.basis self.now.strip.graph.now) }
+    pub(crate) fn ends(&self) -> Ends<'a>
         ensures value { map (λ end. end + result.base) result.list.now ≡
-            ((⟦<NetPlanes<'a, G, C> as HasFamily>⟧.family self.now).plane track).ends place }
+            ((⟦<NetPlanes<'a, G, C> as HasFamily>⟧.family self.now.planes.now).plane
+            self.now.track).ends self.now.place }
         ensures rising { IsNonDecreasing result.list.now }
     {
-        self.strip.graph.laws();
-        let far = self.aheads[place];
+        let planes = self.planes;
+        let place = self.place;
+        planes.strip.graph.laws();
+        let far = planes.aheads[place];
         if far != 0 {
-            return self.far_ends(track, place);
+            return self.far_ends();
         }
-        self.near_ends(track, place)
+        self.near_ends()
     }
 }

@@ -9,13 +9,15 @@ ghost use Rattle.fabric_planes.specs.Differences.{IsPinPlace};
 ghost use Rattle.fabric_planes.specs.Laid.{IsWireOf};
 ghost use Rattle.fabric_planes.specs.Steps.{NO_CLASS};
 ghost use Rattle.fabric_planes.specs.Layout.{IsNetSearch, in_column, place_of, place_count, planes_of, stride_of};
-ghost use Rattle.fabric_planes.specs.Sides.{IsBySide};
+ghost use Rattle.fabric_planes.specs.Starts.{HasStarts};
 ghost use Rattle.fabric_planes.specs.declared.pins.PinAt.{PinAt};
 ghost use Rattle.fabric_planes.specs.Aheads.{AreAheads, AreFars, AreLeast, AreSides, HaveBounds};
 
 use crate::costs::NodeCosts;
 use crate::layout::NO_WIRE;
+use crate::net_starts::NetStarts;
 use crate::pins::PinAt;
+use crate::side::Side;
 use crate::strip_planes::StripPlanes;
 use least_path::Ends;
 use rows::Rows;
@@ -28,6 +30,8 @@ pub struct NetPlanes<'a, G: StripGraph, C: NodeCosts> {
     pub(crate) costs: &'a C,
     /// The nodes at which paths may start.
     pub(crate) starts: &'a [usize],
+    /// The same: the wires by track and place, and the others.
+    pub(crate) listed: &'a NetStarts,
     /// The number of the sink.
     pub(crate) goal: usize,
     pub(crate) source: Node,
@@ -69,6 +73,7 @@ pub struct NetPlanes<'a, G: StripGraph, C: NodeCosts> {
     pub(crate) back: usize,
     ghost search: { IsNetSearch (G.basis strip.graph.now) (C.costs costs.now) starts.now goal
         (record { source = source; sink = sink }) },
+    ghost are_listed: { HasStarts (G.basis strip.graph.now) starts.now listed.now },
     ghost exit_is: { exit ≡ place_of (G.basis strip.graph.now) sink },
     ghost are_sides: { AreSides (G.basis strip.graph.now) sink sides.now },
     ghost are_aheads: { AreAheads (G.basis strip.graph.now) sink aheads.now },
@@ -110,62 +115,18 @@ impl<'a, G: StripGraph, C: NodeCosts> HasFamily for NetPlanes<'a, G, C> {
 }
 
 impl<'a, G: StripGraph, C: NodeCosts> NetPlanes<'a, G, C> {
-    /// The number of the side whose wires are at a place.
-    pub(crate) fn side_of(&self, place: usize) -> Option<usize>
+    /// The side whose wires are at a place.
+    pub(crate) fn side_of(&self, place: usize) -> Option<Side>
         ensures none { IfNone result ((side : ℕ) → side < 4 →
             slice_index self.now.sides.now side ≡ place → ⊥) }
-        ensures found { IfSome result (λ side. (side < 4)
-            × (slice_index self.now.sides.now side ≡ place)) }
+        ensures found { IfSome result (λ side. slice_index self.now.sides.now side.number ≡ place) }
     {
-        for side in 0..4 {
-            if self.sides[side] == place {
-                return Some(side);
+        for number in 0..4 {
+            if self.sides[number] == place {
+                return Some(Side { number });
             }
         }
         None
-    }
-
-    /// A lower bound of the cost of a way from a place at a side, or from a pin.
-    #[inline(never)]
-    pub(crate) fn from_side(&self, track: usize, place: usize) -> u64
-        requires { track < (G.basis self.now.strip.graph.now).arch.tracks }
-        ensures wire { (number sum : ℕ) →
-            IsWireOf (G.basis self.now.strip.graph.now) place number →
-            ((graph_of (G.basis self.now.strip.graph.now)).node number).n ≡ track →
-            IsBySide (G.basis self.now.strip.graph.now) number self.now.sink
-            (λ side. slice_index self.now.pins.now side)
-            (λ side track. slice_index self.now.lasts.now
-            (side * (G.basis self.now.strip.graph.now).arch.tracks + track)) sum →
-            result ≤ sum }
-        ensures pin { (x offset : ℕ) → IsPinPlace (G.basis self.now.strip.graph.now) x offset →
-            place ≡ in_column (G.basis self.now.strip.graph.now) x offset → result ≡ 1 }
-    {
-        match self.side_of(place) {
-            Some(side) => {
-                let least = self.least_lasts[track] as u64;
-                (self.pins[side] as u64).min(least) + 1
-            }
-            None => 1,
-        }
-    }
-
-    /// A lower bound of the cost of any way from the place to the goal in its plane.
-    #[inline(always)]
-    pub(crate) fn at_least(&self, track: usize, place: usize) -> Option<u64>
-        requires track { track < (G.basis self.now.strip.graph.now).arch.tracks }
-        requires place { place < place_count (G.basis self.now.strip.graph.now) }
-        ensures { IsLowerBound ((⟦<NetPlanes<'a, G, C> as HasFamily>⟧.family self.now).plane track)
-            self.now.exit place result }
-    {
-        self.strip.graph.laws();
-        let far = self.aheads[place];
-        if far != 0 {
-            return Some(far as u64 + self.least_lasts[track] as u64);
-        }
-        if place == self.exit {
-            return Some(0);
-        }
-        Some(self.from_side(track, place))
     }
 
     /// The pin that is shown at a place.
@@ -193,74 +154,6 @@ impl<'a, G: StripGraph, C: NodeCosts> NetPlanes<'a, G, C> {
         match self.pin_at(place) {
             Some(pin) => Some(pin.number),
             None => None,
-        }
-    }
-
-    /// The number of a place's node in the whole graph.
-    pub(crate) fn number(&self, track: usize, place: usize) -> usize
-        requires track { track < (G.basis self.now.strip.graph.now).arch.tracks }
-        requires place { IsPlace (⟦<NetPlanes<'a, G, C> as HasFamily>⟧.family self.now) track place }
-        ensures { result ≡ (⟦<NetPlanes<'a, G, C> as HasFamily>⟧.family self.now).number track place }
-    {
-        self.strip.graph.laws();
-        if self.strip.layout.firsts[place] != NO_WIRE {
-            return self.strip.wire_number(track, place);
-        }
-        match self.pin_number(place) {
-            Some(number) => number,
-            None => 0,
-        }
-    }
-
-    /// The cost of entering a place that is not told by the prices.
-    #[inline(never)]
-    fn dear_cost(&self, track: usize, place: usize) -> u64
-        requires track { track < (G.basis self.now.strip.graph.now).arch.tracks }
-        requires place { place < place_count (G.basis self.now.strip.graph.now) }
-        ensures { result ≡ ((⟦<NetPlanes<'a, G, C> as HasFamily>⟧.family self.now).plane track).cost
-            place }
-    {
-        self.strip.graph.laws();
-        if self.strip.layout.firsts[place] != NO_WIRE {
-            return self.costs.cost(self.strip.wire_number(track, place));
-        }
-        match self.pin_number(place) {
-            Some(number) => self.costs.cost(number),
-            None => 1,
-        }
-    }
-
-    /// The cost of entering a place.
-    #[inline(always)]
-    pub(crate) fn cost(&self, track: usize, place: usize) -> u64
-        requires track { track < (G.basis self.now.strip.graph.now).arch.tracks }
-        requires place { place < place_count (G.basis self.now.strip.graph.now) }
-        ensures { result ≡ ((⟦<NetPlanes<'a, G, C> as HasFamily>⟧.family self.now).plane track).cost
-            place }
-    {
-        self.strip.graph.laws();
-        let price = self.prices[track * self.aheads.len() + place];
-        if price != 255 {
-            return price as u64;
-        }
-        self.dear_cost(track, place)
-    }
-
-    /// The ends of the edges from a wire that is not at a side: steps to the wires around it.
-    #[inline(always)]
-    pub(crate) fn step_ends(&self, track: usize, place: usize) -> Ends<'_>
-        requires track { track < (G.basis self.now.strip.graph.now).arch.tracks }
-        requires place { place < place_count (G.basis self.now.strip.graph.now) }
-        requires wire { slice_index self.now.strip.layout.now.steps.classes.items place ≡ NO_CLASS → ⊥ }
-        requires aside { IsAside (G.basis self.now.strip.graph.now) self.now.sink place }
-        ensures value { map (λ end. end + result.base) result.list.now ≡
-            ((⟦<NetPlanes<'a, G, C> as HasFamily>⟧.family self.now).plane track).ends place }
-        ensures rising { IsNonDecreasing result.list.now }
-    {
-        self.strip.graph.laws();
-        Ends {
-            list: self.strip.steps(place),
-            base: place - self.back,
         }
     }
 }

@@ -7,17 +7,16 @@ ghost use Rattle.rr_graph.specs.declared.node.NodeKind.TheVariants.{Source};
 ghost use Rattle.fabric_planes.specs.Layout.{IsNetSearch, graph_at};
 ghost use Rattle.fabric_planes.specs.NetSearches.{IsPathAt, terminals_of};
 ghost use Rattle.fabric_planes.specs.PlaneBounds.{AreBounds};
-ghost use Rattle.fabric_planes.specs.Starts.{HasStarts};
 
 use crate::bounded_planes::BoundedPlanes;
 use crate::bounds::Bounds;
 use crate::costs::NodeCosts;
 use crate::laws::planes_law;
 use crate::net_planes::{HasFamily, NetPlanes};
-use crate::net_starts::NetStarts;
 use crate::net_tables::NetTables;
 use crate::priced_graph::PricedGraph;
-use crate::rivals::head_of;
+use crate::quest::Quest;
+use crate::shaped_graph::ShapedGraph;
 use least_path::{Path, least_path_law};
 use plane_search::PlaneSearch;
 use rr_graph::StripGraph;
@@ -29,12 +28,9 @@ fn improve<'a, G: StripGraph, C: NodeCosts>(
     search: &mut PlaneSearch,
     bounds: &mut Bounds,
     planes: &NetPlanes<'a, G, C>,
-    starts: &NetStarts,
     done: usize,
     path: &mut Path,
 ) -> Result<(), AllocError>
-    requires starts { HasStarts (G.basis planes.now.strip.graph.now) planes.now.starts.now
-        starts.now }
     requires all { AreBounds (⟦<NetPlanes<'a, G, C> as HasFamily>⟧.family planes.now)
         bounds.old.all.items }
     requires known { IsKnown (⟦<NetPlanes<'a, G, C> as HasFamily>⟧.family planes.now) path.old }
@@ -46,18 +42,11 @@ fn improve<'a, G: StripGraph, C: NodeCosts>(
 {
     planes.strip.graph.laws();
     planes_law();
-    let head = head_of(
-        planes.strip.graph,
-        planes.strip.layout.shape,
-        &path.nodes,
-        path.cost,
-    );
-    bounds.fill_rivals(planes, starts, head)?;
-    let bounded = BoundedPlanes {
-        planes,
-        starts,
-        bounds,
-    };
+    let (graph, shape) = (planes.strip.graph, planes.strip.layout.shape);
+    let shaped = ShapedGraph { graph, shape };
+    let head = shaped.head_of(&path.nodes, path.cost);
+    bounds.fill_rivals(planes, head)?;
+    let bounded = BoundedPlanes { planes, bounds };
     search.least_into(&bounded, done, path)
 }
 
@@ -67,10 +56,8 @@ fn first_into<'a, G: StripGraph, C: NodeCosts>(
     search: &mut PlaneSearch,
     bounds: &mut Bounds,
     planes: &NetPlanes<'a, G, C>,
-    starts: &NetStarts,
     path: &mut Path,
 ) -> Result<Option<usize>, AllocError>
-    requires { HasStarts (G.basis planes.now.strip.graph.now) planes.now.starts.now starts.now }
     ensures all { OnOk result (AreBounds (⟦<NetPlanes<'a, G, C> as HasFamily>⟧.family
         planes.now) bounds.new.all.items) }
     ensures found { (track : ℕ) → result ≡ Ok (Some track) → IsLeastOfTrack
@@ -82,13 +69,9 @@ fn first_into<'a, G: StripGraph, C: NodeCosts>(
     planes.strip.graph.laws();
     planes_law();
     least_path_law();
-    bounds.fill_all(planes, starts, u64::MAX)?;
-    bounds.fill_rivals(planes, starts, None)?;
-    let bounded = BoundedPlanes {
-        planes,
-        starts,
-        bounds,
-    };
+    bounds.fill_all(planes, u64::MAX)?;
+    bounds.fill_rivals(planes, None)?;
+    let bounded = BoundedPlanes { planes, bounds };
     search.first_into(&bounded, path)
 }
 
@@ -98,13 +81,10 @@ fn least_over<G: StripGraph, C: NodeCosts>(
     search: &mut PlaneSearch,
     bounds: &mut Bounds,
     planes: &NetPlanes<'_, G, C>,
-    starts: &NetStarts,
     is_known: bool,
     path: &mut Path,
 ) -> Result<bool, AllocError>
-    requires starts { HasStarts (G.basis planes.now.strip.graph.now) planes.now.starts.now
-        starts.now }
-    requires known { is_known ≡ true → IsPathAt (G.basis planes.now.strip.graph.now)
+    requires { is_known ≡ true → IsPathAt (G.basis planes.now.strip.graph.now)
         (C.costs planes.now.costs.now) planes.now.starts.now planes.now.goal path.old }
     ensures { IfOk result (λ is_found.
         least_path (graph_at (G.basis planes.now.strip.graph.now) (C.costs planes.now.costs.now))
@@ -113,14 +93,14 @@ fn least_over<G: StripGraph, C: NodeCosts>(
 {
     if is_known {
         let tracks = planes.strip.layout.shape.tracks as usize;
-        bounds.fill_all(planes, starts, path.cost)?;
-        improve(search, bounds, planes, starts, tracks, path)?;
+        bounds.fill_all(planes, path.cost)?;
+        improve(search, bounds, planes, tracks, path)?;
         return Ok(true);
     }
-    match first_into(search, bounds, planes, starts, path)? {
+    match first_into(search, bounds, planes, path)? {
         None => Ok(false),
         Some(track) => {
-            improve(search, bounds, planes, starts, track, path)?;
+            improve(search, bounds, planes, track, path)?;
             Ok(true)
         }
     }
@@ -142,7 +122,6 @@ pub struct Wanted<'a> {
 pub struct NetSearch {
     search: PlaneSearch,
     tables: NetTables,
-    starts: NetStarts,
     bounds: Bounds,
 }
 
@@ -152,7 +131,6 @@ impl NetSearch {
         NetSearch {
             search: PlaneSearch::new(alloc),
             tables: NetTables::new(alloc),
-            starts: NetStarts::new(alloc),
             bounds: Bounds::new(alloc),
         }
     }
@@ -181,23 +159,18 @@ impl NetSearch {
             wanted.entry.starts.now wanted.entry.goal
             ≡ (if is_found then Some path.new.nodes.items else None)) }
     {
-        self.tables.fill(priced, wanted.source, wanted.goal)?;
-        self.starts
-            .fill(priced.graph, priced.layout, wanted.starts)?;
-        let planes = self.tables.planes(
-            priced.graph,
-            priced.layout,
-            priced.costs,
-            priced.prices,
-            wanted,
-        );
-        least_over(
-            &mut self.search,
-            &mut self.bounds,
-            &planes,
-            &self.starts,
-            is_known,
-            path,
-        )
+        let graph = priced.graph;
+        graph.laws();
+        let quest = Quest {
+            priced,
+            starts: wanted.starts,
+            from: wanted.source,
+            goal: wanted.goal,
+            source: graph.node(wanted.source),
+            sink: graph.node(wanted.goal),
+        };
+        self.tables.fill(&quest)?;
+        let planes = self.tables.planes(&quest);
+        least_over(&mut self.search, &mut self.bounds, &planes, is_known, path)
     }
 }

@@ -1,20 +1,12 @@
 //! The tables of a net's planes.
-ghost use Rattle.std.specs.Prelude.{◌≡◌, ◌<◌, OnOk};
-ghost use Rattle.rr_graph.specs.Graph.{graph_of};
-ghost use Rattle.rr_graph.specs.declared.node.NodeKind.TheVariants.{Sink, Source};
-ghost use Rattle.fabric_planes.specs.Laid.{IsLayout};
-ghost use Rattle.fabric_planes.specs.Layout.{IsNetSearch};
-ghost use Rattle.fabric_planes.specs.Prices.{HasPrices};
-ghost use Rattle.fabric_planes.specs.NetSearches.{terminals_of};
+ghost use Rattle.std.specs.Prelude.{◌≡◌, OnOk};
 
 use crate::costs::NodeCosts;
-use crate::layout::Layout;
 use crate::net_planes::NetPlanes;
-use crate::net_search::Wanted;
+use crate::net_starts::NetStarts;
 use crate::pins::PinAt;
-use crate::price_table::PriceTable;
-use crate::priced_graph::PricedGraph;
-use crate::shown::list_pins;
+use crate::quest::Quest;
+use crate::side::Side;
 use crate::side_bounds::SideBounds;
 use crate::side_places::list_sides;
 use crate::strip_planes::StripPlanes;
@@ -29,6 +21,7 @@ pub struct NetTables {
     pub(crate) bounds: SideBounds,
     pub(crate) shown: Vec<PinAt>,
     pub(crate) first_arrivals: Vec<usize>,
+    pub(crate) starts: NetStarts,
 }
 
 impl NetTables {
@@ -42,87 +35,72 @@ impl NetTables {
             bounds: SideBounds::new(alloc),
             shown: Vec::new(alloc),
             first_arrivals: Vec::new(alloc),
+            starts: NetStarts::new(alloc),
         }
     }
 
-    /// Replaces the tables by those of a net's source and one of its sinks.
-    pub fn fill<G: StripGraph, C: NodeCosts>(
+    /// Replaces the tables by those of a search.
+    pub(crate) fn fill<G: StripGraph, C: NodeCosts>(
         &mut self,
-        priced: &PricedGraph<'_, G, C>,
-        source: usize,
-        goal: usize,
+        quest: &Quest<'_, G, C>,
     ) -> Result<(), AllocError>
-        requires source { source < (graph_of (G.basis priced.now.graph.now)).count }
-        requires goal { goal < (graph_of (G.basis priced.now.graph.now)).count }
-        requires source_is { ((graph_of (G.basis priced.now.graph.now)).node source).kind ≡ Source }
-        requires goal_is { ((graph_of (G.basis priced.now.graph.now)).node goal).kind ≡ Sink }
-        ensures { OnOk result (AreNetTables (G.basis priced.now.graph.now)
-            (C.costs priced.now.costs.now) source goal priced.now.layout.now self.new) }
+        ensures { OnOk result (AreNetTables (G.basis quest.now.priced.now.graph.now)
+            (C.costs quest.now.priced.now.costs.now) quest.now.starts.now quest.now.goal
+            (record { source = quest.now.source; sink = quest.now.sink })
+            quest.now.priced.now.layout.now self.new) }
     {
-        let (graph, layout) = (priced.graph, priced.layout);
-        graph.laws();
-        let shape = layout.shape;
-        let sink = graph.node(goal);
-        list_sides(shape, graph.node(source), &mut self.own_sides)?;
-        list_sides(shape, sink, &mut self.sides)?;
-        layout
-            .arrivals
-            .list_firsts(graph, shape, sink, &mut self.first_arrivals)?;
-        list_pins(graph, layout, source, goal, &mut self.shown)?;
-        self.bounds.fill(
-            graph,
-            priced.costs,
-            sink,
-            &self.sides,
-            priced.prices.by_place(),
-        )
+        let priced = quest.priced;
+        priced.graph.laws();
+        let shape = priced.layout.shape;
+        self.starts.fill(quest)?;
+        list_sides(shape, quest.source, &mut self.own_sides)?;
+        list_sides(shape, quest.sink, &mut self.sides)?;
+        quest.list_firsts(&mut self.first_arrivals)?;
+        quest.list_pins(&mut self.shown)?;
+        self.bounds.fill(priced, quest.sink, &self.sides)
     }
 
     /// The planes over these tables.
-    pub fn planes<'a, G: StripGraph, C: NodeCosts>(
+    pub(crate) fn planes<'a, G: StripGraph, C: NodeCosts>(
         &'a self,
-        graph: &'a G,
-        layout: &'a Layout,
-        costs: &'a C,
-        prices: &'a PriceTable,
-        wanted: Wanted<'a>,
+        quest: &'a Quest<'a, G, C>,
     ) -> NetPlanes<'a, G, C>
-        requires laid { IsLayout (G.basis graph.now) layout.now }
-        requires counted { C.count costs.now ≡ (graph_of (G.basis graph.now)).count }
-        requires priced { HasPrices (G.basis graph.now) (C.costs costs.now) prices.now }
-        requires tables { AreNetTables (G.basis graph.now) (C.costs costs.now) wanted.source
-            wanted.goal layout.now self.now }
-        requires search { IsNetSearch (G.basis graph.now) (C.costs costs.now) wanted.starts.now
-            wanted.goal (terminals_of (G.basis graph.now) wanted.source wanted.goal) }
-        ensures graph { result.strip.graph.now ≡ graph.now }
-        ensures layout { result.strip.layout.now ≡ layout.now }
-        ensures costs { result.costs.now ≡ costs.now }
-        ensures starts { result.starts.now ≡ wanted.entry.starts.now }
-        ensures goal { result.goal ≡ wanted.entry.goal }
-        ensures source { result.source ≡ (graph_of (G.basis graph.now)).node wanted.entry.source }
-        ensures sink { result.sink ≡ (graph_of (G.basis graph.now)).node wanted.entry.goal }
+        requires { AreNetTables (G.basis quest.now.priced.now.graph.now)
+            (C.costs quest.now.priced.now.costs.now) quest.now.starts.now quest.now.goal
+            (record { source = quest.now.source; sink = quest.now.sink })
+            quest.now.priced.now.layout.now self.now }
+        ensures graph { result.strip.graph.now ≡ quest.now.priced.now.graph.now }
+        ensures layout { result.strip.layout.now ≡ quest.now.priced.now.layout.now }
+        ensures costs { result.costs.now ≡ quest.now.priced.now.costs.now }
+        ensures starts { result.starts.now ≡ quest.now.starts.now }
+        ensures goal { result.goal ≡ quest.now.goal }
+        ensures source { result.source ≡ quest.now.source }
+        ensures sink { result.sink ≡ quest.now.sink }
     {
+        let (graph, layout) = (quest.priced.graph, quest.priced.layout);
+        let (costs, prices) = (quest.priced.costs, quest.priced.prices);
+        let (sink, shape) = (quest.sink, layout.shape);
         graph.laws();
         let strip = StripPlanes { graph, layout };
-        let sink = graph.node(wanted.goal);
-        let shape = layout.shape;
         NetPlanes {
+            strip,
             costs,
-            starts: wanted.starts,
-            goal: wanted.goal,
-            source: graph.node(wanted.source),
+            starts: quest.starts,
+            listed: &self.starts,
+            goal: quest.goal,
+            source: quest.source,
             sink,
             exit: shape.place(sink),
             sides: self.sides.as_slice(),
             pins: self.bounds.pins.as_slice(),
             lasts: self.bounds.lasts.as_slice(),
             least_lasts: self.bounds.least_lasts.as_slice(),
-            aheads: strip.aheads(sink),
+            aheads: quest.aheads(),
             shown: self.shown.as_slice(),
-            to_top: strip.fars(sink, 0),
-            to_bottom: strip.fars(sink, 1),
-            to_right: strip.fars(sink, 2),
-            to_left: strip.fars(sink, 3),
+            to_top: quest.fars(Side { number: 0 }),
+            to_bottom: quest.fars(Side { number: 1 }),
+            to_right: quest.fars(Side { number: 2 }),
+            to_left: quest.fars(Side { number: 3 }),
             own_sides: self.own_sides.as_slice(),
             prices: prices.as_slice(),
             by_place: prices.by_place(),
@@ -130,7 +108,6 @@ impl NetTables {
             first_arrivals: self.first_arrivals.as_slice(),
             pin_ends: &layout.pins.rows,
             back: 2 * shape.stride(),
-            strip,
         }
     }
 }

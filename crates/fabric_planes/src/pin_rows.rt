@@ -11,9 +11,12 @@ ghost use Rattle.fabric_planes.specs.Tables.{IsShapeOf, IsNearby};
 ghost use Rattle.fabric_planes.specs.Ways.{IsWireAt};
 
 use crate::arrival_rows::wire_beside;
-use crate::ends::{Listed, View, add_row};
+use crate::ends::{Listed, View};
 use crate::pins::PinAt;
 use crate::shape::Shape;
+use crate::shaped_graph::ShapedGraph;
+use crate::side::Side;
+use crate::strip_planes::StripPlanes;
 use rows::Rows;
 use rr_graph::{Node, NodeKind, StripGraph, meets};
 use std::alloc::{AllocError, Global};
@@ -56,32 +59,6 @@ fn rows_per_track(kind: NodeKind) -> usize
     }
 }
 
-/// What the row with this number is for.
-fn listed_at<G: StripGraph>(graph: &G, shape: Shape, number: u32) -> Listed
-    requires { IsShapeOf (G.basis graph.now) shape }
-    ensures { result ≡ listed_at (G.basis graph.now) number }
-{
-    graph.laws();
-    let (pin, index) = (number / (shape.tracks + 3), number % (shape.tracks + 3));
-    let (y, n) = (pin / shape.pins, pin % shape.pins);
-    let node = Node {
-        x: 1,
-        kind: kind_at(index),
-        y,
-        n,
-    };
-    // A block has one sink, with number 0.
-    let is_block = 1 <= y && y <= shape.rows;
-    let n = if is_block { 0 } else { n };
-    Listed {
-        view: View {
-            track: index.saturating_sub(3),
-            node: Node { n, ..node },
-        },
-        node,
-    }
-}
-
 /// The number of a pin among those of a column.
 fn pin_number(shape: Shape, node: Node) -> usize
     requires { IsNearby node }
@@ -100,38 +77,66 @@ fn first_row(shape: Shape, node: Node) -> usize
     pin_number(shape, node) * (shape.tracks as usize + 3) + index_of(node.kind)
 }
 
-/// The entry for an index that tells the pin, the side and the track.
-fn apart_at<G: StripGraph>(graph: &G, shape: Shape, at: u32) -> u16
-    requires { IsShapeOf (G.basis graph.now) shape }
-    ensures { result ≡ apart_at (G.basis graph.now) at }
-{
-    graph.laws();
-    let (kind, by_side) = (NodeKind::Opin, at / shape.tracks);
-    let (y, n) = (by_side / 4 / shape.pins, by_side / 4 % shape.pins);
-    let (pin, side) = (Node { x: 1, kind, y, n }, by_side % 4);
-    // No wire is below the pads of row 0.
-    if side == 1 && y == 0 {
-        return APART;
+impl<'a, G: StripGraph> ShapedGraph<'a, G> {
+    /// What the row with this number is for.
+    fn listed_at(&self, number: u32) -> Listed
+        ensures { result ≡ listed_at (G.basis self.now.graph.now) number }
+    {
+        let (graph, shape) = (self.graph, self.shape);
+        graph.laws();
+        let (pin, index) = (number / (shape.tracks + 3), number % (shape.tracks + 3));
+        let (y, n) = (pin / shape.pins, pin % shape.pins);
+        let node = Node {
+            x: 1,
+            kind: kind_at(index),
+            y,
+            n,
+        };
+        // A block has one sink, with number 0.
+        let is_block = 1 <= y && y <= shape.rows;
+        let n = if is_block { 0 } else { n };
+        Listed {
+            view: View {
+                track: index.saturating_sub(3),
+                node: Node { n, ..node },
+            },
+            node,
+        }
     }
-    let wire = wire_beside(pin, side, at % shape.tracks);
-    if meets(graph.arch(), graph.strip(), pin, wire) {
-        0
-    } else {
-        APART
-    }
-}
 
-/// For each output pin of a column, each side and each track, whether they meet.
-fn aparts<G: StripGraph>(alloc: Global, graph: &G, shape: Shape) -> Result<Vec<u16>, AllocError>
-    requires { IsShapeOf (G.basis graph.now) shape }
-    ensures { IfOk result (λ list. list.items ≡ aparts (G.basis graph.now)) }
-{
-    graph.laws();
-    let mut list = Vec::new(alloc);
-    for at in 0..(shape.rows + 2) * shape.pins * 4 * shape.tracks {
-        list.push(apart_at(graph, shape, at))?;
+    /// The entry for an index that tells the pin, the side and the track.
+    fn apart_at(&self, at: u32) -> u16
+        ensures { result ≡ apart_at (G.basis self.now.graph.now) at }
+    {
+        let (graph, shape) = (self.graph, self.shape);
+        graph.laws();
+        let (kind, by_side) = (NodeKind::Opin, at / shape.tracks);
+        let (y, n) = (by_side / 4 / shape.pins, by_side / 4 % shape.pins);
+        let (pin, side) = (Node { x: 1, kind, y, n }, by_side % 4);
+        // No wire is below the pads of row 0.
+        if side == 1 && y == 0 {
+            return APART;
+        }
+        let wire = wire_beside(pin, side, at % shape.tracks);
+        if meets(graph.arch(), graph.strip(), pin, wire) {
+            0
+        } else {
+            APART
+        }
     }
-    Ok(list)
+
+    /// For each output pin of a column, each side and each track, whether they meet.
+    fn aparts(&self, alloc: Global) -> Result<Vec<u16>, AllocError>
+        ensures { IfOk result (λ list. list.items ≡ aparts (G.basis self.now.graph.now)) }
+    {
+        let (graph, shape) = (self.graph, self.shape);
+        graph.laws();
+        let mut list = Vec::new(alloc);
+        for at in 0..(shape.rows + 2) * shape.pins * 4 * shape.tracks {
+            list.push(self.apart_at(at))?;
+        }
+        Ok(list)
+    }
 }
 
 /// The rows of the ends of sources, sinks and pins, for each plane. They are made once for a graph.
@@ -148,37 +153,38 @@ impl PinRows {
     /// The rows of a graph's pins.
     pub(crate) fn new<G: StripGraph>(
         alloc: Global,
-        graph: &G,
-        shape: Shape,
+        shaped: &ShapedGraph<'_, G>,
     ) -> Result<Self, AllocError>
-        requires { IsShapeOf (G.basis graph.now) shape }
-        ensures { IfOk result (λ pins. ArePinRows (G.basis graph.now) pins) }
+        ensures { IfOk result (λ pins. ArePinRows (G.basis shaped.now.graph.now) pins) }
     {
-        graph.laws();
-        let apart = aparts(alloc, graph, shape)?;
+        let shape = shaped.shape;
+        shaped.graph.laws();
+        let apart = shaped.aparts(alloc)?;
         let mut rows = Rows::new(alloc);
         let mut list = Vec::new(alloc);
         for number in 0..(shape.rows + 2) * shape.pins * (shape.tracks + 3) {
-            let listed = listed_at(graph, shape, number);
-            add_row(&mut rows, graph, shape, listed, &mut list)?;
+            let listed = shaped.listed_at(number);
+            shaped.add_row(&mut rows, listed, &mut list)?;
         }
         Ok(PinRows { rows, apart })
     }
+}
 
+impl<'a, G: StripGraph> StripPlanes<'a, G> {
     /// The pin with this number, with the rows of its ends.
-    pub(crate) fn pin<G: StripGraph>(&self, graph: &G, shape: Shape, number: usize) -> PinAt
-        requires rows { ArePinRows (G.basis graph.now) self.now }
-        requires shape { IsShapeOf (G.basis graph.now) shape }
-        requires within { number < (graph_of (G.basis graph.now)).count }
-        requires no_wire { IsWire ((graph_of (G.basis graph.now)).node number).kind → ⊥ }
+    pub(crate) fn pin(&self, number: usize) -> PinAt
+        requires within { number < (graph_of (G.basis self.now.graph.now)).count }
+        requires no_wire { IsWire ((graph_of (G.basis self.now.graph.now)).node number).kind → ⊥ }
         ensures number { result.number ≡ number }
-        ensures place { result.place ≡ place_of (G.basis graph.now)
-            ((graph_of (G.basis graph.now)).node number) }
+        ensures place { result.place ≡ place_of (G.basis self.now.graph.now)
+            ((graph_of (G.basis self.now.graph.now)).node number) }
         ensures ends { (cost : ℕ → ℕ) (starts : List ℕ) (goal : ℕ) (t : Terminals) →
-            IsNetSearch (G.basis graph.now) cost starts goal t →
-            IsShownPin (G.basis graph.now) t number →
-            HasEnds (planes_of (G.basis graph.now) cost starts goal t) self.now.rows result }
+            IsNetSearch (G.basis self.now.graph.now) cost starts goal t →
+            IsShownPin (G.basis self.now.graph.now) t number →
+            HasEnds (planes_of (G.basis self.now.graph.now) cost starts goal t)
+            self.now.layout.now.pins.rows result }
     {
+        let (graph, shape) = (self.graph, self.layout.shape);
         graph.laws();
         let node = graph.node(number);
         let place = shape.place(node);
@@ -193,31 +199,24 @@ impl PinRows {
 
     /// For each track 0 if the output pin meets the wire of the track at the side, else a large
     /// number.
-    pub(crate) fn apart<G: StripGraph>(
-        &self,
-        graph: &G,
-        shape: Shape,
-        pin: Node,
-        side: usize,
-    ) -> &[u16]
-        requires rows { ArePinRows (G.basis graph.now) self.now }
-        requires shape { IsShapeOf (G.basis graph.now) shape }
-        requires pin { is_node (G.basis graph.now).arch (G.basis graph.now).strip pin ≡ true }
+    pub(crate) fn apart(&self, pin: Node, side: Side) -> &'a [u16]
+        requires pin { is_node (G.basis self.now.graph.now).arch (G.basis self.now.graph.now).strip
+            pin ≡ true }
         requires kind { pin.kind ≡ Opin }
-        requires side { side < 4 }
-        ensures long { length result.now ≡ (G.basis graph.now).arch.tracks }
+        ensures long { length result.now ≡ (G.basis self.now.graph.now).arch.tracks }
         ensures few { All (λ bound. bound ≤ 20000) result.now }
-        ensures met { (number : ℕ) → IsWireAt (G.basis graph.now) number →
-            IsAtSide pin side ((graph_of (G.basis graph.now)).node number).kind
-            ((graph_of (G.basis graph.now)).node number).x
-            ((graph_of (G.basis graph.now)).node number).y →
-            meets (G.basis graph.now).arch (G.basis graph.now).strip pin
-            ((graph_of (G.basis graph.now)).node number) ≡ true →
-            slice_index result.now ((graph_of (G.basis graph.now)).node number).n ≡ 0 }
+        ensures met { (number : ℕ) → IsWireAt (G.basis self.now.graph.now) number →
+            IsAtSide pin side.number ((graph_of (G.basis self.now.graph.now)).node number).kind
+            ((graph_of (G.basis self.now.graph.now)).node number).x
+            ((graph_of (G.basis self.now.graph.now)).node number).y →
+            meets (G.basis self.now.graph.now).arch (G.basis self.now.graph.now).strip pin
+            ((graph_of (G.basis self.now.graph.now)).node number) ≡ true →
+            slice_index result.now ((graph_of (G.basis self.now.graph.now)).node number).n ≡ 0 }
     {
+        let (graph, layout) = (self.graph, self.layout);
         graph.laws();
-        let tracks = shape.tracks as usize;
-        let at = (pin_number(shape, pin) * 4 + side) * tracks;
-        &self.apart[at..at + tracks]
+        let tracks = layout.shape.tracks as usize;
+        let at = (pin_number(layout.shape, pin) * 4 + side.number) * tracks;
+        &layout.pins.apart[at..at + tracks]
     }
 }

@@ -8,6 +8,7 @@ ghost use Rattle.fabric_planes.specs.Prices.{IsSpot, IsPrice, IsRepriced, AgreeB
 
 use crate::costs::NodeCosts;
 use crate::layout::Layout;
+use crate::strip_planes::StripPlanes;
 use crate::untold_prices::untold_prices;
 use rr_graph::{NodeKind, StripGraph};
 use std::alloc::{AllocError, Global};
@@ -30,37 +31,40 @@ struct PriceAt {
     by_place: usize,
 }
 
-/// Where the price of a node is; `None` if the node is no wire.
-#[inline(always)]
-fn spot_of<G: StripGraph>(graph: &G, layout: &Layout, number: usize) -> Option<PriceAt>
-    requires laid { IsLayout (G.basis graph.now) layout.now }
-    requires within { number < (graph_of (G.basis graph.now)).count }
-    ensures wire { IfSome result (λ spot. IsSpot (G.basis graph.now) number spot) }
-    ensures none { IfNone result (IsWire ((graph_of (G.basis graph.now)).node number).kind → ⊥) }
-{
-    graph.laws();
-    let node = graph.node(number);
-    match node.kind {
-        NodeKind::ChanX | NodeKind::ChanY => {
-            let place = layout.shape.place(node);
-            let (track, tracks) = (node.n as usize, layout.shape.tracks as usize);
-            let places = layout.firsts.as_slice().len();
-            Some(PriceAt {
-                by_track: track * places + place,
-                by_place: place * tracks + track,
-            })
+impl<'a, G: StripGraph> StripPlanes<'a, G> {
+    /// Where the price of a node is; `None` if the node is no wire.
+    #[inline(always)]
+    fn spot_of(&self, number: usize) -> Option<PriceAt>
+        requires { number < (graph_of (G.basis self.now.graph.now)).count }
+        ensures wire { IfSome result (λ spot. IsSpot (G.basis self.now.graph.now) number spot) }
+        ensures none { IfNone result
+            (IsWire ((graph_of (G.basis self.now.graph.now)).node number).kind → ⊥) }
+    {
+        let (graph, layout) = (self.graph, self.layout);
+        graph.laws();
+        let node = graph.node(number);
+        match node.kind {
+            NodeKind::ChanX | NodeKind::ChanY => {
+                let place = layout.shape.place(node);
+                let (track, tracks) = (node.n as usize, layout.shape.tracks as usize);
+                let places = layout.firsts.as_slice().len();
+                Some(PriceAt {
+                    by_track: track * places + place,
+                    by_place: place * tracks + track,
+                })
+            }
+            _ => None,
         }
-        _ => None,
     }
 }
 
 /// Sets the price of a node, if it is a wire.
 #[inline(always)]
-fn set_price<G: StripGraph, C: NodeCosts>(
+fn set_price<'a, G: StripGraph, C: NodeCosts>(
     prices: &mut Vec<u8>,
     by_place: &mut Vec<u8>,
-    graph: &G,
-    layout: &Layout,
+    graph: &'a G,
+    layout: &'a Layout,
     costs: &C,
     number: usize,
 )
@@ -72,54 +76,59 @@ fn set_price<G: StripGraph, C: NodeCosts>(
     ensures { IsRepriced (G.basis graph.now) (C.costs costs.now number) number prices.old.items
         prices.new.items by_place.old.items by_place.new.items }
 {
-    if let Some(spot) = spot_of(graph, layout, number) {
+    let strip = StripPlanes { graph, layout };
+    if let Some(spot) = strip.spot_of(number) {
         let price = price_for(costs.cost(number));
         prices[spot.by_track] = price;
         by_place[spot.by_place] = price;
     }
 }
 
-/// Sets the prices of all wires.
-fn price_all<G: StripGraph, C: NodeCosts>(
-    prices: &mut Vec<u8>,
-    by_place: &mut Vec<u8>,
-    graph: &G,
-    layout: &Layout,
-    costs: &C,
-)
-    requires laid { IsLayout (G.basis graph.now) layout.now }
-    requires counted { C.count costs.now ≡ (graph_of (G.basis graph.now)).count }
-    requires before { ArePrices (G.basis graph.now) (C.costs costs.now) prices.old.items }
-    requires long_by_place { HasRoomByPlace (G.basis graph.now) by_place.old.items }
-    ensures told { ArePrices (G.basis graph.now) (C.costs costs.now) prices.new.items }
-    ensures low { AreByPlace (G.basis graph.now) (C.costs costs.now) by_place.new.items }
-{
-    for number in 0..graph.count() {
-        set_price(prices, by_place, graph, layout, costs, number);
-    }
+/// A strip's planes, with the costs of its nodes.
+#[derive(Drop)]
+struct CostedPlanes<'a, G: StripGraph, C: NodeCosts> {
+    strip: StripPlanes<'a, G>,
+    costs: &'a C,
+    ghost counted: { C.count costs.now ≡ (graph_of (G.basis strip.graph.now)).count },
 }
 
-/// Sets the prices of these nodes.
-fn set_prices<G: StripGraph, C: NodeCosts>(
-    prices: &mut Vec<u8>,
-    by_place: &mut Vec<u8>,
-    graph: &G,
-    layout: &Layout,
-    costs: &C,
-    nodes: &[usize],
-)
-    requires laid { IsLayout (G.basis graph.now) layout.now }
-    requires counted { C.count costs.now ≡ (graph_of (G.basis graph.now)).count }
-    requires within { All (λ node. node < (graph_of (G.basis graph.now)).count) nodes.now }
-    requires before { (old : ℕ → ℕ) × ArePrices (G.basis graph.now) old prices.old.items
-        × AreByPlace (G.basis graph.now) old by_place.old.items
-        × AgreeBut (G.basis graph.now) old (C.costs costs.now) nodes.now }
-    ensures told { ArePrices (G.basis graph.now) (C.costs costs.now) prices.new.items }
-    ensures low { AreByPlace (G.basis graph.now) (C.costs costs.now) by_place.new.items }
-{
-    graph.laws();
-    for node in nodes {
-        set_price(prices, by_place, graph, layout, costs, *node);
+impl<'a, G: StripGraph, C: NodeCosts> CostedPlanes<'a, G, C> {
+    /// Sets the prices of all wires.
+    fn price_all(&self, prices: &mut Vec<u8>, by_place: &mut Vec<u8>)
+        requires before { ArePrices (G.basis self.now.strip.graph.now) (C.costs self.now.costs.now)
+            prices.old.items }
+        requires long_by_place { HasRoomByPlace (G.basis self.now.strip.graph.now)
+            by_place.old.items }
+        ensures told { ArePrices (G.basis self.now.strip.graph.now) (C.costs self.now.costs.now)
+            prices.new.items }
+        ensures low { AreByPlace (G.basis self.now.strip.graph.now) (C.costs self.now.costs.now)
+            by_place.new.items }
+    {
+        let (graph, layout, costs) = (self.strip.graph, self.strip.layout, self.costs);
+        for number in 0..graph.count() {
+            set_price(prices, by_place, graph, layout, costs, number);
+        }
+    }
+
+    /// Sets the prices of these nodes.
+    fn set_prices(&self, prices: &mut Vec<u8>, by_place: &mut Vec<u8>, nodes: &[usize])
+        requires within { All (λ node. node < (graph_of (G.basis self.now.strip.graph.now)).count)
+            nodes.now }
+        requires before { (old : ℕ → ℕ)
+            × ArePrices (G.basis self.now.strip.graph.now) old prices.old.items
+            × AreByPlace (G.basis self.now.strip.graph.now) old by_place.old.items
+            × AgreeBut (G.basis self.now.strip.graph.now) old (C.costs self.now.costs.now)
+            nodes.now }
+        ensures told { ArePrices (G.basis self.now.strip.graph.now) (C.costs self.now.costs.now)
+            prices.new.items }
+        ensures low { AreByPlace (G.basis self.now.strip.graph.now) (C.costs self.now.costs.now)
+            by_place.new.items }
+    {
+        let (graph, layout, costs) = (self.strip.graph, self.strip.layout, self.costs);
+        graph.laws();
+        for node in nodes {
+            set_price(prices, by_place, graph, layout, costs, *node);
+        }
     }
 }
 
@@ -132,11 +141,11 @@ pub struct PriceTable {
 
 impl PriceTable {
     /// The prices at these costs.
-    pub fn new<G: StripGraph, C: NodeCosts>(
+    pub fn new<'a, G: StripGraph, C: NodeCosts>(
         alloc: Global,
-        graph: &G,
-        layout: &Layout,
-        costs: &C,
+        graph: &'a G,
+        layout: &'a Layout,
+        costs: &'a C,
     ) -> Result<Self, AllocError>
         requires laid { IsLayout (G.basis graph.now) layout.now }
         requires counted { C.count costs.now ≡ (graph_of (G.basis graph.now)).count }
@@ -145,16 +154,18 @@ impl PriceTable {
         graph.laws();
         let mut prices = untold_prices(alloc, layout.shape)?;
         let mut by_place = untold_prices(alloc, layout.shape)?;
-        price_all(&mut prices, &mut by_place, graph, layout, costs);
+        let strip = StripPlanes { graph, layout };
+        let costed = CostedPlanes { strip, costs };
+        costed.price_all(&mut prices, &mut by_place);
         Ok(PriceTable { prices, by_place })
     }
 
     /// Updates the prices of these nodes, the only ones whose costs may have changed.
-    pub fn update<G: StripGraph, C: NodeCosts>(
+    pub fn update<'a, G: StripGraph, C: NodeCosts>(
         &mut self,
-        graph: &G,
-        layout: &Layout,
-        costs: &C,
+        graph: &'a G,
+        layout: &'a Layout,
+        costs: &'a C,
         nodes: &[usize],
     )
         requires laid { IsLayout (G.basis graph.now) layout.now }
@@ -164,8 +175,10 @@ impl PriceTable {
             × AgreeBut (G.basis graph.now) old (C.costs costs.now) nodes.now }
         ensures { HasPrices (G.basis graph.now) (C.costs costs.now) self.new }
     {
+        let strip = StripPlanes { graph, layout };
+        let costed = CostedPlanes { strip, costs };
         let (prices, by_place) = (&mut self.prices, &mut self.by_place);
-        set_prices(prices, by_place, graph, layout, costs, nodes);
+        costed.set_prices(prices, by_place, nodes);
     }
 
     /// The prices, track by track; 255 for those that are not told.

@@ -8,10 +8,9 @@ ghost use Rattle.rr_graph.specs.Graph.{Basis, IsBasis, graph_of};
 ghost use Rattle.fabric_planes.specs.Laid.{IsWireOf};
 ghost use Rattle.fabric_planes.specs.Layout.{Terminals, IsNetSearch, planes_of};
 ghost use Rattle.fabric_planes.specs.Rivals.{IsHeadOf, IsPathFrom, ComesFirst};
-ghost use Rattle.fabric_planes.specs.Tables.{IsShapeOf};
 ghost use Rattle.fabric_planes.specs.declared.rivals.Head.{Head};
 
-use crate::shape::Shape;
+use crate::shaped_graph::ShapedGraph;
 use rr_graph::{NodeKind, StripGraph};
 
 /// How a path leaves its start.
@@ -34,59 +33,59 @@ pub(crate) struct FirstWire {
     pub(crate) track: usize,
 }
 
-/// Where the wire is that has this index among the nodes; `None` if there is no wire.
-fn wire_at<G: StripGraph>(
-    graph: &G,
-    shape: Shape,
-    nodes: &[usize],
-    index: usize,
-) -> Option<FirstWire>
-    requires shape { IsShapeOf (G.basis graph.now) shape }
-    requires within { All (λ node. node < (graph_of (G.basis graph.now)).count) nodes.now }
-    ensures { IfSome result (λ wire. (index < length nodes.now)
-        × IsWireOf (G.basis graph.now) wire.place (slice_index nodes.now index)
-        × (((graph_of (G.basis graph.now)).node (slice_index nodes.now index)).n ≡ wire.track)) }
-{
-    graph.laws();
-    if index >= nodes.len() {
-        return None;
+impl<'a, G: StripGraph> ShapedGraph<'a, G> {
+    /// Where the wire is that has this index among the nodes; `None` if there is no wire.
+    fn wire_at(&self, nodes: &[usize], index: usize) -> Option<FirstWire>
+        requires within { All (λ node. node < (graph_of (G.basis self.now.graph.now)).count)
+            nodes.now }
+        ensures { IfSome result (λ wire. (index < length nodes.now)
+            × IsWireOf (G.basis self.now.graph.now) wire.place (slice_index nodes.now index)
+            × (((graph_of (G.basis self.now.graph.now)).node (slice_index nodes.now index)).n ≡
+            wire.track)) }
+    {
+        let (graph, shape) = (self.graph, self.shape);
+        graph.laws();
+        if index >= nodes.len() {
+            return None;
+        }
+        let node = graph.node(nodes[index]);
+        match node.kind {
+            NodeKind::ChanX | NodeKind::ChanY => Some(FirstWire {
+                place: shape.place(node),
+                track: node.n as usize,
+            }),
+            _ => None,
+        }
     }
-    let node = graph.node(nodes[index]);
-    match node.kind {
-        NodeKind::ChanX | NodeKind::ChanY => Some(FirstWire {
-            place: shape.place(node),
-            track: node.n as usize,
-        }),
-        _ => None,
-    }
-}
 
-/// How a path leaves its start; `None` if it begins in another way than most paths.
-pub fn head_of<G: StripGraph>(graph: &G, shape: Shape, nodes: &[usize], cost: u64) -> Option<Head>
-    requires shape { IsShapeOf (G.basis graph.now) shape }
-    requires within { All (λ node. node < (graph_of (G.basis graph.now)).count) nodes.now }
-    ensures { IfSome result (λ head. IsHeadOf (G.basis graph.now) head nodes.now) }
-{
-    graph.laws();
-    if nodes.len() < 2 {
-        return None;
-    }
-    let start = nodes[0];
-    let (pin, index) = match graph.node(start).kind {
-        NodeKind::Source => (nodes[1], 2),
-        NodeKind::Opin => (start, 1),
-        NodeKind::ChanX | NodeKind::ChanY => (start, 0),
-        NodeKind::Sink | NodeKind::Ipin => return None,
-    };
-    match wire_at(graph, shape, nodes, index) {
-        Some(wire) => Some(Head {
-            start,
-            pin,
-            place: wire.place,
-            track: wire.track,
-            cost,
-        }),
-        None => None,
+    /// How a path leaves its start; `None` if it begins in another way than most paths.
+    pub(crate) fn head_of(&self, nodes: &[usize], cost: u64) -> Option<Head>
+        requires within { All (λ node. node < (graph_of (G.basis self.now.graph.now)).count)
+            nodes.now }
+        ensures { IfSome result (λ head. IsHeadOf (G.basis self.now.graph.now) head nodes.now) }
+    {
+        let (graph, shape) = (self.graph, self.shape);
+        graph.laws();
+        if nodes.len() < 2 {
+            return None;
+        }
+        let start = nodes[0];
+        let (pin, index) = match graph.node(start).kind {
+            NodeKind::Source => (nodes[1], 2),
+            NodeKind::Opin => (start, 1),
+            NodeKind::ChanX | NodeKind::ChanY => (start, 0),
+            NodeKind::Sink | NodeKind::Ipin => return None,
+        };
+        match self.wire_at(nodes, index) {
+            Some(wire) => Some(Head {
+                start,
+                pin,
+                place: wire.place,
+                track: wire.track,
+                cost,
+            }),
+            None => None,
+        }
     }
 }
 

@@ -2,113 +2,89 @@
 ghost use Rattle.std.specs.Prelude.{◌≡◌, ◌<◌, true, false, OnOk};
 ghost use Rattle.rr_graph.specs.Geometry.{IsWire};
 ghost use Rattle.rr_graph.specs.Graph.{graph_of};
-ghost use Rattle.rr_graph.specs.declared.node.NodeKind.TheVariants.{Sink, Source};
-ghost use Rattle.fabric_planes.specs.Laid.{IsLayout};
 ghost use Rattle.fabric_planes.specs.Shown.{AddsPins, ArePinsFor, IsOutputOf};
 ghost use Rattle.fabric_planes.specs.Sides.{IsOwnPin};
 
-use crate::layout::Layout;
+use crate::costs::NodeCosts;
 use crate::pins::PinAt;
+use crate::quest::Quest;
+use crate::strip_planes::StripPlanes;
 use rr_graph::{Node, NodeKind, StripGraph, is_together};
 use std::alloc::AllocError;
 
-/// Adds the pin with this number.
-fn add_pin<G: StripGraph>(
-    graph: &G,
-    layout: &Layout,
-    number: usize,
-    pins: &mut Vec<PinAt>,
-) -> Result<(), AllocError>
-    requires laid { IsLayout (G.basis graph.now) layout.now }
-    requires within { number < (graph_of (G.basis graph.now)).count }
-    requires no_wire { IsWire ((graph_of (G.basis graph.now)).node number).kind → ⊥ }
-    ensures { OnOk result (AddsPins (G.basis graph.now) layout.now.pins.rows
-        (λ other. other ≡ number) pins.old.items pins.new.items) }
-{
-    pins.push(layout.pins.pin(graph, layout.shape, number))?;
-    Ok(())
-}
-
-/// Adds the pin with this number, if `is_own`.
-fn add_own<G: StripGraph>(
-    graph: &G,
-    layout: &Layout,
-    number: usize,
-    is_own: bool,
-    pins: &mut Vec<PinAt>,
-) -> Result<(), AllocError>
-    requires laid { IsLayout (G.basis graph.now) layout.now }
-    requires within { number < (graph_of (G.basis graph.now)).count }
-    requires no_wire { IsWire ((graph_of (G.basis graph.now)).node number).kind → ⊥ }
-    ensures { OnOk result (AddsPins (G.basis graph.now) layout.now.pins.rows
-        (λ other. (other ≡ number) × (is_own ≡ true)) pins.old.items pins.new.items) }
-{
-    if is_own {
-        return add_pin(graph, layout, number, pins);
+impl<'a, G: StripGraph> StripPlanes<'a, G> {
+    /// Adds the pin with this number.
+    fn add_pin(&self, number: usize, pins: &mut Vec<PinAt>) -> Result<(), AllocError>
+        requires within { number < (graph_of (G.basis self.now.graph.now)).count }
+        requires no_wire { IsWire ((graph_of (G.basis self.now.graph.now)).node number).kind → ⊥ }
+        ensures { OnOk result (AddsPins (G.basis self.now.graph.now)
+            self.now.layout.now.pins.rows (λ other. other ≡ number) pins.old.items
+            pins.new.items) }
+    {
+        pins.push(self.pin(number))?;
+        Ok(())
     }
-    Ok(())
-}
 
-/// Adds the output pins of a source's block or pad.
-fn add_outputs<G: StripGraph>(
-    graph: &G,
-    layout: &Layout,
-    source: Node,
-    pins: &mut Vec<PinAt>,
-) -> Result<(), AllocError>
-    requires { IsLayout (G.basis graph.now) layout.now }
-    ensures { OnOk result (AddsPins (G.basis graph.now) layout.now.pins.rows
-        (IsOutputOf (G.basis graph.now) source) pins.old.items pins.new.items) }
-{
-    graph.laws();
-    let numbers = graph.numbers_at(NodeKind::Opin, source.x, source.y);
-    for number in numbers.first..numbers.end {
-        let is_own = is_together(graph.strip(), source, graph.node(number));
-        add_own(graph, layout, number, is_own, pins)?;
+    /// Adds the pin with this number, if `is_own`.
+    fn add_own(&self, number: usize, is_own: bool, pins: &mut Vec<PinAt>) -> Result<(), AllocError>
+        requires within { number < (graph_of (G.basis self.now.graph.now)).count }
+        requires no_wire { IsWire ((graph_of (G.basis self.now.graph.now)).node number).kind → ⊥ }
+        ensures { OnOk result (AddsPins (G.basis self.now.graph.now)
+            self.now.layout.now.pins.rows (λ other. (other ≡ number) × (is_own ≡ true))
+            pins.old.items pins.new.items) }
+    {
+        if is_own {
+            return self.add_pin(number, pins);
+        }
+        Ok(())
     }
-    Ok(())
-}
 
-/// Adds the input pins of a sink's block or pad.
-fn add_inputs<G: StripGraph>(
-    graph: &G,
-    layout: &Layout,
-    sink: Node,
-    pins: &mut Vec<PinAt>,
-) -> Result<(), AllocError>
-    requires { IsLayout (G.basis graph.now) layout.now }
-    ensures { OnOk result (AddsPins (G.basis graph.now) layout.now.pins.rows
-        (IsOwnPin (G.basis graph.now) sink) pins.old.items pins.new.items) }
-{
-    graph.laws();
-    let numbers = graph.numbers_at(NodeKind::Ipin, sink.x, sink.y);
-    for number in numbers.first..numbers.end {
-        let is_own = is_together(graph.strip(), graph.node(number), sink);
-        add_own(graph, layout, number, is_own, pins)?;
+    /// Adds the output pins of a source's block or pad.
+    fn add_outputs(&self, source: Node, pins: &mut Vec<PinAt>) -> Result<(), AllocError>
+        ensures { OnOk result (AddsPins (G.basis self.now.graph.now)
+            self.now.layout.now.pins.rows (IsOutputOf (G.basis self.now.graph.now) source)
+            pins.old.items pins.new.items) }
+    {
+        let graph = self.graph;
+        graph.laws();
+        let numbers = graph.numbers_at(NodeKind::Opin, source.x, source.y);
+        for number in numbers.first..numbers.end {
+            let is_own = is_together(graph.strip(), source, graph.node(number));
+            self.add_own(number, is_own, pins)?;
+        }
+        Ok(())
     }
-    Ok(())
+
+    /// Adds the input pins of a sink's block or pad.
+    fn add_inputs(&self, sink: Node, pins: &mut Vec<PinAt>) -> Result<(), AllocError>
+        ensures { OnOk result (AddsPins (G.basis self.now.graph.now)
+            self.now.layout.now.pins.rows (IsOwnPin (G.basis self.now.graph.now) sink)
+            pins.old.items pins.new.items) }
+    {
+        let graph = self.graph;
+        graph.laws();
+        let numbers = graph.numbers_at(NodeKind::Ipin, sink.x, sink.y);
+        for number in numbers.first..numbers.end {
+            let is_own = is_together(graph.strip(), graph.node(number), sink);
+            self.add_own(number, is_own, pins)?;
+        }
+        Ok(())
+    }
 }
 
-/// Lists the source, its output pins, the input pins of the sink, and the sink.
-pub(crate) fn list_pins<G: StripGraph>(
-    graph: &G,
-    layout: &Layout,
-    source: usize,
-    goal: usize,
-    pins: &mut Vec<PinAt>,
-) -> Result<(), AllocError>
-    requires laid { IsLayout (G.basis graph.now) layout.now }
-    requires source { source < (graph_of (G.basis graph.now)).count }
-    requires goal { goal < (graph_of (G.basis graph.now)).count }
-    requires source_kind { ((graph_of (G.basis graph.now)).node source).kind ≡ Source }
-    requires goal_kind { ((graph_of (G.basis graph.now)).node goal).kind ≡ Sink }
-    ensures { OnOk result (ArePinsFor (G.basis graph.now) layout.now.pins.rows source goal
-        pins.new.items) }
-{
-    graph.laws();
-    pins.clear();
-    add_pin(graph, layout, source, pins)?;
-    add_outputs(graph, layout, graph.node(source), pins)?;
-    add_inputs(graph, layout, graph.node(goal), pins)?;
-    add_pin(graph, layout, goal, pins)
+impl<'a, G: StripGraph, C: NodeCosts> Quest<'a, G, C> {
+    /// Lists the source, its output pins, the input pins of the sink, and the sink.
+    pub(crate) fn list_pins(&self, pins: &mut Vec<PinAt>) -> Result<(), AllocError>
+        ensures { OnOk result (ArePinsFor (G.basis self.now.priced.now.graph.now)
+            self.now.priced.now.layout.now.pins.rows self.now.from self.now.goal pins.new.items) }
+    {
+        let (graph, layout) = (self.priced.graph, self.priced.layout);
+        let strip = StripPlanes { graph, layout };
+        graph.laws();
+        pins.clear();
+        strip.add_pin(self.from, pins)?;
+        strip.add_outputs(self.source, pins)?;
+        strip.add_inputs(self.sink, pins)?;
+        strip.add_pin(self.goal, pins)
+    }
 }

@@ -2,11 +2,12 @@
 ghost use Rattle.std.specs.Prelude.{All, ◌≡◌, ◌+◌, ◌*◌, ◌^◌, ◌<◌, ◌≤◌, ℕ, true, length, slice_index, OnOk};
 ghost use Rattle.rr_graph.specs.Graph.{graph_of};
 ghost use Rattle.fabric_planes.specs.Aheads.{AreLeast, AreSides};
-ghost use Rattle.fabric_planes.specs.Pins.{AreByPlace};
-ghost use Rattle.fabric_planes.specs.SideBounds.{AreFew, AreNoDearer, ArePinBounds, AreSidesBounded, AreWiresBounded, IsLowFor, IsSideBounded};
+ghost use Rattle.fabric_planes.specs.SideBounds.{AreFew, AreNoDearer, ArePinBounds, AreSidesBounded, AreWiresBounded, IsLowFor, IsSideBounded, by_side};
 
 use crate::costs::NodeCosts;
-use arch_file::Sides;
+use crate::pin_bounds::PinBounds;
+use crate::priced_graph::PricedGraph;
+use crate::side::Side;
 use rr_graph::{Node, NodeKind, StripGraph, is_together, sides_at};
 use std::alloc::{AllocError, Global};
 
@@ -24,85 +25,47 @@ fn counted(cost: u64) -> u16
     cost.min(DEAR) as u16
 }
 
-/// Lower bounds of the costs of a sink's pins on each side of its block or pad.
-#[derive(Clone, Copy)]
-pub(crate) struct PinBounds {
-    pub(crate) top: u16,
-    pub(crate) bottom: u16,
-    pub(crate) right: u16,
-    pub(crate) left: u16,
-}
-
-/// The bound of a side with one more pin, which lowers it only if it is on that side.
-fn lower(bound: u16, is_on: bool, other: u16) -> u16
-    ensures falls { result ≤ bound }
-    ensures on { is_on ≡ true → result ≤ other }
-{
-    if is_on { bound.min(other) } else { bound }
-}
-
-impl PinBounds {
-    ghost use Rattle.fabric_planes.specs.SideBounds.{AreLow, AreNoDearer, AreFew};
-
-    /// The bounds with one more pin.
-    fn with(self, sides: Sides, cost: u16) -> PinBounds
-        requires { AreFew self }
+impl<'a, G: StripGraph, C: NodeCosts> PricedGraph<'a, G, C> {
+    /// The bounds with the pin of this number, if it is one of the sink's block or pad.
+    fn with_own(&self, pins: PinBounds, number: usize, sink: Node) -> PinBounds
+        requires within { number < (graph_of (G.basis self.now.graph.now)).count }
+        requires few { AreFew pins }
         ensures few { AreFew result }
-        ensures falls { AreNoDearer result self }
-        ensures low { AreLow sides result cost }
+        ensures falls { AreNoDearer result pins }
+        ensures low { IsLowFor (G.basis self.now.graph.now) (C.costs self.now.costs.now) sink result
+            number }
     {
-        PinBounds {
-            top: lower(self.top, sides.top, cost),
-            bottom: lower(self.bottom, sides.bottom, cost),
-            right: lower(self.right, sides.right, cost),
-            left: lower(self.left, sides.left, cost),
+        let graph = self.graph;
+        graph.laws();
+        let pin = graph.node(number);
+        if !is_together(graph.strip(), pin, sink) {
+            return pins;
         }
+        let sides = sides_at(graph.arch(), graph.strip(), pin);
+        pins.with(sides, counted(self.costs.cost(number)))
     }
-}
 
-/// The bounds with the pin of this number, if it is one of the sink's block or pad.
-fn with_own<G: StripGraph, C: NodeCosts>(
-    graph: &G,
-    costs: &C,
-    pins: PinBounds,
-    number: usize,
-    sink: Node,
-) -> PinBounds
-    requires count { C.count costs.now ≡ (graph_of (G.basis graph.now)).count }
-    requires within { number < (graph_of (G.basis graph.now)).count }
-    requires few { AreFew pins }
-    ensures few { AreFew result }
-    ensures falls { AreNoDearer result pins }
-    ensures low { IsLowFor (G.basis graph.now) (C.costs costs.now) sink result number }
-{
-    graph.laws();
-    let pin = graph.node(number);
-    if !is_together(graph.strip(), pin, sink) {
-        return pins;
+    /// Lower bounds of the costs of a sink's pins.
+    fn pin_bounds(&self, sink: Node) -> PinBounds
+        ensures few { AreFew result }
+        ensures low { ArePinBounds (G.basis self.now.graph.now) (C.costs self.now.costs.now) sink
+            result }
+    {
+        let graph = self.graph;
+        graph.laws();
+        let dear = DEAR as u16;
+        let mut pins = PinBounds {
+            top: dear,
+            bottom: dear,
+            right: dear,
+            left: dear,
+        };
+        let numbers = graph.numbers_at(NodeKind::Ipin, sink.x, sink.y);
+        for number in numbers.first..numbers.end {
+            pins = self.with_own(pins, number, sink);
+        }
+        pins
     }
-    let sides = sides_at(graph.arch(), graph.strip(), pin);
-    pins.with(sides, counted(costs.cost(number)))
-}
-
-/// Lower bounds of the costs of a sink's pins.
-fn pin_bounds<G: StripGraph, C: NodeCosts>(graph: &G, costs: &C, sink: Node) -> PinBounds
-    requires { C.count costs.now ≡ (graph_of (G.basis graph.now)).count }
-    ensures few { AreFew result }
-    ensures low { ArePinBounds (G.basis graph.now) (C.costs costs.now) sink result }
-{
-    graph.laws();
-    let dear = DEAR as u16;
-    let mut pins = PinBounds {
-        top: dear,
-        bottom: dear,
-        right: dear,
-        left: dear,
-    };
-    let numbers = graph.numbers_at(NodeKind::Ipin, sink.x, sink.y);
-    for number in numbers.first..numbers.end {
-        pins = with_own(graph, costs, pins, number, sink);
-    }
-    pins
 }
 
 /// Lists the bounds of some wires, from an index on: the price of each, and that of a pin.
@@ -116,44 +79,52 @@ fn bound_wires(lasts: &mut [u16], first: usize, prices: &[u8], pin: u16)
     }
 }
 
-/// Lists the bounds of the wires at one side, whose place is given. `pin` is the bound of the pins
-/// there.
-fn bound_side(
-    lasts: &mut [u16],
+/// The prices of a strip's wires, place by place.
+#[derive(Drop)]
+struct WirePrices<'a> {
     tracks: usize,
-    side: usize,
-    place: usize,
-    by_place: &[u8],
-    pin: u16,
-)
-    requires long { length lasts.old ≡ 4 * tracks }
-    requires prices { (places : ℕ) × (length by_place.now ≡ places * tracks) }
-    requires few_tracks { tracks ≤ 64 }
-    requires side { side < 4 }
-    requires place { place < 2 ^ 20 }
-    requires few { pin ≤ 19000 }
-    ensures { IsSideBounded tracks side place by_place.now pin lasts.old lasts.new }
-{
-    let first = place * tracks;
-    if first < by_place.len() {
-        bound_wires(lasts, side * tracks, &by_place[first..first + tracks], pin);
-    }
+    places: usize,
+    by_place: &'a [u8],
+    ghost few: { tracks ≤ 64 },
+    ghost long: { length by_place.now ≡ places * tracks },
 }
 
-/// Lists the bounds of the wires at all sides of the sink's block or pad.
-fn bound_lasts(lasts: &mut [u16], tracks: usize, sides: &[usize], by_place: &[u8], pins: &[u16])
-    requires long { length lasts.old ≡ 4 * tracks }
-    requires dear { All (λ bound. bound ≤ 20000) lasts.old }
-    requires prices { (places : ℕ) × (length by_place.now ≡ places * tracks) }
-    requires few_tracks { tracks ≤ 64 }
-    requires sides { length sides.now ≡ 4 }
-    requires places { All (λ place. place < 2 ^ 20) sides.now }
-    requires four { length pins.now ≡ 4 }
-    requires few { All (λ bound. bound ≤ 19000) pins.now }
-    ensures { AreSidesBounded tracks sides.now by_place.now pins.now 4 lasts.new }
-{
-    for side in 0..4 {
-        bound_side(lasts, tracks, side, sides[side], by_place, pins[side]);
+impl WirePrices<'_> {
+    /// Lists the bounds of the wires at one side, whose place is given. `pin` is the bound of the
+    /// pins there.
+    fn bound_side(&self, lasts: &mut [u16], side: Side, place: usize, pin: u16)
+        requires long { length lasts.old ≡ 4 * self.now.tracks }
+        requires place { place < 2 ^ 20 }
+        requires few { pin ≤ 19000 }
+        ensures { IsSideBounded self.now.tracks side.number place self.now.by_place.now pin
+            lasts.old lasts.new }
+    {
+        let (tracks, by_place) = (self.tracks, self.by_place);
+        let first = place * tracks;
+        if first < by_place.len() {
+            bound_wires(
+                lasts,
+                side.number * tracks,
+                &by_place[first..first + tracks],
+                pin,
+            );
+        }
+    }
+
+    /// Lists the bounds of the wires at all sides of the sink's block or pad.
+    fn bound_lasts(&self, lasts: &mut [u16], sides: &[usize], pins: PinBounds)
+        requires long { length lasts.old ≡ 4 * self.now.tracks }
+        requires dear { All (λ bound. bound ≤ 20000) lasts.old }
+        requires sides { length sides.now ≡ 4 }
+        requires places { All (λ place. place < 2 ^ 20) sides.now }
+        requires few { AreFew pins }
+        ensures { AreSidesBounded self.now.tracks sides.now self.now.by_place.now (by_side pins) 4
+            lasts.new }
+    {
+        self.bound_side(lasts, Side { number: 0 }, sides[0], pins.top);
+        self.bound_side(lasts, Side { number: 1 }, sides[1], pins.bottom);
+        self.bound_side(lasts, Side { number: 2 }, sides[2], pins.right);
+        self.bound_side(lasts, Side { number: 3 }, sides[3], pins.left);
     }
 }
 
@@ -215,32 +186,35 @@ impl SideBounds {
         }
     }
 
-    /// Replaces the bounds by those of a sink. `sides` are the places of the wires at its sides,
-    /// and `by_place` the prices.
+    /// Replaces the bounds by those of a sink. `sides` are the places of the wires at its sides.
     pub(crate) fn fill<G: StripGraph, C: NodeCosts>(
         &mut self,
-        graph: &G,
-        costs: &C,
+        priced: &PricedGraph<'_, G, C>,
         sink: Node,
         sides: &[usize],
-        by_place: &[u8],
     ) -> Result<(), AllocError>
-        requires count { C.count costs.now ≡ (graph_of (G.basis graph.now)).count }
-        requires sides { AreSides (G.basis graph.now) sink sides.now }
+        requires sides { AreSides (G.basis priced.now.graph.now) sink sides.now }
         requires few { All (λ place. place < 2 ^ 20) sides.now }
-        requires prices { AreByPlace (G.basis graph.now) (C.costs costs.now) by_place.now }
-        ensures { OnOk result (AreBounds (G.basis graph.now) (C.costs costs.now) sink self.new) }
+        ensures { OnOk result (AreBounds (G.basis priced.now.graph.now)
+            (C.costs priced.now.costs.now) sink self.new) }
     {
-        graph.laws();
-        let pins = pin_bounds(graph, costs, sink);
+        priced.graph.laws();
+        let pins = priced.pin_bounds(sink);
         self.pins.clear();
         self.pins
             .extend_from_slice(&[pins.top, pins.bottom, pins.right, pins.left])?;
-        let tracks = graph.arch().tracks as usize;
+        let tracks = priced.layout.shape.tracks as usize;
+        let by_place = priced.prices.by_place();
         self.lasts.clear();
         self.lasts.resize(4 * tracks, APART)?;
         let lasts = self.lasts.as_mut_slice();
-        bound_lasts(lasts, tracks, sides, by_place, &self.pins);
+        let places = priced.layout.shape.places();
+        let prices = WirePrices {
+            tracks,
+            places,
+            by_place,
+        };
+        prices.bound_lasts(lasts, sides, pins);
         list_leasts(tracks, &self.lasts, &mut self.least_lasts)
     }
 }

@@ -2,7 +2,7 @@
 ghost use Rattle.std.specs.Prelude.{All, ◌≡◌, ◌^◌, ◌<◌, ◌≤◌, OnOk};
 ghost use Rattle.fabric_planes.specs.Aheads.{AreSides};
 ghost use Rattle.fabric_planes.specs.SidePlaces.{IsInStrip, side_places};
-ghost use Rattle.fabric_planes.specs.Tables.{IsShapeOf};
+ghost use Rattle.fabric_planes.specs.Tables.{IsNearby, IsShapeOf};
 ghost use Rattle.rr_graph.specs.Graph.{Basis, IsBasis};
 
 use crate::shape::Shape;
@@ -12,8 +12,7 @@ use std::alloc::AllocError;
 /// Lists the places of the wires above, below, to the right and to the left of the sink's block or
 /// pad. If no wire can be there, the number of places stands for it.
 fn list_places(shape: Shape, sink: Node, sides: &mut Vec<usize>) -> Result<(), AllocError>
-    requires x { sink.x ≤ 256 }
-    requires y { sink.y ≤ 65 }
+    requires { IsNearby sink }
     ensures value { (basis : Basis) → IsShapeOf basis shape →
         OnOk result (sides.new.items ≡ side_places basis sink) }
     ensures few { OnOk result (All (λ place. place < 2 ^ 20) sides.new.items) }
@@ -40,9 +39,9 @@ fn list_places(shape: Shape, sink: Node, sides: &mut Vec<usize>) -> Result<(), A
 
 /// Lists the places of the wires at the sides of the sink's block or pad.
 pub(crate) fn list_sides(shape: Shape, sink: Node, sides: &mut Vec<usize>) -> Result<(), AllocError>
-    requires x { sink.x ≤ 256 }
-    requires y { sink.y ≤ 65 }
-    ensures are_sides { (basis : Basis) → IsBasis basis → IsShapeOf basis shape → IsInStrip basis sink →
+    requires { IsNearby sink }
+    ensures are_sides { (basis : Basis) → IsBasis basis → IsShapeOf basis shape → IsInStrip basis
+        sink →
         OnOk result (AreSides basis sink sides.new.items) }
     ensures few { OnOk result (All (λ place. place < 2 ^ 20) sides.new.items) }
 {

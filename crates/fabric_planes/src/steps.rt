@@ -1,13 +1,12 @@
 //! The steps from wires to the wires that they meet.
 ghost use Rattle.std.specs.Prelude.{◌≡◌, ◌↔◌, ◌+◌, ◌<◌, ◌≤◌, Some, IsTrue, IfOk, OnOk, length, slice_get};
-ghost use Rattle.rr_graph.specs.Graph.{graph_of};
 ghost use Rattle.fabric_planes.specs.Layout.{place_count};
 ghost use Rattle.fabric_planes.specs.Steps.{AreStepsBelow, KeepsRows};
-ghost use Rattle.fabric_planes.specs.Tables.{IsShapeOf, IsFirstAt, AreFirsts};
+ghost use Rattle.fabric_planes.specs.Tables.{IsFirstAt, AreFirsts};
 
-use crate::ends::{View, add_ends};
+use crate::ends::View;
 use crate::layout::NO_WIRE;
-use crate::shape::Shape;
+use crate::shaped_graph::ShapedGraph;
 use rows::Rows;
 use rr_graph::{Node, StripGraph};
 use std::alloc::{AllocError, Global};
@@ -38,6 +37,14 @@ fn number_of(rows: &mut Rows, list: &[u32]) -> Result<usize, AllocError>
     Ok(number)
 }
 
+/// A strip's graph, with the number of the first wire of each place.
+#[derive(Drop)]
+pub(crate) struct FirstWires<'a, G: StripGraph> {
+    pub(crate) shaped: &'a ShapedGraph<'a, G>,
+    pub(crate) firsts: &'a [u32],
+    ghost are_firsts: { AreFirsts (G.basis shaped.now.graph.now) firsts.now },
+}
+
 /// The steps from wires to the wires that they meet. They are made once for a graph.
 #[derive(Drop)]
 pub struct Steps {
@@ -55,17 +62,17 @@ impl Steps {
     /// column and the last one have the class of the wires one column before.
     fn set_class<G: StripGraph>(
         &mut self,
-        graph: &G,
-        shape: Shape,
+        shaped: &ShapedGraph<'_, G>,
         place: usize,
         first: usize,
         list: &mut Vec<u32>,
     ) -> Result<(), AllocError>
-        requires shape { IsShapeOf (G.basis graph.now) shape }
-        requires first { IsFirstAt (G.basis graph.now) place first }
-        requires below { AreStepsBelow (G.basis graph.now) place self.old }
-        ensures { OnOk result (AreStepsBelow (G.basis graph.now) (place + 1) self.new) }
+        requires first { IsFirstAt (G.basis shaped.now.graph.now) place first }
+        requires below { AreStepsBelow (G.basis shaped.now.graph.now) place self.old }
+        ensures { OnOk result (AreStepsBelow (G.basis shaped.now.graph.now) (place + 1)
+            self.new) }
     {
+        let (graph, shape) = (shaped.graph, shaped.shape);
         graph.laws();
         let wire = graph.node(first);
         if 2 < wire.x && wire.x < shape.width {
@@ -78,7 +85,7 @@ impl Steps {
             ..wire
         };
         list.clear();
-        add_ends(list, graph, shape, View { track: 0, node }, first)?;
+        shaped.add_ends(list, View { track: 0, node }, first)?;
         self.classes[place] = number_of(&mut self.rows, list)? as u16;
         Ok(())
     }
@@ -86,62 +93,40 @@ impl Steps {
     /// Sets the class of the wires at a place, if there are wires.
     fn add<G: StripGraph>(
         &mut self,
-        graph: &G,
-        shape: Shape,
-        firsts: &[u32],
+        wires: &FirstWires<'_, G>,
         place: usize,
         list: &mut Vec<u32>,
     ) -> Result<(), AllocError>
-        requires shape { IsShapeOf (G.basis graph.now) shape }
-        requires firsts { AreFirsts (G.basis graph.now) firsts.now }
-        requires place { place < place_count (G.basis graph.now) }
-        requires below { AreStepsBelow (G.basis graph.now) place self.old }
-        ensures { OnOk result (AreStepsBelow (G.basis graph.now) (place + 1) self.new) }
+        requires place { place < place_count (G.basis wires.now.shaped.now.graph.now) }
+        requires below { AreStepsBelow (G.basis wires.now.shaped.now.graph.now) place self.old }
+        ensures { OnOk result (AreStepsBelow (G.basis wires.now.shaped.now.graph.now) (place + 1)
+            self.new) }
     {
-        graph.laws();
-        let first = firsts[place];
+        let shaped = wires.shaped;
+        shaped.graph.laws();
+        let first = wires.firsts[place];
         if first == NO_WIRE {
             return Ok(());
         }
-        self.set_class(graph, shape, place, first as usize, list)
+        self.set_class(shaped, place, first as usize, list)
     }
 
-    /// Sets the classes of all wires.
-    fn fill<G: StripGraph>(
-        &mut self,
-        alloc: Global,
-        graph: &G,
-        shape: Shape,
-        firsts: &[u32],
-    ) -> Result<(), AllocError>
-        requires shape { IsShapeOf (G.basis graph.now) shape }
-        requires firsts { AreFirsts (G.basis graph.now) firsts.now }
-        requires none { AreStepsBelow (G.basis graph.now) 0 self.old }
-        ensures { OnOk result (AreSteps (G.basis graph.now) self.new) }
-    {
-        let mut list = Vec::new(alloc);
-        for place in 0..shape.places() {
-            self.add(graph, shape, firsts, place, &mut list)?;
-        }
-        Ok(())
-    }
-
-    /// The steps of a strip's wires, by the numbers of the first wires of places.
+    /// The steps of a strip's wires.
     pub(crate) fn new<G: StripGraph>(
         alloc: Global,
-        graph: &G,
-        shape: Shape,
-        firsts: &[u32],
+        wires: &FirstWires<'_, G>,
     ) -> Result<Self, AllocError>
-        requires shape { IsShapeOf (G.basis graph.now) shape }
-        requires firsts { AreFirsts (G.basis graph.now) firsts.now }
-        ensures { IfOk result (λ steps. AreSteps (G.basis graph.now) steps) }
+        ensures { IfOk result (λ steps. AreSteps (G.basis wires.now.shaped.now.graph.now) steps) }
     {
+        let shape = wires.shaped.shape;
+        let mut list = Vec::new(alloc);
         let mut steps = Steps {
             classes: Vec::from_elem(alloc, NO_CLASS, shape.places())?,
             rows: Rows::new(alloc),
         };
-        steps.fill(alloc, graph, shape, firsts)?;
+        for place in 0..shape.places() {
+            steps.add(wires, place, &mut list)?;
+        }
         Ok(steps)
     }
 }

@@ -8,69 +8,75 @@ ghost use Rattle.fabric_planes.specs.Sides.{IsBySide};
 
 use crate::costs::NodeCosts;
 use crate::net_planes::{HasFamily, NetPlanes};
+use crate::plane_place::PlanePlace;
 use rr_graph::StripGraph;
 
-impl<'a, G: StripGraph, C: NodeCosts> NetPlanes<'a, G, C> {
+impl<'a, G: StripGraph, C: NodeCosts> PlanePlace<'a, G, C> {
     /// A lower bound of the cost of a way from a wire that is at no side: the least of those by the
     /// sides, each by the wires up to there and the last wire and pin.
     #[inline(always)]
-    fn sharp(&self, track: usize, place: usize) -> u64
-        requires track { track < (G.basis self.now.strip.graph.now).arch.tracks }
-        requires place { place < place_count (G.basis self.now.strip.graph.now) }
-        requires far { slice_index self.now.aheads.now place ≡ 0 → ⊥ }
-        ensures { (number sum : ℕ) → IsWireOf (G.basis self.now.strip.graph.now) place number →
-            ((graph_of (G.basis self.now.strip.graph.now)).node number).n ≡ track →
-            IsBySide (G.basis self.now.strip.graph.now) number self.now.sink
-            (λ side. slice_index self.now.pins.now side)
-            (λ side track. slice_index self.now.lasts.now
-            (side * (G.basis self.now.strip.graph.now).arch.tracks + track)) sum →
+    fn sharp(&self) -> u64
+        requires far { slice_index self.now.planes.now.aheads.now self.now.place ≡ 0 → ⊥ }
+        ensures { (number sum : ℕ) → IsWireOf (G.basis self.now.planes.now.strip.graph.now)
+            self.now.place number →
+            ((graph_of (G.basis self.now.planes.now.strip.graph.now)).node number).n ≡
+            self.now.track →
+            IsBySide (G.basis self.now.planes.now.strip.graph.now) number self.now.planes.now.sink
+            (λ side. slice_index self.now.planes.now.pins.now side)
+            (λ side track. slice_index self.now.planes.now.lasts.now
+            (side * (G.basis self.now.planes.now.strip.graph.now).arch.tracks + track)) sum →
             result ≤ sum }
     {
-        self.strip.graph.laws();
-        let tracks = self.strip.layout.shape.tracks as usize;
-        let top = self.to_top[place] as u64 + self.lasts[track] as u64;
-        let bottom = self.to_bottom[place] as u64 + self.lasts[tracks + track] as u64;
-        let right = self.to_right[place] as u64 + self.lasts[2 * tracks + track] as u64;
-        let left = self.to_left[place] as u64 + self.lasts[3 * tracks + track] as u64;
+        let planes = self.planes;
+        let (track, place) = (self.track, self.place);
+        planes.strip.graph.laws();
+        let tracks = planes.strip.layout.shape.tracks as usize;
+        let top = planes.to_top[place] as u64 + planes.lasts[track] as u64;
+        let bottom = planes.to_bottom[place] as u64 + planes.lasts[tracks + track] as u64;
+        let right = planes.to_right[place] as u64 + planes.lasts[2 * tracks + track] as u64;
+        let left = planes.to_left[place] as u64 + planes.lasts[3 * tracks + track] as u64;
         top.min(bottom).min(right.min(left))
     }
 
     /// A lower bound of the cost of any way from a wire.
     #[inline(always)]
-    pub(crate) fn from_wire(&self, track: usize, place: usize) -> u64
-        requires track { track < (G.basis self.now.strip.graph.now).arch.tracks }
-        requires place { place < place_count (G.basis self.now.strip.graph.now) }
+    pub(crate) fn from_wire(&self) -> u64
         ensures side { (number sum : ℕ) →
-            IsWireOf (G.basis self.now.strip.graph.now) place number →
-            ((graph_of (G.basis self.now.strip.graph.now)).node number).n ≡ track →
-            IsBySide (G.basis self.now.strip.graph.now) number self.now.sink
-            (λ side. slice_index self.now.pins.now side)
-            (λ side track. slice_index self.now.lasts.now
-            (side * (G.basis self.now.strip.graph.now).arch.tracks + track)) sum →
+            IsWireOf (G.basis self.now.planes.now.strip.graph.now) self.now.place number →
+            ((graph_of (G.basis self.now.planes.now.strip.graph.now)).node number).n ≡
+            self.now.track →
+            IsBySide (G.basis self.now.planes.now.strip.graph.now) number self.now.planes.now.sink
+            (λ side. slice_index self.now.planes.now.pins.now side)
+            (λ side track. slice_index self.now.planes.now.lasts.now
+            (side * (G.basis self.now.planes.now.strip.graph.now).arch.tracks + track)) sum →
             result ≤ sum }
-        ensures bound { (number : ℕ) → IsWireOf (G.basis self.now.strip.graph.now) place number →
-            ((graph_of (G.basis self.now.strip.graph.now)).node number).n ≡ track → IsLowerBound
-            ((⟦<NetPlanes<'a, G, C> as HasFamily>⟧.family self.now).plane track)
-            (⟦<NetPlanes<'a, G, C> as HasFamily>⟧.family self.now).exit place (Some result) }
+        ensures bound { (number : ℕ) → IsWireOf (G.basis self.now.planes.now.strip.graph.now)
+            self.now.place number →
+            ((graph_of (G.basis self.now.planes.now.strip.graph.now)).node number).n ≡
+            self.now.track → IsLowerBound
+            ((⟦<NetPlanes<'a, G, C> as HasFamily>⟧.family self.now.planes.now).plane self.now.track)
+            (⟦<NetPlanes<'a, G, C> as HasFamily>⟧.family self.now.planes.now).exit self.now.place
+            (Some result) }
     {
-        self.strip.graph.laws();
-        if self.aheads[place] != 0 {
-            return self.sharp(track, place);
+        let planes = self.planes;
+        let place = self.place;
+        planes.strip.graph.laws();
+        if planes.aheads[place] != 0 {
+            return self.sharp();
         }
-        self.from_side(track, place)
+        self.from_side()
     }
 
     /// Whether a way from the place may cost no more than this, as far as [`Self::at_least`] says.
     #[inline(always)]
-    fn may_cost(&self, track: usize, place: usize, most: u64) -> bool
-        requires track { track < (G.basis self.now.strip.graph.now).arch.tracks }
-        requires place { place < place_count (G.basis self.now.strip.graph.now) }
+    fn may_cost(&self, most: u64) -> bool
         ensures few { result ≡ false → most < 2 ^ 64 - 1 }
         ensures more { result ≡ false → IsLowerBound
-            ((⟦<NetPlanes<'a, G, C> as HasFamily>⟧.family self.now).plane track) self.now.exit
-            place (Some (most + 1)) }
+            ((⟦<NetPlanes<'a, G, C> as HasFamily>⟧.family self.now.planes.now).plane
+            self.now.track) self.now.planes.now.exit
+            self.now.place (Some (most + 1)) }
     {
-        match self.at_least(track, place) {
+        match self.at_least() {
             Some(least) => least <= most,
             None => true,
         }
@@ -79,26 +85,29 @@ impl<'a, G: StripGraph, C: NodeCosts> NetPlanes<'a, G, C> {
     /// A lower bound of the cost of any way from a wire if it is no more than `most`; `None` if
     /// each way costs more.
     #[inline(always)]
-    pub(crate) fn within(&self, track: usize, place: usize, most: u64) -> Option<u64>
-        requires track { track < (G.basis self.now.strip.graph.now).arch.tracks }
-        requires place { place < place_count (G.basis self.now.strip.graph.now) }
+    pub(crate) fn within(&self, most: u64) -> Option<u64>
         ensures most { IfSome result (λ ahead. ahead ≤ most) }
         ensures bound { IfSome result (λ ahead. (number : ℕ) → IsWireOf (G.basis
-            self.now.strip.graph.now) place number → ((graph_of (G.basis
-            self.now.strip.graph.now)).node number).n ≡ track → IsLowerBound
-            ((⟦<NetPlanes<'a, G, C> as HasFamily>⟧.family self.now).plane track)
-            (⟦<NetPlanes<'a, G, C> as HasFamily>⟧.family self.now).exit place (Some ahead)) }
+            self.now.planes.now.strip.graph.now) self.now.place number → ((graph_of (G.basis
+            self.now.planes.now.strip.graph.now)).node number).n ≡ self.now.track → IsLowerBound
+            ((⟦<NetPlanes<'a, G, C> as HasFamily>⟧.family self.now.planes.now).plane self.now.track)
+            (⟦<NetPlanes<'a, G, C> as HasFamily>⟧.family self.now.planes.now).exit self.now.place
+            (Some ahead)) }
         ensures few { IfNone result (most < 2 ^ 64 - 1) }
-        ensures more { IfNone result ((number : ℕ) → IsWireOf (G.basis self.now.strip.graph.now)
-            place number → ((graph_of (G.basis self.now.strip.graph.now)).node number).n ≡ track →
-            IsLowerBound ((⟦<NetPlanes<'a, G, C> as HasFamily>⟧.family self.now).plane track)
-            (⟦<NetPlanes<'a, G, C> as HasFamily>⟧.family self.now).exit place (Some (most +
+        ensures more { IfNone result ((number : ℕ) → IsWireOf (G.basis
+            self.now.planes.now.strip.graph.now)
+            self.now.place number → ((graph_of (G.basis self.now.planes.now.strip.graph.now)).node
+            number).n ≡ self.now.track →
+            IsLowerBound ((⟦<NetPlanes<'a, G, C> as HasFamily>⟧.family self.now.planes.now).plane
+            self.now.track)
+            (⟦<NetPlanes<'a, G, C> as HasFamily>⟧.family self.now.planes.now).exit self.now.place
+            (Some (most +
             1))) }
     {
-        if !self.may_cost(track, place, most) {
+        if !self.may_cost(most) {
             return None;
         }
-        let ahead = self.from_wire(track, place);
+        let ahead = self.from_wire();
         if ahead <= most { Some(ahead) } else { None }
     }
 }

@@ -1,8 +1,7 @@
 //! Routing over a window whose reads are counted, by kind.
 //!
 //! An iteration reads the nodes of its window, their numbers and their capacities. The first one
-//! reads edges to make the tables of its window's planes. The others read edges only to check
-//! whether the paths of the iteration before it are still paths.
+//! reads edges to make the tables of its window's planes. No other edge is read.
 ghost use Rattle.std.specs.Prelude.{◌≡◌, ◌<◌, ◌≤◌, length};
 ghost use Rattle.pathfinder.specs.Negotiation.{More};
 ghost use Rattle.pathfinder.specs.PlacedNets.{wiring_of};
@@ -44,19 +43,13 @@ impl Reads {
         }
     }
 
-    /// Returns whether these are the reads of one iteration over `count` nodes: each node at least
+    /// Returns whether these are the reads of a routing over `count` nodes: each node at least
     /// once, numbers and capacities, the edges for the tables, but no other edge.
-    fn are_of_one(&self, count: usize, for_tables: u64) -> bool {
-        self.have_nodes(count) && self.edges.get() == for_tables
-    }
-
-    /// Returns whether these are the reads of two iterations: the same, and other edges.
-    fn are_of_two(&self, count: usize, for_tables: u64) -> bool {
-        self.have_nodes(count) && self.edges.get() > for_tables
-    }
-
-    fn have_nodes(&self, count: usize) -> bool {
-        self.nodes.get() >= count as u64 && self.numbers.get() > 0 && self.capacities.get() > 0
+    fn are_of_routing(&self, count: usize, for_tables: u64) -> bool {
+        self.nodes.get() >= count as u64
+            && self.numbers.get() > 0
+            && self.capacities.get() > 0
+            && self.edges.get() == for_tables
     }
 }
 
@@ -154,15 +147,6 @@ impl Case {
             finish_in_one(alloc, graph, routing)
         }
     }
-
-    /// Returns whether the reads are those of a routing in as many iterations.
-    fn has_reads(self, reads: &Reads, count: usize, for_tables: u64) -> bool {
-        if self.has_two {
-            reads.are_of_two(count, for_tables)
-        } else {
-            reads.are_of_one(count, for_tables)
-        }
-    }
 }
 
 /// Returns whether a net has equal paths in both.
@@ -250,7 +234,7 @@ fn reads_the_window(
     };
     let is_so = are_found(alloc, &counted, routing, routes, case);
     match reads_for_tables(alloc, window) {
-        Some(for_tables) => is_so && case.has_reads(&reads, counted.count(), for_tables),
+        Some(for_tables) => is_so && reads.are_of_routing(counted.count(), for_tables),
         None => false,
     }
 }

@@ -5,31 +5,33 @@ use Rattle.std.specs.Str.{bytes_eq}
 use Rattle.line_text.specs.Lines.{physical_lines}
 use Rattle.tagged_lines.specs.Tags.{Tagged, are_of, have_tags, is_tag, is_whole, output_of, tag_of}
 use Rattle.tagged_lines.proofs.TagLemmas.{both, lines as lines_are, whole as whole_is}
+use Rattle.front_lines.specs.Speakers.{with_marks, tag_in}
+use Rattle.front_lines.specs.declared.speaker.Speaker.{Speaker}
 use Rattle.front_lines.specs.Commands.{ClientState, Item, handed, handed_for, item_of, state_after}
 use Rattle.front_lines.specs.Commands.Item.{HandOver, Nothing, Refuse}
 
-abbrev commands_in : Item → List (List ℕ)
-commands_in Nothing = []
-commands_in (HandOver command) = command ∷ []
-commands_in (Refuse refusal) = []
+abbrev commands_in : Speaker → Item → List (List ℕ)
+commands_in who Nothing = []
+commands_in who (HandOver command) = with_marks who command ∷ []
+commands_in who (Refuse refusal) = []
 
-abbrev commands_of : ClientState → List (List ℕ) → List (List ℕ)
-commands_of state [] = []
-commands_of state (line ∷ lines) = commands_in (item_of state line) ++ commands_of (state_after state line) lines
+abbrev commands_of : Speaker → ClientState → List (List ℕ) → List (List ℕ)
+commands_of who state [] = []
+commands_of who state (line ∷ lines) = commands_in who (item_of state line) ++ commands_of who (state_after state line) lines
 
 abbrev with_tag : List ℕ → List ℕ → Tagged
 with_tag tag command = record { tag = tag; text = command }
 
-item_is : (tag : List ℕ) (item : Item) (more : List (List ℕ)) → handed_for tag item ++ output_of (map (with_tag tag) more) ≡ output_of (map (with_tag tag) (commands_in item ++ more))
-item_is tag Nothing more = refl
-item_is tag (HandOver command) more = refl
-item_is tag (Refuse refusal) more = refl
+item_is : (who : Speaker) (item : Item) (more : List (List ℕ)) → handed_for who item ++ output_of (map (with_tag (tag_in who)) more) ≡ output_of (map (with_tag (tag_in who)) (commands_in who item ++ more))
+item_is who Nothing more = refl
+item_is who (HandOver command) more = refl
+item_is who (Refuse refusal) more = refl
 
-handed_is : (tag : List ℕ) (state : ClientState) (lines : List (List ℕ)) → handed tag state lines ≡ output_of (map (with_tag tag) (commands_of state lines))
-handed_is tag state [] = refl
-handed_is tag state (line ∷ lines) =
-    ap (λ l. handed_for tag (item_of state line) ++ l) (handed_is tag (state_after state line) lines)
-    ∙ item_is tag (item_of state line) (commands_of (state_after state line) lines)
+handed_is : (who : Speaker) (state : ClientState) (lines : List (List ℕ)) → handed who state lines ≡ output_of (map (with_tag (tag_in who)) (commands_of who state lines))
+handed_is who state [] = refl
+handed_is who state (line ∷ lines) =
+    ap (λ l. handed_for who (item_of state line) ++ l) (handed_is who (state_after state line) lines)
+    ∙ item_is who (item_of state line) (commands_of who (state_after state line) lines)
 
 all_have : (tag : List ℕ) (commands : List (List ℕ)) → is_tag tag ≡ true → have_tags (map (with_tag tag) commands) ≡ true
 all_have tag [] ok = refl
@@ -52,11 +54,12 @@ are_own tag commands (line ∷ lines) are =
     let parts = both (list_any (λ t. bytes_eq (tag_of line) t.tag) (map (with_tag tag) commands)) (are_of (map (with_tag tag) commands) lines) are in
     ap (λ b. b && list_all (has_tag tag) lines) (any_own tag line commands parts.0) ∙ are_own tag commands lines parts.1
 
-pub own : (tag : List ℕ) (state : ClientState) (lines : List (List ℕ)) → is_tag tag ≡ true → list_all (has_tag tag) (physical_lines (handed tag state lines)) ≡ true
-own tag state lines ok =
-    let commands = commands_of state lines in
-    ap (λ bytes. list_all (has_tag tag) (physical_lines bytes)) (handed_is tag state lines)
+pub own : (who : Speaker) (state : ClientState) (lines : List (List ℕ)) → is_tag (tag_in who) ≡ true → list_all (has_tag (tag_in who)) (physical_lines (handed who state lines)) ≡ true
+own who state lines ok =
+    let tag = tag_in who in
+    let commands = commands_of who state lines in
+    ap (λ bytes. list_all (has_tag tag) (physical_lines bytes)) (handed_is who state lines)
     ∙ are_own tag commands (physical_lines (output_of (map (with_tag tag) commands))) (lines_are (map (with_tag tag) commands) (all_have tag commands ok))
 
-pub whole : (tag : List ℕ) (state : ClientState) (lines : List (List ℕ)) → is_whole (handed tag state lines) ≡ true
-whole tag state lines = ap is_whole (handed_is tag state lines) ∙ whole_is (map (with_tag tag) (commands_of state lines))
+pub whole : (who : Speaker) (state : ClientState) (lines : List (List ℕ)) → is_whole (handed who state lines) ≡ true
+whole who state lines = ap is_whole (handed_is who state lines) ∙ whole_is (map (with_tag (tag_in who)) (commands_of who state lines))

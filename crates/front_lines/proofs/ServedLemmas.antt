@@ -11,6 +11,7 @@ use Rattle.line_service.proofs.LineLemmas.{ended_then, lines_push, none_ended}
 use Rattle.line_service.proofs.TalkLemmas.{whole_lines}
 use Rattle.tagged_lines.specs.Tags.{with_feed}
 use Rattle.tagged_lines.proofs.TagLemmas.{both}
+use Rattle.front_lines.specs.declared.speaker.Speaker.{Speaker}
 use Rattle.front_lines.specs.Commands.{ClientState, handed as all_handed, handed_for, item_of, state_after, state_from}
 use Rattle.front_lines.specs.Exchanges.{AreTold, Asks, told_for}
 use Rattle.front_lines.specs.LinesRead.{HasBytes, HasLine, HasPaused}
@@ -18,30 +19,30 @@ use Rattle.front_lines.specs.Serving.{Answers, HandsPart, HasSeen, HasServed, Ha
 use Rattle.front_lines.proofs.ReplyLemmas.{kept_push}
 
 -- what one more line adds
-handed_push : (tag : List ℕ) (state : ClientState) (lines : List (List ℕ)) (line : List ℕ) → all_handed tag state (lines ++ line ∷ []) ≡ all_handed tag state lines ++ handed_for tag (item_of (state_from state lines) line)
-handed_push tag state [] line = append-nil (handed_for tag (item_of state line))
-handed_push tag state (x ∷ lines) line =
-    ap (λ l. handed_for tag (item_of state x) ++ l) (handed_push tag (state_after state x) lines line)
-    ∙ sym (append_assoc (handed_for tag (item_of state x)) (all_handed tag (state_after state x) lines) (handed_for tag (item_of (state_from (state_after state x) lines) line)))
+handed_push : (who : Speaker) (state : ClientState) (lines : List (List ℕ)) (line : List ℕ) → all_handed who state (lines ++ line ∷ []) ≡ all_handed who state lines ++ handed_for who (item_of (state_from state lines) line)
+handed_push who state [] line = append-nil (handed_for who (item_of state line))
+handed_push who state (x ∷ lines) line =
+    ap (λ l. handed_for who (item_of state x) ++ l) (handed_push who (state_after state x) lines line)
+    ∙ sym (append_assoc (handed_for who (item_of state x)) (all_handed who (state_after state x) lines) (handed_for who (item_of (state_from (state_after state x) lines) line)))
 
 state_push : (state : ClientState) (lines : List (List ℕ)) (line : List ℕ) → state_from state (lines ++ line ∷ []) ≡ state_after (state_from state lines) line
 state_push state [] line = refl
 state_push state (x ∷ lines) line = state_push (state_after state x) lines line
 
-told_push : (tag : List ℕ) (state : ClientState) (lines : List (List ℕ)) (line : List ℕ) (seen own : List (List ℕ)) (text : List ℕ) → AreTold tag state lines seen text → Asks tag (item_of (state_from state lines) line) own →
-    AreTold tag state (lines ++ line ∷ []) (seen ++ own) (text ++ told_for tag (item_of (state_from state lines) line) own)
-told_push tag state [] line seen own text (none, silent) asks =
-    let reply = told_for tag (item_of state line) own in
+told_push : (who : Speaker) (state : ClientState) (lines : List (List ℕ)) (line : List ℕ) (seen own : List (List ℕ)) (text : List ℕ) → AreTold who state lines seen text → Asks who (item_of (state_from state lines) line) own →
+    AreTold who state (lines ++ line ∷ []) (seen ++ own) (text ++ told_for who (item_of (state_from state lines) line) own)
+told_push who state [] line seen own text (none, silent) asks =
+    let reply = told_for who (item_of state line) own in
     (own, [], [], asks, ap (λ s. s ++ own) none ∙ sym (append-nil own), ap (λ t. t ++ reply) silent ∙ sym (append-nil reply), (refl, refl))
-told_push tag state (x ∷ lines) line seen own text (first, others, later, asked, see, tell, rest) asks =
-    let reply = told_for tag (item_of (state_from (state_after state x) lines) line) own in (
+told_push who state (x ∷ lines) line seen own text (first, others, later, asked, see, tell, rest) asks =
+    let reply = told_for who (item_of (state_from (state_after state x) lines) line) own in (
       first,
       others ++ own,
       later ++ reply,
       asked,
       ap (λ s. s ++ own) see ∙ append_assoc first others own,
-      ap (λ t. t ++ reply) tell ∙ append_assoc (told_for tag (item_of state x) first) later reply,
-      told_push tag (state_after state x) lines line others own later rest asks,
+      ap (λ t. t ++ reply) tell ∙ append_assoc (told_for who (item_of state x) first) later reply,
+      told_push who (state_after state x) lines line others own later rest asks,
     )
 
 kept_append : (lines more : List (List ℕ)) → map kept_of (lines ++ more) ≡ map kept_of lines ++ map kept_of more
@@ -102,21 +103,21 @@ keeps_on old new ahead ahead_then same keeps =
     subst K (sym same) (keeps_ahead old new ahead keeps)
 
 -- the lines so far were answered
-pub record Progress (tag : List ℕ) (state : ClientState) (client client_now requests requests_now replies replies_now : Option (List ℕ)) (kept : List ℕ) (output output_now : Option (List ℕ)) (state_now : ClientState) : Type 0 where
+pub record Progress (who : Speaker) (state : ClientState) (client client_now requests requests_now replies replies_now : Option (List ℕ)) (kept : List ℕ) (output output_now : Option (List ℕ)) (state_now : ClientState) : Type 0 where
   pub lines : List (List ℕ)
   pub are_lines : list_all is_one_line lines ≡ true
   pub read : Consumes client client_now (flat_map with_feed lines)
-  pub handed : Appends requests requests_now (all_handed tag state (map kept_of lines))
+  pub handed : Appends requests requests_now (all_handed who state (map kept_of lines))
   pub seen : List (List ℕ)
   pub saw : HasSeen replies replies_now kept seen
   pub text : List ℕ
-  pub told : AreTold tag state (map kept_of lines) (map kept_of seen) text
+  pub told : AreTold who state (map kept_of lines) (map kept_of seen) text
   pub written : Appends output output_now text
   pub is_at : state_now ≡ state_from state (map kept_of lines)
 
-pub progress_none : (tag : List ℕ) (state : ClientState) (client requests replies output : Option (List ℕ)) (ahead replies_ahead kept : List ℕ) → ahead ≡ [] → replies_ahead ≡ [] → IsKept kept [] →
-    Progress tag state client (prepend_known ahead client) requests requests replies (prepend_known replies_ahead replies) kept output output state
-progress_none tag state client requests replies output ahead replies_ahead kept none nothing begins = record {
+pub progress_none : (who : Speaker) (state : ClientState) (client requests replies output : Option (List ℕ)) (ahead replies_ahead kept : List ℕ) → ahead ≡ [] → replies_ahead ≡ [] → IsKept kept [] →
+    Progress who state client (prepend_known ahead client) requests requests replies (prepend_known replies_ahead replies) kept output output state
+progress_none who state client requests replies output ahead replies_ahead kept none nothing begins = record {
   lines = [];
   are_lines = refl;
   read = nothing_ahead client ahead none;
@@ -132,38 +133,38 @@ progress_none tag state client requests replies output ahead replies_ahead kept 
 abbrev more_lines : List (List ℕ) → List ℕ → List (List ℕ)
 more_lines lines part = lines ++ part ∷ []
 
-lines_answered : (tag : List ℕ) (state state_now : ClientState) (lines seen own : List (List ℕ)) (part line text told : List ℕ) → state_now ≡ state_from state (map kept_of lines) → line ≡ kept_of part → AreTold tag state (map kept_of lines) (map kept_of seen) text →
-    Asks tag (item_of state_now line) (map kept_of own) → told ≡ told_for tag (item_of state_now line) (map kept_of own) → AreTold tag state (map kept_of (more_lines lines part)) (map kept_of (seen ++ own)) (text ++ told)
-lines_answered tag state state_now lines seen own part line text told at is before asks told_is =
+lines_answered : (who : Speaker) (state state_now : ClientState) (lines seen own : List (List ℕ)) (part line text told : List ℕ) → state_now ≡ state_from state (map kept_of lines) → line ≡ kept_of part → AreTold who state (map kept_of lines) (map kept_of seen) text →
+    Asks who (item_of state_now line) (map kept_of own) → told ≡ told_for who (item_of state_now line) (map kept_of own) → AreTold who state (map kept_of (more_lines lines part)) (map kept_of (seen ++ own)) (text ++ told)
+lines_answered who state state_now lines seen own part line text told at is before asks told_is =
     let last = state_from state (map kept_of lines) in
     let item : item_of state_now line ≡ item_of last (kept_of part) = ap (λ s. item_of s line) at ∙ ap (item_of last) is in
-    let asked : Asks tag (item_of last (kept_of part)) (map kept_of own) = (let P : _ → Type 0 = λ i. Asks tag i (map kept_of own) in subst P item asks) in
-    let all = told_push tag state (map kept_of lines) (kept_of part) (map kept_of seen) (map kept_of own) text before asked in
-    let L : List (List ℕ) → Type 0 = λ ls. AreTold tag state ls (map kept_of (seen ++ own)) (text ++ told) in
-    let S : List (List ℕ) → Type 0 = λ s. AreTold tag state (map kept_of lines ++ kept_of part ∷ []) s (text ++ told) in
-    let T : List ℕ → Type 0 = λ t. AreTold tag state (map kept_of lines ++ kept_of part ∷ []) (map kept_of seen ++ map kept_of own) (text ++ t) in
-    let same : told ≡ told_for tag (item_of last (kept_of part)) (map kept_of own) = told_is ∙ ap (λ i. told_for tag i (map kept_of own)) item in
+    let asked : Asks who (item_of last (kept_of part)) (map kept_of own) = (let P : _ → Type 0 = λ i. Asks who i (map kept_of own) in subst P item asks) in
+    let all = told_push who state (map kept_of lines) (kept_of part) (map kept_of seen) (map kept_of own) text before asked in
+    let L : List (List ℕ) → Type 0 = λ ls. AreTold who state ls (map kept_of (seen ++ own)) (text ++ told) in
+    let S : List (List ℕ) → Type 0 = λ s. AreTold who state (map kept_of lines ++ kept_of part ∷ []) s (text ++ told) in
+    let T : List ℕ → Type 0 = λ t. AreTold who state (map kept_of lines ++ kept_of part ∷ []) (map kept_of seen ++ map kept_of own) (text ++ t) in
+    let same : told ≡ told_for who (item_of last (kept_of part)) (map kept_of own) = told_is ∙ ap (λ i. told_for who i (map kept_of own)) item in
     subst L (sym (kept_push lines part)) (subst S (sym (kept_append seen own)) (subst T (sym same) all))
 
-lines_handed : (tag : List ℕ) (state state_now : ClientState) (lines : List (List ℕ)) (part line : List ℕ) → state_now ≡ state_from state (map kept_of lines) → line ≡ kept_of part →
-    all_handed tag state (map kept_of (more_lines lines part)) ≡ all_handed tag state (map kept_of lines) ++ handed_for tag (item_of state_now line)
-lines_handed tag state state_now lines part line at is =
+lines_handed : (who : Speaker) (state state_now : ClientState) (lines : List (List ℕ)) (part line : List ℕ) → state_now ≡ state_from state (map kept_of lines) → line ≡ kept_of part →
+    all_handed who state (map kept_of (more_lines lines part)) ≡ all_handed who state (map kept_of lines) ++ handed_for who (item_of state_now line)
+lines_handed who state state_now lines part line at is =
     let last = state_from state (map kept_of lines) in
-    ap (all_handed tag state) (kept_push lines part)
-    ∙ (handed_push tag state (map kept_of lines) (kept_of part)
-    ∙ ap (λ i. all_handed tag state (map kept_of lines) ++ handed_for tag i) (sym (ap (λ s. item_of s line) at ∙ ap (item_of last) is)))
+    ap (all_handed who state) (kept_push lines part)
+    ∙ (handed_push who state (map kept_of lines) (kept_of part)
+    ∙ ap (λ i. all_handed who state (map kept_of lines) ++ handed_for who i) (sym (ap (λ s. item_of s line) at ∙ ap (item_of last) is)))
 
 lines_read : (client client_now client_then : Option (List ℕ)) (lines : List (List ℕ)) (part : List ℕ) → Consumes client client_now (flat_map with_feed lines) → Consumes client_now client_then (with_feed part) → Consumes client client_then (flat_map with_feed (more_lines lines part))
 lines_read client client_now client_then lines part before ended =
     let C : List ℕ → Type 0 = λ bytes. Consumes client client_then bytes in
     subst C (sym (whole_lines lines part)) (Consumes-trans client client_now client_then (flat_map with_feed lines) (with_feed part) before ended)
 
-module _ (tag : List ℕ) (state : ClientState) (client client_now requests requests_now replies replies_now : Option (List ℕ)) (kept : List ℕ) (output output_now : Option (List ℕ)) (state_now : ClientState)
-    (p : Progress tag state client client_now requests requests_now replies replies_now kept output output_now state_now) where
+module _ (who : Speaker) (state : ClientState) (client client_now requests requests_now replies replies_now : Option (List ℕ)) (kept : List ℕ) (output output_now : Option (List ℕ)) (state_now : ClientState)
+    (p : Progress who state client client_now requests requests_now replies replies_now kept output output_now state_now) where
   -- one more line is answered
   pub progress_more : (client_then client_next requests_next replies_next : Option (List ℕ)) (begun line kept_next : List ℕ) (output_then output_next left left_then : Option (List ℕ)) (state_next : ClientState) → IsKept begun [] → HasLine client_now client_then begun line → Appends output_now output_then [] →
-      TakesTurn tag state_now line requests_now requests_next replies_now replies_next kept_next left left_then output_then output_next → Keeps client_then client_next → state_next ≡ state_after state_now line →
-      Progress tag state client client_next requests requests_next replies replies_next kept_next output output_next state_next
+      TakesTurn who state_now line requests_now requests_next replies_now replies_next kept_next left left_then output_then output_next → Keeps client_then client_next → state_next ≡ state_after state_now line →
+      Progress who state client client_next requests requests_next replies replies_next kept_next output output_next state_next
   progress_more client_then client_next requests_next replies_next begun line kept_next output_then output_next left left_then state_next begins h silent t keeps after =
       let is : line ≡ kept_of h.part = h.line [] begins in
       let last = state_from state (map kept_of p.lines) in
@@ -172,32 +173,32 @@ module _ (tag : List ℕ) (state : ClientState) (client client_now requests requ
         lines = more_lines p.lines h.part;
         are_lines = lines_push p.lines h.part p.are_lines h.one;
         read = Consumes-kept client client_then client_next _ (lines_read client client_now client_then p.lines h.part p.read h.consumes) keeps;
-        handed = subst A (sym (lines_handed tag state state_now p.lines h.part line p.is_at is)) (Appends-trans requests requests_now requests_next _ _ p.handed t.answers.handed);
+        handed = subst A (sym (lines_handed who state state_now p.lines h.part line p.is_at is)) (Appends-trans requests requests_now requests_next _ _ p.handed t.answers.handed);
         seen = p.seen ++ t.answers.seen;
         saw = seen_append replies replies_now replies_next kept kept_next p.seen t.answers.seen p.saw t.answers.saw;
         text = p.text ++ t.told;
-        told = lines_answered tag state state_now p.lines p.seen t.answers.seen h.part line p.text t.told p.is_at is p.told t.answers.asks t.answers.told_is;
+        told = lines_answered who state state_now p.lines p.seen t.answers.seen h.part line p.text t.told p.is_at is p.told t.answers.asks t.answers.told_is;
         written = Appends-trans output output_then output_next p.text t.told (appends_none output output_now output_then p.text p.written silent) t.wrote;
         is_at = after ∙ (ap (λ s. state_after s line) p.is_at ∙ (ap (state_after last) is ∙ (sym (state_push state (map kept_of p.lines) (kept_of h.part)) ∙ sym (ap (state_from state) (kept_push p.lines h.part)))));
       }
 
-  -- the same, said of the service's own tag
-  pub progress_turn : (own : List ℕ) (client_then client_next requests_next replies_next : Option (List ℕ)) (begun line kept_next : List ℕ) (output_then output_next left left_then : Option (List ℕ)) (state_next : ClientState) → own ≡ tag → IsKept begun [] → HasLine client_now client_then begun line → Appends output_now output_then [] →
+  -- the same, said of the service's own who
+  pub progress_turn : (own : Speaker) (client_then client_next requests_next replies_next : Option (List ℕ)) (begun line kept_next : List ℕ) (output_then output_next left left_then : Option (List ℕ)) (state_next : ClientState) → own ≡ who → IsKept begun [] → HasLine client_now client_then begun line → Appends output_now output_then [] →
       TakesTurn own state_now line requests_now requests_next replies_now replies_next kept_next left left_then output_then output_next → Keeps client_then client_next → state_next ≡ state_after state_now line →
-      Progress tag state client client_next requests requests_next replies replies_next kept_next output output_next state_next
+      Progress who state client client_next requests requests_next replies replies_next kept_next output output_next state_next
   progress_turn own client_then client_next requests_next replies_next begun line kept_next output_then output_next left left_then state_next same begins h silent t keeps after =
-      let T : List ℕ → Type 0 = λ o. TakesTurn o state_now line requests_now requests_next replies_now replies_next kept_next left left_then output_then output_next in
+      let T : Speaker → Type 0 = λ o. TakesTurn o state_now line requests_now requests_next replies_now replies_next kept_next left left_then output_then output_next in
       progress_more client_then client_next requests_next replies_next begun line kept_next output_then output_next left left_then state_next begins h silent (subst T same t) keeps after
 
   -- it ends between lines
-  pub stops_between : (output_next : Option (List ℕ)) → Appends output_now output_next [] → HasServed tag state client requests requests_now replies output output_next
+  pub stops_between : (output_next : Option (List ℕ)) → Appends output_now output_next [] → HasServed who state client requests requests_now replies output output_next
   stops_between output_next silent =
       let C : List ℕ → Type 0 = λ bytes. Consumes client client_now bytes in
       let S : List ℕ → Type 0 = λ bytes. Consumes replies replies_now bytes in
       record {
         lines = p.lines;
         read = record { left = client_now; more = []; consumes = subst C (sym (append-nil (flat_map with_feed p.lines))) p.read; are_lines = p.are_lines };
-        handed = (length (all_handed tag state (map kept_of p.lines)), appends_whole requests requests_now _ p.handed);
+        handed = (length (all_handed who state (map kept_of p.lines)), appends_whole requests requests_now _ p.handed);
         seen = p.seen;
         followed = record { left = replies_now; more = []; consumes = subst S (sym (append-nil (flat_map with_feed p.seen))) p.saw.consumes; are_lines = p.saw.are_lines };
         answered = p.lines;
@@ -211,7 +212,7 @@ module _ (tag : List ℕ) (state : ClientState) (client client_now requests requ
 
   -- the client was answered a beginning
   pub stops_telling : (client_then requests_next replies_next : Option (List ℕ)) (begun line kept_next : List ℕ) (output_then output_next : Option (List ℕ)) → IsKept begun [] → HasLine client_now client_then begun line → Appends output_now output_then [] →
-      TellsPart tag state_now line requests_now requests_next replies_now replies_next kept_next output_then output_next → HasServed tag state client requests requests_next replies output output_next
+      TellsPart who state_now line requests_now requests_next replies_now replies_next kept_next output_then output_next → HasServed who state client requests requests_next replies output output_next
   stops_telling client_then requests_next replies_next begun line kept_next output_then output_next begins h silent t =
       let is : line ≡ kept_of h.part = h.line [] begins in
       let lines = more_lines p.lines h.part in
@@ -223,32 +224,32 @@ module _ (tag : List ℕ) (state : ClientState) (client client_now requests requ
       record {
         lines = lines;
         read = record { left = client_then; more = []; consumes = subst C (sym (append-nil (flat_map with_feed lines))) (lines_read client client_now client_then p.lines h.part p.read h.consumes); are_lines = lines_push p.lines h.part p.are_lines h.one };
-        handed = (length (all_handed tag state (map kept_of lines)), appends_whole requests requests_next _ (subst A (sym (lines_handed tag state state_now p.lines h.part line p.is_at is)) (Appends-trans requests requests_now requests_next _ _ p.handed t.answers.handed)));
+        handed = (length (all_handed who state (map kept_of lines)), appends_whole requests requests_next _ (subst A (sym (lines_handed who state state_now p.lines h.part line p.is_at is)) (Appends-trans requests requests_now requests_next _ _ p.handed t.answers.handed)));
         seen = seen;
         followed = record { left = replies_next; more = []; consumes = subst S (sym (append-nil (flat_map with_feed seen))) saw.consumes; are_lines = saw.are_lines };
         answered = lines;
         others = [];
         are = sym (append-nil lines);
         text = p.text ++ t.told;
-        told = lines_answered tag state state_now p.lines p.seen t.answers.seen h.part line p.text t.told p.is_at is p.told t.answers.asks t.answers.told_is;
+        told = lines_answered who state state_now p.lines p.seen t.answers.seen h.part line p.text t.told p.is_at is p.told t.answers.asks t.answers.told_is;
         written = length p.text + t.written;
         output = appends_part output output_then output_next p.text t.told t.written (appends_none output output_now output_then p.text p.written silent) t.wrote;
       }
 
   -- the client was answered nothing
   pub stops_asking : (client_then requests_next : Option (List ℕ)) (begun line : List ℕ) (output_then output_next : Option (List ℕ)) → IsKept begun [] → HasLine client_now client_then begun line → Appends output_now output_then [] →
-      TellsNothing tag state_now line requests_now requests_next output_then output_next → HasServed tag state client requests requests_next replies output output_next
+      TellsNothing who state_now line requests_now requests_next output_then output_next → HasServed who state client requests requests_next replies output output_next
   stops_asking client_then requests_next begun line output_then output_next begins h silent t =
       let is : line ≡ kept_of h.part = h.line [] begins in
       let lines = more_lines p.lines h.part in
-      let before = all_handed tag state (map kept_of p.lines) in
+      let before = all_handed who state (map kept_of p.lines) in
       let C : List ℕ → Type 0 = λ bytes. Consumes client client_then bytes in
       let S : List ℕ → Type 0 = λ bytes. Consumes replies replies_now bytes in
       let A : List ℕ → Type 0 = λ bytes. Appends requests requests_next (take (length before + t.handed.0) bytes) in
       record {
         lines = lines;
         read = record { left = client_then; more = []; consumes = subst C (sym (append-nil (flat_map with_feed lines))) (lines_read client client_now client_then p.lines h.part p.read h.consumes); are_lines = lines_push p.lines h.part p.are_lines h.one };
-        handed = (length before + t.handed.0, subst A (sym (lines_handed tag state state_now p.lines h.part line p.is_at is)) (appends_part requests requests_now requests_next before (handed_for tag (item_of state_now line)) t.handed.0 p.handed t.handed.1));
+        handed = (length before + t.handed.0, subst A (sym (lines_handed who state state_now p.lines h.part line p.is_at is)) (appends_part requests requests_now requests_next before (handed_for who (item_of state_now line)) t.handed.0 p.handed t.handed.1));
         seen = p.seen;
         followed = record { left = replies_now; more = []; consumes = subst S (sym (append-nil (flat_map with_feed p.seen))) p.saw.consumes; are_lines = p.saw.are_lines };
         answered = p.lines;
@@ -260,17 +261,17 @@ module _ (tag : List ℕ) (state : ClientState) (client client_now requests requ
         output = appends_whole output output_next p.text (appends_none output output_then output_next p.text (appends_none output output_now output_then p.text p.written silent) t.wrote);
       }
 
-  pub stops_turn : (own : List ℕ) (client_then requests_next replies_next : Option (List ℕ)) (begun line kept_next : List ℕ) (output_then output_next : Option (List ℕ)) → own ≡ tag → IsKept begun [] → HasLine client_now client_then begun line → Appends output_now output_then [] →
-      TellsPart own state_now line requests_now requests_next replies_now replies_next kept_next output_then output_next ⊎ TellsNothing own state_now line requests_now requests_next output_then output_next → HasServed tag state client requests requests_next replies output output_next
+  pub stops_turn : (own : Speaker) (client_then requests_next replies_next : Option (List ℕ)) (begun line kept_next : List ℕ) (output_then output_next : Option (List ℕ)) → own ≡ who → IsKept begun [] → HasLine client_now client_then begun line → Appends output_now output_then [] →
+      TellsPart own state_now line requests_now requests_next replies_now replies_next kept_next output_then output_next ⊎ TellsNothing own state_now line requests_now requests_next output_then output_next → HasServed who state client requests requests_next replies output output_next
   stops_turn own client_then requests_next replies_next begun line kept_next output_then output_next same begins h silent (inl t) =
-      let T : List ℕ → Type 0 = λ o. TellsPart o state_now line requests_now requests_next replies_now replies_next kept_next output_then output_next in
+      let T : Speaker → Type 0 = λ o. TellsPart o state_now line requests_now requests_next replies_now replies_next kept_next output_then output_next in
       stops_telling client_then requests_next replies_next begun line kept_next output_then output_next begins h silent (subst T same t)
   stops_turn own client_then requests_next replies_next begun line kept_next output_then output_next same begins h silent (inr t) =
-      let T : List ℕ → Type 0 = λ o. TellsNothing o state_now line requests_now requests_next output_then output_next in
+      let T : Speaker → Type 0 = λ o. TellsNothing o state_now line requests_now requests_next output_then output_next in
       stops_asking client_then requests_next begun line output_then output_next begins h silent (subst T same t)
 
   -- the client has said all
-  pub serves_all : (client_end : Option (List ℕ)) (begun kept_end : List ℕ) (output_next : Option (List ℕ)) → HasPaused client_now client_end begun kept_end → Appends output_now output_next [] → HasServedAll tag state client requests requests_now replies output output_next
+  pub serves_all : (client_end : Option (List ℕ)) (begun kept_end : List ℕ) (output_next : Option (List ℕ)) → HasPaused client_now client_end begun kept_end → Appends output_now output_next [] → HasServedAll who state client requests requests_now replies output output_next
   serves_all client_end begun kept_end output_next h silent =
       let S : List ℕ → Type 0 = λ bytes. Consumes replies replies_now bytes in
       let all = flat_map with_feed p.lines ++ h.part in
@@ -287,7 +288,7 @@ module _ (tag : List ℕ) (state : ClientState) (client client_now requests requ
       }
 
 -- nothing was done
-pub served_none : (tag : List ℕ) (state : ClientState) (client requests replies output : Option (List ℕ)) (replies_ahead kept : List ℕ) → replies_ahead ≡ [] → IsKept kept [] → HasServed tag state client requests requests replies output output
-served_none tag state client requests replies output replies_ahead kept none begins =
-    stops_between tag state client (prepend_known [] client) requests requests replies (prepend_known replies_ahead replies) kept output output state
-    (progress_none tag state client requests replies output [] replies_ahead kept refl none begins) output (Appends-nil output)
+pub served_none : (who : Speaker) (state : ClientState) (client requests replies output : Option (List ℕ)) (replies_ahead kept : List ℕ) → replies_ahead ≡ [] → IsKept kept [] → HasServed who state client requests requests replies output output
+served_none who state client requests replies output replies_ahead kept none begins =
+    stops_between who state client (prepend_known [] client) requests requests replies (prepend_known replies_ahead replies) kept output output state
+    (progress_none who state client requests replies output [] replies_ahead kept refl none begins) output (Appends-nil output)

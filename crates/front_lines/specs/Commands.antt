@@ -3,15 +3,18 @@ use Rattle.std.specs.Prelude.{ℕ, ◌+◌, Bool, true, false, ◌||◌, List, [
 use Rattle.std.specs.Str.{bytes_eq}
 use Rattle.line_text.specs.Words.{words_of}
 use Rattle.tagged_lines.specs.Tags.{tagged_text, with_feed}
-use Rattle.front_lines.specs.declared.client_text.TheConstants.{MAX_COMMAND, MAX_TEXT}
+use Rattle.front_lines.specs.Speakers.{with_marks, tag_in}
+use Rattle.front_lines.specs.declared.speaker.Speaker.{Speaker}
+use Rattle.front_lines.specs.declared.speaker.Speaker.TheVariants.{Operator, Tenant}
+use Rattle.front_lines.specs.declared.client_text.TheConstants.{MAX_COMMAND, MAX_OPERATOR, MAX_TEXT}
 use Rattle.front_lines.specs.declared.client_text.Stage.{Stage}
-use Rattle.front_lines.specs.declared.client_text.Stage.TheVariants.{Outside, Within, TooLong}
+use Rattle.front_lines.specs.declared.client_text.Stage.TheVariants.{Lines, Outside, Within, TooLong}
 use Rattle.front_lines.specs.declared.client_text.Form.{Form}
 use Rattle.front_lines.specs.declared.client_text.Form.TheVariants.{Blank, Begins, Whole}
 use Rattle.front_lines.specs.declared.client_text.Taken.{Taken}
 use Rattle.front_lines.specs.declared.client_text.Taken.TheVariants.{Command, Nothing as TakenNothing, Refused}
 use Rattle.front_lines.specs.declared.refusal.Refusal.{Refusal}
-use Rattle.front_lines.specs.declared.refusal.Refusal.TheVariants.{LineTooLong, TextTooLong}
+use Rattle.front_lines.specs.declared.refusal.Refusal.TheVariants.{EndsInput, LineTooLong, TextTooLong}
 
 -- where a client is, and the lines so far of the netlist that it is in, each ended by LF
 pub record ClientState : Type 0 where
@@ -20,6 +23,11 @@ pub record ClientState : Type 0 where
 
 abbrev pub outside : ClientState
 outside = record { stage = Outside; text = [] }
+
+-- where a client is that has said nothing
+abbrev pub begins_as : Speaker → ClientState
+begins_as (Tenant tag) = outside
+begins_as (Operator id) = record { stage = Lines; text = [] }
 
 abbrev pub within : List ℕ → ClientState
 within text = record { stage = Within; text = text }
@@ -52,6 +60,11 @@ is_end line = bytes_eq line (46 ∷ []) || bytes_eq line (46 ∷ 13 ∷ [])
 abbrev pub pushed : List ℕ → Item
 pushed line = HandOver (with_feed line)
 
+abbrev pub item_of_any : Form → List ℕ → Item
+item_of_any Blank line = Nothing
+item_of_any Begins line = pushed line
+item_of_any Whole line = pushed line
+
 abbrev pub item_of_form : Form → List ℕ → Item
 item_of_form Blank line = Nothing
 item_of_form Begins line = Nothing
@@ -66,10 +79,15 @@ item_within text line = if is_end line then HandOver (text ++ with_feed line) el
 abbrev pub item_too_long : List ℕ → Item
 item_too_long line = if is_end line then Refuse TextTooLong else Nothing
 
+-- the operator has no netlists. His line `end` would end the service, and has no reply
+abbrev pub item_operator : List ℕ → Item
+item_operator line = if nat_lt MAX_OPERATOR (length line) then Refuse LineTooLong else if bytes_eq line (codes "end") then Refuse EndsInput else item_of_any (form_of line) line
+
 abbrev pub item_at : Stage → List ℕ → List ℕ → Item
 item_at Outside text line = item_outside line
 item_at Within text line = item_within text line
 item_at TooLong text line = item_too_long line
+item_at Lines text line = item_operator line
 
 -- what a line completes
 abbrev pub item_of : ClientState → List ℕ → Item
@@ -95,6 +113,7 @@ abbrev pub state_at : Stage → List ℕ → List ℕ → ClientState
 state_at Outside text line = after_outside text line
 state_at Within text line = after_within text line
 state_at TooLong text line = after_too_long text line
+state_at Lines text line = record { stage = Lines; text = text }
 
 -- where a client is after a line
 abbrev pub state_after : ClientState → List ℕ → ClientState
@@ -106,12 +125,12 @@ state_from state [] = state
 state_from state (line ∷ lines) = state_from (state_after state line) lines
 
 -- what a line hands over: each line of the command that it completes, with the tag in front
-abbrev pub handed_for : List ℕ → Item → List ℕ
-handed_for tag Nothing = []
-handed_for tag (HandOver command) = tagged_text tag command
-handed_for tag (Refuse refusal) = []
+abbrev pub handed_for : Speaker → Item → List ℕ
+handed_for who Nothing = []
+handed_for who (HandOver command) = tagged_text (tag_in who) (with_marks who command)
+handed_for who (Refuse refusal) = []
 
 -- all that lines hand over
-abbrev pub handed : List ℕ → ClientState → List (List ℕ) → List ℕ
-handed tag state [] = []
-handed tag state (line ∷ lines) = handed_for tag (item_of state line) ++ handed tag (state_after state line) lines
+abbrev pub handed : Speaker → ClientState → List (List ℕ) → List ℕ
+handed who state [] = []
+handed who state (line ∷ lines) = handed_for who (item_of state line) ++ handed who (state_after state line) lines

@@ -2,3 +2,4 @@ pub mod Commands
 pub mod Exchanges
 pub mod LinesRead
 pub mod Serving
+pub mod Speakers

@@ -1,9 +1,10 @@
 //! What a client says, separated into commands.
 ghost use Rattle.std.specs.Prelude.{◌≡◌, ◌++◌, IfOk, OnOk};
-ghost use Rattle.front_lines.specs.Commands.{after_outside, after_within, form_of, is_end, item_in, item_of, item_outside, item_within, pushed, state_after};
+ghost use Rattle.front_lines.specs.Commands.{after_outside, after_within, form_of, is_end, item_in, item_of, item_operator, item_outside, item_within, pushed, state_after};
 ghost use Rattle.tagged_lines.specs.Tags.{with_feed};
 
 use crate::refusal::Refusal;
+use crate::speaker::{Speaker, push_line};
 use line_text::append_words;
 use std::alloc::{AllocError, Global};
 use std::marker::Model;
@@ -17,6 +18,9 @@ pub const MAX_COMMAND: usize = 4_000;
 /// netlist that a service accepts has at most 1,048,576 bytes without CRs.
 pub const MAX_TEXT: usize = 2_101_248;
 
+/// The most bytes of a line of the operator. With its marks it has at most 4,096 bytes.
+pub const MAX_OPERATOR: usize = 1_000;
+
 /// Where a client is.
 #[derive(Clone, Copy, PartialEq, Eq)]
 pub enum Stage {
@@ -26,6 +30,8 @@ pub enum Stage {
     Within,
     /// Its next line is one of a netlist that is too long already.
     TooLong,
+    /// It is the operator: each of its lines is a command.
+    Lines,
 }
 
 /// What a line completes.
@@ -86,32 +92,27 @@ fn form_of(alloc: Global, line: &[u8]) -> Result<Form, AllocError>
     }
 }
 
-/// Appends a line and its LF.
-fn push_line(text: &mut Vec<u8>, line: &[u8]) -> Result<(), AllocError>
-    ensures { OnOk result (text.new.items ≡ text.old.items ++ with_feed line.now) }
-{
-    text.extend_from_slice(line)?;
-    text.push(b'\n')?;
-    Ok(())
-}
-
 impl ClientText {
-    ghost use Rattle.front_lines.specs.Commands.{outside};
+    ghost use Rattle.front_lines.specs.Commands.{begins_as};
 
     /// A client that has said nothing.
-    pub fn new(alloc: Global) -> Self
-        ensures { result ≡ outside }
+    pub fn new(alloc: Global, speaker: &Speaker) -> Self
+        ensures { result ≡ begins_as speaker.now }
     {
+        let stage = match speaker {
+            Speaker::Tenant(_) => Stage::Outside,
+            Speaker::Operator(_) => Stage::Lines,
+        };
         ClientText {
             alloc,
-            stage: Stage::Outside,
+            stage,
             text: Vec::new(alloc),
         }
     }
 
     /// Whether the client is within a netlist.
     pub fn is_within(&self) -> bool {
-        self.stage != Stage::Outside
+        matches!(self.stage, Stage::Within | Stage::TooLong)
     }
 
     /// Takes the client's next line, without its LF.
@@ -126,6 +127,7 @@ impl ClientText {
             Stage::Outside => self.take_outside(line),
             Stage::Within => self.take_within(line),
             Stage::TooLong => Ok(self.take_too_long(line)),
+            Stage::Lines => take_operator(self.alloc, line),
         }
     }
 
@@ -182,6 +184,22 @@ impl ClientText {
         }
         Taken::Nothing
     }
+}
+
+/// What a line of the operator completes.
+fn take_operator(alloc: Global, line: &[u8]) -> Result<Taken, AllocError>
+    ensures { IfOk result (λ taken. item_in taken ≡ item_operator line.now) }
+{
+    if line.len() > MAX_OPERATOR {
+        return Ok(Taken::Refused(Refusal::LineTooLong));
+    }
+    if line == b"end".as_slice() {
+        return Ok(Taken::Refused(Refusal::EndsInput));
+    }
+    if form_of(alloc, line)? == Form::Blank {
+        return Ok(Taken::Nothing);
+    }
+    whole_line(alloc, line)
 }
 
 /// The command of one line.

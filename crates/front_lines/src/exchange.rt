@@ -23,15 +23,15 @@ pub(crate) fn answer_line<H: Wait + Clock, Q: Requests + Drop, F: Dialogue + Dro
     line: &[u8],
 ) -> Result<Vec<u8>, FrontStop>
     requires { IsKept (line_of service.old.feed) [] }
-    ensures tag { service.new.tag ≡ service.old.tag }
+    ensures speaker { service.new.speaker ≡ service.old.speaker }
     ensures state { OnOk result (text.new ≡ state_after text.old line.now) }
-    ensures ok { IfOk result (λ told. Answers service.old.tag.items text.old line.now
+    ensures ok { IfOk result (λ told. Answers service.old.speaker text.old line.now
         (Q.contents service.old.requests) (Q.contents service.new.requests)
         (to_come service.old.feed (F.view service.old.replies))
         (to_come service.new.feed (F.view service.new.replies)) (line_of service.new.feed) told.items) }
     ensures err { OnErr result (HandsPart (Q.contents service.old.requests)
         (Q.contents service.new.requests)
-        (handed_for service.old.tag.items (item_of text.old line.now))) }
+        (handed_for service.old.speaker (item_of text.old line.now))) }
 {
     match text.take_line(line)? {
         Taken::Nothing => Ok(Vec::new(alloc)),
@@ -50,18 +50,18 @@ pub(crate) fn take_turn<H: Wait + Clock, D: Dialogue, Q: Requests + Drop, F: Dia
     client: &mut D,
 ) -> Result<(), FrontStop>
     requires { IsKept (line_of service.old.feed) [] }
-    ensures tag { service.new.tag ≡ service.old.tag }
+    ensures speaker { service.new.speaker ≡ service.old.speaker }
     ensures state { OnOk result (text.new ≡ state_after text.old line.now) }
-    ensures ok { OnOk result (TakesTurn service.old.tag.items text.old line.now
+    ensures ok { OnOk result (TakesTurn service.old.speaker text.old line.now
         (Q.contents service.old.requests) (Q.contents service.new.requests)
         (to_come service.old.feed (F.view service.old.replies))
         (to_come service.new.feed (F.view service.new.replies)) (line_of service.new.feed) (D.view client.old).remaining (D.view client.new).remaining
         (D.view client.old).output (D.view client.new).output) }
-    ensures err { OnErr result (TellsPart service.old.tag.items text.old line.now
+    ensures err { OnErr result (TellsPart service.old.speaker text.old line.now
         (Q.contents service.old.requests) (Q.contents service.new.requests)
         (to_come service.old.feed (F.view service.old.replies))
         (to_come service.new.feed (F.view service.new.replies)) (line_of service.new.feed) (D.view client.old).output (D.view client.new).output
-        ⊎ TellsNothing service.old.tag.items text.old line.now
+        ⊎ TellsNothing service.old.speaker text.old line.now
         (Q.contents service.old.requests) (Q.contents service.new.requests)
         (D.view client.old).output (D.view client.new).output) }
 {

@@ -7,10 +7,13 @@ use std::alloc::{AllocError, Global};
 /// Why nothing of what a client said is handed over.
 #[derive(Clone, Copy, PartialEq, Eq)]
 pub enum Refusal {
-    /// A line outside of netlists has more than [`MAX_COMMAND`](crate::MAX_COMMAND) bytes.
+    /// A line outside of netlists has more than [`MAX_COMMAND`](crate::MAX_COMMAND) bytes, or one
+    /// of the operator more than [`MAX_OPERATOR`](crate::MAX_OPERATOR).
     LineTooLong,
     /// A netlist has more than [`MAX_TEXT`](crate::MAX_TEXT) bytes.
     TextTooLong,
+    /// The line `end` of the operator, which would end the service, and has no reply.
+    EndsInput,
 }
 
 impl Refusal {
@@ -21,6 +24,9 @@ impl Refusal {
         match self {
             Refusal::LineTooLong => Vec::from_slice(alloc, b"front: the line is too long\n"),
             Refusal::TextTooLong => Vec::from_slice(alloc, b"front: the netlist is too long\n"),
+            Refusal::EndsInput => {
+                Vec::from_slice(alloc, b"front: say op end to the service itself\n")
+            }
         }
     }
 }

@@ -1,21 +1,22 @@
 //! A live service, as a front sees it.
-ghost use Rattle.std.specs.Prelude.{◌≡◌, ◌++◌, [], IfOk, OnErr, OnOk};
+ghost use Rattle.std.specs.Prelude.{◌≡◌, [], IfOk, OnErr, OnOk};
 ghost use Rattle.line_feed.specs.Feed.{line_of};
 ghost use Rattle.line_feed.specs.Pieces.{IsKept};
 ghost use Rattle.front_lines.specs.LinesRead.{to_come};
 ghost use Rattle.line_text.specs.Writing.{Writes};
 ghost use Rattle.tagged_lines.specs.Tags.{tagged_text};
-ghost use Rattle.front_lines.specs.Exchanges.{is_last, own_line};
+ghost use Rattle.front_lines.specs.Speakers.{with_marks, tag_in};
 ghost use Rattle.front_lines.specs.Serving.{HasReply};
 
 use crate::lines_read::await_line;
+use crate::speaker::Speaker;
 use dialogue::Dialogue;
 use line_feed::LineFeed;
 use line_text::{Failed, MemorySink};
 use std::alloc::{AllocError, Global};
 use std::sync::Wait;
 use std::time::Clock;
-use tagged_lines::{split_tag, write_tagged};
+use tagged_lines::write_tagged;
 
 /// Where commands are handed over.
 pub trait Requests {
@@ -56,56 +57,47 @@ impl From<AllocError> for FrontStop {
 }
 
 /// A live service, which is asked by lines with one tag. Its output, which has the replies to
-/// everybody, is read line by line. A front's tag must have an id that no other front's has.
+/// everybody, is read line by line.
 #[derive(Drop)]
 pub struct Service<Q: Requests + Drop, F: Dialogue + Drop> {
-    pub tag: Vec<u8>,
+    pub speaker: Speaker,
     pub requests: Q,
     pub replies: F,
     pub feed: LineFeed,
 }
 
-/// The lines of a command, each with the tag.
-fn tagged_command(alloc: Global, tag: &[u8], command: &[u8]) -> Result<Vec<u8>, AllocError>
-    ensures { IfOk result (λ lines. lines.items ≡ tagged_text tag.now command.now) }
+/// What is handed over for a command, each line with the tag.
+fn tagged_command(alloc: Global, speaker: &Speaker, command: &[u8]) -> Result<Vec<u8>, AllocError>
+    ensures { IfOk result (λ lines. lines.items ≡ tagged_text (tag_in speaker.now)
+        (with_marks speaker.now command.now)) }
 {
+    let text = speaker.with_marks(alloc, command)?;
     let mut lines = MemorySink::new(alloc);
-    match write_tagged(&mut lines, tag, command) {
+    let written = write_tagged(&mut lines, speaker.tag(), &text);
+    drop(text);
+    match written {
         Ok(()) => Ok(lines.into_bytes()),
         Err(_) => Err(AllocError),
     }
 }
 
-/// Appends what a line says to the client. Returns whether the reply is whole then.
-fn note_line(reply: &mut Vec<u8>, tag: &[u8], line: &[u8]) -> Result<bool, AllocError>
-    ensures text { OnOk result (reply.new.items ≡ reply.old.items ++ own_line tag.now line.now) }
-    ensures last { IfOk result (λ is_last_line. is_last_line ≡ is_last tag.now line.now) }
-{
-    let (word, rest) = split_tag(line);
-    if word == tag {
-        reply.extend_from_slice(rest)?;
-        reply.push(b'\n')?;
-    }
-    Ok(word == b"done".as_slice() && rest == tag)
-}
-
-/// Reads the service's output up to the end of the reply to the tag, and returns what its lines
-/// say to the client.
+/// Reads the service's output up to the end of a reply to the speaker, and returns what its lines
+/// say to him.
 pub(crate) fn take_reply<H: Wait + Clock, F: Dialogue>(
     rt: &H,
     alloc: Global,
-    tag: &[u8],
+    speaker: &Speaker,
     feed: &mut LineFeed,
     replies: &mut F,
 ) -> Result<Vec<u8>, FrontStop>
     requires { IsKept (line_of feed.old) [] }
-    ensures { IfOk result (λ reply. HasReply tag.now (to_come feed.old (F.view replies.old))
+    ensures { IfOk result (λ reply. HasReply speaker.now (to_come feed.old (F.view replies.old))
         (to_come feed.new (F.view replies.new)) (line_of feed.new) reply.items) }
 {
     let mut reply = Vec::new(alloc);
     for _ in rt.forever() {
         await_line(rt, feed, replies)?;
-        let is_whole = note_line(&mut reply, tag, feed.line())?;
+        let is_whole = speaker.note_line(&mut reply, feed.line())?;
         feed.begin_line();
         if is_whole {
             return Ok(reply);
@@ -115,6 +107,8 @@ pub(crate) fn take_reply<H: Wait + Clock, F: Dialogue>(
 }
 
 impl<Q: Requests + Drop, F: Dialogue + Drop> Service<Q, F> {
+    ghost use Rattle.front_lines.specs.Commands.{handed_for};
+    ghost use Rattle.front_lines.specs.Commands.Item.{HandOver};
     ghost use Rattle.front_lines.specs.Serving.{HandsPart, HasReply};
     ghost use Rattle.std.specs.Io.KnownBytes.{Appends};
 
@@ -126,21 +120,21 @@ impl<Q: Requests + Drop, F: Dialogue + Drop> Service<Q, F> {
         command: &[u8],
     ) -> Result<Vec<u8>, FrontStop>
         requires { IsKept (line_of self.old.feed) [] }
-        ensures tag { self.new.tag ≡ self.old.tag }
+        ensures speaker { self.new.speaker ≡ self.old.speaker }
         ensures handed { OnOk result (Appends (Q.contents self.old.requests)
-            (Q.contents self.new.requests) (tagged_text self.old.tag.items command.now)) }
-        ensures reply { IfOk result (λ reply. HasReply self.old.tag.items
+            (Q.contents self.new.requests) (handed_for self.old.speaker (HandOver command.now))) }
+        ensures reply { IfOk result (λ reply. HasReply self.old.speaker
             (to_come self.old.feed (F.view self.old.replies))
             (to_come self.new.feed (F.view self.new.replies)) (line_of self.new.feed) reply.items) }
         ensures fails { OnErr result (HandsPart (Q.contents self.old.requests)
-            (Q.contents self.new.requests) (tagged_text self.old.tag.items command.now)) }
+            (Q.contents self.new.requests) (handed_for self.old.speaker (HandOver command.now))) }
     {
-        let lines = tagged_command(alloc, &self.tag, command)?;
+        let lines = tagged_command(alloc, &self.speaker, command)?;
         let handed = self.requests.hand_over(&lines);
         drop(lines);
         if handed.is_err() {
             return Err(FrontStop::Requests);
         }
-        take_reply(rt, alloc, &self.tag, &mut self.feed, &mut self.replies)
+        take_reply(rt, alloc, &self.speaker, &mut self.feed, &mut self.replies)
     }
 }

@@ -28,11 +28,11 @@ pub fn serve_client<H: Wait + Clock, D: Dialogue, Q: Requests + Drop, F: Dialogu
     requires line { IsKept (line_of feed.old) [] }
     requires replies_ahead { ahead_of service.old.feed ≡ [] }
     requires replies_line { IsKept (line_of service.old.feed) [] }
-    ensures served { HasServed service.old.tag.items text.old (D.view client.old).remaining
+    ensures served { HasServed service.old.speaker text.old (D.view client.old).remaining
         (Q.contents service.old.requests) (Q.contents service.new.requests)
         (F.view service.old.replies).remaining (D.view client.old).output
         (D.view client.new).output }
-    ensures all { ServesAll service.old.tag.items text.old (D.view client.old).remaining
+    ensures all { ServesAll service.old.speaker text.old (D.view client.old).remaining
         (Q.contents service.old.requests) (Q.contents service.new.requests)
         (F.view service.old.replies).remaining (D.view client.old).output
         (D.view client.new).output result }

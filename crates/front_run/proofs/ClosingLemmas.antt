@@ -7,8 +7,9 @@ use Rattle.dialogue.specs.declared.dialogue.FailedDevice.{FailedDevice}
 use Rattle.dialogue.specs.History.{Fails, Happens, View, Writes}
 use Rattle.dialogue.specs.History.Event.{Told}
 use Rattle.line_feed.specs.Pieces.{IsKept}
-use Rattle.front_lines.specs.Commands.{outside}
+use Rattle.front_lines.specs.Commands.{begins_as}
 use Rattle.front_lines.specs.declared.service.FrontStop.{FrontStop}
+use Rattle.front_lines.specs.declared.speaker.Speaker.{Speaker}
 use Rattle.front_lines.specs.Serving.{HasServed, HasServedAll, ServesAll}
 use Rattle.front_lines.proofs.ServedLemmas.{appends_whole, served_none}
 use Rattle.front_run.specs.declared.closing.Closing.{Closing}
@@ -35,10 +36,10 @@ closes_part client client_then closing text fault is f =
     record { closing = closing; count = f.count; closes = subst A is (told_bytes client.output client_then.output (take f.count text) f.happens.told) }
 
 -- nothing is done
-pub serves_nothing : (tag : List ℕ) (client requests replies output : Option (List ℕ)) (replies_ahead kept : List ℕ) (outcome : Outcome) → replies_ahead ≡ [] → IsKept kept [] → outcome ≢ Done → Served tag client requests requests replies output output outcome
-serves_nothing tag client requests replies output replies_ahead kept outcome none begins fails = record {
+pub serves_nothing : (who : Speaker) (client requests replies output : Option (List ℕ)) (replies_ahead kept : List ℕ) (outcome : Outcome) → replies_ahead ≡ [] → IsKept kept [] → outcome ≢ Done → Served who client requests requests replies output output outcome
+serves_nothing who client requests replies output replies_ahead kept outcome none begins fails = record {
   output_then = output;
-  served = served_none tag outside client requests replies output replies_ahead kept none begins;
+  served = served_none who (begins_as who) client requests replies output replies_ahead kept none begins;
   closes = record { closing = Silent; count = 0; closes = Appends-nil output };
   all = λ done. absurd (fails done);
 }
@@ -47,6 +48,6 @@ pub closes_by : (client client_then : View) (closing : Closing) (text : List ℕ
 closes_by client client_then closing text (Ok u) is written = closes_all client client_then closing text is written.0
 closes_by client client_then closing text (Err fault) is written = closes_part client client_then closing text fault is written
 
-pub all_served : (tag : List ℕ) (client requests requests_new replies output output_new : Option (List ℕ)) (end : Result (Unit {0}) FrontStop) → IsOk end → ServesAll tag outside client requests requests_new replies output output_new end → HasServedAll tag outside client requests requests_new replies output output_new
-all_served tag client requests requests_new replies output output_new (Ok u) is all = all
-all_served tag client requests requests_new replies output output_new (Err stop) is all = absurd (cc)
+pub all_served : (who : Speaker) (client requests requests_new replies output output_new : Option (List ℕ)) (end : Result (Unit {0}) FrontStop) → IsOk end → ServesAll who (begins_as who) client requests requests_new replies output output_new end → HasServedAll who (begins_as who) client requests requests_new replies output output_new
+all_served who client requests requests_new replies output output_new (Ok u) is all = all
+all_served who client requests requests_new replies output output_new (Err stop) is all = absurd (cc)

@@ -1,7 +1,8 @@
 -- What a front promises.
 use Rattle.std.specs.Prelude.{ℕ, ◌≡◌, List, [], codes, take, Option}
 use Rattle.std.specs.Io.KnownBytes.{Appends}
-use Rattle.front_lines.specs.Commands.{outside}
+use Rattle.front_lines.specs.Commands.{begins_as}
+use Rattle.front_lines.specs.declared.speaker.Speaker.{Speaker}
 use Rattle.front_lines.specs.Serving.{HasServed, HasServedAll}
 use Rattle.front_run.specs.declared.closing.Closing.{Closing}
 use Rattle.front_run.specs.declared.closing.Closing.TheVariants.{Silent, NoLineEnd, NoTextEnd, NoService, NoMemory}
@@ -23,8 +24,8 @@ pub record Closes (output_then output_new : Option (List ℕ)) : Type 0 where
 
 -- a client was served, and then one line more was written at most. If the front has done all, all
 -- that the client's lines hand over was handed over, and all of its answer was written
-pub record Served (tag : List ℕ) (client requests requests_new replies output output_new : Option (List ℕ)) (outcome : Outcome) : Type 0 where
+pub record Served (who : Speaker) (client requests requests_new replies output output_new : Option (List ℕ)) (outcome : Outcome) : Type 0 where
   pub output_then : Option (List ℕ)
-  pub served : HasServed tag outside client requests requests_new replies output output_then
+  pub served : HasServed who (begins_as who) client requests requests_new replies output output_then
   pub closes : Closes output_then output_new
-  pub all : outcome ≡ Done → HasServedAll tag outside client requests requests_new replies output output_then
+  pub all : outcome ≡ Done → HasServedAll who (begins_as who) client requests requests_new replies output output_then

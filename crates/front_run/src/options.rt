@@ -1,8 +1,10 @@
 //! The command line.
-ghost use Rattle.std.specs.Prelude.{◌≡◌, true};
+ghost use Rattle.std.specs.Prelude.{◌≡◌, IfOk, true};
+ghost use Rattle.front_lines.specs.Speakers.{tag_in};
 ghost use Rattle.tagged_lines.specs.Tags.{is_tag};
 
 use clap::Error;
+use front_lines::Speaker;
 use option_words::{Given, OptionWord, Program, Takes, read_words, refusal};
 use std::alloc::{AllocError, Global};
 use std::convert::AsStr;
@@ -12,11 +14,12 @@ use tagged_lines::owner_of;
 const HELP: &str = "\
 Standard input and output are the client's. A client says lines without a tag, and reads
 the replies without it. A netlist is handed over when its `.` has come.
+The operator says lines without `op`. Each is handed over between two lines `op echo ID ..`.
 
 Status: 0 the client has said all, 1 a file or the client failed, 2 the options are refused,
   4 memory ran out
 
-Example: socat UNIX-LISTEN:alice.sock,fork SYSTEM:'fpgad_front --name alice --id $$ in replies'
+Example: socat -t9999 UNIX-LISTEN:al.sock,fork SYSTEM:'fpgad_front --name al --id $$ in replies'
 All of it: docs/LIVE.md";
 
 /// The program for its options.
@@ -29,7 +32,14 @@ const PROGRAM: Program = Program {
             name: "name",
             value_name: "NAME",
             help: "Whose lines these are, 1 to 32 letters, digits and `_`",
-            takes: Takes::GivenText,
+            takes: Takes::Text,
+            default: None,
+        },
+        OptionWord {
+            name: "operator",
+            value_name: "",
+            help: "They are the operator's, in place of --name",
+            takes: Takes::Nothing,
             default: None,
         },
         OptionWord {
@@ -60,17 +70,19 @@ const BAD_NAME: &str = "--name has 1 to 32 letters, digits and `_`";
 
 const BAD_ID: &str = "--id has 1 to 32 letters, digits, `-` and `_`";
 
+const NOBODY: &str = "give --name NAME or --operator, and not both";
+
 const MISSING: &str = "an option is missing";
 
 const NO_MEMORY: &str = "memory ran out";
 
-/// A command line: the tag of the client's lines, and the paths of the files.
+/// A command line: who the client speaks as, and the paths of the files.
 #[derive(Drop)]
 pub struct FrontLine<'a> {
-    pub tag: Vec<u8>,
+    pub speaker: Speaker,
     pub requests: &'a str,
     pub replies: &'a str,
-    ghost tag_lawful: { is_tag tag.items ≡ true },
+    ghost tag_lawful: { is_tag (tag_in speaker) ≡ true },
 }
 
 /// What these words say, the first being the program's name. An error is clap's; a request for help
@@ -87,31 +99,55 @@ pub fn read_line<'a, S: AsStr>(alloc: Global, words: &'a [S]) -> Result<FrontLin
 
 /// The command line that the options give, or why they are refused.
 fn line_of<'a>(alloc: Global, given: &Given<'a>) -> Result<FrontLine<'a>, &'static str> {
-    let name = given.text("name").ok_or(MISSING)?;
     let id = given.text("id").ok_or(MISSING)?;
     let requests = given.text("requests").ok_or(MISSING)?;
     let replies = given.text("replies").ok_or(MISSING)?;
+    match (given.text("name"), given.is_given("operator")) {
+        (Some(name), false) => Ok(FrontLine {
+            speaker: tenant(alloc, name, id)?,
+            requests,
+            replies,
+        }),
+        (None, true) => Ok(FrontLine {
+            speaker: operator(alloc, id)?,
+            requests,
+            replies,
+        }),
+        _ => Err(NOBODY),
+    }
+}
+
+/// The tenant of that name, on the connection with that id.
+fn tenant(alloc: Global, name: &str, id: &str) -> Result<Speaker, &'static str>
+    ensures { IfOk result (λ speaker. is_tag (tag_in speaker) ≡ true) }
+{
     if !is_name(name.as_bytes()) {
         return Err(BAD_NAME);
     }
-    match tag_of(alloc, name.as_bytes(), id.as_bytes()) {
-        Ok(tag) => line_with(tag, requests, replies),
+    Ok(Speaker::Tenant(tag_of(alloc, name, id)?))
+}
+
+/// The operator, on the connection with that id.
+fn operator(alloc: Global, id: &str) -> Result<Speaker, &'static str>
+    ensures { IfOk result (λ speaker. is_tag (tag_in speaker) ≡ true) }
+{
+    let tag = tag_of(alloc, "op", id)?;
+    drop(tag);
+    match Vec::from_slice(alloc, id.as_bytes()) {
+        Ok(id) => Ok(Speaker::Operator(id)),
         Err(_) => Err(NO_MEMORY),
     }
 }
 
-/// The command line with that tag, if its id is one.
-fn line_with<'a>(
-    tag: Vec<u8>,
-    requests: &'a str,
-    replies: &'a str,
-) -> Result<FrontLine<'a>, &'static str> {
+/// `@NAME/ID`, if the id is one.
+fn tag_of(alloc: Global, name: &str, id: &str) -> Result<Vec<u8>, &'static str>
+    ensures { IfOk result (λ tag. is_tag tag.items ≡ true) }
+{
+    let Ok(tag) = name_with_id(alloc, name, id) else {
+        return Err(NO_MEMORY);
+    };
     if owner_of(&tag).is_some() && is_tag(&tag) {
-        Ok(FrontLine {
-            tag,
-            requests,
-            replies,
-        })
+        Ok(tag)
     } else {
         drop(tag);
         Err(BAD_ID)
@@ -119,12 +155,12 @@ fn line_with<'a>(
 }
 
 /// `@NAME/ID`.
-fn tag_of(alloc: Global, name: &[u8], id: &[u8]) -> Result<Vec<u8>, AllocError> {
+fn name_with_id(alloc: Global, name: &str, id: &str) -> Result<Vec<u8>, AllocError> {
     let mut tag = Vec::new(alloc);
     tag.push(b'@')?;
-    tag.extend_from_slice(name)?;
+    tag.extend_from_slice(name.as_bytes())?;
     tag.push(b'/')?;
-    tag.extend_from_slice(id)?;
+    tag.extend_from_slice(id.as_bytes())?;
     Ok(tag)
 }
 

@@ -50,25 +50,25 @@ where
     H::File: LockFile,
 {
     let FrontLine {
-        tag,
+        speaker,
         requests,
         replies,
         ..
     } = line;
     let Ok(replies) = open_replies(rt, replies) else {
-        drop(tag);
+        drop(speaker);
         return Outcome::NoReplies;
     };
     let Ok(requests) = open_requests(rt, requests) else {
-        drop((tag, replies));
+        drop((speaker, replies));
         return Outcome::NoRequests;
     };
     let Ok(feed) = LineFeed::new(rt.alloc()) else {
-        drop((tag, replies, requests));
+        drop((speaker, replies, requests));
         return Outcome::Stopped(FrontStop::NoMemory);
     };
     let mut service = Service {
-        tag,
+        speaker,
         requests,
         replies: Replay::new(StdSource::new(replies)),
         feed,

@@ -7,6 +7,8 @@ ghost use Rattle.line_feed.specs.Pieces.{IsKept};
 ghost use Rattle.line_text.specs.Lines.{physical_lines};
 ghost use Rattle.tagged_lines.specs.Tags.{is_tag, is_whole, tag_of};
 ghost use Rattle.front_lines.specs.Commands.{ClientState, handed};
+ghost use Rattle.front_lines.specs.Speakers.{tag_in};
+ghost use Rattle.front_lines.specs.declared.speaker.Speaker.{Speaker};
 ghost use Rattle.front_run.specs.Promise.{Served};
 
 use crate::closing::{closing_of, write_last};
@@ -28,16 +30,16 @@ pub fn serve<H: Wait + Clock + AllocGlobal, D: Dialogue, Q: Requests + Drop, F: 
     // 1. Whenever the front ends: what it has handed over is a beginning of what the client's lines
     // hand over; and what was written to the client is a beginning of the replies with its tag,
     // without it, each up to its end, and of refusals of its lines, in the order of its lines.
-    ensures served { Served service.old.tag.items (D.view client.old).remaining
+    ensures served { Served service.old.speaker (D.view client.old).remaining
         (Q.contents service.old.requests) (Q.contents service.new.requests)
         (F.view service.old.replies).remaining (D.view client.old).output
         (D.view client.new).output result }
     // 2. Whatever lines a client says, what they hand over is whole lines, and each has the tag.
-    ensures own { (tag : List ℕ) (state : ClientState) (lines : List (List ℕ)) →
-        is_tag tag ≡ true →
-        list_all (λ line. bytes_eq (tag_of line) tag) (physical_lines (handed tag state lines)) ≡ true }
-    ensures whole { (tag : List ℕ) (state : ClientState) (lines : List (List ℕ)) →
-        is_whole (handed tag state lines) ≡ true }
+    ensures own { (who : Speaker) (state : ClientState) (lines : List (List ℕ)) →
+        is_tag (tag_in who) ≡ true → list_all (λ line. bytes_eq (tag_of line) (tag_in who))
+        (physical_lines (handed who state lines)) ≡ true }
+    ensures whole { (who : Speaker) (state : ClientState) (lines : List (List ℕ)) →
+        is_whole (handed who state lines) ≡ true }
 {
     only_own_lines();
     match LineFeed::new(rt.alloc()) {
@@ -57,12 +59,12 @@ fn serve_feed<H: Wait + Clock + AllocGlobal, D: Dialogue, Q: Requests + Drop, F:
     requires line { IsKept (line_of service.old.feed) [] }
     requires client_ahead { ahead_of feed.old ≡ [] }
     requires client_line { IsKept (line_of feed.old) [] }
-    ensures { Served service.old.tag.items (D.view client.old).remaining
+    ensures { Served service.old.speaker (D.view client.old).remaining
         (Q.contents service.old.requests) (Q.contents service.new.requests)
         (F.view service.old.replies).remaining (D.view client.old).output
         (D.view client.new).output result }
 {
-    let mut text = ClientText::new(rt.alloc());
+    let mut text = ClientText::new(rt.alloc(), &service.speaker);
     let end = serve_client(rt, rt.alloc(), service, &mut text, feed, client);
     let closing = closing_of(end, feed.line(), text.is_within());
     let written = write_last(client, closing);

@@ -25,12 +25,13 @@ use Rattle.layout_text.specs.LayoutText.{ble_line, feed_or_open, feed_word, laid
 use Rattle.line_text.specs.Decimal.{is_digit}
 use Rattle.vpr_files.specs.NetFile.{or_open}
 use Rattle.vpr_files.specs.TextLines.{line_of, text_of, word_after_space}
-use Rattle.layout_files.specs.Cursors.{IsPlain, Stops, is_word_end, left_after}
+use Rattle.strip_files.specs.Fronts.{Stops}
+use Rattle.layout_files.specs.Cursors.{IsPlain, is_word_end, left_after}
 use Rattle.layout_files.specs.Fitting.{HasFileNames, HasNumber, feed_number}
 use Rattle.layout_files.specs.Printing.{global_lines}
 use Rattle.layout_files.specs.Reading.{IsNetRead}
 use Rattle.layout_files.specs.ReadingNets.{IsNumberIn, ble_rest, cluster_text, inputs_text}
-use Rattle.layout_files.proofs.Fronts.{digits_told}
+use Rattle.strip_files.proofs.Fronts.{digits_told}
 use Rattle.layout_files.proofs.Halfway.{Halfway, texts_from, texts_plain}
 use Rattle.layout_files.proofs.Lines.{ble_text, flat_map-flat_map}
 use Rattle.layout_files.proofs.Reading.{net_plain}

@@ -21,7 +21,8 @@ use Rattle.rr_graph.specs.declared.node.NodeKind.{NodeKind}
 use Rattle.rr_graph.specs.declared.node.NodeKind.TheVariants.{Source, Sink, Opin, Ipin, ChanX, ChanY}
 use Rattle.vpr_files.specs.NodeText.{kind_word, node_text_of, number_word}
 use Rattle.vpr_files.specs.TextLines.{line_of, text_of}
-use Rattle.layout_files.specs.Cursors.{IsPlain, Stops, has_line, is_word_end, left_after}
+use Rattle.strip_files.specs.Fronts.{Stops}
+use Rattle.layout_files.specs.Cursors.{IsPlain, has_line, is_word_end, left_after}
 use Rattle.layout_files.specs.Fitting.{IsSmallPlace}
 use Rattle.layout_files.specs.Reading.{size_text}
 use Rattle.layout_files.specs.ReadingRoutes.{heading_end, is_listed, name_end, net_rest, nets_text}

@@ -1,6 +1,7 @@
 -- Private: what is left of a text that is read, or compared with what is printed.
 use Rattle.std.specs.Prelude.{ℕ, ◌≡◌, ◌<◌, ◌^◌, ◌==◌, ◌||◌, Bool, true, false, not, List, [], ◌∷◌, ◌++◌, length, decimal, Result, OnOk, OnErr, Option, Some, None, option_and_then, ⊤, if◌then◌else◌}
 use Rattle.std.specs.List.{list_all}
+use Rattle.strip_files.specs.Fronts.{Stops}
 use Rattle.text_parts.specs.PartEnds.{is_no_digit}
 
 -- the text without these bytes at its front; `None` if it doesn't begin with them
@@ -39,11 +40,6 @@ is_word_end byte = (byte == 32) || (byte == 10)
 -- no byte of it ends a word
 abbrev pub IsPlain : List ℕ → Type 0
 IsPlain word = list_all (λ byte. not (is_word_end byte)) word ≡ true
-
--- the first byte of the text, if there is one, passes
-abbrev pub Stops : (ℕ → Bool) → List ℕ → Type 0
-Stops test [] = ⊤
-Stops test (byte ∷ rest) = test byte ≡ true
 
 -- where a number of 32 bits is, it is read
 abbrev pub IsNumberRead : Option (List ℕ) → ℕ → Option (List ℕ) → Type 0

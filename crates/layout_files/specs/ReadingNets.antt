@@ -11,7 +11,8 @@ use Rattle.implements.specs.declared.feed.Feed.{Feed}
 use Rattle.layout_text.specs.LayoutText.{ble_line, feed_or_open, feed_word, laid_lines}
 use Rattle.vpr_files.specs.NetFile.{or_open}
 use Rattle.vpr_files.specs.TextLines.{text_of, word_after_space}
-use Rattle.layout_files.specs.Cursors.{IsPlain, Stops, is_word_end, left_after}
+use Rattle.strip_files.specs.Fronts.{Stops}
+use Rattle.layout_files.specs.Cursors.{IsPlain, is_word_end, left_after}
 use Rattle.layout_files.specs.Fitting.{AreNumbered, FitsBle, FitsBlock, HasFileNames, HasNumber, feed_number}
 use Rattle.layout_files.specs.LayoutFiles.{IsBare}
 use Rattle.layout_files.specs.Printing.{global_lines}

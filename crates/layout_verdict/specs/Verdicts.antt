@@ -23,11 +23,15 @@ pub record CanBeFiled (laid : LaidCircuit) : Type 0 where
 abbrev pub HaveNoLayout : Texts → Type 0
 HaveNoLayout texts = (laid : LaidCircuit) → IsReadFrom texts laid → CanBeFiled laid → ⊥
 
--- What was read implements its circuit, or doesn't; or the text of the architecture or of the
--- netlist has this fault; or the three files are the print of no layout.
+-- nothing but this is read from these texts
+abbrev pub IsOnlyReading : Texts → LaidCircuit → Type 0
+IsOnlyReading texts laid = (other : LaidCircuit) → IsReadFrom texts other → CanBeFiled other → other ≡ laid
+
+-- What was read, and nothing else can be, implements its circuit, or doesn't; or the text of the
+-- architecture or of the netlist has this fault; or the three files are the print of no layout.
 abbrev pub IsVerdict : Texts → Verdict → Type 0
-IsVerdict texts (Implements laid) = IsReadFrom texts laid × IsImplemented laid
-IsVerdict texts (Differs laid wrong) = IsReadFrom texts laid × (IsImplemented laid → ⊥)
+IsVerdict texts (Implements laid) = IsReadFrom texts laid × IsImplemented laid × IsOnlyReading texts laid
+IsVerdict texts (Differs laid wrong) = IsReadFrom texts laid × (IsImplemented laid → ⊥) × IsOnlyReading texts laid
 IsVerdict texts (ArchRefused fault) = arch_of texts.arch texts.shape.tracks ≡ Err fault
 IsVerdict texts (NetlistRefused fault) = (arch : Arch) × (arch_of texts.arch texts.shape.tracks ≡ Ok arch) × (circuit_of texts.netlist arch.lut_size ≡ Err fault)
 IsVerdict texts (FilesRefused fault) = HaveNoLayout texts

@@ -5,7 +5,7 @@ ghost use Rattle.blif.specs.CircuitOf.{IsLawfulFor, circuit_of};
 ghost use Rattle.blif.specs.LawfulCircuits.{IsCircuit};
 ghost use Rattle.grid.specs.Sizes.{IsStripSize};
 ghost use Rattle.layout_verdict.specs.Texts.{IsReadFrom, Texts};
-ghost use Rattle.layout_verdict.specs.Verdicts.{IsImplemented, IsVerdict};
+ghost use Rattle.layout_verdict.specs.Verdicts.{IsImplemented, IsOnlyReading, IsVerdict};
 
 use crate::laid_circuit::LaidCircuit;
 use crate::texts::LayoutTexts;
@@ -107,7 +107,8 @@ fn verdict_of_laid(alloc: Global, laid: LaidCircuit) -> Verdict
     requires arch { IsArch laid.arch }
     requires circuit { IsCircuit laid.circuit }
     requires strip { IsStripSize laid.strip }
-    ensures { (texts : Texts) → IsReadFrom texts laid → IsVerdict texts result }
+    ensures { (texts : Texts) → IsReadFrom texts laid → IsOnlyReading texts laid
+        → IsVerdict texts result }
 {
     match first_wrong(alloc, &laid) {
         Ok(Ok(())) => Verdict::Implements(laid),

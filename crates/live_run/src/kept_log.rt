@@ -142,7 +142,7 @@ fn part_of<H: Files>(rt: &H, path: &str, length: u64) -> io::Result<StdSource<Ta
 }
 
 /// The line that is added to a log with whole lines of that length. Checks the sums that they say.
-fn line_to_add<H: Files + Wait + AllocGlobal>(
+fn line_to_add<H: Files + AllocGlobal>(
     rt: &H,
     path: &str,
     whole: u64,
@@ -153,7 +153,7 @@ fn line_to_add<H: Files + Wait + AllocGlobal>(
     let Ok(part) = part_of(rt, path, whole) else {
         return Err(Outcome::LogUnreadable);
     };
-    let sum = check_sums(rt, part)?;
+    let sum = check_sums(rt.alloc(), part)?;
     match sum.added_line(rt.alloc(), first_line) {
         Ok(line) => Ok(line),
         Err(_) => Err(Outcome::NoMemory),

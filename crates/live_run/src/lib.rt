@@ -8,8 +8,9 @@
 //!   that another service still writes is followed, if that is wanted.
 //!   [`LogDifference`] says in what a file is another log.
 //! - [`LockLog`] keeps a log to one service at a time.
+//! - [`changed_line`] is the first line of a log whose sum differs.
 //! - [`is_told`] says the replies to which of the log's lines are written at a start.
-//! - [`say_ready`] says that a service is ready.
+//! - [`say_ready`] says that a service is ready. [`Warnings`] are those that it is nearly full.
 //! - [`WholeLines`] is an input that tells of a last line without its end.
 #![tactic(auto)]
 
@@ -28,6 +29,8 @@ mod retelling;
 mod serving;
 mod streams;
 mod sums;
+mod warnings;
+mod watched;
 mod whole_lines;
 mod whole_part;
 
@@ -43,4 +46,6 @@ pub use reading::read_options;
 pub use ready::say_ready;
 pub use retelling::is_told;
 pub use serving::serve;
+pub use sums::changed_line;
+pub use warnings::Warnings;
 pub use whole_lines::{NO_END, WholeLines};

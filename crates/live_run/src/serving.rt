@@ -10,12 +10,13 @@ use crate::options::CommandLine;
 use crate::outcome::Outcome;
 use crate::ready::say_ready;
 use crate::retelling::retell;
+use crate::watched::Watched;
 use arch_file::{ArchError, read_arch};
 use dialogue::Dialogue;
 use line_feed::LineFeed;
-use line_service::ConversationEnd;
+use line_service::{ConversationEnd, converse};
 use line_text::Source;
-use live_input::{LiveLines, serve_lines};
+use live_input::LiveLines;
 use service_core::{Device, Service};
 use sessions::device_graph;
 use std::alloc::AllocError;
@@ -65,9 +66,9 @@ fn serve_device<H: Wait + AllocGlobal + Eprint, P: Source + Drop, D: Dialogue>(
 {
     let graph = device_graph(rt.alloc(), &device)?;
     let core = Service::with_text_limit(rt.alloc(), device, line.options.text_limit())?;
-    let mut lines = LiveLines::new(rt.alloc(), &graph, core);
-    let outcome = serve_past(rt, line, &mut lines, past, dialogue);
-    lines.close();
+    let mut watched = Watched::new(rt, line.options.text_limit(), &graph, core);
+    let outcome = serve_past(rt, line, &mut watched, past, dialogue);
+    watched.close();
     Ok(outcome)
 }
 
@@ -76,47 +77,54 @@ fn serve_device<H: Wait + AllocGlobal + Eprint, P: Source + Drop, D: Dialogue>(
 fn serve_past<H: Wait + AllocGlobal + Eprint, P: Source + Drop, D: Dialogue>(
     rt: &H,
     line: &CommandLine<'_>,
-    lines: &mut LiveLines<'_>,
+    watched: &mut Watched<'_, '_, H>,
     past: Option<P>,
     dialogue: &mut D,
 ) -> Outcome
-    requires { is_ready lines.old }
-    ensures { RunsFrom (state_in lines.old) (is_some past) (past_of P.remaining past)
+    requires { is_ready watched.old.lines }
+    ensures { RunsFrom (state_in watched.old.lines) (is_some past) (past_of P.remaining past)
         line.now.told (D.view dialogue.old) (D.view dialogue.new) result }
 {
     let mut number = 1;
     match past {
-        Some(past) => match retell(rt, lines, past, line.told, dialogue, &mut number) {
+        Some(past) => match retell(
+            rt,
+            &mut watched.lines,
+            past,
+            line.told,
+            dialogue,
+            &mut number,
+        ) {
             Ok(()) => {
                 say_ready(rt, line.ready);
-                Outcome::of(talk(rt, lines, dialogue, &mut number))
+                Outcome::of(talk(rt, watched, dialogue, &mut number))
             }
             Err(outcome) => outcome,
         },
         None => {
             say_ready(rt, line.ready);
-            match talk(rt, lines, dialogue, &mut number) {
-                ConversationEnd::Done => close_texts(lines, dialogue),
+            match talk(rt, watched, dialogue, &mut number) {
+                ConversationEnd::Done => close_texts(&mut watched.lines, dialogue),
                 end => Outcome::of(end),
             }
         }
     }
 }
 
-/// Serves the lines of a dialogue, up to the input's end.
-fn talk<H: Wait + AllocGlobal, D: Dialogue>(
+/// Serves the lines of a dialogue, up to the input's end. Warns when the service is nearly full.
+fn talk<H: Wait + AllocGlobal + Eprint, D: Dialogue>(
     rt: &H,
-    lines: &mut LiveLines<'_>,
+    watched: &mut Watched<'_, '_, H>,
     dialogue: &mut D,
     number: &mut u64,
 ) -> ConversationEnd
-    requires { is_ready lines.old }
-    ensures ready { result ≡ ConversationEnd.Done → is_ready lines.new }
-    ensures conversation { IsConversation AnswersLine (state_in lines.old) number.old
-        (D.view dialogue.old) (D.view dialogue.new) result (state_in lines.new) number.new }
+    requires { is_ready watched.old.lines }
+    ensures ready { result ≡ ConversationEnd.Done → is_ready watched.new.lines }
+    ensures conversation { IsConversation AnswersLine (state_in watched.old.lines) number.old
+        (D.view dialogue.old) (D.view dialogue.new) result (state_in watched.new.lines) number.new }
 {
     match LineFeed::new(rt.alloc()) {
-        Ok(mut feed) => serve_lines(rt, lines, &mut feed, dialogue, number),
+        Ok(mut feed) => converse(rt, watched, &mut feed, dialogue, number),
         Err(_) => ConversationEnd::NoMemory,
     }
 }

@@ -1,18 +1,18 @@
 //! Sums of what came before, in a log.
-ghost use Rattle.std.specs.Prelude.{◌≡◌, ◌≢◌, ◌+◌, ◌<◌, ◌^◌, ◌++◌, [], IfErr, IfOk};
+ghost use Rattle.std.specs.Prelude.{◌≡◌, ◌≢◌, ◌+◌, ◌<◌, ◌^◌, ◌++◌, [], IfErr, IfOk, IfSome};
 ghost use Rattle.std.specs.List.{list_all};
 ghost use Rattle.line_feed.specs.Feed.{ahead_of, line_of};
 ghost use Rattle.line_feed.specs.Pieces.{IsKept};
-ghost use Rattle.live_run.specs.Sums.{ChecksLog, TakesNext, added_line, are_numbers, differs, is_digit, is_number, no_lines, says_sum, sum_after, sum_line, sum_of, with_line};
+ghost use Rattle.live_input.specs.Serving.{kept_lines};
+ghost use Rattle.live_run.specs.Sums.{ChecksLog, TakesNext, added_line, are_numbers, differs, first_differing, is_digit, is_number, no_lines, says_sum, sum_after, sum_line, sum_of, with_line};
 
 use crate::differing::LogDifference;
 use crate::outcome::Outcome;
 use dialogue::{Dialogue, Replay};
 use itoa::Buffer;
 use line_feed::LineFeed;
-use line_text::{MemorySink, Source, is_word, write_slices};
-use std::alloc::{AllocError, AllocGlobal, Global};
-use std::sync::Wait;
+use line_text::{MemorySink, ReadError, Source, is_word, write_slices};
+use std::alloc::{AllocError, Global};
 use tagged_lines::split_tag;
 
 /// The sum of no bytes, and what it is multiplied by for each byte (FNV-1a).
@@ -113,28 +113,41 @@ impl LogSum {
     }
 }
 
+/// The number of the first line of a log that says another sum than that of the lines before it.
+///
+/// # Errors
+/// That the log can't be read, or that memory ran out.
+pub fn changed_line<P: Source + Drop>(alloc: Global, log: P) -> Result<Option<u64>, ReadError>
+    ensures { IfOk result (λ number. IfSome (P.remaining log)
+        (λ bytes. number ≡ first_differing no_lines (kept_lines bytes))) }
+{
+    match check_sums(alloc, log) {
+        Ok(_) => Ok(None),
+        Err(Outcome::LogDiffers(LogDifference::Changed(number))) => Ok(Some(number)),
+        Err(Outcome::NoMemory) => Err(ReadError::NoMemory),
+        Err(_) => Err(ReadError::Failed),
+    }
+}
+
 /// What the lines of a log come to.
 ///
 /// # Errors
 /// The number of the first line that says another sum than that of the lines before it; or that the
 /// log can't be read, or that memory ran out.
-pub(crate) fn check_sums<H: Wait + AllocGlobal, P: Source + Drop>(
-    rt: &H,
-    log: P,
-) -> Result<LogSum, Outcome>
+pub(crate) fn check_sums<P: Source + Drop>(alloc: Global, log: P) -> Result<LogSum, Outcome>
     ensures checks { ChecksLog (P.remaining log) result }
     ensures none { IfErr result (λ outcome. outcome ≢ Outcome.Done) }
 {
     let mut source = Replay::new(log);
-    match LineFeed::new(rt.alloc()) {
-        Ok(mut feed) => check_lines(rt, &mut feed, &mut source),
+    match LineFeed::new(alloc) {
+        Ok(mut feed) => check_lines(alloc, &mut feed, &mut source),
         Err(_) => Err(Outcome::NoMemory),
     }
 }
 
 /// What the lines of a source come to.
-fn check_lines<H: Wait + AllocGlobal, S: Dialogue>(
-    rt: &H,
+fn check_lines<S: Dialogue>(
+    alloc: Global,
     feed: &mut LineFeed,
     source: &mut S,
 ) -> Result<LogSum, Outcome>
@@ -144,9 +157,9 @@ fn check_lines<H: Wait + AllocGlobal, S: Dialogue>(
     ensures none { IfErr result (λ outcome. outcome ≢ Outcome.Done) }
 {
     let mut sum = LogSum::none();
-    for _ in rt.forever() {
+    for _ in 0..u64::MAX {
         if feed.take_piece() {
-            match sum.next(rt.alloc(), feed.line()) {
+            match sum.next(alloc, feed.line()) {
                 Ok(next) => sum = next,
                 Err(outcome) => return Err(outcome),
             }
@@ -160,7 +173,7 @@ fn check_lines<H: Wait + AllocGlobal, S: Dialogue>(
             return Ok(sum);
         }
     }
-    unreachable!()
+    Err(Outcome::LogUnreadable)
 }
 
 /// Whether a line says a sum: it is `# sum ` and two numbers, one blank between them.

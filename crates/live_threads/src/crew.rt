@@ -38,7 +38,7 @@ impl Crew {
 }
 
 /// What a thread of a service works with: the handle by which it waits, what it shares with the
-/// others, the graph of the whole device, and whether it says when it is ready.
+/// others, the graph of the whole device, and what it says on standard error.
 #[derive_where(Clone, Copy)]
 pub(crate) struct Site<'s, H> {
     pub(crate) rt: &'s H,
@@ -46,4 +46,6 @@ pub(crate) struct Site<'s, H> {
     pub(crate) graph: &'s DeviceGraph,
     /// Whether the service says when it is ready.
     pub(crate) ready: bool,
+    /// The most bytes that the texts of one tenancy may take, of which it warns.
+    pub(crate) text_limit: u64,
 }

@@ -26,6 +26,7 @@ mod running;
 mod serving;
 mod steps;
 mod threaded;
+mod watch;
 mod worker;
 
 pub use outlet::{Devices, Outlet};

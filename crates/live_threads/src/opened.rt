@@ -135,7 +135,7 @@ fn serve_resumed<H: Wait + AllocGlobal + Eprint, P: Source + Drop, O: Outlet>(
         Ok(machine) => {
             site.crew.mailbox.note_ready(site.rt);
             say_ready(site.rt, site.ready);
-            serve_machine(site.rt, site.crew, lines, machine, outlet)
+            serve_machine(site, lines, machine, outlet)
         }
         Err(outcome) => outcome,
     }

@@ -61,6 +61,7 @@ pub(crate) fn serve_with_workers<
         crew: &crew,
         graph,
         ready: line.ready,
+        text_limit: line.options.text_limit(),
     };
     let end = match RingBuffer::new(rt.alloc(), MOST_AHEAD) {
         Ok((producer, consumer)) => {

@@ -6,12 +6,13 @@ ghost use Rattle.live_machine.specs.Parts.{IsReady, machine_of};
 ghost use Rattle.live_threads.specs.Serving.{HasStopped, IsServed};
 ghost use Rattle.live_threads.specs.Taken.{ClosesTexts, EndsServing, IsDrained, StopsClosing, TakesLines, cut_lines};
 
-use crate::crew::Crew;
+use crate::crew::{Crew, Site};
 use crate::fault::Fault;
 use crate::letters::InputEnd;
 use crate::mailbox::News;
 use crate::outlet::Outlet;
 use crate::steps::{give_orders, put_steps};
+use crate::watch::Watch;
 use dialogue::FailedDevice;
 use line_feed::MAX_FED_LINE;
 use line_text::split_line;
@@ -19,6 +20,7 @@ use live_machine::{MOST_TOLD, Machine};
 use live_run::Outcome;
 use rtrb::Consumer;
 use std::alloc::AllocGlobal;
+use std::io::Eprint;
 use std::sync::Wait;
 
 /// How many texts of lines a reader may be ahead.
@@ -39,9 +41,8 @@ enum Next {
 }
 
 /// Serves with that machine until the input has ended and no name waits.
-pub(crate) fn serve_machine<R: Wait + AllocGlobal, O: Outlet>(
-    rt: &R,
-    crew: &Crew,
+pub(crate) fn serve_machine<R: Wait + AllocGlobal + Eprint, O: Outlet>(
+    site: Site<'_, R>,
     lines: &mut Consumer<Vec<u8>>,
     machine: Machine<'_>,
     outlet: &mut O,
@@ -50,8 +51,10 @@ pub(crate) fn serve_machine<R: Wait + AllocGlobal, O: Outlet>(
     ensures { TakesLines lines.old lines.new (λ heard. EndsServing (machine_of machine.entry)
         (O.view outlet.old) heard (O.view outlet.new) result) }
 {
+    let Site { rt, crew, .. } = site;
+    let mut watch = Watch::new(rt.alloc(), site.text_limit);
     let mut machine = machine;
-    match serve_rounds(rt, crew, lines, &mut machine, outlet) {
+    match serve_rounds(rt, crew, lines, &mut machine, outlet, &mut watch) {
         Ok(()) => end_service(machine, outlet),
         Err(fault) => {
             machine.close();
@@ -60,16 +63,18 @@ pub(crate) fn serve_machine<R: Wait + AllocGlobal, O: Outlet>(
     }
 }
 
-/// Serves round by round, until the input has ended and no name waits.
+/// Serves round by round, until the input has ended and no name waits. Warns when the service is
+/// nearly full.
 ///
 /// # Errors
 /// Why the service stops before. The machine takes no call after that but `close`.
-fn serve_rounds<R: Wait + AllocGlobal, O: Outlet>(
+fn serve_rounds<R: Wait + AllocGlobal + Eprint, O: Outlet>(
     rt: &R,
     crew: &Crew,
     lines: &mut Consumer<Vec<u8>>,
     machine: &mut Machine<'_>,
     outlet: &mut O,
+    watch: &mut Watch,
 ) -> Result<(), Fault>
     requires ready { IsReady machine.old }
     ensures ready { OnOk result (IsReady machine.new) }
@@ -83,6 +88,7 @@ fn serve_rounds<R: Wait + AllocGlobal, O: Outlet>(
     let mut has_ended = false;
     let mut next = Next::GoesOn;
     for _ in rt.forever() {
+        watch.look(rt, machine.lines());
         let News { steps, end } = crew.mailbox.take_news(rt, next != Next::GoesOn);
         put_steps(rt, crew, machine, steps)?;
         next = serve_round(rt, crew, lines, machine, outlet)?;

@@ -33,7 +33,7 @@ module _ (basis : Basis) (graph : IsRoutingGraph basis (graph_of basis)) (small 
     same = here.same;
     long = state.told.long ∙ round.past;
     held = λ node few. state.told.tells node (omega (arith, few, round.past));
-    within = here.within;
+    on = here.on;
   }
 
   pub found : (new : NewTrees) → length new.held.items ≡ length state.held.items

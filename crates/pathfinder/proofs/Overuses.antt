@@ -1,7 +1,6 @@
 -- Overuse, counted node by node.
-use Rattle.std.proofs.Common.{ℕ, ◌≡◌, ◌+◌, ◌-◌, ◌<◌, List, Bool, true, false, Option, Some, None, IfSome, map, [], ◌∷◌, cond, ltb, suc, zero, refl, sym, ap, subst, arith, ◌∙◌}
+use Rattle.std.proofs.Common.{ℕ, ◌≡◌, ◌+◌, ◌-◌, ◌<◌, List, Bool, true, false, Option, Some, None, IfSome, map, [], cond, ltb, suc, zero, refl, sym, ap, subst, arith, ◌∙◌}
 use Rattle.std.proofs.lemmas.Bool.{lt-ltb}
-use Rattle.std.proofs.lemmas.List.Sums.{sum_by-cons}
 use Rattle.std.proofs.lemmas.List.FromFn.{length-map-range_with_len, sum_by-map-range_with_len_more}
 use Rattle.rr_graph.specs.Graph.{Basis, graph_of}
 use Rattle.pathfinder.specs.declared.routing.TheConstants.{MAX_ITERATIONS}
@@ -9,8 +8,7 @@ use Rattle.pathfinder.specs.Negotiation.{Tree, Routed, Standing, More, Done, Gav
 use Rattle.pathfinder.specs.Routings.{IsAfter, RoutingState}
 use Rattle.pathfinder.specs.Overuse.{IsMost, IsOveruse, count_over, over_in, overuse_at}
 use Rattle.pathfinder.specs.PlacedNets.{wiring_of}
-use Rattle.std.specs.Prelude.{Result, Ok, Err, count_by, length, option_map, slice_index, ◌==◌, ◌||◌, if◌then◌else◌}
-use Rattle.std.specs.List.{list_any}
+use Rattle.std.specs.Prelude.{Result, Ok, Err, length, option_map, slice_index, ◌==◌, if◌then◌else◌}
 use Rattle.pathfinder.specs.Wiring.{Net, Wiring}
 use Rattle.pathfinder.proofs.Iterations.{none_held}
 use Rattle.pathfinder.specs.Tables.{Tells}
@@ -105,13 +103,3 @@ long_after w nets (suc iterations) = long_iterated w nets iterations (routed_aft
 
 pub long_history : (w : Wiring) (state : RoutingState) → IsAfter w state More → length state.history ≡ w.count
 long_history w state after = ap (λ (routed : Routed). length routed.history) (sym after.exact) ∙ long_after w state.nets state.iterations
-
--- a node that is as often in a list as the truth value counts is in it exactly if that is true
-pub found_by_count : (test : ℕ → Bool) (xs : List ℕ) (held : Bool) → count_by test xs ≡ cond held 1 0 → list_any test xs ≡ held
-found_by_count test [] true e = absurd (omega (arith, e))
-found_by_count test [] false e = refl
-found_by_count test (x ∷ xs) held e =
-    elim (test x) as (λ t. cond {A = ℕ} t 1 0 + count_by test xs ≡ cond {A = ℕ} held 1 0 → (t || list_any test xs) ≡ held) [
-      | true ↦ elim held as (λ h. 1 + count_by test xs ≡ cond {A = ℕ} h 1 0 → true ≡ h) [ true ↦ λ _. refl | false ↦ λ h. absurd (omega (arith, h)) ]
-      | false ↦ λ h. found_by_count test xs held (omega (arith, h))
-    ] (sym (sum_by-cons (λ y. cond {A = ℕ} (test y) 1 0) x xs) ∙ e)

@@ -1,5 +1,5 @@
 -- A search of a net's path over the planes of the strip's graph.
-use Rattle.std.proofs.Common.{ℕ, refl, ◌≡◌, ◌<◌, ◌≤◌, ◌^◌, List, [], length, get_or, inl, inr, sym, subst}
+use Rattle.std.proofs.Common.{ℕ, suc, refl, ◌≡◌, ◌<◌, ◌≤◌, ◌^◌, List, [], length, get_or, inl, inr, sym, subst}
 use Rattle.std.specs.List.{All}
 use Rattle.std.proofs.lemmas.List.Elements.{All-nil, All-weaker}
 use Rattle.std.proofs.lemmas.Bool.{cases_lt}
@@ -9,9 +9,10 @@ use Rattle.rr_graph.specs.Graph.{Basis, graph_of}
 use Rattle.fabric_planes.specs.Layout.{Terminals, IsStart, IsNetSearch}
 use Rattle.pathfinder.specs.Wiring.{Wiring}
 use Rattle.pathfinder.specs.PlacedNets.{wiring_of}
-use Rattle.pathfinder.specs.Tables.{IsRound, IsTable, IsSought, tabled_graph}
+use Rattle.pathfinder.specs.Tables.{AreJoined, IsRound, IsTable, IsTreeOn, IsSought, tabled_graph}
 use Rattle.fabric_planes.specs.NetSearches.{terminals_of}
 use Rattle.pathfinder.proofs.InRange.{tabled_lawful}
+use Rattle.pathfinder.proofs.Steps.{step_at, steps_in}
 
 -- a node's cost is within the limits of a search
 pub price_few : (basis : Basis) (i : ℕ) (history held : List ℕ) → IsRound (wiring_of basis) i history → IsTable (wiring_of basis).count 8192 held → (node price : ℕ) → node < (wiring_of basis).count → price ≡ (tabled_graph (wiring_of basis) i history held).cost node → price ≤ 2 ^ 36
@@ -38,3 +39,8 @@ path_below w tree each number = elim (cases_lt number (length tree)) [
   | inl there ↦ each number [] there
   | inr past ↦ subst (λ (path : List ℕ). All (λ node. node < w.count) path) (sym (get_or_past tree number [] past)) (All-nil (λ node. node < w.count))
 ]
+
+-- the edges of a path of a tree, or of no nodes
+pub path_joined : (w : Wiring) (tree : Tree) → IsTreeOn w tree → (number : ℕ) → AreJoined w.ends (get_or tree number [])
+path_joined w tree on number = λ place l. on.edges (get_or (get_or tree number []) place 0) (get_or (get_or tree number []) (suc place) 0)
+    (steps_in tree number (get_or (get_or tree number []) place 0, get_or (get_or tree number []) (suc place) 0) (step_at (get_or tree number []) place l))

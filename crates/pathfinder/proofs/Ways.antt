@@ -5,6 +5,7 @@ use Rattle.std.proofs.lemmas.List.{take_more, take_all}
 use Rattle.std.proofs.lemmas.List.Sums.{sum_by-append}
 use Rattle.least_path.specs.Graph.{Graph}
 use Rattle.least_path.specs.Path.{Leads, IsPath, cost_of}
+use Rattle.pathfinder.specs.Tables.{AreJoined}
 
 -- edges from each node to the next one lead to the last
 module _ (g : Graph) (goal : ℕ) where
@@ -12,7 +13,7 @@ module _ (g : Graph) (goal : ℕ) where
   leads start [] h e = e
   leads start (next ∷ rest) h e = (h 0 (omega arith), leads next rest (λ k l. h (suc k) (omega arith)) e)
 
-  pub path_from : (starts nodes : List ℕ) → 0 < length nodes → Contains starts (get_or nodes 0 0) → ((k : ℕ) → suc k < length nodes → Contains (g.ends (get_or nodes k 0)) (get_or nodes (suc k) 0)) → (last : ℕ) → suc last ≡ length nodes → get_or nodes last 0 ≡ goal → IsPath g starts goal nodes
+  pub path_from : (starts nodes : List ℕ) → 0 < length nodes → Contains starts (get_or nodes 0 0) → AreJoined g.ends nodes → (last : ℕ) → suc last ≡ length nodes → get_or nodes last 0 ≡ goal → IsPath g starts goal nodes
   path_from starts [] s c h last l e = absurd (omega arith)
   path_from starts (start ∷ rest) s c h last l e = let at : last ≡ length rest = omega (arith, l) in (c, leads start rest h (subst (λ k. get_or (start ∷ rest) k 0 ≡ goal) at e))
 

@@ -1,48 +1,17 @@
 //! Paths that are known before a search.
-ghost use Rattle.std.specs.Prelude.{◌≡◌, ◌<◌, ℕ, All, Contains, true};
-ghost use Rattle.rr_graph.specs.Graph.{graph_of};
+ghost use Rattle.std.specs.Prelude.{◌≡◌, true};
+ghost use Rattle.least_path.specs.Graph.{Graph};
 ghost use Rattle.least_path.specs.Path.{IsPath};
-ghost use Rattle.fabric_planes.specs.Layout.{graph_at};
+ghost use Rattle.pathfinder.specs.Tables.{AreJoined};
 
-use rr_graph::StripGraph;
-
-/// Whether an edge leads from one node to the other.
-#[inline(always)]
-fn has_edge<G: StripGraph>(graph: &G, from: usize, to: usize) -> bool
-    requires { from < (graph_of (G.basis graph.now)).count }
-    ensures { result ≡ true → Contains ((graph_of (G.basis graph.now)).ends from) to }
+/// Whether the nodes lead from one of the starts to the goal, if an edge leads from each of them to
+/// the next one.
+pub(crate) fn is_path(starts: &[usize], goal: usize, nodes: &[usize]) -> bool
+    ensures { (graph : Graph) → AreJoined graph.ends nodes.now → result ≡ true →
+        IsPath graph starts.now goal nodes.now }
 {
-    let ends = graph.ends(from);
-    if to < ends.base {
+    if nodes.len() == 0 || nodes[nodes.len() - 1] != goal {
         return false;
     }
-    let listed = to - ends.base;
-    for end in ends.list {
-        if *end as usize == listed {
-            return true;
-        }
-    }
-    false
-}
-
-/// Whether the nodes lead along edges from one of the starts to the goal.
-pub(crate) fn is_path<G: StripGraph>(
-    graph: &G,
-    starts: &[usize],
-    goal: usize,
-    nodes: &[usize],
-) -> bool
-    requires { All (λ node. node < (graph_of (G.basis graph.now)).count) nodes.now }
-    ensures { (cost : ℕ → ℕ) → result ≡ true →
-        IsPath (graph_at (G.basis graph.now) cost) starts.now goal nodes.now }
-{
-    if nodes.len() == 0 || nodes[nodes.len() - 1] != goal || !starts.contains(&nodes[0]) {
-        return false;
-    }
-    for place in 1..nodes.len() {
-        if !has_edge(graph, nodes[place - 1], nodes[place]) {
-            return false;
-        }
-    }
-    true
+    starts.contains(&nodes[0])
 }

@@ -54,7 +54,7 @@ impl Routing {
         requires { net < length self.now.trees }
         ensures { result ≡ has_node (slice_index_or self.now.trees net []) node }
     {
-        self.state.routes[net].nodes().contains(&node)
+        self.state.routes[net].has(node)
     }
 }
 

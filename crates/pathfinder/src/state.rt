@@ -3,13 +3,14 @@ ghost use Rattle.pathfinder.specs.Tables.{IsHeld};
 
 use crate::legal::laws_of_paths;
 use crate::nets::Terminals;
+use crate::path_search::PathSearch;
 use crate::rate::NodeCost;
 use crate::rates::rates_of;
 use crate::reroute::reroute;
 use crate::round::Round;
 use crate::route::Route;
 use crate::settle::accumulated_overuse;
-use fabric_planes::{KeptLayout, NetSearch};
+use fabric_planes::KeptLayout;
 use rr_graph::StripGraph;
 use std::alloc::{AllocError, Global};
 
@@ -17,7 +18,7 @@ use std::alloc::{AllocError, Global};
 /// the graph.
 #[derive(Drop)]
 pub(crate) struct KeptSearch {
-    pub(crate) nets: NetSearch,
+    pub(crate) paths: PathSearch,
     pub(crate) layout: KeptLayout,
 }
 
@@ -78,7 +79,7 @@ impl State {
         let mut held = Vec::from_slice(alloc, &self.held)?;
         match reroute(
             alloc,
-            &mut search.nets,
+            &mut search.paths,
             &round,
             &mut held,
             &self.nets,

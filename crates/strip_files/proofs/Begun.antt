@@ -1,6 +1,8 @@
 -- Heads and items that are read line by line.
 use Rattle.std.proofs.Common.{ℕ, zero, suc, ◌≡◌, Bool, true, false, List, [], ◌∷◌, ◌++◌, ◌<◌, length, take, get_or, ap, sym, refl, append_assoc, arith, ◌∙◌}
 use Rattle.std.proofs.lemmas.List.{length_push, map_push}
+use Rattle.strip_files.specs.BlockLines.{AreFirstNamed, listed_names, named_blocks}
+use Rattle.strip_files.specs.declared.block.BlockKind.{BlockKind}
 use Rattle.strip_files.specs.declared.block.ListedBlock.{ListedBlock}
 use Rattle.strip_files.specs.declared.block.PlacedBlock.{PlacedBlock}
 use Rattle.strip_files.specs.Starts.{AddsTo, ArePlaced, first_elements, listed_elements, starts_as, starts_of}
@@ -33,3 +35,20 @@ placed_push listed old new n block placed before n_is within is same added =
     let count : suc n ≡ length new = omega (arith, n_is, ap length added, length_push old placed) in
     begins ∙ ap (λ (firsts : List ℕ). firsts ++ placed.first_element ∷ []) (before ∙ ap (λ (k : ℕ). take k starts) (sym n_is)) ∙ ap (λ (first : ℕ). take n starts ++ first ∷ []) same
     ∙ sym (listed_next listed n block within is) ∙ ap (λ (k : ℕ). take k starts) count
+
+-- and with its kind and its name
+named_next : (listed : List ListedBlock) (k : ℕ) (block : ListedBlock) → k < length listed → block ≡ get_or listed k block
+    → take (suc k) (listed_names listed) ≡ take k (listed_names listed) ++ (block.kind, block.name.now) ∷ []
+named_next [] k block within is = absurd (omega (arith, within))
+named_next (other ∷ listed) zero block within is = ap (λ (first : ListedBlock). (first.kind, first.name.now) ∷ []) (sym is)
+named_next (other ∷ listed) (suc k) block within is = ap (λ (rest : List (BlockKind × List ℕ)). (other.kind, other.name.now) ∷ rest) (named_next listed k block (omega (arith, within)) is)
+
+pub named_push : (listed : List ListedBlock) (old new : List PlacedBlock) (n : ℕ) (block : ListedBlock) (placed : PlacedBlock) → AreFirstNamed listed old → n ≡ length old → n < length listed
+    → block ≡ get_or listed n block → placed.kind ≡ block.kind → placed.name.now ≡ block.name.now → new ≡ old ++ placed ∷ [] → AreFirstNamed listed new
+named_push listed old new n block placed before n_is within is same_kind same_name added =
+    let names : List (BlockKind × List ℕ) = listed_names listed in
+    let begins : named_blocks new ≡ named_blocks old ++ (placed.kind, placed.name.now) ∷ [] = ap named_blocks added ∙ map_push (λ (block : PlacedBlock). (block.kind, block.name.now)) old placed in
+    let count : suc n ≡ length new = omega (arith, n_is, ap length added, length_push old placed) in
+    begins ∙ ap (λ (firsts : List (BlockKind × List ℕ)). firsts ++ (placed.kind, placed.name.now) ∷ []) (before ∙ ap (λ (k : ℕ). take k names) (sym n_is))
+    ∙ ap (λ (kind : BlockKind). take n names ++ (kind, placed.name.now) ∷ []) same_kind ∙ ap (λ (name : List ℕ). take n names ++ (block.kind, name) ∷ []) same_name
+    ∙ sym (named_next listed n block within is) ∙ ap (λ (k : ℕ). take k names) count

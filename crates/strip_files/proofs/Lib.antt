@@ -1,2 +1,4 @@
 mod Begun
+pub mod Fronts
+pub mod Nets
 pub mod Told

@@ -1,4 +1,9 @@
+pub mod BlockLines
+pub mod EachLine
+pub mod Fronts
+pub mod NetLines
 pub mod NodeLines
 pub mod Parts
+pub mod SizeLines
 pub mod Sizes
 pub mod Starts

@@ -126,7 +126,7 @@ impl fmt::Display for FileFault {
 }
 
 /// The error of a line as the error of a file.
-pub fn in_file(error: TextError<Fault>, file: File, line: usize) -> TextError<FileFault> {
+pub(crate) fn in_file(error: TextError<Fault>, file: File, line: usize) -> TextError<FileFault> {
     match error {
         TextError::NoMemory => TextError::NoMemory,
         TextError::Fault(fault) => TextError::Fault(FileFault { file, line, fault }),

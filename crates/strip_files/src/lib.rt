@@ -7,7 +7,9 @@
 //! its file. Numbers may have leading zeros.
 //!
 //! It is proved that it is safe and returns, that what was read is on the largest strip, and that
-//! the nodes that were read are those of the `.route` file's lines, one each and in order.
+//! the nodes and the nets that were read, with the nets' names, are those of the `.route` file's
+//! lines, and the blocks, with their kinds and names, those of the `.net` file's, one each and in
+//! order.
 #![tactic(auto)]
 
 mod block;
@@ -24,9 +26,8 @@ mod steps;
 mod trees;
 
 pub use block::{BlockKind, PlacedBlock};
-pub use fault::{Fault, File, FileFault, in_file};
-pub use node_line::node_in;
-pub use place_text::{place_in, size_in};
+pub use fault::{Fault, File, FileFault};
+pub use place_text::size_in;
 pub use reader::{RoutedStrip, StripTexts, read_strip};
 pub use route_node::RouteNode;
 pub use route_text::{Net, block_in, net_in};

@@ -1,5 +1,7 @@
 //! The `.net` file: the blocks, and the BLEs of each.
 ghost use Rattle.std.specs.Prelude.{◌≡◌, ◌+◌, ◌++◌, ◌∷◌, [], length, true, false, MatchOption, OnOk};
+ghost use Rattle.strip_files.specs.BlockLines.{IsBlockReadOn, IsLineOfBlock, block_lines, block_start, listed_names};
+ghost use Rattle.strip_files.specs.EachLine.{AreEachFrom};
 ghost use Rattle.strip_files.specs.Starts.{AddsTo, block_starts, is_block_line, is_element_line, listed_elements};
 
 use crate::block::{BlockKind, ListedBlock};
@@ -51,7 +53,10 @@ impl<'t> Listed<'t> {
     pub(crate) fn read(&mut self, text: &'t [u8]) -> Result<(), TextError<FileFault>>
         requires no_blocks { self.old.blocks.items ≡ [] }
         requires no_elements { self.old.elements.items ≡ [] }
-        ensures { OnOk result (listed_elements self.new.blocks.items ≡ block_starts text.now) }
+        ensures starts { OnOk result (listed_elements self.new.blocks.items
+            ≡ block_starts text.now) }
+        ensures names { OnOk result (AreEachFrom IsLineOfBlock 0 (block_lines text.now)
+            (listed_names self.new.blocks.items)) }
     {
         let mut number = 0usize;
         let mut rest = text;
@@ -68,9 +73,11 @@ impl<'t> Listed<'t> {
 
     /// Reads the line of that number.
     fn line(&mut self, line: &'t [u8], number: usize) -> Result<(), TextError<Fault>>
-        ensures { OnOk result (AddsTo (is_element_line line.now) (is_block_line line.now)
+        ensures starts { OnOk result (AddsTo (is_element_line line.now) (is_block_line line.now)
             (length self.old.elements.items) (length self.new.elements.items)
             (listed_elements self.old.blocks.items) (listed_elements self.new.blocks.items)) }
+        ensures names { OnOk result (IsBlockReadOn line.now self.old.blocks.items
+            self.new.blocks.items) }
     {
         let mut scanner = Scanner::new(line);
         if scanner.takes("subblock: ") {
@@ -125,6 +132,8 @@ impl<'t> Listed<'t> {
         ensures elements { self.new.elements.items ≡ self.old.elements.items }
         ensures blocks { OnOk result (listed_elements self.new.blocks.items
             ≡ listed_elements self.old.blocks.items ++ length self.old.elements.items ∷ []) }
+        ensures names { OnOk result (listed_names self.new.blocks.items
+            ≡ listed_names self.old.blocks.items ++ (kind, name.now) ∷ []) }
     {
         if self.blocks.len() >= MAX_BLOCKS {
             return Err(TextError::Fault(Fault::OverLimit));
@@ -156,7 +165,8 @@ impl<'t> Listed<'t> {
 /// Reads the word for a kind of blocks; `None` if the line does not begin with one.
 fn take_kind(scanner: &mut Scanner<'_>) -> Option<BlockKind>
     ensures { MatchOption result (is_block_line scanner.old ≡ false)
-        (λ kind. is_block_line scanner.old ≡ true) }
+        (λ kind. (is_block_line scanner.old ≡ true)
+        × (scanner.old ≡ block_start kind ++ scanner.new)) }
 {
     if scanner.takes(".input ") {
         return Some(BlockKind::InputPad);

@@ -63,15 +63,6 @@ pub(crate) fn read_node(
     }
 }
 
-/// Reads a node of a strip of that size from its line: `KIND (COLUMN,ROW) WORD NUMBER`.
-pub fn node_in(size: StripSize, line: &[u8]) -> Result<Node, Fault> {
-    let mut scanner = Scanner::new(line);
-    let Some(kind) = take_kind(&mut scanner) else {
-        return Err(Fault::UnknownLine);
-    };
-    Ok(read_node(size, kind, scanner)?.node)
-}
-
 /// Reads a node of that kind from the end of a line, and what its number counts.
 fn read_tail(kind: NodeKind, scanner: &mut Scanner<'_>) -> Option<(Node, Counted)>
     ensures { IfSome result (λ read. (read.0.kind ≡ kind) × IsTailOf scanner.old read.0) }

@@ -1,7 +1,11 @@
 //! The `.place` file: the size of the strip, and the places of its blocks.
-ghost use Rattle.std.specs.Prelude.{◌+◌, ◌≡◌, ◌≤◌, [], length, take, true, OnOk, IfOk};
+ghost use Rattle.std.specs.Prelude.{◌+◌, ◌≡◌, ◌≤◌, ℕ, [], length, take, true, OnOk, IfOk};
 ghost use Rattle.grid.specs.declared.TheConstants.{MAX_COLUMNS, MAX_ROWS};
+ghost use Rattle.strip_files.specs.BlockLines.{AreFirstNamed, listed_names, named_blocks};
+ghost use Rattle.strip_files.specs.Fronts.{Stops};
+ghost use Rattle.strip_files.specs.SizeLines.{IsSizeRead, IsWithin, size_line};
 ghost use Rattle.strip_files.specs.Starts.{ArePlaced, first_elements, listed_elements};
+ghost use Rattle.text_parts.specs.PartEnds.{is_no_digit};
 
 use crate::block::{ListedBlock, PlacedBlock};
 use crate::fault::{Fault, File, FileFault, in_file};
@@ -39,8 +43,10 @@ impl<'t> Placed<'t> {
         listed: &[ListedBlock<'t>],
     ) -> Result<StripSize, TextError<FileFault>>
         requires { self.old.blocks.items ≡ [] }
-        ensures { IfOk result (λ size.
+        ensures starts { IfOk result (λ size.
             first_elements self.new.blocks.items ≡ listed_elements listed.now) }
+        ensures names { IfOk result (λ size.
+            named_blocks self.new.blocks.items ≡ listed_names listed.now) }
     {
         let mut number = 0usize;
         let mut rest = text;
@@ -65,8 +71,10 @@ impl<'t> Placed<'t> {
         number: usize,
         listed: &[ListedBlock<'t>],
     ) -> Result<(), TextError<Fault>>
-        requires { ArePlaced listed.now self.old.blocks.items }
-        ensures { OnOk result (ArePlaced listed.now self.new.blocks.items) }
+        requires starts { ArePlaced listed.now self.old.blocks.items }
+        requires names { AreFirstNamed listed.now self.old.blocks.items }
+        ensures starts { OnOk result (ArePlaced listed.now self.new.blocks.items) }
+        ensures names { OnOk result (AreFirstNamed listed.now self.new.blocks.items) }
     {
         match (number, self.size) {
             (1, _) if line.starts_with(b"Netlist file: ") => Ok(()),
@@ -90,8 +98,10 @@ impl<'t> Placed<'t> {
         line: &[u8],
         listed: &[ListedBlock<'t>],
     ) -> Result<(), TextError<Fault>>
-        requires { ArePlaced listed.now self.old.blocks.items }
-        ensures { OnOk result (ArePlaced listed.now self.new.blocks.items) }
+        requires starts { ArePlaced listed.now self.old.blocks.items }
+        requires names { AreFirstNamed listed.now self.old.blocks.items }
+        ensures starts { OnOk result (ArePlaced listed.now self.new.blocks.items) }
+        ensures names { OnOk result (AreFirstNamed listed.now self.new.blocks.items) }
     {
         let Some((name, place, number)) = place_in(line) else {
             return Err(TextError::Fault(Fault::BadBlock));
@@ -128,7 +138,7 @@ fn is_there(size: StripSize, place: Place) -> bool
 }
 
 /// The name, the place and the number of a block's line: `NAME COLUMN ROW PAD #NUMBER`.
-pub fn place_in(line: &[u8]) -> Option<(&[u8], Place, u32)> {
+fn place_in(line: &[u8]) -> Option<(&[u8], Place, u32)> {
     let mut scanner = Scanner::new(line);
     let name = scanner.word();
     scanner.text(" ")?;
@@ -146,15 +156,27 @@ pub fn place_in(line: &[u8]) -> Option<(&[u8], Place, u32)> {
 }
 
 /// The size in a line `Array size: COLUMNS x ROWS` with these words at its end.
-pub fn size_in(line: &[u8], end: &str) -> Option<StripSize> {
-    let mut scanner = Scanner::new(line);
-    scanner.text("Array size: ")?;
-    let columns = scanner.number()?;
-    scanner.text(" x ")?;
-    let rows = scanner.number()?;
-    scanner.text(end)?;
-    if !scanner.is_done() {
+pub fn size_in(line: &[u8], end: &str) -> Option<StripSize>
+    ensures { IsSizeRead line.now end.now result }
+{
+    let (is_size, columns, rows) = size_words(line, end);
+    if !is_size {
         return None;
     }
     StripSize::new(columns, rows)
+}
+
+/// Whether the line has that form, its columns, and its rows. A number that can't be read is 0.
+fn size_words(line: &[u8], end: &str) -> (bool, u32, u32)
+    ensures { (columns rows : ℕ) → IsWithin columns rows → Stops is_no_digit end.now
+        → line.now ≡ size_line columns rows end.now → result ≡ (true, columns, rows) }
+{
+    let mut scanner = Scanner::new(line);
+    let begins = scanner.takes("Array size: ");
+    let columns = scanner.number();
+    let has_cross = scanner.takes(" x ");
+    let rows = scanner.number();
+    let has_end = scanner.takes(end);
+    let is_size = begins & has_cross & has_end & scanner.is_done();
+    (is_size, columns.unwrap_or(0), rows.unwrap_or(0))
 }

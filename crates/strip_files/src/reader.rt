@@ -1,6 +1,8 @@
 //! The three files together.
 ghost use Rattle.std.specs.Prelude.{◌≡◌, ◌+◌, [], position, IfOk};
 ghost use Rattle.std.specs.Str.{bytes_eq};
+ghost use Rattle.strip_files.specs.BlockLines.{AreBlocksNamed};
+ghost use Rattle.strip_files.specs.NetLines.{AreNamed};
 ghost use Rattle.strip_files.specs.NodeLines.{AreTold, node_lines};
 ghost use Rattle.strip_files.specs.Parts.{elements_of, first_element, first_node, nodes_of, stretch};
 ghost use Rattle.strip_files.specs.Starts.{AreBegun, AreBlocksBegun};
@@ -143,7 +145,10 @@ pub fn read_strip(
     ensures nodes { IfOk result (λ strip.
         AreTold (node_lines texts.entry.route.now) strip.nodes.items) }
     ensures nets { IfOk result (λ strip. AreBegun texts.entry.route.now strip.nets.items) }
+    ensures names { IfOk result (λ strip. AreNamed texts.entry.route.now strip.nets.items) }
     ensures blocks { IfOk result (λ strip. AreBlocksBegun texts.entry.net.now strip.blocks.items) }
+    ensures block_names { IfOk result (λ strip.
+        AreBlocksNamed texts.entry.net.now strip.blocks.items) }
 {
     let mut listed = Listed::new(alloc);
     let mut placed = Placed::new(alloc);
@@ -175,8 +180,11 @@ fn read_all<'t>(
     ensures nodes { IfOk result (λ size. AreTold (node_lines texts.entry.route.now)
         routed.new.nodes.items) }
     ensures nets { IfOk result (λ size. AreBegun texts.entry.route.now routed.new.nets.items) }
+    ensures names { IfOk result (λ size. AreNamed texts.entry.route.now routed.new.nets.items) }
     ensures blocks { IfOk result (λ size.
         AreBlocksBegun texts.entry.net.now placed.new.blocks.items) }
+    ensures block_names { IfOk result (λ size.
+        AreBlocksNamed texts.entry.net.now placed.new.blocks.items) }
 {
     listed.read(texts.net)?;
     let size = placed.read(texts.place, &listed.blocks)?;

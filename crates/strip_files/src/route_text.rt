@@ -1,6 +1,8 @@
 //! The `.route` file: the nets, and the nodes of their routes.
-ghost use Rattle.std.specs.Prelude.{◌≡◌, ◌≤◌, ◌++◌, ◌∷◌, [], length, false, OnOk};
+ghost use Rattle.std.specs.Prelude.{◌≡◌, ◌≤◌, ◌++◌, ◌∷◌, [], length, false, IfSome, OnOk};
+ghost use Rattle.strip_files.specs.declared.route_text.Net.{Net};
 ghost use Rattle.strip_files.specs.declared.route_node.RouteNode.{RouteNode};
+ghost use Rattle.strip_files.specs.NetLines.{AreNamed, IsLineOfNet, IsNetLine, IsNetReadOn, word_end};
 ghost use Rattle.strip_files.specs.NodeLines.{AreTold, IsReadOn, IsTailOf, is_node_line, node_lines};
 ghost use Rattle.strip_files.specs.Starts.{AddsTo, AreBegun, first_nodes, is_net_line};
 
@@ -75,6 +77,7 @@ impl<'t> Routed<'t> {
         requires nets { self.old.nets.items ≡ [] }
         ensures nodes { OnOk result (AreTold (node_lines text.now) self.new.nodes.items) }
         ensures nets { OnOk result (AreBegun text.now self.new.nets.items) }
+        ensures names { OnOk result (AreNamed text.now self.new.nets.items) }
     {
         let mut number = 0usize;
         let mut rest = text;
@@ -100,6 +103,7 @@ impl<'t> Routed<'t> {
         size: StripSize,
     ) -> Result<(), TextError<Fault>>
         ensures nodes { OnOk result (IsReadOn line.now self.old.nodes.items self.new.nodes.items) }
+        ensures names { OnOk result (IsNetReadOn line.now self.old.nets.items self.new.nets.items) }
         ensures nets { OnOk result (AddsTo (is_node_line line.now) (is_net_line line.now)
             (length self.old.nodes.items) (length self.new.nodes.items)
             (first_nodes self.old.nets.items) (first_nodes self.new.nets.items)) }
@@ -177,6 +181,7 @@ impl<'t> Routed<'t> {
         ensures nets { OnOk result (AddsTo false (is_net_line line.now)
             (length self.old.nodes.items) (length self.new.nodes.items)
             (first_nodes self.old.nets.items) (first_nodes self.new.nets.items)) }
+        ensures names { OnOk result (IsNetReadOn line.now self.old.nets.items self.new.nets.items) }
     {
         if line.starts_with(b"Net ") {
             self.read_net(line, number)
@@ -190,6 +195,9 @@ impl<'t> Routed<'t> {
         ensures nodes { self.new.nodes.items ≡ self.old.nodes.items }
         ensures nets { OnOk result (first_nodes self.new.nets.items
             ≡ first_nodes self.old.nets.items ++ length self.old.nodes.items ∷ []) }
+        ensures names { OnOk result ((net : Net)
+            × (self.new.nets.items ≡ self.old.nets.items ++ net ∷ [])
+            × IsLineOfNet (length self.old.nets.items) line.now net) }
     {
         match self.section {
             Section::Size => Err(TextError::Fault(Fault::BadSize)),
@@ -238,6 +246,9 @@ impl<'t> Routed<'t> {
         ensures nodes { self.new.nodes.items ≡ self.old.nodes.items }
         ensures nets { OnOk result (first_nodes self.new.nets.items
             ≡ first_nodes self.old.nets.items ++ length self.old.nodes.items ∷ []) }
+        ensures names { OnOk result ((net : Net)
+            × (self.new.nets.items ≡ self.old.nets.items ++ net ∷ [])
+            × IsLineOfNet (length self.old.nets.items) line.now net) }
     {
         let Some((number, name, is_global)) = net_in(line) else {
             return Err(TextError::Fault(Fault::BadNet));
@@ -260,7 +271,9 @@ impl<'t> Routed<'t> {
 
 /// Reads the number and the name from a net's line, and whether the net is global:
 /// `Net NUMBER (NAME)`, or that with `: global net connecting:`.
-pub fn net_in(line: &[u8]) -> Option<(u32, &[u8], bool)> {
+pub fn net_in(line: &[u8]) -> Option<(u32, &[u8], bool)>
+    ensures { IfSome result (λ net. IsNetLine net.0 line.now net.1.now net.2) }
+{
     let mut scanner = Scanner::new(line);
     scanner.text("Net ")?;
     let number = scanner.number()?;
@@ -270,9 +283,15 @@ pub fn net_in(line: &[u8]) -> Option<(u32, &[u8], bool)> {
     if !scanner.is_done() {
         return None;
     }
-    let end = if is_global { "):" } else { ")" };
-    let name = word.strip_suffix(end.as_bytes())?;
+    let name = word.strip_suffix(word_end(is_global))?;
     Some((number, name, is_global))
+}
+
+/// What ends the word with a net's name.
+fn word_end(is_global: bool) -> &'static [u8]
+    ensures { result.now ≡ word_end is_global }
+{
+    if is_global { b"):" } else { b")" }
 }
 
 /// The number of a block that is listed with a global net, from its line:

@@ -1,8 +1,8 @@
 use Rattle.std.proofs.lemmas.Result.{IfOk-weaker}
 use Rattle.desk_layouts.proofs.configure.print_laid.Goals as goal
 
-pub returns-in-Ok : goal.returns-in-Ok
-returns-in-Ok g c =
+pub returns-in-Ok-clause-printed : goal.returns-in-Ok-clause-printed
+returns-in-Ok-clause-printed g c =
     let laid = c.args.laid.now in
     let lines = c.in-Ok.lines in
     let laws = c.laws_of_configurations.ensures in
@@ -16,4 +16,4 @@ returns-in-Ok g c =
         values = c.values_are_rows.ensures lines laid.circuit laid.arch laid.strip laid.layout c.requires.circuit c.requires.implemented;
       },
       taken,
-    )) c.print_lines-printed.ensures
+    )) c.print_lines-printed.ensures.printed

@@ -7,7 +7,7 @@ use Rattle.fabric_planes.proofs.distances.far_table.Goals as goal
 pub loop-at-preserved : goal.loop-at-preserved
 loop-at-preserved c =
     let at = c.loop-at.at in
-    let f : ℕ → ℕ = λ at. far_at c.args.target (c.args.shape.width + 3) c.band-band.result (at / c.stride-stride.result) (at % c.stride-stride.result) in
+    let f : ℕ → ℕ = λ at. far_at c.args.target (c.args.shape.width + 3) (c.args.shape.rows + 2) (at / c.stride-stride.result) (at % c.stride-stride.result) in
     let none : 0 + at ≡ at = omega arith in
     c.in_ok-push.ensures.items
     ∙ (ap (λ (items : List ℕ). items ++ c.far_at.result ∷ []) c.loop-at.invariant

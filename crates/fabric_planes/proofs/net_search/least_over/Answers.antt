@@ -7,4 +7,4 @@ improve-requires-clause-known g c =
     let planes = c.args.planes.now in
     let t : Terminals = record { source = planes.source; sink = planes.sink } in
     let basis = g.G.StripGraph.basis planes.strip.graph.now in
-    known_in basis (g.C.NodeCosts.costs planes.costs.now) planes.starts.now planes.goal t c.args.path.now (c.requires.known c.if-is_known.true)
+    known_in basis (g.C.NodeCosts.costs planes.costs.now) planes.starts.now planes.goal t c.args.path.now (c.requires c.if-is_known.true)

@@ -6,9 +6,9 @@ use Rattle.front_lines.proofs.serving.serve_client.Goals as goal
 
 pub loop-init : goal.loop-init
 loop-init g c = record {
-  tag = refl;
+  speaker = refl;
   begins = c.requires.line;
-  progress = progress_none c.args.service.now.tag.items c.args.text.now (g.D.Dialogue.view c.args.client.now).remaining (g.Q.Requests.contents c.args.service.now.requests) (g.F.Dialogue.view c.args.service.now.replies).remaining (g.D.Dialogue.view c.args.client.now).output (ahead_of c.args.feed.now) (ahead_of c.args.service.now.feed) (line_of c.args.service.now.feed) c.requires.ahead c.requires.replies_ahead c.requires.replies_line;
+  progress = progress_none c.args.service.now.speaker c.args.text.now (g.D.Dialogue.view c.args.client.now).remaining (g.Q.Requests.contents c.args.service.now.requests) (g.F.Dialogue.view c.args.service.now.replies).remaining (g.D.Dialogue.view c.args.client.now).output (ahead_of c.args.feed.now) (ahead_of c.args.service.now.feed) (line_of c.args.service.now.feed) c.requires.ahead c.requires.replies_ahead c.requires.replies_line;
 }
 
 pub returns-in-Ok-false-clause-served : goal.returns-in-Ok-false-clause-served
@@ -30,7 +30,7 @@ returns-in_err-take_turn-clause-served g c =
     let now = to_come c.loop.feed (g.D.Dialogue.view c.loop.client) in
     let next = to_come c.read_line.new.feed (g.D.Dialogue.view c.read_line.new.dialogue) in
     let L : List ℕ → Type 0 = λ line. HasLine now next (line_of c.loop.feed) line in
-    stops_turn _ _ _ _ _ _ _ _ _ _ _ _ c.loop.invariant.progress c.loop.service.tag.items next (g.Q.Requests.contents c.take_turn.new.service.requests) (to_come c.take_turn.new.service.feed (g.F.Dialogue.view c.take_turn.new.service.replies)) (line_of c.loop.feed) c.line.result.now (line_of c.take_turn.new.service.feed) (g.D.Dialogue.view c.read_line.new.dialogue).output (g.D.Dialogue.view c.take_turn.new.client).output (ap (λ tag. tag.items) c.loop.invariant.tag) c.loop.invariant.begins (subst L (sym c.line.ensures) (subst R is c.in-Ok-true.ensures.reads)) c.read_line.ensures.output c.in_err-take_turn.ensures.err
+    stops_turn _ _ _ _ _ _ _ _ _ _ _ _ c.loop.invariant.progress c.loop.service.speaker next (g.Q.Requests.contents c.take_turn.new.service.requests) (to_come c.take_turn.new.service.feed (g.F.Dialogue.view c.take_turn.new.service.replies)) (line_of c.loop.feed) c.line.result.now (line_of c.take_turn.new.service.feed) (g.D.Dialogue.view c.read_line.new.dialogue).output (g.D.Dialogue.view c.take_turn.new.client).output c.loop.invariant.speaker c.loop.invariant.begins (subst L (sym c.line.ensures) (subst R is c.in-Ok-true.ensures.reads)) c.read_line.ensures.output c.in_err-take_turn.ensures.err
 
 pub loop-preserved : goal.loop-preserved
 loop-preserved g c =
@@ -40,8 +40,8 @@ loop-preserved g c =
     let next = to_come c.read_line.new.feed (g.D.Dialogue.view c.read_line.new.dialogue) in
     let L : List ℕ → Type 0 = λ line. HasLine now next (line_of c.loop.feed) line in
     record {
-      tag = c.in_ok-take_turn.ensures.tag ∙ c.loop.invariant.tag;
+      speaker = c.in_ok-take_turn.ensures.speaker ∙ c.loop.invariant.speaker;
       begins = c.begin_line.ensures.line;
-      progress = progress_turn _ _ _ _ _ _ _ _ _ _ _ _ c.loop.invariant.progress c.loop.service.tag.items next (to_come c.begin_line.new.self (g.D.Dialogue.view c.take_turn.new.client)) (g.Q.Requests.contents c.take_turn.new.service.requests) (to_come c.take_turn.new.service.feed (g.F.Dialogue.view c.take_turn.new.service.replies)) (line_of c.loop.feed) c.line.result.now (line_of c.take_turn.new.service.feed) (g.D.Dialogue.view c.read_line.new.dialogue).output (g.D.Dialogue.view c.take_turn.new.client).output (g.D.Dialogue.view c.read_line.new.dialogue).remaining (g.D.Dialogue.view c.take_turn.new.client).remaining c.take_turn.new.text (ap (λ tag. tag.items) c.loop.invariant.tag) c.loop.invariant.begins (subst L (sym c.line.ensures) (subst R is c.in-Ok-true.ensures.reads)) c.read_line.ensures.output c.in_ok-take_turn.ensures.ok
+      progress = progress_turn _ _ _ _ _ _ _ _ _ _ _ _ c.loop.invariant.progress c.loop.service.speaker next (to_come c.begin_line.new.self (g.D.Dialogue.view c.take_turn.new.client)) (g.Q.Requests.contents c.take_turn.new.service.requests) (to_come c.take_turn.new.service.feed (g.F.Dialogue.view c.take_turn.new.service.replies)) (line_of c.loop.feed) c.line.result.now (line_of c.take_turn.new.service.feed) (g.D.Dialogue.view c.read_line.new.dialogue).output (g.D.Dialogue.view c.take_turn.new.client).output (g.D.Dialogue.view c.read_line.new.dialogue).remaining (g.D.Dialogue.view c.take_turn.new.client).remaining c.take_turn.new.text c.loop.invariant.speaker c.loop.invariant.begins (subst L (sym c.line.ensures) (subst R is c.in-Ok-true.ensures.reads)) c.read_line.ensures.output c.in_ok-take_turn.ensures.ok
           (keeps_on (g.D.Dialogue.view c.read_line.new.dialogue).remaining (g.D.Dialogue.view c.take_turn.new.client).remaining (ahead_of c.read_line.new.feed) (ahead_of c.begin_line.new.self) c.begin_line.ensures.ahead c.in_ok-take_turn.ensures.ok.keeps) c.in_ok-take_turn.ensures.state;
     }

@@ -17,7 +17,7 @@ loop-index-preserved g c =
     let costs = g.C.NodeCosts.costs self.costs.now in
     let basis = g.G.StripGraph.basis self.strip.graph.now in
     let f = planes_of basis costs self.starts.now self.goal t in
-    let net = c.args.self.now.starts.now in
+    let net = c.args.self.now.planes.now.listed.now in
     let wire = c.index.result.now in
     let list = c.loop-index.starts.items in
     let index = c.loop-index.index in
@@ -30,7 +30,7 @@ loop-index-preserved g c =
       | in-Some+in_ok-push w ↦
           let of = w.in-Some.ensures.there in
           let start = w.in-Some.start in
-          let entry = wire_entry basis t costs self.starts.now self.goal c.laws.ensures.basis self.search net c.args.self.now.are_starts track wire start (index, within, sym c.index.ensures) of in
+          let entry = wire_entry basis t costs self.starts.now self.goal c.laws.ensures.basis self.search net c.args.self.now.planes.now.are_listed track wire start (index, within, sym c.index.ensures) of in
           rw w.starts-is (subst (λ (xs : List Start). AreSomeStarts f track xs × KeepsStarts c.args.starts.now.items xs × AddsWires f track most (index + 1) net.wires.items xs) (sym w.in_ok-push.ensures.items) (
             some_more c.laws.ensures.basis t costs self.starts.now self.goal self.search track list start inv.0 entry of.bound,
             λ place k. place_kept list start place (inv.1 place k),

@@ -9,4 +9,4 @@ invariant-loop-index g l =
     let costs = g.C.NodeCosts.costs self.costs.now in
     let basis = g.G.StripGraph.basis self.strip.graph.now in
     AreSomeStarts (planes_of basis costs self.starts.now self.goal t) l.track l.starts.items × KeepsStarts l.fn.starts.items l.starts.items
-    × AddsWires (planes_of basis costs self.starts.now self.goal t) l.track l.most l.index l.self.starts.now.wires.items l.starts.items
+    × AddsWires (planes_of basis costs self.starts.now self.goal t) l.track l.most l.index l.self.planes.now.listed.now.wires.items l.starts.items

@@ -9,4 +9,4 @@ invariant-loop-index g l =
     let t : Terminals = record { source = self.source; sink = self.sink } in
     let costs = g.C.NodeCosts.costs self.costs.now in
     let basis = g.G.StripGraph.basis self.strip.graph.now in
-    AreSomeStarts (planes_of basis costs self.starts.now self.goal t) l.track l.starts.items × HasPins basis t costs self.starts.now self.goal l.self.starts.now.pins.items l.track l.index l.starts.items
+    AreSomeStarts (planes_of basis costs self.starts.now self.goal t) l.track l.starts.items × HasPins basis t costs self.starts.now self.goal l.self.planes.now.listed.now.pins.items l.track l.index l.starts.items

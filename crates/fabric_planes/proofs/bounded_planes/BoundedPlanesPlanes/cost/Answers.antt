@@ -2,21 +2,13 @@ use Rattle.fabric_planes.specs.Layout.{Terminals}
 use Rattle.fabric_planes.proofs.NetRoads.{is_track, is_place}
 use Rattle.fabric_planes.proofs.bounded_planes.BoundedPlanesPlanes.cost.Goals as goal
 
-pub cost-requires-clause-track : goal.cost-requires-clause-track
-cost-requires-clause-track g c =
+pub invariant_of-at : goal.invariant_of-at
+invariant_of-at g c =
     let self = c.args.self.now.planes.now in
     let t : Terminals = record { source = self.source; sink = self.sink } in
     let costs = g.C.NodeCosts.costs self.costs.now in
     let basis = g.G.StripGraph.basis self.strip.graph.now in
-    is_track basis costs self.starts.now self.goal t c.args.track c.requires.track
-
-pub cost-requires-clause-place : goal.cost-requires-clause-place
-cost-requires-clause-place g c =
-    let self = c.args.self.now.planes.now in
-    let t : Terminals = record { source = self.source; sink = self.sink } in
-    let costs = g.C.NodeCosts.costs self.costs.now in
-    let basis = g.G.StripGraph.basis self.strip.graph.now in
-    is_place basis costs self.starts.now self.goal t c.args.place c.requires.place
+    record { on_track = is_track basis costs self.starts.now self.goal t c.args.track c.requires.track; in_plane = is_place basis costs self.starts.now self.goal t c.args.place c.requires.place }
 
 pub returns : goal.returns
 returns g c =

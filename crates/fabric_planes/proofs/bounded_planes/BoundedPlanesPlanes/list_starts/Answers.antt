@@ -26,5 +26,5 @@ returns g c =
     let costs = g.C.NodeCosts.costs self.costs.now in
     let basis = g.G.StripGraph.basis self.strip.graph.now in
     let done = c.in_ok-add_wires.ensures in
-    all_starts basis t costs self.starts.now self.goal c.laws.ensures.basis self.search c.args.self.now.starts.now c.args.self.now.are_starts c.args.track c.args.most c.list_pins.new.starts.items c.add_wires.new.starts.items
+    all_starts basis t costs self.starts.now self.goal c.laws.ensures.basis self.search c.args.self.now.planes.now.listed.now c.args.self.now.planes.now.are_listed c.args.track c.args.most c.list_pins.new.starts.items c.add_wires.new.starts.items
     done.some c.in_ok-list_pins.ensures.pins done.kept done.wires

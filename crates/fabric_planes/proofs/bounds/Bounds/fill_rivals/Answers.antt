@@ -21,4 +21,4 @@ returns-in-None-clause-rivals g c =
     let p = c.args.planes.now in
     let cost = g.C.NodeCosts.costs p.costs.now in
     let t : Terminals = record { source = p.source; sink = p.sink } in
-    on_ok_weaker c.copy_all.result (λ same nodes some. from_all c.laws.ensures.basis t cost p.starts.now p.goal p.search c.args.self.now.all.items c.copy_all.new.self.rivals.items nodes same c.requires.bounds) c.copy_all.ensures.rivals
+    on_ok_weaker c.copy_all.result (λ same nodes some. from_all c.laws.ensures.basis t cost p.starts.now p.goal p.search c.args.self.now.all.items c.copy_all.new.self.rivals.items nodes same c.requires) c.copy_all.ensures.rivals

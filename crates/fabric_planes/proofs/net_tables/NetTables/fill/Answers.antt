@@ -1,47 +1,62 @@
-use Rattle.std.proofs.Common.{◌≡◌, ◌∙◌, true, ap, subst, sym}
+use Rattle.std.proofs.Common.{◌≡◌, ◌∙◌, ap, subst, sym}
 use Rattle.std.proofs.lemmas.Result.{on_ok_weaker}
 use Rattle.rr_graph.specs.declared.node.Node.{Node}
 use Rattle.rr_graph.specs.declared.node.NodeKind.{NodeKind}
-use Rattle.rr_graph.specs.declared.node.NodeKind.TheVariants.{Sink}
-use Rattle.rr_graph.specs.Geometry.{IsWire, is_node}
+use Rattle.rr_graph.specs.Geometry.{IsWire}
 use Rattle.rr_graph.specs.Graph.{graph_of}
 use Rattle.fabric_planes.specs.Aheads.{AreSides}
-use Rattle.fabric_planes.specs.Pins.{AreArrivals}
-use Rattle.fabric_planes.specs.SidePlaces.{IsInStrip}
-use Rattle.fabric_planes.specs.SideBounds.{AreBounds}
-use Rattle.fabric_planes.proofs.AheadWires.{sink_inside, terminal_inside}
+use Rattle.fabric_planes.specs.Layout.{IsNetSearch, Terminals, planes_of}
+use Rattle.fabric_planes.specs.NetSearches.{terminals_of}
+use Rattle.fabric_planes.specs.Pins.{ArePins, HaveEnds}
+use Rattle.fabric_planes.specs.Shown.{ArePinsFor}
+use Rattle.fabric_planes.proofs.AheadWires.{node_there, sink_inside, terminal_inside}
+use Rattle.fabric_planes.proofs.Strips.{node_fields}
 use Rattle.fabric_planes.proofs.net_tables.NetTables.fill.Goals as goal
 
-pub fill-requires-clause-sides : goal.fill-requires-clause-sides
-fill-requires-clause-sides g c =
-    let basis = g.G.StripGraph.basis c.args.priced.now.graph.now in
-    let sink = c.node-sink.result in
-    let kind : sink.kind ≡ Sink = ap (λ (v : Node). v.kind) c.node-sink.ensures ∙ c.requires.goal_is in
-    let there : is_node basis.arch basis.strip sink ≡ true = subst (λ (v : Node). is_node basis.arch basis.strip v ≡ true) (sym c.node-sink.ensures) (c.laws.ensures.lawful.nodes c.args.goal c.requires.goal) in
-    let inside = sink_inside c.laws.ensures.basis sink kind there in
-    subst (AreSides basis sink) (sym c.deref.ensures.value) (c.in_ok-list_sides-2.ensures.are_sides basis c.laws.ensures.basis c.args.priced.now.laid.shape inside)
+pub list_sides-requires : goal.list_sides-requires
+list_sides-requires g c =
+    let quest = c.args.quest.now in
+    node_fields c.laws.ensures.basis quest.source (node_there c.laws.ensures.basis quest.from quest.within quest.source quest.source_is)
 
-pub fill-requires-clause-prices : goal.fill-requires-clause-prices
-fill-requires-clause-prices g c = c.by_place.ensures (g.G.StripGraph.basis c.args.priced.now.graph.now) (g.C.NodeCosts.costs c.args.priced.now.costs.now) c.args.priced.now.priced
+pub list_sides-requires-2 : goal.list_sides-requires-2
+list_sides-requires-2 g c =
+    let quest = c.args.quest.now in
+    let ends = quest.search.terminals in
+    node_fields c.laws.ensures.basis quest.sink (node_there c.laws.ensures.basis quest.goal ends.goal_within quest.sink ends.goal_is)
+
+pub fill-requires-2-clause-sides : goal.fill-requires-2-clause-sides
+fill-requires-2-clause-sides g c =
+    let quest = c.args.quest.now in
+    let basis = g.G.StripGraph.basis quest.priced.now.graph.now in
+    let is = c.laws.ensures.basis in
+    let ends = quest.search.terminals in
+    let inside = sink_inside is quest.sink ends.kind (node_there is quest.goal ends.goal_within quest.sink ends.goal_is) in
+    subst (AreSides basis quest.sink) (sym c.deref.ensures.value) (c.in_ok-list_sides-2.ensures.are_sides basis is quest.priced.now.laid.shape inside)
 
 pub returns : goal.returns
 returns g c =
-    let basis = g.G.StripGraph.basis c.args.priced.now.graph.now in
-    let cost = g.C.NodeCosts.costs c.args.priced.now.costs.now in
-    let laid = c.args.priced.now.laid in
-    let source = (graph_of basis).node c.args.source in
-    let sink = (graph_of basis).node c.args.goal in
-    let from = terminal_inside c.laws.ensures.basis source (subst (λ (k : NodeKind). IsWire k → ⊥) (sym c.requires.source_is) (λ w. w)) (c.laws.ensures.lawful.nodes c.args.source c.requires.source) in
-    let to = sink_inside c.laws.ensures.basis sink c.requires.goal_is (c.laws.ensures.lawful.nodes c.args.goal c.requires.goal) in
-    let own : AreSides basis source c.list_sides.new.sides.items = subst (λ (v : Node). AreSides basis v c.list_sides.new.sides.items) c.node.ensures
-    (c.in_ok-list_sides.ensures.are_sides basis c.laws.ensures.basis laid.shape (subst (λ (v : Node). IsInStrip basis v) (sym c.node.ensures) from)) in
-    let sides : AreSides basis sink c.list_sides-2.new.sides.items = subst (λ (v : Node). AreSides basis v c.list_sides-2.new.sides.items) c.node-sink.ensures
-    (c.in_ok-list_sides-2.ensures.are_sides basis c.laws.ensures.basis laid.shape (subst (λ (v : Node). IsInStrip basis v) (sym c.node-sink.ensures) to)) in
-    on_ok_weaker c.fill.result (λ bounds. record {
-      within = c.requires.source;
-      sides = sides;
-      own_sides = own;
-      bounds = subst (λ (v : Node). AreBounds basis cost v c.fill.new.self) c.node-sink.ensures bounds;
-      pins = c.in_ok-list_pins.ensures;
-      arrivals = subst (λ (v : Node). AreArrivals basis v c.args.priced.now.layout.now.arrivals.rows c.list_firsts.new.firsts.items) c.node-sink.ensures c.in_ok-list_firsts.ensures;
-    }) c.fill.ensures
+    let quest = c.args.quest.now in
+    let basis = g.G.StripGraph.basis quest.priced.now.graph.now in
+    let cost = g.C.NodeCosts.costs quest.priced.now.costs.now in
+    let is = c.laws.ensures.basis in
+    let ends = quest.search.terminals in
+    let laid = quest.priced.now.laid in
+    let rows = quest.priced.now.layout.now.pins.rows in
+    let shown = c.list_pins.new.pins.items in
+    let t : Terminals = record { source = quest.source; sink = quest.sink } in
+    let no_wire : IsWire quest.source.kind → ⊥ = subst (λ (k : NodeKind). IsWire k → ⊥) (sym quest.kind) (λ w. w) in
+    let from = terminal_inside is quest.source no_wire (node_there is quest.from quest.within quest.source quest.source_is) in
+    let to = sink_inside is quest.sink ends.kind (node_there is quest.goal ends.goal_within quest.sink ends.goal_is) in
+    let same : terminals_of basis quest.from quest.goal ≡ t =
+    ap (λ (v : Node). record { source = v; sink = (graph_of basis).node quest.goal }) quest.source_is ∙ ap (λ (v : Node). record { source = quest.source; sink = v }) ends.goal_is in
+    let pins : ArePinsFor basis rows quest.from quest.goal shown = c.in_ok-list_pins.ensures in
+    let search : IsNetSearch basis cost quest.starts.now quest.goal (terminals_of basis quest.from quest.goal) = subst (λ (t : Terminals). IsNetSearch basis cost quest.starts.now quest.goal t) (sym same) quest.search in
+    on_ok_weaker c.fill-2.result (λ bounds. record {
+      sides = c.in_ok-list_sides-2.ensures.are_sides basis is laid.shape to;
+      own_sides = c.in_ok-list_sides.ensures.are_sides basis is laid.shape from;
+      bounds = bounds;
+      pins = subst (λ (t : Terminals). ArePins basis t shown) same pins.are_pins;
+      ends = subst (λ (t : Terminals). HaveEnds (planes_of basis cost quest.starts.now quest.goal t) rows shown) same (pins.have_ends cost quest.starts.now search);
+      arrivals = c.in_ok-list_firsts.ensures;
+      starts_are = c.in_ok-fill.ensures;
+    }) c.fill-2.ensures

@@ -15,14 +15,14 @@ use Rattle.fabric_planes.proofs.steps.Steps.set_class.Goals as goal
 
 pub returns-then-wire-shape : goal.returns-then-wire-shape
 returns-then-wire-shape g c =
-    let basis = g.G.StripGraph.basis c.args.graph.now in
+    let basis = g.G.StripGraph.basis c.args.shaped.now.graph.now in
     let is = c.laws.ensures.basis in
     let at = c.requires.first in
     let below = c.requires.below in
     let old = c.args.self.now.classes.items in
     let x : c.node-wire.result.x ≡ ((graph_of basis).node c.args.first).x = ap (λ (v : Node). v.x) c.node-wire.ensures in
-    let before = column_before is c.args.place c.args.first at (omega (arith, x, c.if-wire-gt2.true)) (omega (arith, x, c.if-wire-shape.true, c.requires.shape.width)) in
-    let stride : c.stride.result ≡ stride_of basis = omega (arith, c.stride.ensures.value, c.requires.shape.pins, c.requires.shape.rows) in
+    let before = column_before is c.args.place c.args.first at (omega (arith, x, c.if-wire-gt2.true)) (omega (arith, x, c.if-wire-shape.true, c.args.shaped.now.fits.width)) in
+    let stride : c.stride.result ≡ stride_of basis = omega (arith, c.stride.ensures.value, c.args.shaped.now.fits.pins, c.args.shaped.now.fits.rows) in
     let within : c.args.place - c.stride.result < length old = omega (arith, first_low is c.args.place c.args.first at, below.long) in
     let class : c.index.result.now ≡ slice_index old (c.args.place - stride_of basis) =
     c.index.ensures ∙ (get_or_default old (c.args.place - c.stride.result) c.index.result.now 0 within ∙ ap (λ (s : ℕ). slice_index old (c.args.place - s)) stride) in
@@ -39,14 +39,14 @@ index_mut-requires-2 g c = omega (arith, first_low c.laws.ensures.basis c.args.p
 
 pub returns : goal.returns
 returns g c =
-    let basis = g.G.StripGraph.basis c.args.graph.now in
+    let basis = g.G.StripGraph.basis c.args.shaped.now.graph.now in
     let is = c.laws.ensures.basis in
     let at = c.requires.first in
     let below = c.requires.below in
     let wire = (graph_of basis).node c.args.first in
     let x : c.node-wire.result.x ≡ wire.x = ap (λ (v : Node). v.x) c.node-wire.ensures in
     let outer : 2 < wire.x → wire.x < basis.strip.width → ⊥ = λ some few. elim c.else-wire-gt2.branch [
-      | else-wire-gt2-via-then-wire-gt2+else-wire-shape w ↦ omega (arith, some, few, x, w.if-wire-shape.false, c.requires.shape.width)
+      | else-wire-gt2-via-then-wire-gt2+else-wire-shape w ↦ omega (arith, some, few, x, w.if-wire-shape.false, c.args.shaped.now.fits.width)
       | else-wire-gt2-via-else-wire-gt2 w ↦ omega (arith, some, x, w.if-wire-gt2.false)
     ] in
     let view : View = record { track = 0; node = node_at_offset 2 c.node-wire.result } in

@@ -11,6 +11,6 @@ returns g c = λ _.
     let old : List ℕ = c.args.sought.old.now in
     let same : c.extend_from_slice.new.self.items ≡ old = c.in_ok-extend_from_slice.ensures.items ∙ ap (λ (xs : List ℕ). xs ++ old) c.clear.ensures.items in
     record {
-      is_path = subst (λ (nodes : List ℕ). IsPath graph c.args.sought.starts.now c.args.sought.sink nodes) (sym same) (c.is_path.ensures graph.cost c.if-not-is_path.false);
+      is_path = subst (λ (nodes : List ℕ). IsPath graph c.args.sought.starts.now c.args.sought.sink nodes) (sym same) (c.is_path.ensures graph c.requires.joined c.if-not-is_path.false);
       sum = c.cost_of-path.ensures ∙ ap (cost_of graph) (sym same);
     }

@@ -1,16 +1,14 @@
 use Rattle.std.proofs.Common.{◌<◌, ◌∙◌, [], length, ap, subst, sym, slice_index_or}
 use Rattle.std.proofs.lemmas.List.{get_or_default}
-use Rattle.std.specs.Prelude.{◌==◌}
 use Rattle.pathfinder.specs.Negotiation.{Tree}
 use Rattle.pathfinder.specs.Overuse.{has_node}
 use Rattle.pathfinder.specs.Routings.{RoutingState}
-use Rattle.pathfinder.proofs.Overuses.{found_by_count}
 use Rattle.pathfinder.proofs.routing.Routing.has_node.Goals as goal
 
 pub returns : goal.returns
 returns c =
     let tree = c.index.result.now in
     let within : c.args.net < length c.self.inside.state.routes.items = subst (λ (s : RoutingState). c.args.net < length s.trees) (sym c.self.view_is) c.requires in
-    c.contains.ensures.value ∙ found_by_count (λ other. other == c.args.node) c.nodes.result.now (has_node tree c.args.node) (c.nodes.ensures c.args.node)
+    c.has.ensures
     ∙ ap (λ (t : Tree). has_node t c.args.node) (c.index.ensures ∙ get_or_default c.self.inside.state.routes.items c.args.net tree [] within)
     ∙ ap (λ (s : RoutingState). has_node (slice_index_or s.trees c.args.net []) c.args.node) c.self.view_is

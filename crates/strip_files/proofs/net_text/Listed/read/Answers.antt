@@ -1,6 +1,10 @@
-use Rattle.std.proofs.Common.{◌≡◌, ◌<◌, ◌∙◌, ◌++◌, List, [], ℕ, length, ap, arith, sym, append-nil}
+use Rattle.std.proofs.Common.{◌≡◌, ◌<◌, ◌∙◌, ◌++◌, List, [], ℕ, length, ap, arith, sym, subst, filter, append-nil}
 use Rattle.std.proofs.lemmas.Bool.Decides.{nat_tests}
 use Rattle.line_text.specs.Lines.{physical_lines}
+use Rattle.strip_files.specs.BlockLines.{IsLineOfBlock, block_lines, listed_names}
+use Rattle.strip_files.specs.EachLine.{AreEachFrom}
+use Rattle.strip_files.specs.declared.block.BlockKind.{BlockKind}
+use Rattle.strip_files.proofs.Nets.{each_step}
 use Rattle.strip_files.specs.Starts.{is_block_line, is_element_line, listed_elements, starts_of}
 use Rattle.strip_files.proofs.Begun.{begun_step}
 use Rattle.strip_files.proofs.Told.{nothing}
@@ -13,14 +17,29 @@ loop-rest-preserved c =
     let filled : 0 < length rest = grind (arith, nat_tests, c.loop-rest-test.ensures) in
     let starts = listed_elements c.loop-rest.self.blocks.items in
     let count = length c.loop-rest.self.elements.items in
-    let begun = begun_step is_element_line is_block_line (physical_lines later) count (length c.line.new.self.elements.items) starts (listed_elements c.line.new.self.blocks.items) c.split_line.result.0.now c.in_default.ensures in
-    begun ∙ ap (λ (lines : List (List ℕ)). starts ++ starts_of is_element_line is_block_line count lines) (sym (c.split_line.ensures.lines filled)) ∙ c.loop-rest.invariant
+    let begun = begun_step is_element_line is_block_line (physical_lines later) count (length c.line.new.self.elements.items) starts (listed_elements c.line.new.self.blocks.items) c.split_line.result.0.now c.in_default.ensures.starts in
+    let lines_are = c.split_line.ensures.lines filled in
+    let old = listed_names c.loop-rest.self.blocks.items in
+    let new = listed_names c.line.new.self.blocks.items in
+    let named : (more : List (BlockKind × List ℕ)) → AreEachFrom IsLineOfBlock (length new) (block_lines later) more → AreEachFrom IsLineOfBlock 0 (block_lines c.args.text.now) (new ++ more) = λ more told.
+    (let step = each_step IsLineOfBlock is_block_line c.split_line.result.0.now (physical_lines later) old new more c.in_default.ensures.names told in
+    let here : AreEachFrom IsLineOfBlock (length old) (block_lines rest) step.0 = subst (λ (lines : List (List ℕ)). AreEachFrom IsLineOfBlock (length old) (filter is_block_line lines) step.0) (sym lines_are) step.1 in
+    subst (λ (all : List (BlockKind × List ℕ)). AreEachFrom IsLineOfBlock 0 (block_lines c.args.text.now) all) (sym step.2) (c.loop-rest.invariant.1 step.0 here)) in
+    (begun ∙ ap (λ (lines : List (List ℕ)). starts ++ starts_of is_element_line is_block_line count lines) (sym lines_are) ∙ c.loop-rest.invariant.0, named)
 
-pub returns : goal.returns
+pub returns-clause-starts : goal.returns-clause-starts
 unfolding starts_of
-returns c =
+returns-clause-starts c =
     let short : length c.loop-rest.rest.now ≡ 0 = grind (arith, nat_tests, c.loop-rest-test.ensures) in
     let none : c.loop-rest.rest.now ≡ [] = nothing c.loop-rest.rest.now short in
     let starts = listed_elements c.loop-rest.self.blocks.items in
     let count = length c.loop-rest.self.elements.items in
-    sym (append-nil starts) ∙ ap (λ (rest : List ℕ). starts ++ starts_of is_element_line is_block_line count (physical_lines rest)) (sym none) ∙ c.loop-rest.invariant
+    sym (append-nil starts) ∙ ap (λ (rest : List ℕ). starts ++ starts_of is_element_line is_block_line count (physical_lines rest)) (sym none) ∙ c.loop-rest.invariant.0
+
+pub returns-clause-names : goal.returns-clause-names
+returns-clause-names c =
+    let short : length c.loop-rest.rest.now ≡ 0 = grind (arith, nat_tests, c.loop-rest-test.ensures) in
+    let none : c.loop-rest.rest.now ≡ [] = nothing c.loop-rest.rest.now short in
+    let names = listed_names c.loop-rest.self.blocks.items in
+    subst (λ (all : List (BlockKind × List ℕ)). AreEachFrom IsLineOfBlock 0 (block_lines c.args.text.now) all) (append-nil names)
+    (c.loop-rest.invariant.1 [] (subst (λ (rest : List ℕ). AreEachFrom IsLineOfBlock (length names) (block_lines rest) []) (sym none) tt))

@@ -5,6 +5,9 @@ use Rattle.strip_files.specs.declared.route_node.RouteNode.{RouteNode}
 use Rattle.strip_files.specs.declared.route_text.Net.{Net}
 use Rattle.strip_files.specs.NodeLines.{AreTold, IsReadOn, is_node_line, node_lines}
 use Rattle.strip_files.specs.Starts.{first_nodes, is_net_line, starts_of}
+use Rattle.strip_files.specs.EachLine.{AreEachFrom}
+use Rattle.strip_files.specs.NetLines.{AreNamed, IsLineOfNet, net_lines}
+use Rattle.strip_files.proofs.Nets.{each_step}
 use Rattle.strip_files.proofs.Begun.{begun_step}
 use Rattle.strip_files.proofs.Told.{nothing, told_step}
 use Rattle.strip_files.proofs.route_text.Routed.read.Goals as goal
@@ -26,7 +29,12 @@ loop-rest-preserved c =
     let here : AreTold (node_lines rest) step.0 = subst (λ (lines : List (List ℕ)). AreTold (filter is_node_line lines) step.0) (sym lines_are) step.1 in
     subst (λ (nodes : List RouteNode). AreTold all nodes) (sym step.2) (c.loop-rest.invariant.0 step.0 here)) in
     let begun = begun_step is_node_line is_net_line (physical_lines later) (length old) (length new) (first_nodes nets) (first_nodes c.line.new.self.nets.items) line c.in_default.ensures.nets in
-    (nodes_told, begun ∙ ap (λ (lines : List (List ℕ)). first_nodes nets ++ starts_of is_node_line is_net_line (length old) lines) (sym lines_are) ∙ c.loop-rest.invariant.1)
+    let new_nets : List Net = c.line.new.self.nets.items in
+    let nets_told : (more : List Net) → AreEachFrom IsLineOfNet (length new_nets) (net_lines later) more → AreNamed c.args.text.now (new_nets ++ more) = λ more told.
+    (let step = each_step IsLineOfNet is_net_line line (physical_lines later) nets new_nets more c.in_default.ensures.names told in
+    let here : AreEachFrom IsLineOfNet (length nets) (net_lines rest) step.0 = subst (λ (lines : List (List ℕ)). AreEachFrom IsLineOfNet (length nets) (filter is_net_line lines) step.0) (sym lines_are) step.1 in
+    subst (λ (all_nets : List Net). AreNamed c.args.text.now all_nets) (sym step.2) (c.loop-rest.invariant.1 step.0 here)) in
+    (nodes_told, nets_told, begun ∙ ap (λ (lines : List (List ℕ)). first_nodes nets ++ starts_of is_node_line is_net_line (length old) lines) (sym lines_are) ∙ c.loop-rest.invariant.2)
 
 pub returns-clause-nets : goal.returns-clause-nets
 unfolding starts_of
@@ -35,7 +43,7 @@ returns-clause-nets c =
     let none : c.loop-rest.rest.now ≡ [] = nothing c.loop-rest.rest.now short in
     let nets : List Net = c.loop-rest.self.nets.items in
     let count = length c.loop-rest.self.nodes.items in
-    sym (append-nil (first_nodes nets)) ∙ ap (λ (rest : List ℕ). first_nodes nets ++ starts_of is_node_line is_net_line count (physical_lines rest)) (sym none) ∙ c.loop-rest.invariant.1
+    sym (append-nil (first_nodes nets)) ∙ ap (λ (rest : List ℕ). first_nodes nets ++ starts_of is_node_line is_net_line count (physical_lines rest)) (sym none) ∙ c.loop-rest.invariant.2
 
 pub returns-clause-nodes : goal.returns-clause-nodes
 returns-clause-nodes c =
@@ -44,3 +52,11 @@ returns-clause-nodes c =
     let all : List (List ℕ) = node_lines c.args.text.now in
     subst (λ (nodes : List RouteNode). AreTold all nodes) (append-nil c.loop-rest.self.nodes.items)
     (c.loop-rest.invariant.0 [] (subst (λ (rest : List ℕ). AreTold (node_lines rest) []) (sym none) tt))
+
+pub returns-clause-names : goal.returns-clause-names
+returns-clause-names c =
+    let short : length c.loop-rest.rest.now ≡ 0 = grind (arith, nat_tests, c.loop-rest-test.ensures) in
+    let none : c.loop-rest.rest.now ≡ [] = nothing c.loop-rest.rest.now short in
+    let nets : List Net = c.loop-rest.self.nets.items in
+    subst (λ (all : List Net). AreNamed c.args.text.now all) (append-nil nets)
+    (c.loop-rest.invariant.1 [] (subst (λ (rest : List ℕ). AreEachFrom IsLineOfNet (length nets) (net_lines rest) []) (sym none) tt))

@@ -1,15 +1,19 @@
 use Rattle.std.proofs.Common.{List, ◌≡◌, ◌++◌, length}
 use Rattle.line_text.specs.Lines.{physical_lines}
 use Rattle.strip_files.specs.declared.route_node.RouteNode.{RouteNode}
+use Rattle.strip_files.specs.declared.route_text.Net.{Net}
+use Rattle.strip_files.specs.EachLine.{AreEachFrom}
+use Rattle.strip_files.specs.NetLines.{AreNamed, IsLineOfNet, net_lines}
 use Rattle.strip_files.specs.NodeLines.{AreTold, is_node_line, node_lines}
 use Rattle.strip_files.specs.Starts.{first_nodes, is_net_line, net_starts, starts_of}
 use Rattle.strip_files.proofs.route_text.Routed.read.Given as goal
 
 -- the nodes read so far, with those of the remaining lines, are the nodes of all lines; and so are
--- the first nodes of the nets
+-- the nets, and their first nodes
 abbrev pub invariant-loop-rest : goal.invariant-loop-rest
 invariant-loop-rest l =
     ((more : List RouteNode) → AreTold (node_lines l.rest) more → AreTold (node_lines l.text) (l.self.nodes.items ++ more))
+    × ((more : List Net) → AreEachFrom IsLineOfNet (length l.self.nets.items) (net_lines l.rest) more → AreNamed l.text (l.self.nets.items ++ more))
     × (first_nodes l.self.nets.items ++ starts_of is_node_line is_net_line (length l.self.nodes.items) (physical_lines l.rest) ≡ net_starts l.text)
 
 abbrev pub decreases-loop-rest : goal.decreases-loop-rest

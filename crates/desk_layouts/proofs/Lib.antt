@@ -1,0 +1,2 @@
+pub mod PlaceHeading
+pub mod Refusals

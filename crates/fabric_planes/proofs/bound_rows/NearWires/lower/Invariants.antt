@@ -1,0 +1,6 @@
+use Rattle.fabric_planes.specs.BoundRows.{IsNearRow}
+use Rattle.fabric_planes.specs.Bounds.{AreLowered}
+use Rattle.fabric_planes.proofs.bound_rows.NearWires.lower.Given as goal
+
+abbrev pub invariant-loop-track : goal.invariant-loop-track
+invariant-loop-track l = AreLowered l.fn.bounds l.bounds × IsNearRow l.self.costs.now l.self.apart.now l.self.leasts.now l.self.pin l.self.more l.track l.bounds

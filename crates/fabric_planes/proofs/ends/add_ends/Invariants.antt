@@ -1,9 +1,0 @@
-use Rattle.std.proofs.Common.{◌≡◌, ◌++◌, take}
-use Rattle.rr_graph.specs.Graph.{graph_of}
-use Rattle.fabric_planes.specs.Ends.{row_from}
-use Rattle.fabric_planes.proofs.ends.add_ends.Given as goal
-
-abbrev pub invariant-loop-end : goal.invariant-loop-end
-invariant-loop-end g l =
-    let basis = g.G.StripGraph.basis l.graph in
-    l.list.items ≡ l.fn.list.items ++ row_from basis l.view l.base (take l.end-index ((graph_of basis).ends l.number))

@@ -1,5 +1,0 @@
-use Rattle.fabric_planes.proofs.Strips.{node_near}
-use Rattle.fabric_planes.proofs.ends.base_of.Goals as goal
-
-pub place-requires : goal.place-requires
-place-requires g c = node_near c.laws.ensures.basis c.args.number c.requires.within c.node.result c.node.ensures

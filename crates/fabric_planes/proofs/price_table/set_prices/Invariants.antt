@@ -1,8 +1,0 @@
-use Rattle.fabric_planes.proofs.Priced.{ArePricesBut, AreByPlaceBut, IsLeft}
-use Rattle.fabric_planes.proofs.price_table.set_prices.Given as goal
-
-abbrev pub invariant-loop-node : goal.invariant-loop-node
-invariant-loop-node g l = record {
-  told : ArePricesBut (g.G.StripGraph.basis l.graph) (g.C.NodeCosts.costs l.costs) (IsLeft l.nodes l.node-index) l.prices.items;
-  low : AreByPlaceBut (g.G.StripGraph.basis l.graph) (g.C.NodeCosts.costs l.costs) (IsLeft l.nodes l.node-index) l.by_place.items;
-}

@@ -1,0 +1,9 @@
+use Rattle.std.proofs.Common.{◌≡◌, map}
+use Rattle.std.specs.List.{range_with_len}
+use Rattle.fabric_planes.specs.ArrivalRows.{first_row}
+use Rattle.fabric_planes.proofs.quest.Quest.list_firsts.Given as goal
+
+abbrev pub invariant-loop-number : goal.invariant-loop-number
+invariant-loop-number g l =
+    let basis = g.G.StripGraph.basis l.self.priced.now.graph.now in
+    l.firsts.items ≡ map (first_row basis l.self.sink) (range_with_len 0 l.number)

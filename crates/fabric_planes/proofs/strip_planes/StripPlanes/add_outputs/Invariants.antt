@@ -1,0 +1,6 @@
+use Rattle.std.proofs.Common.{◌<◌}
+use Rattle.fabric_planes.specs.Shown.{AddsPins, IsOutputOf}
+use Rattle.fabric_planes.proofs.strip_planes.StripPlanes.add_outputs.Given as goal
+
+abbrev pub invariant-loop-number : goal.invariant-loop-number
+invariant-loop-number g l = AddsPins (g.G.StripGraph.basis l.self.graph.now) l.self.layout.now.pins.rows (λ k. (k < l.number) × IsOutputOf (g.G.StripGraph.basis l.self.graph.now) l.source k) l.fn.pins.items l.pins.items

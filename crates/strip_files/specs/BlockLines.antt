@@ -1,0 +1,51 @@
+-- The first lines of the blocks in a `.net` file.
+use Rattle.std.specs.Prelude.{ℕ, ◌≡◌, ◌++◌, List, filter, length, map, take, codes}
+use Rattle.std.specs.List.{before_first}
+use Rattle.line_text.specs.Lines.{physical_lines}
+use Rattle.text_parts.specs.PartEnds.{is_space}
+use Rattle.strip_files.specs.EachLine.{AddsNext, AreEachFrom}
+use Rattle.strip_files.specs.Starts.{is_block_line}
+use Rattle.strip_files.specs.declared.block.BlockKind.{BlockKind}
+use Rattle.strip_files.specs.declared.block.BlockKind.TheVariants.{InputPad, OutputPad, Cluster}
+use Rattle.strip_files.specs.declared.block.ListedBlock.{ListedBlock}
+use Rattle.strip_files.specs.declared.block.PlacedBlock.{PlacedBlock}
+
+-- the beginning of the line of a block of that kind
+abbrev pub block_start : BlockKind → List ℕ
+block_start InputPad = codes ".input "
+block_start OutputPad = codes ".output "
+block_start Cluster = codes ".clb "
+
+-- the word after the beginning is the name of the block
+pub record IsBlockLine (line : List ℕ) (kind : BlockKind) (name : List ℕ) : Type 0 where
+  pub tail : List ℕ
+  pub text : line ≡ block_start kind ++ tail
+  pub name_is : name ≡ before_first is_space tail
+
+-- the line of that block
+abbrev pub IsLineOfBlock : ℕ → List ℕ → BlockKind × List ℕ → Type 0
+IsLineOfBlock number line block = IsBlockLine line block.0 block.1
+
+-- the lines of a text with the beginning of a block's
+abbrev pub block_lines : List ℕ → List (List ℕ)
+block_lines text = filter is_block_line (physical_lines text)
+
+-- the kinds and the names of blocks
+abbrev pub named_blocks : List PlacedBlock → List (BlockKind × List ℕ)
+named_blocks blocks = map (λ block. (block.kind, block.name.now)) blocks
+
+-- the blocks are those of the text's lines, in order, with their kinds and names
+abbrev pub AreBlocksNamed : List ℕ → List PlacedBlock → Type 0
+AreBlocksNamed text blocks = AreEachFrom IsLineOfBlock 0 (block_lines text) (named_blocks blocks)
+
+-- private: the same of the blocks that a `.net` file lists
+abbrev pub listed_names : List ListedBlock → List (BlockKind × List ℕ)
+listed_names blocks = map (λ block. (block.kind, block.name.now)) blocks
+
+-- private: these are the first of the listed blocks
+abbrev pub AreFirstNamed : List ListedBlock → List PlacedBlock → Type 0
+AreFirstNamed listed blocks = named_blocks blocks ≡ take (length blocks) (listed_names listed)
+
+-- private: the line's block is read
+abbrev pub IsBlockReadOn : List ℕ → List ListedBlock → List ListedBlock → Type 0
+IsBlockReadOn line old new = AddsNext (is_block_line line) (IsLineOfBlock (length (listed_names old)) line) (listed_names old) (listed_names new)
