@@ -1,8 +1,11 @@
 //! Reads the program's words to an errand.
+ghost use Rattle.std.specs.Prelude.{IfOk};
+ghost use Rattle.desk.specs.Errands.{IsErrandOf};
+
 use crate::tools::{COMPLETION, MANUAL, ToolsForm, shell_of};
 use clap::Error;
 use desk_layouts::{LayoutPaths, check, configure, paths_of, strip};
-use desk_netlists::{random, route_wishes, script};
+use desk_netlists::{random, route_options, route_wishes, script};
 use desk_replies::{files, page_tool, picture, report, size_of};
 use device_lines::DeviceSize;
 use option_words::{Call, Program, Toolbox, call_refusal, read_call};
@@ -160,11 +163,13 @@ fn errand_by<'a, S: AsStr>(
 }
 
 /// What a call asks, or why it is refused.
-fn errand_of<'a>(call: &Call<'a>) -> Result<Errand<'a>, &'static str> {
+fn errand_of<'a>(call: &Call<'a>) -> Result<Errand<'a>, &'static str>
+    ensures { IfOk result (IsErrandOf call.now.tool.name.now call.now.given) }
+{
     match call.tool.name {
         "script" => Ok(Errand::Script(script::wishes_of(&call.given)?)),
         "files" => Ok(Errand::Files(files::wishes_of(&call.given)?)),
-        "route" => Ok(Errand::Route(route_wishes::wishes_of(&call.given)?)),
+        "route" => Ok(Errand::Route(route_options::wishes_of(&call.given)?)),
         "check" => Ok(Errand::Check(paths_of(&call.given)?)),
         "configure" => Ok(Errand::Configure(configure::wishes_of(&call.given)?)),
         "strip" => Ok(Errand::Strip(strip::wishes_of(&call.given)?)),

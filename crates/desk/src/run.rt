@@ -5,8 +5,8 @@ use clap::Error;
 use clap::error::ErrorKind;
 use desk_circuits::warn_of_netlist;
 use desk_common::{
-    DeviceOption, FileRole, MAX_DEVICE_READ, Outcome, device_options, device_path, read_file,
-    with_device,
+    DeviceOption, FileRole, Folders, MAX_DEVICE_READ, Outcome, device_options, device_path,
+    read_file, with_device,
 };
 use desk_layouts::{check, configure, strip};
 use desk_netlists::{random, route, script};
@@ -175,10 +175,17 @@ fn run<H: Files + AllocGlobal, R: Source, W: Sink, E: Sink>(
         is_terminal,
         built_from: _,
     } = streams;
+    let mut folders = Folders::new(rt);
     match errand {
         Errand::Script(wishes) => print_script(rt.alloc(), wishes, reader, writer, teller),
-        Errand::Files(wishes) => Outcome::of(files::run(rt, wishes, reader, writer, teller)),
-        Errand::Route(wishes) => Outcome::of(route::run(rt, wishes, writer, teller, is_terminal)),
+        Errand::Files(wishes) => {
+            let refused = files::run(rt, &mut folders, wishes, reader, writer, teller);
+            Outcome::of_lines(refused)
+        }
+        Errand::Route(wishes) => {
+            let done = route::run(rt, &mut folders, wishes, writer, teller, is_terminal);
+            Outcome::of(done)
+        }
         Errand::Check(paths) => Outcome::of(check::run(rt, paths, writer, teller)),
         Errand::Configure(wishes) => Outcome::of(configure::run(rt, wishes, writer, teller)),
         Errand::Strip(wishes) => Outcome::of(strip::print(rt, wishes, writer, teller)),

@@ -1,5 +1,5 @@
 -- How an errand ends.
-use Rattle.std.specs.Prelude.{ℕ, ◌≡◌, Result, Ok, Err, ⊤}
+use Rattle.std.specs.Prelude.{ℕ, ◌≡◌, ◌==◌, if◌then◌else◌, Result, Ok, Err, ⊤}
 use Rattle.line_text.specs.declared.source.Failed.{Failed}
 use Rattle.line_text.specs.declared.source.ReadError.{ReadError}
 use Rattle.line_text.specs.declared.source.ReadError.TheVariants.{NoMemory as ReadNoMemory, Failed as ReadFailed}
@@ -41,3 +41,8 @@ IsFileFailure role known other = ⊥
 abbrev pub done_so : Result (Unit {0}) Outcome → Outcome
 done_so (Ok u) = Done
 done_so (Err outcome) = outcome
+
+-- how an errand ends that was done while that many lines were refused, or failed so
+abbrev pub lines_so : Result ℕ Outcome → Outcome
+lines_so (Ok count) = if count == 0 then Done else LinesRefused count
+lines_so (Err outcome) = outcome

@@ -5,6 +5,7 @@
 #![tactic(auto)]
 
 mod arch_words;
+mod file_texts;
 mod options_file;
 mod outcome;
 mod outputs;
@@ -13,14 +14,14 @@ mod reply_words;
 mod words;
 
 pub use arch_words::write_arch_fault;
+pub use file_texts::FileTexts;
 pub use options_file::{
     DEVICE, DeviceOption, MAX_DEVICE_READ, device_options, device_path, with_device,
 };
 pub use outcome::Outcome;
-pub use outputs::FileOutputs;
+pub use outputs::{FileOutputs, Folders};
 pub use paths::{
-    FileRole, NewFile, ResultFile, make_folder, read_file, tell_stale, write_file, write_files,
-    write_path,
+    FileRole, NewFile, ResultFile, make_folder, read_file, tell_stale, write_files, write_path,
 };
 pub use reply_words::{NetlistSource, tell_reply, told_refused};
 pub use words::{COLUMNS, EFFORT, FOLDER, NO_DEVICE, ROWS, SEED};

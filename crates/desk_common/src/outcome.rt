@@ -1,6 +1,6 @@
 //! How an errand ended.
 ghost use Rattle.std.specs.Prelude.{◌≡◌};
-ghost use Rattle.desk_common.specs.Outcomes.{done_so, read_so, status_of, written_so};
+ghost use Rattle.desk_common.specs.Outcomes.{done_so, lines_so, read_so, status_of, written_so};
 
 use crate::paths::FileRole;
 use arch_file::ArchFault;
@@ -86,6 +86,17 @@ impl Outcome {
         match done {
             Ok(()) => Outcome::Done,
             Err(outcome) => outcome,
+        }
+    }
+
+    /// How an errand ended that was done while that many lines were refused, or failed so.
+    pub fn of_lines(refused: Result<usize, Outcome>) -> Self
+        ensures { result ≡ lines_so refused }
+    {
+        match refused {
+            Ok(0) => Outcome::Done,
+            Ok(lines) => Outcome::LinesRefused(lines),
+            Err(ended) => ended,
         }
     }
 

@@ -163,17 +163,6 @@ pub struct NewFile<'a> {
     pub bytes: &'a [u8],
 }
 
-/// Writes a file, in place of one that is there. If it can't be written, the path and the reason
-/// are written to the teller, and what was there stays.
-pub fn write_file<H: Files + AllocGlobal, E: Sink>(
-    rt: &H,
-    file: ResultFile<'_>,
-    bytes: &[u8],
-    teller: &mut E,
-) -> Result<(), Outcome> {
-    write_files(rt, &[NewFile { file, bytes }], teller)
-}
-
 /// Writes files, in place of those that are there. Each is written as `NAME.KIND.part`, and when
 /// all are, they take their names. If one of them can't be written, its path and the reason are
 /// written to the teller, what was there stays, and no part is left.

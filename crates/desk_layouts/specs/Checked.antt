@@ -1,5 +1,6 @@
 -- What the tools say of a layout's files.
-use Rattle.std.specs.Prelude.{ℕ, ◌≡◌, List, Option, take, IfSome}
+use Rattle.std.specs.Prelude.{ℕ, List, Option}
+use Rattle.desk_common.specs.Outputs.{IsBeginning}
 use Rattle.layout_verdict.specs.declared.shape.StripShape.{StripShape}
 use Rattle.layout_verdict.specs.declared.laid_circuit.LaidCircuit.{LaidCircuit}
 use Rattle.layout_verdict.specs.Texts.{IsReadFrom, Texts}
@@ -8,10 +9,6 @@ use Rattle.desk_layouts.specs.Asked.{IsAskedShape}
 use Rattle.desk_layouts.specs.declared.given_files.GivenFiles.{GivenFiles}
 use Rattle.desk_layouts.specs.declared.given_files.TheConstants.{MAX_FILE, MAX_READ}
 use Rattle.desk_layouts.specs.declared.layout_input.LayoutPaths.{LayoutPaths}
-
--- the bytes are those of the text, if it is known, up to that many
-abbrev pub IsBeginning : Option (List ℕ) → ℕ → List ℕ → Type 0
-IsBeginning known most bytes = IfSome known (λ text. bytes ≡ take most text)
 
 -- The bytes are those of the files at the paths. `text` gives the text of a file by its path, if
 -- that is known.

@@ -5,11 +5,10 @@ ghost use Rattle.line_text.specs.Writing.{TakesAll};
 ghost use Rattle.desk_layouts.specs.Checked.{IsChecked, IsLaidIn};
 ghost use Rattle.desk_layouts.specs.Refused.{IsFailure, IsRefusal};
 
-use crate::file_texts::FileTexts;
 use crate::given_files::GivenFiles;
 use crate::laid_circuit::circuit_in;
 use crate::layout_input::{LAYOUT_OPTIONS, LayoutPaths};
-use desk_common::Outcome;
+use desk_common::{FileTexts, Outcome};
 use line_text::{Sink, write_all};
 use option_words::Program;
 use std::alloc::Global;

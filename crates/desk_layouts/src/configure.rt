@@ -11,7 +11,6 @@ ghost use Rattle.desk_layouts.specs.Asked.{IsAskedFor};
 ghost use Rattle.desk_layouts.specs.Configured.{IsConfigurationOf, IsConfigured, IsUnwritten, IsUnwrittenOr, Works, text_with};
 ghost use Rattle.desk_layouts.specs.Refused.{IsFailure};
 
-use crate::file_texts::FileTexts;
 use crate::given_files::GivenFiles;
 use crate::laid_circuit::circuit_in;
 use crate::layout_input::{
@@ -20,7 +19,7 @@ use crate::layout_input::{
 use circuit_verilog::verilog_text;
 use configuration::{laws_of_configurations, values_are_rows};
 use configuration_text::{Design, Unwritten, write_configuration};
-use desk_common::{DEVICE, FileRole, Outcome};
+use desk_common::{DEVICE, FileRole, FileTexts, Outcome};
 use layout_verdict::LaidCircuit;
 use line_text::{Lines, MAX_TEXT, Sink, logical_lines};
 use option_words::{Given, OptionWord, Program, Takes};

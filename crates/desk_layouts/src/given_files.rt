@@ -1,9 +1,8 @@
 //! The files of a layout, as they are read.
 ghost use Rattle.std.specs.Prelude.{◌≡◌, IfErr, IfOk};
 
-use crate::file_texts::FileTexts;
 use crate::layout_input::LayoutPaths;
-use desk_common::{FileRole, Outcome};
+use desk_common::{FileRole, FileTexts, Outcome};
 use layout_verdict::{LayoutTexts, StripShape};
 use line_text::{MAX_TEXT, Sink};
 use strip_files::StripTexts;

@@ -7,7 +7,6 @@
 
 pub mod check;
 pub mod configure;
-mod file_texts;
 mod given_files;
 mod laid_circuit;
 mod layout_input;
@@ -15,5 +14,4 @@ mod refused_file;
 pub mod strip;
 mod strip_check;
 
-pub use file_texts::FileTexts;
 pub use layout_input::{LayoutPaths, paths_of};

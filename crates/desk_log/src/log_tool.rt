@@ -1,14 +1,20 @@
 //! The tool that makes the log of a live service shorter.
+ghost use Rattle.std.specs.Prelude.{◌≡◌, ℕ, List, eqb, IfErr, IfOk, OnOk};
+ghost use Rattle.std.specs.List.{starts_with};
+ghost use Rattle.line_text.specs.Writing.{TakesAll};
+ghost use Rattle.live_run.specs.Headings.{heading};
+ghost use Rattle.desk_common.specs.declared.outcome.Outcome.TheVariants.{NoMemory};
+ghost use Rattle.desk_log.specs.Shortened.{IsAskedFor, IsPrintOf, IsRefusal, IsShortened, IsUnprinted};
+
 use crate::printing::print_checked;
 use arch_file::{ArchError, read_arch};
 use desk_common::{
-    COLUMNS, DEVICE, FileRole, NO_DEVICE, Outcome, ROWS, read_file, write_arch_fault,
+    COLUMNS, DEVICE, FileRole, FileTexts, NO_DEVICE, Outcome, ROWS, write_arch_fault,
 };
 use line_text::{MAX_TEXT, Sink, write_all};
-use live_run::{Options, first_line};
+use live_run::{Options, first_line, whole_part};
 use option_words::{Given, OptionWord, Program, Takes};
 use std::alloc::Global;
-use std::rt::Files;
 
 const NO_FILE: &str = "give an architecture and a log";
 
@@ -69,13 +75,15 @@ const FIRST: &[u8] = b"# fpgad_live ";
 /// The log, and the options of the service that it is of.
 #[derive(Clone, Copy)]
 pub struct LogWishes<'a> {
-    arch: &'a str,
-    options: Options,
-    log: &'a str,
+    pub(crate) arch: &'a str,
+    pub(crate) options: Options,
+    pub(crate) log: &'a str,
 }
 
 /// What the options ask for, or why they are refused.
-pub fn wishes_of<'a>(given: &Given<'a>) -> Result<LogWishes<'a>, &'static str> {
+pub fn wishes_of<'a>(given: &Given<'a>) -> Result<LogWishes<'a>, &'static str>
+    ensures { IfOk result (IsAskedFor given.now) }
+{
     let tracks = given.number("tracks")?;
     let columns = given.number("columns")?;
     let rows = given.number("rows")?;
@@ -89,34 +97,33 @@ pub fn wishes_of<'a>(given: &Given<'a>) -> Result<LogWishes<'a>, &'static str> {
 }
 
 /// Prints the shorter log.
-pub fn run<H: Files + AllocGlobal, W: Sink, E: Sink>(
-    rt: &H,
+pub fn run<F: FileTexts + AllocGlobal, W: Sink, E: Sink>(
+    files: &F,
     wishes: LogWishes<'_>,
     writer: &mut W,
     teller: &mut E,
-) -> Result<(), Outcome> {
+) -> Result<(), Outcome>
+    ensures printed { OnOk result ((text : List ℕ) × TakesAll W.contents W.has_failed writer.old
+        writer.new text × IsPrintOf (F.text files.now) wishes.entry text) }
+    ensures failed { IfErr result (IsUnprinted (F.fails files.now) (F.text files.now)
+        (W.has_failed writer.new) wishes.entry) }
+{
     let most = MAX_TEXT as u64 + 1;
-    let arch = read_file(rt, FileRole::Architecture, wishes.arch, most, teller)?;
-    let done = run_with_arch(rt, wishes, arch.as_slice(), writer, teller);
-    drop(arch);
-    done
+    let arch = files.read_text(FileRole::Architecture, wishes.arch, most, teller)?;
+    match files.read_text(FileRole::Log, wishes.log, u64::MAX, teller) {
+        Ok(log) => {
+            let done = print(files.alloc(), wishes, &arch, &log, writer, teller);
+            drop((arch, log));
+            done
+        }
+        Err(failed) => {
+            drop(arch);
+            Err(failed)
+        }
+    }
 }
 
-/// Prints the shorter log of a service over that architecture.
-fn run_with_arch<H: Files + AllocGlobal, W: Sink, E: Sink>(
-    rt: &H,
-    wishes: LogWishes<'_>,
-    arch: &[u8],
-    writer: &mut W,
-    teller: &mut E,
-) -> Result<(), Outcome> {
-    let log = read_file(rt, FileRole::Log, wishes.log, u64::MAX, teller)?;
-    let done = print(rt.alloc(), wishes, arch, log.as_slice(), writer, teller);
-    drop(log);
-    done
-}
-
-/// Prints the shorter log of that log.
+/// Prints the shorter log of that log's whole lines.
 fn print<W: Sink, E: Sink>(
     alloc: Global,
     wishes: LogWishes<'_>,
@@ -124,14 +131,20 @@ fn print<W: Sink, E: Sink>(
     log: &[u8],
     writer: &mut W,
     teller: &mut E,
-) -> Result<(), Outcome> {
-    let log = whole_lines(log);
-    if log.starts_with(FIRST) && !begins_so(alloc, wishes, arch, log)? {
+) -> Result<(), Outcome>
+    ensures printed { OnOk result ((text : List ℕ) × TakesAll W.contents W.has_failed writer.old
+        writer.new text × IsShortened wishes.entry.options arch.now log.now text) }
+    ensures failed { IfErr result (IsRefusal wishes.entry.options arch.now log.now
+        (W.has_failed writer.new)) }
+{
+    let options = wishes.options;
+    let log = &log[..whole_part(log)];
+    if log.starts_with(FIRST) && !begins_so(alloc, options, arch, log)? {
         let _ = write_all(teller, b"log: its first line names other options\n");
         return Err(Outcome::LogDiffers);
     }
-    match read_arch(alloc, arch, wishes.options.tracks) {
-        Ok(arch) => print_checked(alloc, wishes.options, arch, log, writer, teller),
+    match read_arch(alloc, arch, options.tracks) {
+        Ok(arch) => print_checked(alloc, options, arch, log, writer, teller),
         Err(ArchError::NoMemory) => Err(Outcome::NoMemory),
         Err(ArchError::Fault(fault)) => {
             let _ = write_arch_fault(teller, wishes.arch, fault);
@@ -140,22 +153,13 @@ fn print<W: Sink, E: Sink>(
     }
 }
 
-/// The whole lines of a log: a last line without its end is not part of it.
-fn whole_lines(log: &[u8]) -> &[u8] {
-    match log.iter().rposition(|byte| *byte == b'\n') {
-        Some(place) => &log[..place + 1],
-        None => b"",
-    }
-}
-
 /// Returns whether a log begins with the line that names the options and the architecture.
-fn begins_so(
-    alloc: Global,
-    wishes: LogWishes<'_>,
-    arch: &[u8],
-    log: &[u8],
-) -> Result<bool, Outcome> {
-    match first_line(alloc, &wishes.options, arch) {
+fn begins_so(alloc: Global, options: Options, arch: &[u8], log: &[u8]) -> Result<bool, Outcome>
+    ensures begins { IfOk result (λ begins.
+        begins ≡ starts_with eqb log.now (heading options arch.now)) }
+    ensures failed { IfErr result (λ outcome. outcome ≡ NoMemory) }
+{
+    match first_line(alloc, &options, arch) {
         Ok(first) => {
             let begins = log.starts_with(first.as_slice());
             drop(first);

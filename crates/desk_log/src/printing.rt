@@ -1,12 +1,12 @@
 //! What is printed of a log.
-ghost use Rattle.std.specs.Prelude.{List, ℕ, ◌≡◌, IfOk, None, OnOk};
+ghost use Rattle.std.specs.Prelude.{List, ℕ, ◌≡◌, IfErr, IfOk, None, OnOk};
 ghost use Rattle.line_text.specs.Writing.{TakesAll};
 ghost use Rattle.live_input.specs.Serving.{begins, is_ready, kept_lines, state_in};
 ghost use Rattle.live_run.specs.Limits.{device_of};
 ghost use Rattle.live_run.specs.Sums.{first_differing, no_lines};
 ghost use Rattle.service_core.specs.Kept.{IsDevice};
 ghost use Rattle.sessions.specs.Fitting.{own_graph};
-ghost use Rattle.desk_log.specs.Printed.{IsPrinted, IsSafeLog};
+ghost use Rattle.desk_log.specs.Printed.{IsFailure, IsPrinted, IsSafeLog};
 
 use arch_file::Arch;
 use desk_common::Outcome;
@@ -35,6 +35,7 @@ pub(crate) fn print_checked<W: Sink, E: Sink>(
     ensures sums { OnOk result (first_differing no_lines (kept_lines log.now) ≡ None) }
     ensures printed { OnOk result ((text : List ℕ) × TakesAll W.contents W.has_failed writer.old
         writer.new text × IsPrinted (device_of options arch) log.now text) }
+    ensures failed { IfErr result (IsFailure log.now (W.has_failed writer.new)) }
 {
     match changed_line(alloc, MemorySource::new(log)) {
         Ok(None) => print_over(alloc, options, arch, log, writer, teller),
@@ -42,7 +43,8 @@ pub(crate) fn print_checked<W: Sink, E: Sink>(
             let _ = tell_changed(teller, number);
             Err(Outcome::LogDiffers)
         }
-        Err(error) => Err(Outcome::of_reading(error)),
+        // What is in memory can be read.
+        Err(_) => Err(Outcome::NoMemory),
     }
 }
 
@@ -70,8 +72,9 @@ fn print_over<W: Sink, E: Sink>(
     teller: &mut E,
 ) -> Result<(), Outcome>
     requires { IsDevice (device_of options arch) }
-    ensures { OnOk result ((text : List ℕ) × TakesAll W.contents W.has_failed writer.old writer.new
-        text × IsPrinted (device_of options arch) log.now text) }
+    ensures printed { OnOk result ((text : List ℕ) × TakesAll W.contents W.has_failed writer.old
+        writer.new text × IsPrinted (device_of options arch) log.now text) }
+    ensures failed { IfErr result (IsFailure log.now (W.has_failed writer.new)) }
 {
     match shorten_log(alloc, options, arch, log, teller) {
         Ok(checked) => {
@@ -112,13 +115,7 @@ fn shorten_log<'l, E: Sink>(
     let second = arch.clone()?;
     let device = options.device(arch);
     let graph = device_graph(alloc, &device)?;
-    let (mut whole, mut short) = two_services(
-        alloc,
-        &graph,
-        device,
-        options.device(second),
-        options.text_limit(),
-    )?;
+    let (mut whole, mut short) = two_services(alloc, &graph, device, options.device(second))?;
     let checked = shorten_checked(alloc, &mut whole, &mut short, log, teller);
     whole.close();
     short.close();
@@ -131,7 +128,6 @@ fn two_services<'g>(
     graph: &'g DeviceGraph,
     device: Device,
     other: Device,
-    text_limit: u64,
 ) -> Result<(LiveLines<'g>, LiveLines<'g>), AllocError>
     requires device { IsDevice device }
     requires other { other ≡ device }
@@ -140,8 +136,8 @@ fn two_services<'g>(
     ensures whole { IfOk result (λ services. state_in services.0 ≡ begins device) }
     ensures short { IfOk result (λ services. state_in services.1 ≡ begins device) }
 {
-    let core = Service::with_text_limit(alloc, device, text_limit)?;
-    match Service::with_text_limit(alloc, other, text_limit) {
+    let core = Service::new(alloc, device)?;
+    match Service::new(alloc, other) {
         Ok(second) => Ok((
             LiveLines::new(alloc, graph, core),
             LiveLines::new(alloc, graph, second),

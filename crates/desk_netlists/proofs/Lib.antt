@@ -1,2 +1,4 @@
 mod Printing
-mod SavedFiles
+mod Runs
+mod Saving
+mod Stems

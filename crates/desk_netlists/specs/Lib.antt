@@ -1,3 +1,5 @@
-pub mod Scripts
+pub mod Asked
+pub mod Jobs
 pub mod RoutedJson
+pub mod Scripts
 pub mod Written

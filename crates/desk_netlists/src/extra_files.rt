@@ -1,96 +1,114 @@
 //! What is made of the three files of a routed netlist: a picture, a page, a check, and the
 //! configuration.
+ghost use Rattle.std.specs.Prelude.{◌≡◌, ℕ, List, [], ◌∷◌, Some, Ok, codes, IfOk, MatchResult};
+ghost use Rattle.configuration.specs.ConfigurationText.{configuration_text};
+ghost use Rattle.desk_common.specs.Outputs.{AreAdded};
+ghost use Rattle.line_text.specs.Lines.{JoinedLine, lines_of};
+ghost use Rattle.line_text.specs.Writing.{TakesAll};
+ghost use Rattle.desk_netlists.specs.Written.{AreExtras, IsCheckedExtra, IsConfigured, IsExtra, of_kind};
+
 use crate::page_file::write_netlist_page;
-use crate::route_wishes::{Extras, RouteWishes};
+use crate::route_job::RouteJob;
+use crate::route_wishes::Extras;
 use crate::routed_table::Routed;
+use crate::saved_files::new_file;
 use configuration_text::{Design, Unwritten, write_configuration};
-use desk_common::{Outcome, ResultFile, write_file};
+use desk_common::{FileOutputs, Outcome};
 use layout_check::Wrong;
 use layout_verdict::{LaidCircuit, LayoutTexts, StripShape, Verdict, verdict_of};
 use layout_words::{Subject, write_wrong};
 use line_text::{Lines, MAX_TEXT, MemorySink, Sink, TextError, logical_lines, write_all};
 use std::alloc::Global;
-use std::rt::Files;
 use strip_files::{StripTexts, read_strip};
 use strip_picture::{DrawError, View, draw};
 
 /// Writes the files that are asked for beside the three of a routed netlist, and prints the verdict
 /// on these if it is asked for.
-pub(crate) fn write_extra_files<H: Files + AllocGlobal, W: Sink, E: Sink>(
-    rt: &H,
-    wishes: RouteWishes<'_>,
+pub(crate) fn write_extra_files<O: FileOutputs, W: Sink, E: Sink>(
+    alloc: Global,
+    outputs: &mut O,
+    job: RouteJob<'_>,
     routed: Routed<'_>,
     writer: &mut W,
     teller: &mut E,
-) -> Result<(), Outcome> {
-    let Extras {
-        has_picture,
-        has_page,
-        has_configuration,
-        has_verdict,
-    } = wishes.extras;
-    if has_picture {
-        save_picture(rt, extra_file(wishes, routed, "svg"), routed.texts, teller)?;
-    }
-    if has_page {
-        save_page(rt, extra_file(wishes, routed, "html"), routed, teller)?;
-    }
-    if has_configuration || has_verdict {
-        check_routed(rt, wishes, routed, teller)?;
-    }
-    if has_verdict {
-        return write_all(writer, b"implements\n").or(Err(Outcome::OutputFailed));
-    }
+) -> Result<(), Outcome>
+    ensures { IfOk result (λ _. AreExtras job.entry routed.entry (O.written outputs.old)
+        (O.written outputs.new)) }
+{
+    save_picture(alloc, outputs, job, routed, teller)?;
+    save_page(alloc, outputs, job, routed, teller)?;
+    check_routed(alloc, outputs, job, routed, teller)?;
+    print_verdict(job, writer)?;
     Ok(())
 }
 
-/// The file of that kind beside the three.
-fn extra_file<'a>(
-    wishes: RouteWishes<'a>,
-    routed: Routed<'a>,
-    kind: &'static str,
-) -> ResultFile<'a> {
-    ResultFile {
-        folder: wishes.folder,
-        name: routed.name,
-        kind,
+/// Prints that the files of a routed netlist implement it, if that is asked for.
+fn print_verdict<W: Sink>(job: RouteJob<'_>, writer: &mut W) -> Result<(), Outcome> {
+    if !job.wishes.extras.has_verdict {
+        return Ok(());
+    }
+    match write_all(writer, b"implements\n") {
+        Ok(()) => Ok(()),
+        Err(_) => Err(Outcome::OutputFailed),
     }
 }
 
-/// Writes a picture of a routed netlist.
-fn save_picture<H: Files + AllocGlobal, E: Sink>(
-    rt: &H,
-    file: ResultFile<'_>,
-    texts: StripTexts<'_>,
-    teller: &mut E,
-) -> Result<(), Outcome> {
-    let mut sink = MemorySink::new(rt.alloc());
-    let drawn = draw_routed(rt.alloc(), texts, &mut sink);
-    save(rt, file, drawn, sink, teller)
-}
-
-/// Writes the page of a routed netlist.
-fn save_page<H: Files + AllocGlobal, E: Sink>(
-    rt: &H,
-    file: ResultFile<'_>,
+/// Writes a picture of a routed netlist, if it is asked for.
+fn save_picture<O: FileOutputs, E: Sink>(
+    alloc: Global,
+    outputs: &mut O,
+    job: RouteJob<'_>,
     routed: Routed<'_>,
     teller: &mut E,
-) -> Result<(), Outcome> {
-    let mut sink = MemorySink::new(rt.alloc());
-    let made = write_netlist_page(rt.alloc(), routed, &mut sink);
-    save(rt, file, made, sink, teller)
+) -> Result<(), Outcome>
+    ensures { IfOk result (λ _. IsExtra job.entry (codes "svg")
+        job.entry.wishes.extras.has_picture (O.written outputs.old) (O.written outputs.new)) }
+{
+    if !job.wishes.extras.has_picture {
+        return Ok(());
+    }
+    let mut sink = MemorySink::new(alloc);
+    let drawn = draw_routed(alloc, routed.texts, &mut sink);
+    save(outputs, job, "svg", drawn, sink, teller)
 }
 
-/// Writes a file with the bytes that were made, unless making them failed.
-fn save<H: Files + AllocGlobal, E: Sink>(
-    rt: &H,
-    file: ResultFile<'_>,
+/// Writes the page of a routed netlist, if it is asked for.
+fn save_page<O: FileOutputs, E: Sink>(
+    alloc: Global,
+    outputs: &mut O,
+    job: RouteJob<'_>,
+    routed: Routed<'_>,
+    teller: &mut E,
+) -> Result<(), Outcome>
+    ensures { IfOk result (λ _. IsExtra job.entry (codes "html")
+        job.entry.wishes.extras.has_page (O.written outputs.old) (O.written outputs.new)) }
+{
+    if !job.wishes.extras.has_page {
+        return Ok(());
+    }
+    let mut sink = MemorySink::new(alloc);
+    let made = write_netlist_page(alloc, routed, &mut sink);
+    save(outputs, job, "html", made, sink, teller)
+}
+
+/// Writes a file of that kind with the bytes that were made, unless making them failed.
+fn save<O: FileOutputs, E: Sink>(
+    outputs: &mut O,
+    job: RouteJob<'_>,
+    kind: &'static str,
     made: Result<(), Outcome>,
     sink: MemorySink,
     teller: &mut E,
-) -> Result<(), Outcome> {
+) -> Result<(), Outcome>
+    ensures { (text : List ℕ) → ⟦<MemorySink as Sink>⟧.contents sink ≡ Some text →
+        IfOk result (λ _. MatchResult made (λ _. AreAdded (O.written outputs.old)
+        (O.written outputs.new) (of_kind job.entry kind.now text ∷ [])) (λ _. ⊥)) }
+{
     let written = match made {
-        Ok(()) => write_file(rt, file, sink.as_bytes(), teller),
+        Ok(()) => {
+            let new = [new_file(job, kind, sink.as_bytes())];
+            outputs.write_files(new.as_slice(), teller)
+        }
         Err(outcome) => Err(outcome),
     };
     drop(sink);
@@ -116,21 +134,34 @@ fn draw_routed<W: Sink>(
     }
 }
 
-/// Checks the files of a routed netlist, and writes its configuration if it is asked for.
-fn check_routed<H: Files + AllocGlobal, E: Sink>(
-    rt: &H,
-    wishes: RouteWishes<'_>,
+/// Checks the files of a routed netlist if the verdict on them or its configuration is asked for,
+/// and writes this one if it is.
+fn check_routed<O: FileOutputs, E: Sink>(
+    alloc: Global,
+    outputs: &mut O,
+    job: RouteJob<'_>,
     routed: Routed<'_>,
     teller: &mut E,
-) -> Result<(), Outcome> {
+) -> Result<(), Outcome>
+    ensures { IfOk result (λ _. IsCheckedExtra job.entry routed.entry (O.written outputs.old)
+        (O.written outputs.new)) }
+{
+    let Extras {
+        has_configuration,
+        has_verdict,
+        ..
+    } = job.wishes.extras;
+    if !has_configuration && !has_verdict {
+        return Ok(());
+    }
     let size = routed.size;
     let Some(shape) = StripShape::new(size.columns, size.rows, routed.figures.tracks) else {
         return Err(Outcome::NoMemory);
     };
     let texts = LayoutTexts::new(shape, routed.arch, routed.netlist, routed.texts);
-    match verdict_of(rt.alloc(), &texts) {
+    match verdict_of(alloc, &texts) {
         Verdict::Implements(laid) => {
-            let saved = save_configuration(rt, wishes, routed, &laid, teller);
+            let saved = save_configuration(alloc, outputs, job, routed, &laid, teller);
             drop(laid);
             saved
         }
@@ -156,25 +187,23 @@ fn told_wrong<E: Sink>(laid: LaidCircuit, wrong: Wrong, teller: &mut E) -> Outco
 }
 
 /// Writes the configuration of a layout that implements the netlist, if it is asked for.
-fn save_configuration<H: Files + AllocGlobal, E: Sink>(
-    rt: &H,
-    wishes: RouteWishes<'_>,
+fn save_configuration<O: FileOutputs, E: Sink>(
+    alloc: Global,
+    outputs: &mut O,
+    job: RouteJob<'_>,
     routed: Routed<'_>,
     laid: &LaidCircuit,
     teller: &mut E,
-) -> Result<(), Outcome> {
-    if !wishes.extras.has_configuration {
+) -> Result<(), Outcome>
+    ensures { IfOk result (λ _. IsConfigured job.entry routed.entry laid.now
+        (O.written outputs.old) (O.written outputs.new)) }
+{
+    if !job.wishes.extras.has_configuration {
         return Ok(());
     }
-    let mut sink = MemorySink::new(rt.alloc());
-    let made = configure(rt.alloc(), routed.netlist, laid, &mut sink);
-    save(
-        rt,
-        extra_file(wishes, routed, "configuration"),
-        made,
-        sink,
-        teller,
-    )
+    let mut sink = MemorySink::new(alloc);
+    let made = configure(alloc, routed.netlist, laid, &mut sink);
+    save(outputs, job, "configuration", made, sink, teller)
 }
 
 /// Writes the configuration of a layout. `netlist` is the text that its circuit was read from.
@@ -183,7 +212,11 @@ fn configure<W: Sink>(
     netlist: &[u8],
     laid: &LaidCircuit,
     writer: &mut W,
-) -> Result<(), Outcome> {
+) -> Result<(), Outcome>
+    ensures { IfOk result (λ _. (lines : List JoinedLine) × (lines_of netlist.now ≡ Ok lines)
+        × TakesAll W.contents W.has_failed writer.old writer.new
+        (configuration_text lines laid.now.circuit laid.now.arch laid.now.strip laid.now.layout)) }
+{
     if netlist.len() > MAX_TEXT {
         return Err(Outcome::NoMemory);
     }
@@ -203,7 +236,11 @@ fn configure_lines<W: Sink>(
     lines: &Lines<'_>,
     laid: &LaidCircuit,
     writer: &mut W,
-) -> Result<(), Outcome> {
+) -> Result<(), Outcome>
+    ensures { IfOk result (λ _. TakesAll W.contents W.has_failed writer.old writer.new
+        (configuration_text lines.now laid.now.circuit laid.now.arch laid.now.strip
+        laid.now.layout)) }
+{
     let design = Design {
         netlist: lines,
         circuit: &laid.circuit,

@@ -1,47 +1,40 @@
 //! Routing a netlist whose pads have the places of a pin file.
-ghost use Rattle.std.specs.Prelude.{◌≤◌};
-ghost use Rattle.strip_place.specs.declared.placing.TheConstants.{MAX_EFFORT};
+ghost use Rattle.std.specs.Prelude.{◌≡◌, ℕ, Ok, IfOk};
+ghost use Rattle.desk_netlists.specs.Jobs.{IsPinnedEnd, IsRunByFile};
+ghost use Rattle.one_user.specs.declared.pinned.PinnedEnd.TheVariants.{Placed};
+ghost use Rattle.pin_file.specs.PinFiles.{pins_in};
+ghost use Rattle.pin_file.specs.Reading.{pins_read};
 
 use crate::pin_words::{tell_file_fault, tell_pin_fault, tell_too_long};
 use crate::refusals::told_unfit;
-use crate::route::{MAX_READ, told_arch, write_run};
-use crate::route_wishes::{GivenSize, RouteWishes, Tracks};
+use crate::route::{MAX_READ, told_arch};
+use crate::route_job::RouteJob;
+use crate::route_wishes::Tracks;
 use crate::silence::Silence;
 use arch_file::ArchError;
-use desk_common::{FileRole, Outcome, read_file};
+use desk_common::{FileRole, FileTexts, Outcome};
 use line_text::{MAX_TEXT, Sink};
-use one_user::{DevicePlan, PinnedEnd, Request, least_pinned, run_pinned};
+use one_user::{PinnedEnd, Run, least_pinned, run_pinned};
 use pin_file::{PinFileError, PinLine, read_pins};
 use std::alloc::Global;
-use std::rt::Files;
 
-/// A netlist that is routed on a device of that size, and the path of its pin file.
-#[derive(Clone, Copy)]
-pub(crate) struct PinnedJob<'a> {
-    pub(crate) wishes: RouteWishes<'a>,
-    pub(crate) path: &'a str,
-    pub(crate) arch: &'a [u8],
-    pub(crate) request: Request<'a>,
-    pub(crate) size: GivenSize,
-}
-
-/// Reads the pin file, and routes the netlist with its pins.
-pub(crate) fn run_with_pins<H: Files + AllocGlobal, W: Sink, E: Sink>(
-    rt: &H,
-    job: PinnedJob<'_>,
-    writer: &mut W,
+/// Reads the pin file of that path, and routes the netlist with its pins.
+pub(crate) fn run_with_pins<F: FileTexts + AllocGlobal, E: Sink>(
+    files: &F,
+    job: RouteJob<'_>,
+    path: &str,
     teller: &mut E,
-    is_told: bool,
-) -> Result<(), Outcome>
-    requires { job.request.effort ≤ MAX_EFFORT }
+) -> Result<Run, Outcome>
+    ensures { IfOk result (IsRunByFile (F.text files.now path.now) job.entry
+        job.entry.wishes.tracks) }
 {
-    let text = read_file(rt, FileRole::Pins, job.path, MAX_READ, teller)?;
-    let ended = match pins_in(rt.alloc(), job.path, text.as_slice(), teller) {
+    let text = files.read_text(FileRole::Pins, path, MAX_READ, teller)?;
+    let ended = match pins_in(files.alloc(), path, text.as_slice(), teller) {
         Ok(pins) => {
-            let end = end_with(rt.alloc(), job, &pins, teller, is_told);
-            let told = write_end(rt, job, &pins, end, writer, teller);
+            let end = end_with(files.alloc(), job, &pins, teller);
+            let run = run_of(files.alloc(), job, path, &pins, end, teller);
             drop(pins);
-            told
+            run
         }
         Err(outcome) => Err(outcome),
     };
@@ -55,7 +48,9 @@ fn pins_in<'t, E: Sink>(
     path: &str,
     text: &'t [u8],
     teller: &mut E,
-) -> Result<Vec<PinLine<'t>>, Outcome> {
+) -> Result<Vec<PinLine<'t>>, Outcome>
+    ensures { IfOk result (λ pins. pins_in text.now ≡ Ok (pins_read pins.items)) }
+{
     if text.len() > MAX_TEXT {
         let _ = tell_too_long(teller, path);
         return Err(Outcome::PinsRefused);
@@ -74,55 +69,46 @@ fn pins_in<'t, E: Sink>(
 /// least.
 fn end_with<E: Sink>(
     alloc: Global,
-    job: PinnedJob<'_>,
+    job: RouteJob<'_>,
     pins: &[PinLine<'_>],
     teller: &mut E,
-    is_told: bool,
 ) -> Result<PinnedEnd, ArchError>
-    requires { job.request.effort ≤ MAX_EFFORT }
+    ensures { IfOk result (IsPinnedEnd job.entry (pins_read pins.now) job.entry.wishes.tracks) }
 {
-    let plan = DevicePlan {
-        text: job.arch,
-        columns: job.size.columns,
-        rows: job.size.rows,
-    };
     match job.wishes.tracks {
-        Some(Tracks { number, .. }) => run_pinned(alloc, plan, number, job.request, pins),
-        None if is_told => least_pinned(alloc, plan, job.request, pins, teller),
-        None => least_pinned(alloc, plan, job.request, pins, &mut Silence),
+        Some(Tracks { number, .. }) => run_pinned(alloc, job.plan(), number, job.request, pins),
+        None if job.wishes.is_told => least_pinned(alloc, job.plan(), job.request, pins, teller),
+        None => least_pinned(alloc, job.plan(), job.request, pins, &mut Silence),
     }
 }
 
-/// Writes the result of a netlist with pins.
-fn write_end<H: Files + AllocGlobal, W: Sink, E: Sink>(
-    rt: &H,
-    job: PinnedJob<'_>,
+/// The run of a netlist with pins, if there is one. Writes why there is none.
+fn run_of<E: Sink>(
+    alloc: Global,
+    job: RouteJob<'_>,
+    path: &str,
     pins: &[PinLine<'_>],
     end: Result<PinnedEnd, ArchError>,
-    writer: &mut W,
     teller: &mut E,
-) -> Result<(), Outcome>
-    requires { job.request.effort ≤ MAX_EFFORT }
+) -> Result<Run, Outcome>
+    ensures { IfOk result (λ run. (tracks : ℕ) × (end ≡ Ok (Placed tracks run))) }
 {
-    let PinnedJob {
-        wishes,
-        path,
-        arch,
-        request,
-        size,
-    } = job;
     match end {
-        Ok(PinnedEnd::Placed { run, .. }) => {
-            write_run(rt, wishes, arch, size, request, run, writer, teller)
-        }
+        Ok(PinnedEnd::Placed { run, .. }) => Ok(run),
         Ok(PinnedEnd::NeverRouted) => Err(Outcome::Unrouted),
         Ok(PinnedEnd::Refused(refusal)) => {
-            Err(told_unfit(rt.alloc(), wishes, arch, request, refusal, teller))
+            let RouteJob {
+                wishes,
+                arch,
+                request,
+                ..
+            } = job;
+            Err(told_unfit(alloc, wishes, arch, request, refusal, teller))
         }
         Ok(PinnedEnd::NotPinned(fault)) => {
-            let _ = tell_pin_fault(teller, path, pins, size, fault);
+            let _ = tell_pin_fault(teller, path, pins, job.size, fault);
             Err(Outcome::PinsRefused)
         }
-        Err(error) => Err(told_arch(error, wishes, teller)),
+        Err(error) => Err(told_arch(error, job.wishes, teller)),
     }
 }

@@ -1,85 +1,113 @@
 //! The tool that routes one netlist on a device of its own.
-ghost use Rattle.std.specs.Prelude.{◌≡◌, ◌≤◌, OnOk};
-ghost use Rattle.desk_common.specs.Outputs.{named};
-ghost use Rattle.desk_netlists.specs.Written.{AreLeftWritten, AreWritten};
-ghost use Rattle.strip_place.specs.declared.placing.TheConstants.{MAX_EFFORT};
+ghost use Rattle.std.specs.Prelude.{◌≡◌, IfOk, IfSome, IsSomeAnd};
+ghost use Rattle.desk_common.specs.Outputs.{IsBeginning};
+ghost use Rattle.desk_netlists.specs.Jobs.{IsDone, IsFreeRun, IsRouted, IsTrial};
+ghost use Rattle.desk_netlists.specs.Written.{AreExtras, AreWritten, IsRoutedOf};
 
 use crate::extra_files::write_extra_files;
 use crate::json_summary::print_object;
 use crate::overuse::tell_overuse;
-use crate::pinned_route::{PinnedJob, run_with_pins};
+use crate::pinned_route::run_with_pins;
 use crate::refusals::told_unfit;
+use crate::route_job::RouteJob;
 use crate::route_size::{Sized, size_for};
-use crate::route_wishes::{GivenSize, RouteForm, RouteWishes, Tracks};
+use crate::route_wishes::{RouteForm, RouteWishes, Tracks};
 use crate::routed_table::{Routed, print_routed};
+use crate::saved_files::{save_files, save_left, stem_of};
 use crate::silence::Silence;
 use arch_file::ArchError;
 use desk_circuits::warn_of_netlist;
 use desk_common::{
-    FileOutputs, FileRole, NewFile, Outcome, ResultFile, read_file, tell_reply, tell_stale,
-    write_arch_fault,
+    FileOutputs, FileRole, FileTexts, Outcome, ResultFile, tell_reply, write_arch_fault,
 };
 use line_text::{MAX_TEXT, Sink, Text, TextError};
 use one_user::{
-    DevicePlan, Figures, Files as Results, FlowOutcome as End, Least, Request, Run, Unrouted,
-    least_tracks, run_with,
+    Figures, Files as Results, FlowOutcome as End, Least, Request, Run, Unrouted, least_tracks,
+    run_with,
 };
 use std::alloc::Global;
-use std::rt::Files;
 use strip_files::StripTexts;
-use tenant_slot::{Ending, Refusal, Reply, SharedText, StateName, Status};
+use tenant_slot::{Ending, Reply, SharedText, StateName, Status};
 
 /// The most bytes of a text that are read: one more than it may have.
 pub(crate) const MAX_READ: u64 = MAX_TEXT as u64 + 1;
 
 /// Routes a netlist, writes its files, and prints what they use.
-pub fn run<H: Files + AllocGlobal, W: Sink, E: Sink>(
-    rt: &H,
+pub fn run<F: FileTexts + AllocGlobal, O: FileOutputs, W: Sink, E: Sink>(
+    files: &F,
+    outputs: &mut O,
     wishes: RouteWishes<'_>,
     writer: &mut W,
     teller: &mut E,
     is_terminal: bool,
-) -> Result<(), Outcome> {
-    let arch = read_file(rt, FileRole::Architecture, wishes.arch, MAX_READ, teller)?;
-    let is_told = wishes.is_told || is_terminal;
-    let outcome = run_with_arch(rt, wishes, arch.as_slice(), writer, teller, is_told);
+) -> Result<(), Outcome>
+    ensures { IfOk result (λ _. IsDone (F.text files.now) wishes.entry (O.written outputs.old)
+        (O.written outputs.new)) }
+{
+    let arch = files.read_text(FileRole::Architecture, wishes.arch, MAX_READ, teller)?;
+    let mut told = wishes;
+    told.is_told |= is_terminal;
+    let outcome = run_with_arch(files, outputs, told, arch.as_slice(), writer, teller);
     drop(arch);
-    if let Err(Outcome::NetlistRefused | Outcome::PinsRefused | Outcome::ArchRefused(_)) = outcome {
-        tell_stale(rt, result_file(wishes, "net"), teller);
-        tell_stale(rt, result_file(wishes, "place"), teller);
-    }
-    if let Err(
-        Outcome::Unrouted
-        | Outcome::NetlistRefused
-        | Outcome::PinsRefused
-        | Outcome::ArchRefused(_),
-    ) = outcome
-    {
-        tell_stale(rt, result_file(wishes, "route"), teller);
-        tell_stale(rt, result_file(wishes, "svg"), teller);
-        tell_stale(rt, result_file(wishes, "html"), teller);
-        tell_stale(rt, result_file(wishes, "configuration"), teller);
-    }
+    tell_stale_files(outputs, wishes, &outcome, teller);
     outcome
 }
 
-/// Routes a netlist on devices of that architecture.
-fn run_with_arch<H: Files + AllocGlobal, W: Sink, E: Sink>(
-    rt: &H,
+/// Writes to the teller which files are left from an earlier run, if a run that ended so wrote none
+/// in their place.
+fn tell_stale_files<O: FileOutputs, E: Sink>(
+    outputs: &O,
     wishes: RouteWishes<'_>,
-    arch: &[u8],
+    outcome: &Result<(), Outcome>,
+    teller: &mut E,
+) {
+    let Err(ended) = outcome else {
+        return;
+    };
+    if let Outcome::NetlistRefused | Outcome::PinsRefused | Outcome::ArchRefused(_) = ended {
+        outputs.tell_stale(result_file(wishes, "net"), teller);
+        outputs.tell_stale(result_file(wishes, "place"), teller);
+    }
+    if let Outcome::Unrouted
+    | Outcome::NetlistRefused
+    | Outcome::PinsRefused
+    | Outcome::ArchRefused(_) = ended
+    {
+        outputs.tell_stale(result_file(wishes, "route"), teller);
+        outputs.tell_stale(result_file(wishes, "svg"), teller);
+        outputs.tell_stale(result_file(wishes, "html"), teller);
+        outputs.tell_stale(result_file(wishes, "configuration"), teller);
+    }
+}
+
+/// Routes a netlist on devices of that architecture.
+fn run_with_arch<'x, F: FileTexts + AllocGlobal, O: FileOutputs, W: Sink, E: Sink>(
+    files: &F,
+    outputs: &mut O,
+    wishes: RouteWishes<'x>,
+    arch: &'x [u8],
     writer: &mut W,
     teller: &mut E,
-    is_told: bool,
-) -> Result<(), Outcome> {
-    let netlist = netlist_of(rt, wishes, teller)?;
+) -> Result<(), Outcome>
+    ensures { IfOk result (λ _.
+        IsBeginning (F.text files.now wishes.entry.arch.now) MAX_READ arch.now →
+        IsDone (F.text files.now) wishes.entry (O.written outputs.old) (O.written outputs.new)) }
+{
+    let netlist = netlist_of(files, wishes, teller)?;
     let request = request_of(wishes, &netlist);
-    let outcome = match size_for(rt.alloc(), wishes.size, arch, request) {
+    let outcome = match size_for(files.alloc(), wishes.size, arch, request) {
         Ok(Sized::Size(size)) => {
-            run_on_size(rt, wishes, arch, request, size, writer, teller, is_told)
+            let job = RouteJob {
+                wishes,
+                name: stem_of(wishes.netlist),
+                arch,
+                request,
+                size,
+            };
+            run_job(files, outputs, job, writer, teller)
         }
         Ok(Sized::Refused(refusal)) => {
-            Err(told_unfit(rt.alloc(), wishes, arch, request, refusal, teller))
+            Err(told_unfit(files.alloc(), wishes, arch, request, refusal, teller))
         }
         Err(error) => Err(told_arch(error, wishes, teller)),
     };
@@ -101,42 +129,45 @@ fn request_of<'a>(wishes: RouteWishes<'_>, netlist: &'a SharedText) -> Request<'
 }
 
 /// Routes a netlist on a device of that size.
-fn run_on_size<H: Files + AllocGlobal, W: Sink, E: Sink>(
-    rt: &H,
-    wishes: RouteWishes<'_>,
-    arch: &[u8],
-    request: Request<'_>,
-    size: GivenSize,
+fn run_job<F: FileTexts + AllocGlobal, O: FileOutputs, W: Sink, E: Sink>(
+    files: &F,
+    outputs: &mut O,
+    job: RouteJob<'_>,
     writer: &mut W,
     teller: &mut E,
-    is_told: bool,
 ) -> Result<(), Outcome>
-    requires { request.effort ≤ MAX_EFFORT }
+    ensures { IfOk result (λ _. IsRouted (F.text files.now) job.entry.wishes job.entry
+        (O.written outputs.old) (O.written outputs.new)) }
 {
-    if let Some(path) = wishes.pins {
-        let job = PinnedJob {
-            wishes,
-            path,
-            arch,
-            request,
-            size,
-        };
-        return run_with_pins(rt, job, writer, teller, is_told);
-    }
-    let trial = if is_told {
-        trial_with(rt.alloc(), wishes, arch, request, size, teller)
+    let run = match job.wishes.pins {
+        Some(path) => run_with_pins(files, job, path, teller)?,
+        None => run_without_pins(files.alloc(), job, teller)?,
+    };
+    write_run(files.alloc(), outputs, job, run, writer, teller)
+}
+
+/// Routes a netlist whose pads have no given places.
+fn run_without_pins<E: Sink>(
+    alloc: Global,
+    job: RouteJob<'_>,
+    teller: &mut E,
+) -> Result<Run, Outcome>
+    ensures { IfOk result (IsFreeRun job.entry job.entry.wishes.tracks) }
+{
+    let trial = if job.wishes.is_told {
+        trial_with(alloc, job, teller)
     } else {
-        trial_with(rt.alloc(), wishes, arch, request, size, &mut Silence)
+        trial_with(alloc, job, &mut Silence)
     };
     match trial {
         Ok(Trial::Decided(run)) => {
             if is_given_up(&run.outcome) {
-                tell_overuse(rt.alloc(), wishes, arch, request, size, teller);
+                tell_overuse(alloc, job, teller);
             }
-            write_run(rt, wishes, arch, size, request, run, writer, teller)
+            Ok(run)
         }
         Ok(Trial::NeverRouted) => Err(Outcome::Unrouted),
-        Err(error) => Err(told_arch(error, wishes, teller)),
+        Err(error) => Err(told_arch(error, job.wishes, teller)),
     }
 }
 
@@ -183,8 +214,16 @@ enum Trial {
 }
 
 impl Trial {
+    ghost use Rattle.std.specs.Prelude.{None};
+    ghost use Rattle.one_user.specs.Tracks.{IsLeast};
+    ghost use Rattle.desk_netlists.specs.Jobs.{IsTrial, plan_of};
+    ghost use Rattle.desk_netlists.specs.declared.route_job.RouteJob.{RouteJob};
+
     /// The result of a search for the least number.
-    fn of_least(least: Least) -> Self {
+    fn of_least(least: Least) -> Self
+        ensures { (job : RouteJob) → IsLeast (plan_of job) job.request least →
+            IsTrial job None result }
+    {
         match least {
             Least::Routed { run, .. } => Trial::Decided(run),
             Least::Refused(run) => Trial::Decided(run),
@@ -194,14 +233,16 @@ impl Trial {
 }
 
 /// Reads the netlist that is to be routed, and writes warnings of it.
-fn netlist_of<H: Files + AllocGlobal, E: Sink>(
-    rt: &H,
+fn netlist_of<F: FileTexts + AllocGlobal, E: Sink>(
+    files: &F,
     wishes: RouteWishes<'_>,
     teller: &mut E,
-) -> Result<SharedText, Outcome> {
-    let netlist = read_file(rt, FileRole::Netlist, wishes.netlist, MAX_READ, teller)?;
-    warn_of_netlist(rt.alloc(), netlist.as_slice(), teller);
-    match SharedText::new(rt.alloc(), Text::new(netlist)) {
+) -> Result<SharedText, Outcome>
+    ensures { IfOk result (IsBeginning (F.text files.now wishes.entry.netlist.now) MAX_READ) }
+{
+    let netlist = files.read_text(FileRole::Netlist, wishes.netlist, MAX_READ, teller)?;
+    warn_of_netlist(files.alloc(), netlist.as_slice(), teller);
+    match SharedText::new(files.alloc(), Text::new(netlist)) {
         Ok(netlist) => Ok(netlist),
         Err(refused) => {
             drop(refused);
@@ -212,107 +253,104 @@ fn netlist_of<H: Files + AllocGlobal, E: Sink>(
 
 /// Runs the netlist with the number of tracks that is asked for, or else with one number after
 /// another until it is routed or refused.
-fn trial_with<E: Sink>(
-    alloc: Global,
-    wishes: RouteWishes<'_>,
-    arch: &[u8],
-    request: Request<'_>,
-    size: GivenSize,
-    teller: &mut E,
-) -> Result<Trial, ArchError>
-    requires { request.effort ≤ MAX_EFFORT }
+fn trial_with<E: Sink>(alloc: Global, job: RouteJob<'_>, teller: &mut E) -> Result<Trial, ArchError>
+    ensures { IfOk result (IsTrial job.entry job.entry.wishes.tracks) }
 {
-    let plan = DevicePlan {
-        text: arch,
-        columns: size.columns,
-        rows: size.rows,
-    };
-    match wishes.tracks {
+    match job.wishes.tracks {
         Some(Tracks { number, .. }) => {
-            let run = run_with(alloc, plan, number, request, teller)?;
+            let run = run_with(alloc, job.plan(), number, job.request, teller)?;
             Ok(Trial::Decided(run))
         }
         None => {
-            let least = least_tracks(alloc, plan, request, teller)?;
+            let least = least_tracks(alloc, job.plan(), job.request, teller)?;
             Ok(Trial::of_least(least))
         }
     }
 }
 
 /// Writes the result of a run.
-pub(crate) fn write_run<H: Files + AllocGlobal, W: Sink, E: Sink>(
-    rt: &H,
-    wishes: RouteWishes<'_>,
-    arch: &[u8],
-    size: GivenSize,
-    request: Request<'_>,
+fn write_run<O: FileOutputs, W: Sink, E: Sink>(
+    alloc: Global,
+    outputs: &mut O,
+    job: RouteJob<'_>,
     run: Run,
     writer: &mut W,
     teller: &mut E,
 ) -> Result<(), Outcome>
-    requires { request.effort ≤ MAX_EFFORT }
+    ensures { IfOk result (λ _. AreWritten job.entry run.outcome (O.written outputs.old)
+        (O.written outputs.new)) }
 {
     let Run { outcome, figures } = run;
     match outcome {
         End::Routed(files) => {
-            let routed = routed_of(wishes, arch, size, request, &files, figures);
-            let written = write_routed(rt, wishes, &files, routed, writer, teller);
+            let written = match save_files(outputs, job, &files, teller) {
+                Ok(()) => {
+                    let routed = routed_of(job, &files, figures);
+                    write_routed(alloc, outputs, job, routed, writer, teller)
+                }
+                Err(outcome) => Err(outcome),
+            };
             drop(files);
             written
         }
         End::Unrouted(left) => {
-            let saved = save_left(rt, wishes, &left, teller);
-            let outcome = told_unrouted(rt.alloc(), left, teller);
+            let saved = save_left(outputs, job, &left, teller);
+            let outcome = told_unrouted(alloc, left, teller);
             saved?;
             Err(outcome)
         }
         End::Refused(refusal) => {
-            Err(told_unfit(rt.alloc(), wishes, arch, request, refusal, teller))
+            let RouteJob {
+                wishes,
+                arch,
+                request,
+                ..
+            } = job;
+            Err(told_unfit(alloc, wishes, arch, request, refusal, teller))
         }
     }
 }
 
 /// The netlist that was routed, if it is known what it uses.
 fn routed_of<'a>(
-    wishes: RouteWishes<'a>,
-    arch: &'a [u8],
-    size: GivenSize,
-    request: Request<'a>,
+    job: RouteJob<'a>,
     files: &'a Results,
     figures: Option<Figures>,
-) -> Option<Routed<'a>> {
+) -> Option<Routed<'a>>
+    ensures { IfSome result (IsRoutedOf job.entry files.now) }
+{
     let figures = figures?;
     Some(Routed {
-        name: stem_of(wishes.netlist),
-        netlist: request.netlist.as_bytes(),
-        arch,
+        name: job.name,
+        netlist: job.request.netlist.as_bytes(),
+        arch: job.arch,
         texts: StripTexts {
             net: files.net.as_bytes(),
             place: files.places.as_bytes(),
             route: files.routes.as_bytes(),
         },
-        size,
+        size: job.size,
         figures,
     })
 }
 
-/// Writes the files of a netlist that was routed, and prints what it uses.
-fn write_routed<'x, H: Files + AllocGlobal, W: Sink, E: Sink>(
-    rt: &H,
-    wishes: RouteWishes<'x>,
-    files: &'x Results,
-    routed: Option<Routed<'x>>,
+/// Prints what a netlist uses that was routed, and writes the files beside the three.
+fn write_routed<O: FileOutputs, W: Sink, E: Sink>(
+    alloc: Global,
+    outputs: &mut O,
+    job: RouteJob<'_>,
+    routed: Option<Routed<'_>>,
     writer: &mut W,
     teller: &mut E,
-) -> Result<(), Outcome> {
-    save_files(rt, wishes, files, teller)?;
-    match routed {
-        Some(routed) => {
-            print_summary(rt.alloc(), wishes, routed, writer)?;
-            write_extra_files(rt, wishes, routed, writer, teller)
-        }
-        None => Ok(()),
-    }
+) -> Result<(), Outcome>
+    ensures { IfOk result (λ _. IsSomeAnd routed.entry (λ routed. AreExtras job.entry routed
+        (O.written outputs.old) (O.written outputs.new))) }
+{
+    let Some(routed) = routed else {
+        return Err(Outcome::NoMemory);
+    };
+    print_summary(alloc, job.wishes, routed, writer)?;
+    write_extra_files(alloc, outputs, job, routed, writer, teller)
 }
 
 /// Prints what a netlist uses, in the form that is asked for.
@@ -326,77 +364,6 @@ fn print_summary<W: Sink>(
         RouteForm::Json => print_object(alloc, wishes, routed, writer),
         _ => print_routed(alloc, wishes, routed, writer).or(Err(Outcome::OutputFailed)),
     }
-}
-
-/// Writes the three files.
-pub fn save_files<'x, O: FileOutputs, E: Sink>(
-    outputs: &O,
-    wishes: RouteWishes<'x>,
-    files: &'x Results,
-    teller: &mut E,
-) -> Result<(), Outcome>
-    ensures { OnOk result (AreWritten (O.is_written outputs.now) wishes.entry.folder.now files.now) }
-{
-    outputs.make_folder(wishes.folder, teller)?;
-    let name = stem_of(wishes.netlist);
-    let new = [
-        new_file(wishes, name, "net", files.net.as_bytes()),
-        new_file(wishes, name, "place", files.places.as_bytes()),
-        new_file(wishes, name, "route", files.routes.as_bytes()),
-    ];
-    outputs.write_files(new.as_slice(), teller)
-}
-
-/// Writes the two files of a netlist that was left without routes.
-pub fn save_left<'x, O: FileOutputs, E: Sink>(
-    outputs: &O,
-    wishes: RouteWishes<'x>,
-    left: &'x Unrouted,
-    teller: &mut E,
-) -> Result<(), Outcome>
-    ensures { OnOk result (AreLeftWritten (O.is_written outputs.now) wishes.entry.folder.now
-        left.now) }
-{
-    outputs.make_folder(wishes.folder, teller)?;
-    let name = stem_of(wishes.netlist);
-    let new = [
-        new_file(wishes, name, "net", left.net.as_bytes()),
-        new_file(wishes, name, "place", left.places.as_bytes()),
-    ];
-    outputs.write_files(new.as_slice(), teller)
-}
-
-/// The file of that name and kind, with its bytes.
-fn new_file<'x>(
-    wishes: RouteWishes<'x>,
-    name: &'x str,
-    kind: &'static str,
-    bytes: &'x [u8],
-) -> NewFile<'x>
-    ensures { named result ≡ record {
-      folder = wishes.entry.folder.now;
-      name = name.entry.now;
-      kind = kind.now;
-      bytes = bytes.entry.now;
-    } }
-{
-    NewFile {
-        file: ResultFile {
-            folder: wishes.folder,
-            name,
-            kind,
-        },
-        bytes,
-    }
-}
-
-/// The name of a file without its folders and the ending `.blif`.
-fn stem_of(path: &str) -> &str {
-    let name = match path.rsplit_once('/') {
-        Some((_, name)) => name,
-        None => path,
-    };
-    name.strip_suffix(".blif").unwrap_or(name)
 }
 
 /// Writes how a routing ended without routes, as the service would reply, and returns how the

@@ -1,5 +1,6 @@
 //! The size of the device on which a netlist is routed.
-ghost use Rattle.std.specs.Prelude.{◌≤◌};
+ghost use Rattle.std.specs.Prelude.{◌≤◌, IfOk, IfSome};
+ghost use Rattle.desk_netlists.specs.Jobs.{IsLeastSize, IsSized, IsSizedBy};
 ghost use Rattle.strip_place.specs.declared.placing.TheConstants.{MAX_EFFORT};
 ghost use Rattle.arch_file.specs.declared.arch.TheConstants.{MAX_IO_RAT};
 
@@ -27,6 +28,7 @@ pub(crate) fn size_for(
     request: Request<'_>,
 ) -> Result<Sized, ArchError>
     requires { request.effort ≤ MAX_EFFORT }
+    ensures { IfOk result (IsSized asked arch.now request.entry) }
 {
     if let Size::Given(size) = asked {
         return Ok(Sized::Size(size));
@@ -45,8 +47,20 @@ pub(crate) fn size_for(
 /// The least size for these counts, or of which places even the largest device has too few.
 fn least_size(size: Size, counts: PackedCounts, io_rat: u32) -> Sized
     requires { io_rat ≤ MAX_IO_RAT }
+    ensures { IsSizedBy (IsLeastSize size counts io_rat) result }
 {
-    let found = match size {
+    match least_found(size, counts, io_rat) {
+        Some(size) => Sized::Size(size),
+        None => Sized::Refused(Refusal::DoesNotFit(misfit_of(size, counts, io_rat))),
+    }
+}
+
+/// The least size for these counts, if a device has enough places for them.
+fn least_found(size: Size, counts: PackedCounts, io_rat: u32) -> Option<GivenSize>
+    requires { io_rat ≤ MAX_IO_RAT }
+    ensures { IfSome result (IsLeastSize size counts io_rat) }
+{
+    match size {
         Size::Given(size) => Some(size),
         Size::LeastSquare => match least_side(counts, io_rat) {
             Some(side) => device_size(side, side),
@@ -60,10 +74,6 @@ fn least_size(size: Size, counts: PackedCounts, io_rat: u32) -> Sized
             Some(rows) => device_size(columns, rows),
             None => None,
         },
-    };
-    match found {
-        Some(size) => Sized::Size(size),
-        None => Sized::Refused(Refusal::DoesNotFit(misfit_of(size, counts, io_rat))),
     }
 }
 

@@ -1,20 +1,12 @@
-//! What the tool that routes one netlist is asked for.
-ghost use Rattle.std.specs.Prelude.{◌≤◌};
+//! What the tool that routes one netlist is asked for, and its options.
+ghost use Rattle.std.specs.Prelude.{◌≡◌, ◌≤◌, IfSome};
 ghost use Rattle.strip_place.specs.declared.placing.TheConstants.{MAX_EFFORT};
 ghost use Rattle.arch_file.specs.declared.arch.TheConstants.{MAX_TRACKS};
 ghost use Rattle.grid.specs.declared.TheConstants.{MAX_COLUMNS, MAX_ROWS};
 
-use desk_common::{DEVICE, EFFORT, FOLDER, NO_DEVICE, SEED};
+use desk_common::{DEVICE, EFFORT, FOLDER, SEED};
 use grid::{MAX_COLUMNS, MAX_ROWS};
-use option_words::{Given, OptionWord, Program, Takes};
-
-const NO_FILE: &str = "give an architecture, a netlist and a folder";
-
-const NO_ROWS: &str = "give --rows NY with --least-columns, and no --columns";
-
-const NO_TRACKS: &str = "give either --tracks W or --least-tracks";
-
-const ONE_FORM: &str = "give only one of --csv, --json and --path";
+use option_words::{OptionWord, Program, Takes};
 
 /// The beginning of its help.
 const ABOUT: &str =
@@ -233,90 +225,12 @@ pub(crate) struct GivenSize {
     ghost rows_lawful: { (1 ≤ rows) × (rows ≤ MAX_ROWS) },
 }
 
-/// What the options ask for, or why they are refused.
-pub fn wishes_of<'a>(given: &Given<'a>) -> Result<RouteWishes<'a>, &'static str> {
-    let effort = given.number("effort")?;
-    if effort > 100 {
-        return Err(NO_DEVICE);
-    }
-    Ok(RouteWishes {
-        arch: given.text("arch").ok_or(NO_FILE)?,
-        netlist: given.text("netlist").ok_or(NO_FILE)?,
-        folder: given.text("folder").ok_or(NO_FILE)?,
-        tracks: tracks_of(given)?,
-        size: size_of(given)?,
-        seed: given.long_number("seed")?,
-        effort,
-        pins: given.text("pins"),
-        is_told: given.is_given("progress"),
-        form: form_of(given)?,
-        extras: Extras {
-            has_picture: given.is_given("svg"),
-            has_page: given.is_given("page"),
-            has_configuration: given.is_given("configuration"),
-            has_verdict: given.is_given("check"),
-        },
-    })
-}
-
-/// The form of the summary, or why the options are refused.
-fn form_of(given: &Given<'_>) -> Result<RouteForm, &'static str> {
-    let is_table = given.is_given("csv");
-    let is_json = given.is_given("json");
-    let has_path = given.is_given("path");
-    match (is_table, is_json, has_path) {
-        (false, false, false) => Ok(RouteForm::Lines),
-        (false, false, true) => Ok(RouteForm::Path),
-        (true, false, false) => Ok(RouteForm::Table),
-        (false, true, false) => Ok(RouteForm::Json),
-        _ => Err(ONE_FORM),
-    }
-}
-
-/// The size of the device. Without one of --columns and --rows it is the least that fits with the
-/// other one.
-fn size_of(given: &Given<'_>) -> Result<Size, &'static str> {
-    let columns = number_in(given, "columns")?;
-    let rows = number_in(given, "rows")?;
-    match (columns, rows) {
-        (None, Some(rows)) => Ok(Size::LeastColumns(rows)),
-        _ if given.is_given("least-columns") => Err(NO_ROWS),
-        (None, None) => Ok(Size::LeastSquare),
-        (Some(columns), None) => Ok(Size::LeastRows(columns)),
-        (Some(columns), Some(rows)) => match device_size(columns, rows) {
-            Some(size) => Ok(Size::Given(size)),
-            None => Err(NO_DEVICE),
-        },
-    }
-}
-
 /// That size, if a device may have it.
-pub(crate) fn device_size(columns: u32, rows: u32) -> Option<GivenSize> {
+pub(crate) fn device_size(columns: u32, rows: u32) -> Option<GivenSize>
+    ensures { IfSome result (λ size. (size.columns ≡ columns) × (size.rows ≡ rows)) }
+{
     if !(1..=MAX_COLUMNS).contains(&columns) || !(1..=MAX_ROWS).contains(&rows) {
         return None;
     }
     Some(GivenSize { columns, rows })
-}
-
-/// The value of an option with a number, if it is given.
-fn number_in(given: &Given<'_>, name: &str) -> Result<Option<u32>, &'static str> {
-    match given.text(name) {
-        Some(_) => Ok(Some(given.number(name)?)),
-        None => Ok(None),
-    }
-}
-
-/// The number of tracks. None if the least is wanted.
-fn tracks_of(given: &Given<'_>) -> Result<Option<Tracks>, &'static str> {
-    match (given.text("tracks"), given.is_given("least-tracks")) {
-        (Some(_), false) => {
-            let number = given.number("tracks")?;
-            if number < 1 || number > 64 {
-                return Err(NO_DEVICE);
-            }
-            Ok(Some(Tracks { number }))
-        }
-        (None, true) => Ok(None),
-        _ => Err(NO_TRACKS),
-    }
 }

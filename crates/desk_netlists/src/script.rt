@@ -1,4 +1,7 @@
 //! The tool that prints the script of a tenancy.
+ghost use Rattle.std.specs.Prelude.{◌≡◌, codes, IfOk};
+ghost use Rattle.option_words.specs.Values.{number_of};
+ghost use Rattle.desk_netlists.specs.Asked.{IsScriptAskedFor};
 ghost use Rattle.desk_netlists.specs.Scripts.{Prints};
 
 use desk_common::{EFFORT, Outcome, SEED};
@@ -40,7 +43,9 @@ Example: fpgad_desk script --name T --width 2 --seed 1 --effort 50 < t.blif >> m
 };
 
 /// What the options ask for, or why they are refused.
-pub fn wishes_of<'a>(given: &Given<'a>) -> Result<ScriptParameters<'a>, &'static str> {
+pub fn wishes_of<'a>(given: &Given<'a>) -> Result<ScriptParameters<'a>, &'static str>
+    ensures { IfOk result (IsScriptAskedFor given.now) }
+{
     let name = given.text("name").ok_or(NO_NAME)?.as_bytes();
     if !is_name(name) {
         return Err(NO_NAME);
@@ -54,7 +59,9 @@ pub fn wishes_of<'a>(given: &Given<'a>) -> Result<ScriptParameters<'a>, &'static
 }
 
 /// The width, if one is given.
-fn width_of(given: &Given<'_>) -> Result<Option<u32>, &'static str> {
+fn width_of(given: &Given<'_>) -> Result<Option<u32>, &'static str>
+    ensures { IfOk result (λ width. width ≡ number_of 32 given.now (codes "width")) }
+{
     match given.text("width") {
         Some(_) => Ok(Some(given.number("width")?)),
         None => Ok(None),

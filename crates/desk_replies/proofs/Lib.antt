@@ -1,3 +1,4 @@
 mod Examples
+mod SavedFiles
 mod StateLemmas
 mod WishLemmas

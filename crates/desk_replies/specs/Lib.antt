@@ -1,5 +1,10 @@
+pub mod Asked
+pub mod Lines
+pub mod Pictured
+pub mod ReportJson
+pub mod Reported
 pub mod Saved
+pub mod Served
 pub mod States
 pub mod Tables
 pub mod Wishes
-pub mod ReportJson

@@ -1,14 +1,49 @@
--- The files of a name that are written.
-use Rattle.std.specs.Prelude.{ℕ, List, Option, codes, IfSome, IsUtf8}
+-- The files of names that are written.
+use Rattle.std.specs.Prelude.{ℕ, List, [], ◌∷◌, ◌++◌, length, slice_get, slice_index_or, Option, Some, None, if◌then◌else◌, codes}
+use Rattle.std.specs.List.{flat_map, range_with_len}
+use Rattle.std.specs.Option.{option_map_or}
+use Rattle.std.specs.Str.{is_utf8}
 use Rattle.desk_common.specs.Outputs.{NamedBytes}
+use Rattle.printed_replies.specs.Printing.{asked_in}
+use Rattle.printed_replies.specs.Replies.{AnsweredLine, names_of}
+use Rattle.printed_replies.specs.Sections.{session_places}
 use Rattle.script_replies.specs.Accounts.{NameAccount}
+use Rattle.script_replies.specs.Told.{told_text}
+use Rattle.script_replies.specs.declared.listing.ToldLine.{ToldLine}
 
--- the text of that kind, if it is present, is written under the name in the folder
-abbrev pub IsSaved : (NamedBytes → Type 0) → List ℕ → List ℕ → List ℕ → Option (List ℕ) → Type 0
-IsSaved is_written folder name kind text = IfSome text (λ bytes. is_written (record { folder = folder; name = name; kind = kind; bytes = bytes }))
+-- the bytes, under a name of that kind in the folder
+abbrev pub named_bytes : List ℕ → List ℕ → List ℕ → List ℕ → NamedBytes
+named_bytes folder name kind bytes = record { folder = folder; name = name; kind = kind; bytes = bytes }
 
--- so is each of the three files of an account
-pub record AreSaved (is_written : NamedBytes → Type 0) (folder : List ℕ) (account : NameAccount) : Type 0 where
-  pub net : IsUtf8 account.name → IsSaved is_written folder account.name (codes "net") account.files.net.text
-  pub place : IsUtf8 account.name → IsSaved is_written folder account.name (codes "place") account.files.place.text
-  pub route : IsUtf8 account.name → IsSaved is_written folder account.name (codes "route") account.files.route.text
+-- the file with this text, if there is one
+abbrev pub if_present : List ℕ → List ℕ → List ℕ → Option (List ℕ) → List NamedBytes
+if_present folder name kind (Some text) = named_bytes folder name kind text ∷ []
+if_present folder name kind None = []
+
+-- the present files of a name; a name that isn't UTF-8 has none
+abbrev pub files_of_name : List ℕ → NameAccount → List NamedBytes
+files_of_name folder account = if is_utf8 account.name then
+    (if_present folder account.name (codes "net") account.files.net.text
+    ++ (if_present folder account.name (codes "place") account.files.place.text ++ if_present folder account.name (codes "route") account.files.route.text))
+    else []
+
+-- the line at that place, if there is one
+abbrev pub line_at : List ToldLine → ℕ → List ToldLine
+line_at told place = option_map_or (λ line. line ∷ []) (slice_get told place) []
+
+-- the lines at these places
+abbrev pub lines_at : List ToldLine → List ℕ → List ToldLine
+lines_at told places = flat_map (line_at told) places
+
+-- the file with the lines of a name
+abbrev pub replies_file : List ℕ → List ℕ → List ℕ → List NamedBytes
+replies_file folder name lines = if is_utf8 name then named_bytes folder name (codes "replies") lines ∷ [] else []
+
+-- that of the name with this number: its lines with their replies, as they are told
+abbrev pub replies_by_number : List ℕ → List ToldLine → List AnsweredLine → ℕ → List NamedBytes
+replies_by_number folder told replies number =
+    replies_file folder (slice_index_or (names_of (asked_in replies)) number []) (flat_map told_text (lines_at told (slice_index_or (session_places (asked_in replies)) number [])))
+
+-- those of all names
+abbrev pub replies_files : List ℕ → List ToldLine → List AnsweredLine → List NamedBytes
+replies_files folder told replies = flat_map (replies_by_number folder told replies) (range_with_len 0 (length (names_of (asked_in replies))))

@@ -1,4 +1,8 @@
 //! The device that a tool reads from what the service printed.
+ghost use Rattle.std.specs.Prelude.{Ok, IfErr, IfOk};
+ghost use Rattle.device_lines.specs.Reading.{Gives, device_in};
+ghost use Rattle.desk_replies.specs.Pictured.{IsRefusedText};
+
 use desk_common::Outcome;
 use device_lines::{DeviceError, DeviceSize, ListedDevice, read_device};
 use std::alloc::Global;
@@ -9,7 +13,10 @@ pub(crate) fn device_in(
     alloc: Global,
     size: DeviceSize,
     text: &[u8],
-) -> Result<ListedDevice<'_>, Outcome> {
+) -> Result<ListedDevice<'_>, Outcome>
+    ensures read { IfOk result (λ device. Gives (device_in size text.now) (Ok device)) }
+    ensures refused { IfErr result (IsRefusedText size text.now) }
+{
     match read_device(alloc, size, text) {
         Ok(device) => Ok(device),
         Err(DeviceError::NoMemory) => Err(Outcome::NoMemory),

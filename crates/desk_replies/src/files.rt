@@ -1,14 +1,20 @@
 //! The tool that saves the files which the service printed.
-ghost use Rattle.std.specs.Prelude.{◌≡◌, All, IfOk, IfSome};
-ghost use Rattle.desk_common.specs.Outputs.{named};
-ghost use Rattle.desk_replies.specs.Saved.{AreSaved};
-ghost use Rattle.script_replies.specs.Accounts.{account_now};
+ghost use Rattle.std.specs.Prelude.{◌≡◌, count_by, map, option_map, IfOk};
+ghost use Rattle.std.specs.List.{flat_map};
+ghost use Rattle.desk_common.specs.Outputs.{AreAdded};
+ghost use Rattle.desk_replies.specs.Asked.{IsFilesAskedFor, IsFilesForm};
+ghost use Rattle.desk_replies.specs.Saved.{files_of_name, if_present, replies_files};
+ghost use Rattle.desk_replies.specs.Served.{ArePrinted, AreRepliesSaved, AreSaved, AreSavedFrom, AreServed};
+ghost use Rattle.script_replies.specs.Accounts.{account_now, accounts_of};
+ghost use Rattle.script_replies.specs.Told.{is_refused};
+ghost use Rattle.script_text.specs.Script.{named_act};
 
+use crate::lines::Lines;
 use crate::outdated::tell_outdated;
-use crate::script_input::{Lines, acts_of, lines_of, replies_of};
+use crate::script_input::{acts_of, lines_of, replies_of};
 use crate::tenants::save_replies;
 use desk_circuits::{LineCounts, facts_of, print_usages, usages_text};
-use desk_common::{DEVICE, FOLDER, FileOutputs, FileRole, NewFile, Outcome, ResultFile, read_file};
+use desk_common::{DEVICE, FOLDER, FileOutputs, FileRole, FileTexts, NewFile, Outcome, ResultFile};
 use line_text::{Failed, Sink, Source, read_all, write_all};
 use option_words::{Given, OptionWord, Program, Takes};
 use printed_replies::Replies;
@@ -17,7 +23,6 @@ use script_replies::{
 };
 use script_text::Act;
 use std::alloc::Global;
-use std::rt::Files;
 use text_parts::{Part, write_parts};
 
 const NO_FILE: &str = "give a script and a folder";
@@ -97,7 +102,9 @@ enum FilesForm {
 }
 
 /// What the options ask for, or why they are refused.
-pub fn wishes_of<'a>(given: &Given<'a>) -> Result<FilesWishes<'a>, &'static str> {
+pub fn wishes_of<'a>(given: &Given<'a>) -> Result<FilesWishes<'a>, &'static str>
+    ensures { IfOk result (IsFilesAskedFor given.now) }
+{
     Ok(FilesWishes {
         script: given.text("script").ok_or(NO_FILE)?,
         folder: given.text("folder").ok_or(NO_FILE)?,
@@ -107,7 +114,9 @@ pub fn wishes_of<'a>(given: &Given<'a>) -> Result<FilesWishes<'a>, &'static str>
 }
 
 /// What is to be printed, or why the options are refused.
-fn form_of(given: &Given<'_>) -> Result<FilesForm, &'static str> {
+fn form_of(given: &Given<'_>) -> Result<FilesForm, &'static str>
+    ensures { IfOk result (IsFilesForm given.now) }
+{
     match (given.is_given("csv"), given.is_given("json")) {
         (false, false) => Ok(FilesForm::Lines),
         (true, false) => Ok(FilesForm::Table),
@@ -117,33 +126,50 @@ fn form_of(given: &Given<'_>) -> Result<FilesForm, &'static str> {
 }
 
 /// Reads the script, and what was printed for its lines. Writes the files, and prints the lines
-/// beside their replies.
-pub fn run<H: Files + AllocGlobal, R: Source, W: Sink, E: Sink>(
-    rt: &H,
+/// beside their replies. Returns how many lines were refused.
+pub fn run<F: FileTexts + AllocGlobal, O: FileOutputs, R: Source, W: Sink, E: Sink>(
+    files: &F,
+    outputs: &mut O,
     wishes: FilesWishes<'_>,
     reader: &mut R,
     writer: &mut W,
     teller: &mut E,
-) -> Result<(), Outcome> {
-    let script = read_file(rt, FileRole::Script, wishes.script, u64::MAX, teller)?;
-    let lines = lines_of(script.as_slice(), wishes.has_architecture);
-    let outcome = run_on_lines(rt, wishes, lines, reader, writer, teller);
+) -> Result<usize, Outcome>
+    ensures { IfOk result (λ refused. AreServed (F.text files.now) (R.remaining reader.old)
+        wishes.entry refused (O.written outputs.old) (O.written outputs.new)) }
+{
+    let script = files.read_text(FileRole::Script, wishes.script, u64::MAX, teller)?;
+    let job = FilesJob {
+        wishes,
+        lines: lines_of(script.as_slice(), wishes.has_architecture),
+    };
+    let outcome = run_on_lines(files.alloc(), outputs, job, reader, writer, teller);
     drop(script);
     outcome
 }
 
+/// Whose files are wanted, and the lines of the script.
+#[derive(Clone, Copy)]
+struct FilesJob<'a> {
+    wishes: FilesWishes<'a>,
+    lines: Lines<'a>,
+}
+
 /// Reads what was printed for the lines, writes the files and prints the lines.
-fn run_on_lines<H: Files + AllocGlobal, R: Source, W: Sink, E: Sink>(
-    rt: &H,
-    wishes: FilesWishes<'_>,
-    lines: Lines<'_>,
+fn run_on_lines<O: FileOutputs, R: Source, W: Sink, E: Sink>(
+    alloc: Global,
+    outputs: &mut O,
+    job: FilesJob<'_>,
     reader: &mut R,
     writer: &mut W,
     teller: &mut E,
-) -> Result<(), Outcome> {
-    match read_all(rt.alloc(), reader) {
+) -> Result<usize, Outcome>
+    ensures { IfOk result (λ refused. ArePrinted (R.remaining reader.old) job.entry refused
+        (O.written outputs.old) (O.written outputs.new)) }
+{
+    match read_all(alloc, reader) {
         Ok(printed) => {
-            let outcome = run_on_texts(rt, wishes, lines, printed.as_slice(), writer, teller);
+            let outcome = run_on_texts(alloc, outputs, job, printed.as_slice(), writer, teller);
             drop(printed);
             outcome
         }
@@ -159,18 +185,21 @@ struct Answers<'a, 'p> {
 }
 
 /// Reads the replies from the printed text, writes the files and prints the lines.
-fn run_on_texts<H: Files + AllocGlobal, W: Sink, E: Sink>(
-    rt: &H,
-    wishes: FilesWishes<'_>,
-    lines: Lines<'_>,
+fn run_on_texts<O: FileOutputs, W: Sink, E: Sink>(
+    alloc: Global,
+    outputs: &mut O,
+    job: FilesJob<'_>,
     printed: &[u8],
     writer: &mut W,
     teller: &mut E,
-) -> Result<(), Outcome> {
-    let acts = acts_of(rt.alloc(), lines)?;
-    let outcome = match replies_of(rt.alloc(), &acts, printed) {
+) -> Result<usize, Outcome>
+    ensures { IfOk result (λ refused. AreSavedFrom job.entry printed.now refused (O.written outputs.old)
+        (O.written outputs.new)) }
+{
+    let acts = acts_of(alloc, job.lines)?;
+    let outcome = match replies_of(alloc, &acts, printed) {
         Ok(replies) => {
-            let outcome = run_on_replies(rt, wishes, lines, &acts, &replies, writer, teller);
+            let outcome = run_on_replies(alloc, outputs, job, &acts, &replies, writer, teller);
             drop(replies);
             outcome
         }
@@ -181,39 +210,57 @@ fn run_on_texts<H: Files + AllocGlobal, W: Sink, E: Sink>(
 }
 
 /// Writes the files and prints the lines, by the acts with their replies.
-fn run_on_replies<H: Files + AllocGlobal, W: Sink, E: Sink>(
-    rt: &H,
-    wishes: FilesWishes<'_>,
-    lines: Lines<'_>,
+fn run_on_replies<O: FileOutputs, W: Sink, E: Sink>(
+    alloc: Global,
+    outputs: &mut O,
+    job: FilesJob<'_>,
     acts: &[Act<&[u8]>],
     replies: &Replies<'_, '_>,
     writer: &mut W,
     teller: &mut E,
-) -> Result<(), Outcome> {
-    let Ok(accounts) = accounts_of(rt.alloc(), acts, replies) else {
+) -> Result<usize, Outcome>
+    ensures { IfOk result (λ refused. AreSaved job.entry
+        (accounts_of (map named_act acts.now) replies.now) replies.now refused
+        (O.written outputs.old) (O.written outputs.new)) }
+{
+    let Ok(accounts) = accounts_of(alloc, acts, replies) else {
         return Err(Outcome::NoMemory);
     };
     let answers = Answers {
         replies,
         accounts: &accounts,
     };
-    let outcome = match save_files(rt, wishes.folder, &accounts, teller) {
-        Ok(files) => print(rt, wishes, lines, answers, files, writer, teller),
-        Err(outcome) => Err(outcome),
-    };
+    let outcome = save_and_print(alloc, outputs, job, answers, writer, teller);
     drop(accounts);
     outcome
 }
 
+/// Writes the files, and prints the lines beside their replies.
+fn save_and_print<O: FileOutputs, W: Sink, E: Sink>(
+    alloc: Global,
+    outputs: &mut O,
+    job: FilesJob<'_>,
+    answers: Answers<'_, '_>,
+    writer: &mut W,
+    teller: &mut E,
+) -> Result<usize, Outcome>
+    ensures { IfOk result (λ refused. AreSaved job.entry
+        (map account_now answers.entry.accounts.now) answers.entry.replies.now
+        refused (O.written outputs.old) (O.written outputs.new)) }
+{
+    let files = save_files(outputs, job.wishes.folder, answers.accounts, teller)?;
+    print(alloc, outputs, job, answers, files, writer, teller)
+}
+
 /// Writes the present files of all names into the folder, and returns how many they are.
-pub fn save_files<O: FileOutputs, E: Sink>(
-    outputs: &O,
+fn save_files<O: FileOutputs, E: Sink>(
+    outputs: &mut O,
     folder: &str,
     accounts: &[Account<'_, '_>],
     teller: &mut E,
 ) -> Result<u32, Outcome>
-    ensures { IfOk result (λ _. All (λ account.
-        AreSaved (O.is_written outputs.now) folder.now (account_now account)) accounts.now) }
+    ensures { IfOk result (λ _. AreAdded (O.written outputs.old) (O.written outputs.new)
+        (flat_map (files_of_name folder.now) (map account_now accounts.now))) }
 {
     outputs.make_folder(folder, teller)?;
     let mut files = 0u32;
@@ -226,13 +273,13 @@ pub fn save_files<O: FileOutputs, E: Sink>(
 
 /// Writes the present files of a name, and returns how many they are.
 fn save_name<O: FileOutputs, E: Sink>(
-    outputs: &O,
+    outputs: &mut O,
     folder: &str,
     account: Account<'_, '_>,
     teller: &mut E,
 ) -> Result<u32, Outcome>
-    ensures { IfOk result (λ _.
-        AreSaved (O.is_written outputs.now) folder.now (account_now account.entry)) }
+    ensures { IfOk result (λ _. AreAdded (O.written outputs.old) (O.written outputs.new)
+        (files_of_name folder.now (account_now account.entry))) }
 {
     let Ok(name) = str::from_utf8(account.name) else {
         return Ok(0);
@@ -254,13 +301,14 @@ fn file_of<'a>(folder: &'a str, name: &'a str, kind: &'static str) -> ResultFile
 
 /// Writes a file if it is present, and returns whether it is.
 fn save_file<O: FileOutputs, E: Sink>(
-    outputs: &O,
+    outputs: &mut O,
     file: ResultFile<'_>,
     printed: PrintedFile<'_>,
     teller: &mut E,
 ) -> Result<bool, Outcome>
-    ensures { IfOk result (λ _. IfSome printed.entry.text (λ text.
-        O.is_written outputs.now (named (record { file = file.entry; bytes = text })))) }
+    ensures { IfOk result (λ _. AreAdded (O.written outputs.old) (O.written outputs.new)
+        (if_present file.entry.folder.now file.entry.name.now file.entry.kind.now
+        (option_map (λ text. text.now) printed.entry.text))) }
 {
     match printed.text {
         Some(text) => {
@@ -274,24 +322,31 @@ fn save_file<O: FileOutputs, E: Sink>(
     }
 }
 
-/// Prints the lines beside their replies, and their numbers.
-fn print<H: Files + AllocGlobal, W: Sink, E: Sink>(
-    rt: &H,
-    wishes: FilesWishes<'_>,
-    lines: Lines<'_>,
+/// Writes the lines of each name with their replies into the folder, and prints all lines beside
+/// their replies, and their numbers.
+fn print<O: FileOutputs, W: Sink, E: Sink>(
+    alloc: Global,
+    outputs: &mut O,
+    job: FilesJob<'_>,
     answers: Answers<'_, '_>,
     files: u32,
     writer: &mut W,
     teller: &mut E,
-) -> Result<(), Outcome> {
-    let Ok(asked) = script_lines(rt.alloc(), lines.text, lines.number) else {
+) -> Result<usize, Outcome>
+    ensures { IfOk result (λ refused. AreRepliesSaved job.entry answers.entry.replies.now refused
+        (O.written outputs.old) (O.written outputs.new)) }
+{
+    let lines = job.lines;
+    let Ok(asked) = script_lines(alloc, lines.text, lines.number) else {
         return Err(Outcome::NoMemory);
     };
-    let told = told_lines(rt.alloc(), &asked, answers.replies);
+    let told = told_lines(alloc, &asked, answers.replies);
     drop(asked);
     match told {
         Ok(told) => {
-            let outcome = print_told(rt, wishes, answers, &told, files, writer, teller);
+            let outcome = print_told(
+                alloc, outputs, job.wishes, answers, &told, files, writer, teller,
+            );
             drop(told);
             outcome
         }
@@ -299,36 +354,38 @@ fn print<H: Files + AllocGlobal, W: Sink, E: Sink>(
     }
 }
 
-/// Prints the lines with their replies, writes those of each name into the folder, and prints how
+/// Writes the lines of each name into the folder, and prints the lines with their replies, and how
 /// many were served and refused.
-fn print_told<H: Files + AllocGlobal, W: Sink, E: Sink>(
-    rt: &H,
+fn print_told<O: FileOutputs, W: Sink, E: Sink>(
+    alloc: Global,
+    outputs: &mut O,
     wishes: FilesWishes<'_>,
     answers: Answers<'_, '_>,
     told: &[ToldLine<'_>],
     files: u32,
     writer: &mut W,
     teller: &mut E,
-) -> Result<(), Outcome> {
-    let refused = told.iter().filter(|line| line.is_refused()).count();
+) -> Result<usize, Outcome>
+    ensures counted { IfOk result (λ refused. refused ≡ count_by is_refused told.now) }
+    ensures written { IfOk result (λ _. AreAdded (O.written outputs.old) (O.written outputs.new)
+        (replies_files wishes.entry.folder.now told.now answers.entry.replies.now)) }
+{
+    let refused = refused_in(told);
     let counts = LineCounts {
         served: told.len().saturating_sub(refused) as u64,
         refused: refused as u64,
         files: u64::from(files),
     };
-    save_replies(rt, wishes.folder, answers.replies, told, teller)?;
-    print_form(
-        rt.alloc(),
-        wishes.form,
-        answers.accounts,
-        told,
-        counts,
-        writer,
-    )?;
-    if refused > 0 {
-        return Err(Outcome::LinesRefused(refused));
-    }
-    Ok(())
+    save_replies(alloc, outputs, wishes.folder, answers.replies, told, teller)?;
+    print_form(alloc, wishes.form, answers.accounts, told, counts, writer)?;
+    Ok(refused)
+}
+
+/// How many of these lines are refused.
+fn refused_in(told: &[ToldLine<'_>]) -> usize
+    ensures { result ≡ count_by is_refused told.now }
+{
+    told.iter().filter(|line| line.is_refused()).count()
 }
 
 /// Prints what is asked for.

@@ -11,6 +11,7 @@ mod crowding_json;
 mod device_input;
 pub mod files;
 mod layout_wish;
+mod lines;
 mod outdated;
 mod overuse;
 mod page_texts;

@@ -1,5 +1,5 @@
 //! The texts that a page shows beside the files.
-use crate::script_input::Lines;
+use crate::lines::Lines;
 use crate::states::NameState;
 use desk_common::Outcome;
 use indexmap::IndexMap;

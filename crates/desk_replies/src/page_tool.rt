@@ -1,10 +1,12 @@
 //! The tool that prints a page for a browser.
-ghost use Rattle.std.specs.Prelude.{◌<◌, ◌^◌, length};
+ghost use Rattle.std.specs.Prelude.{◌<◌, ◌^◌, length, IfOk};
+ghost use Rattle.desk_replies.specs.Asked.{IsPageAskedFor};
 
+use crate::lines::Lines;
 use crate::outdated::tell_outdated;
 use crate::overuse::{ServedScript, SharedDevice, write_overuse};
 use crate::page_texts::PageTexts;
-use crate::script_input::{Lines, acts_of, lines_of, replies_of};
+use crate::script_input::{acts_of, lines_of, replies_of};
 use crate::states::{NameState, present_states};
 use desk_circuits::write_present_stops;
 use desk_common::{DEVICE, FileRole, Outcome, read_file};
@@ -96,7 +98,9 @@ pub struct PageWishes<'a> {
 }
 
 /// What the options ask for, or why they are refused.
-pub fn wishes_of<'a>(given: &Given<'a>) -> Result<PageWishes<'a>, &'static str> {
+pub fn wishes_of<'a>(given: &Given<'a>) -> Result<PageWishes<'a>, &'static str>
+    ensures { IfOk result (IsPageAskedFor given.now) }
+{
     Ok(PageWishes {
         script: given.text("script").ok_or(NO_FILE)?,
         columns: given.text("columns"),

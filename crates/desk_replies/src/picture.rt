@@ -1,8 +1,10 @@
 //! The tool that draws the device.
+ghost use Rattle.desk_replies.specs.Pictured.{IsPictureEnd, IsTextEnd};
+
 use crate::device_input::device_in;
 use crate::size::SIZES;
 use desk_common::Outcome;
-use device_lines::{DeviceSize, ListedDevice};
+use device_lines::DeviceSize;
 use device_picture::{DrawError, draw};
 use line_text::{Sink, Source, read_all};
 use option_words::Program;
@@ -34,7 +36,9 @@ pub fn run<R: Source, W: Sink>(
     size: DeviceSize,
     reader: &mut R,
     writer: &mut W,
-) -> Outcome {
+) -> Outcome
+    ensures { IsPictureEnd (R.remaining reader.old) size result }
+{
     match read_all(alloc, reader) {
         Ok(text) => {
             let outcome = draw_text(alloc, size, text.as_slice(), writer);
@@ -46,22 +50,19 @@ pub fn run<R: Source, W: Sink>(
 }
 
 /// Draws the device of that size which the text prints.
-fn draw_text<W: Sink>(alloc: Global, size: DeviceSize, text: &[u8], writer: &mut W) -> Outcome {
+fn draw_text<W: Sink>(alloc: Global, size: DeviceSize, text: &[u8], writer: &mut W) -> Outcome
+    ensures { IsTextEnd size text.now result }
+{
     match device_in(alloc, size, text) {
         Ok(device) => {
-            let outcome = print(alloc, &device, writer);
+            let drawn = draw(alloc, &device, writer);
             drop(device);
-            outcome
+            match drawn {
+                Ok(()) => Outcome::Done,
+                Err(DrawError::NoMemory) => Outcome::NoMemory,
+                Err(DrawError::Failed) => Outcome::OutputFailed,
+            }
         }
         Err(outcome) => outcome,
-    }
-}
-
-/// Draws a device, and returns how the errand ended.
-fn print<W: Sink>(alloc: Global, device: &ListedDevice<'_>, writer: &mut W) -> Outcome {
-    match draw(alloc, device, writer) {
-        Ok(()) => Outcome::Done,
-        Err(DrawError::NoMemory) => Outcome::NoMemory,
-        Err(DrawError::Failed) => Outcome::OutputFailed,
     }
 }

@@ -1,13 +1,16 @@
 //! The tool that says how full the device is.
-ghost use Rattle.std.specs.Prelude.{◌<◌, ◌^◌, length};
+ghost use Rattle.std.specs.Prelude.{◌<◌, ◌^◌, length, true, false, is_some, IfOk};
+ghost use Rattle.desk_replies.specs.Asked.{IsReportAskedFor, IsReportForm};
+ghost use Rattle.desk_replies.specs.Reported.{IsObject, IsReportShown, IsReported, IsShown};
 
 use crate::device_input::device_in;
+use crate::lines::Lines;
 use crate::overuse::{ServedScript, SharedDevice, write_overuses};
 use crate::report_facts::{Told, facts_of};
 use crate::report_json::print_json;
 use crate::report_moves::print_moves;
 use crate::report_paths::{write_path_table, write_paths};
-use crate::script_input::{Lines, acts_of, lines_of, replies_of};
+use crate::script_input::{acts_of, lines_of, replies_of};
 use crate::size::{PADS, TRACKS, size_of};
 use crate::tenancy_table::write_table;
 use desk_common::{COLUMNS, DEVICE, FileRole, Outcome, ROWS, read_file};
@@ -124,7 +127,9 @@ pub struct ReportWishes<'a> {
 }
 
 /// What the options ask for, or why they are refused.
-pub fn wishes_of<'a>(given: &Given<'a>) -> Result<ReportWishes<'a>, &'static str> {
+pub fn wishes_of<'a>(given: &Given<'a>) -> Result<ReportWishes<'a>, &'static str>
+    ensures { IfOk result (IsReportAskedFor given.now) }
+{
     Ok(ReportWishes {
         size: size_of(given)?,
         form: form_of(given)?,
@@ -134,7 +139,9 @@ pub fn wishes_of<'a>(given: &Given<'a>) -> Result<ReportWishes<'a>, &'static str
 }
 
 /// What is to be printed, or why the options are refused.
-fn form_of(given: &Given<'_>) -> Result<ReportForm, &'static str> {
+fn form_of(given: &Given<'_>) -> Result<ReportForm, &'static str>
+    ensures { IfOk result (IsReportForm given.now) }
+{
     let is_table = given.is_given("csv");
     let is_json = given.is_given("json");
     let is_moves = given.is_given("moves");
@@ -154,7 +161,10 @@ pub fn run<H: Files + AllocGlobal, R: Source, W: Sink, E: Sink>(
     reader: &mut R,
     writer: &mut W,
     teller: &mut E,
-) -> Result<(), Outcome> {
+) -> Result<(), Outcome>
+    ensures { IfOk result (λ _. IsReported W.contents W.has_failed writer.old writer.new
+        (R.remaining reader.old) wishes.entry (is_some wishes.entry.script)) }
+{
     let Some(path) = wishes.script else {
         return run_on_lines(rt.alloc(), wishes, None, reader, writer);
     };
@@ -175,6 +185,8 @@ fn run_on_script<H: Files + AllocGlobal, R: Source, W: Sink, E: Sink>(
     teller: &mut E,
 ) -> Result<(), Outcome>
     requires { length script.now < 2 ^ 63 }
+    ensures { IfOk result (λ _. IsReported W.contents W.has_failed writer.old writer.new
+        (R.remaining reader.old) wishes.entry true) }
 {
     let lines = lines_of(script, wishes.arch.is_none());
     let Some(path) = wishes.arch else {
@@ -198,7 +210,10 @@ fn run_on_lines<R: Source, W: Sink>(
     lines: Option<Lines<'_>>,
     reader: &mut R,
     writer: &mut W,
-) -> Result<(), Outcome> {
+) -> Result<(), Outcome>
+    ensures { IfOk result (λ _. IsReported W.contents W.has_failed writer.old writer.new
+        (R.remaining reader.old) wishes.entry (is_some lines.entry)) }
+{
     match read_all(alloc, reader) {
         Ok(printed) => {
             let outcome = run_on_text(alloc, wishes, lines, printed.as_slice(), writer);
@@ -216,16 +231,16 @@ fn run_on_text<W: Sink>(
     lines: Option<Lines<'_>>,
     printed: &[u8],
     writer: &mut W,
-) -> Result<(), Outcome> {
+) -> Result<(), Outcome>
+    ensures { IfOk result (λ _. IsReportShown W.contents W.has_failed writer.old writer.new
+        wishes.entry (is_some lines.entry) printed.now) }
+{
     let device = device_in(alloc, wishes.size, printed)?;
     let report = Report::new(alloc, &device);
     drop(device);
     match report {
         Ok(report) => {
-            let outcome = match wishes.form {
-                ReportForm::Moves => print_moves(alloc, &report, writer),
-                _ => print(alloc, wishes, lines, printed, &report, writer),
-            };
+            let outcome = print(alloc, wishes, lines, printed, &report, writer);
             drop(report);
             outcome
         }
@@ -233,7 +248,8 @@ fn run_on_text<W: Sink>(
     }
 }
 
-/// Prints a report, with the longest paths of the tenancies' netlists if the script is given.
+/// Prints a report, or moves if they are asked for. With the script a report has the longest paths
+/// of the tenancies' netlists.
 fn print<W: Sink>(
     alloc: Global,
     wishes: ReportWishes<'_>,
@@ -241,7 +257,13 @@ fn print<W: Sink>(
     printed: &[u8],
     report: &Report<'_>,
     writer: &mut W,
-) -> Result<(), Outcome> {
+) -> Result<(), Outcome>
+    ensures { IfOk result (λ _. IsShown W.contents W.has_failed writer.old writer.new
+        wishes.entry.form (is_some lines.entry) report.now) }
+{
+    if let ReportForm::Moves = wishes.form {
+        return print_moves(alloc, report, writer);
+    }
     let Some(lines) = lines else {
         return print_plain(alloc, wishes.form, report, writer);
     };
@@ -269,7 +291,9 @@ fn print_acts<W: Sink>(
     acts: &[Act<&[u8]>],
     replies: &Replies<'_, '_>,
     writer: &mut W,
-) -> Result<(), Outcome> {
+) -> Result<(), Outcome>
+    ensures { IfOk result (λ _. IsShown W.contents W.has_failed writer.old writer.new form true report.now) }
+{
     let served = ServedScript {
         acts,
         replies,
@@ -284,7 +308,9 @@ fn print_plain<W: Sink>(
     form: ReportForm,
     report: &Report<'_>,
     writer: &mut W,
-) -> Result<(), Outcome> {
+) -> Result<(), Outcome>
+    ensures { IfOk result (λ _. IsShown W.contents W.has_failed writer.old writer.new form false report.now) }
+{
     match form {
         ReportForm::Table => write_table(writer, report).or(Err(Outcome::OutputFailed)),
         ReportForm::Json => print_object(alloc, report, None, writer),
@@ -298,7 +324,9 @@ fn print_object<W: Sink>(
     report: &Report<'_>,
     told: Option<Told<'_>>,
     writer: &mut W,
-) -> Result<(), Outcome> {
+) -> Result<(), Outcome>
+    ensures { IfOk result (λ _. IsObject W.contents W.has_failed writer.old writer.new report.now) }
+{
     let Ok(facts) = facts_of(alloc, report, told) else {
         return Err(Outcome::NoMemory);
     };
@@ -315,7 +343,9 @@ fn print_served<'a, W: Sink>(
     report: &Report<'a>,
     served: ServedScript<'a>,
     writer: &mut W,
-) -> Result<(), Outcome> {
+) -> Result<(), Outcome>
+    ensures { IfOk result (λ _. IsShown W.contents W.has_failed writer.old writer.new form true report.now) }
+{
     let Ok(accounts) = accounts_of(alloc, served.acts, served.replies) else {
         return Err(Outcome::NoMemory);
     };
@@ -335,7 +365,9 @@ fn print_told<W: Sink>(
     report: &Report<'_>,
     told: Told<'_>,
     writer: &mut W,
-) -> Result<(), Outcome> {
+) -> Result<(), Outcome>
+    ensures { IfOk result (λ _. IsShown W.contents W.has_failed writer.old writer.new form true report.now) }
+{
     match form {
         ReportForm::Table => write_path_table(alloc, report, told.accounts, writer).or(Err(
             Outcome::OutputFailed,

@@ -1,26 +1,20 @@
 //! A script that a tool reads, and the replies that were printed for its lines.
-ghost use Rattle.std.specs.Prelude.{◌+◌, ◌<◌, ◌^◌, length};
+ghost use Rattle.std.specs.Prelude.{◌≡◌, ◌<◌, ◌^◌, length, map, Ok, IfOk};
+ghost use Rattle.desk_replies.specs.Lines.{AreLines};
+ghost use Rattle.script_replies.specs.Asking.{replies_in};
+ghost use Rattle.script_text.specs.Script.{named_act, script_of};
 
+use crate::lines::Lines;
 use desk_common::Outcome;
 use printed_replies::{Replies, ReplyError};
 use script_replies::read_replies;
 use script_text::{Act, ScriptError, cut_text, read_script};
 use std::alloc::Global;
 
-/// The lines of a script after its architecture.
-#[derive(Clone, Copy)]
-pub(crate) struct Lines<'t> {
-    pub(crate) text: &'t [u8],
-    /// The architecture's text; empty if the script doesn't begin with it.
-    pub(crate) architecture: &'t [u8],
-    /// The number of its first line.
-    pub(crate) number: usize,
-    ghost counted: { number + length text.now < 2 ^ 64 },
-}
-
 /// The lines of a script after its architecture, if it begins with one.
 pub(crate) fn lines_of(script: &[u8], has_architecture: bool) -> Lines<'_>
     requires { length script.now < 2 ^ 63 }
+    ensures { AreLines has_architecture script.now result }
 {
     let whole = Lines {
         text: script,
@@ -41,7 +35,10 @@ pub(crate) fn lines_of(script: &[u8], has_architecture: bool) -> Lines<'_>
 }
 
 /// The acts of these lines. Fails with the first line that has a fault, or if memory runs out.
-pub(crate) fn acts_of(alloc: Global, lines: Lines<'_>) -> Result<Vec<Act<&[u8]>>, Outcome> {
+pub(crate) fn acts_of(alloc: Global, lines: Lines<'_>) -> Result<Vec<Act<&[u8]>>, Outcome>
+    ensures { IfOk result (λ acts. script_of lines.entry.number lines.entry.text.now
+        ≡ Ok (map named_act acts.items)) }
+{
     match read_script(alloc, lines.text, lines.number) {
         Ok(script) => Ok(script.into_acts()),
         Err(ScriptError::NoMemory) => Err(Outcome::NoMemory),
@@ -55,7 +52,10 @@ pub(crate) fn replies_of<'t, 'p>(
     alloc: Global,
     acts: &[Act<&'t [u8]>],
     printed: &'p [u8],
-) -> Result<Replies<'t, 'p>, Outcome> {
+) -> Result<Replies<'t, 'p>, Outcome>
+    ensures { IfOk result (λ replies.
+        replies_in (map named_act acts.now) printed.now ≡ Ok replies) }
+{
     match read_replies(alloc, acts, printed) {
         Ok(replies) => Ok(replies),
         Err(ReplyError::NoMemory) => Err(Outcome::NoMemory),

@@ -1,4 +1,7 @@
 //! The size of a device, as the tools take it.
+ghost use Rattle.std.specs.Prelude.{IfOk};
+ghost use Rattle.desk_replies.specs.Asked.{IsDeviceAskedFor};
+
 use desk_common::{COLUMNS, DEVICE, NO_DEVICE, ROWS};
 use device_lines::DeviceSize;
 use option_words::{Given, OptionWord, Takes};
@@ -23,7 +26,9 @@ pub(crate) const PADS: OptionWord = OptionWord {
 pub(crate) const SIZES: &[OptionWord] = &[TRACKS, COLUMNS, ROWS, DEVICE, PADS];
 
 /// The size that the options give, or why they are refused.
-pub fn size_of(given: &Given<'_>) -> Result<DeviceSize, &'static str> {
+pub fn size_of(given: &Given<'_>) -> Result<DeviceSize, &'static str>
+    ensures { IfOk result (IsDeviceAskedFor given.now) }
+{
     let columns = given.number("columns")?;
     let rows = given.number("rows")?;
     let tracks = given.number("tracks")?;

@@ -1,5 +1,5 @@
 -- The starts that are in a track's plane.
-use Rattle.std.proofs.Common.{◌≡◌, ℕ, zero, suc, ◌+◌, ◌<◌, ◌⊎◌, List, [], ◌∷◌, ◌++◌, length, refl, sym, ap, ◌∙◌, subst, inl, inr, arith, true}
+use Rattle.std.proofs.Common.{◌≡◌, ℕ, zero, suc, ◌+◌, ◌<◌, ◌⊎◌, List, [], ◌∷◌, ◌++◌, length, sym, ap, ◌∙◌, subst, inl, inr, arith, true}
 use Rattle.std.specs.Prelude.{Contains, slice_index_or, Some}
 use Rattle.std.proofs.lemmas.Bool.{cases_lt}
 use Rattle.std.proofs.lemmas.List.{map-append}
@@ -83,9 +83,6 @@ module _ {basis : Basis} (is : IsBasis basis) (t : Terminals) (cost : ℕ → �
   entry_bound track entry bound low c rest way = low (entry ∷ rest) (c, way)
 
   -- ---- lists of starts
-
-  one : (start : Start) → Contains (start ∷ []) start
-  one start = (0, omega arith, refl)
 
   only : (start other : Start) → Contains (start ∷ []) other → start ≡ other
   only start other (zero, b, e) = e

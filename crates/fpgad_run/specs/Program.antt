@@ -5,6 +5,7 @@ use Rattle.arch_file.specs.declared.arch.Arch.{Arch}
 use Rattle.arch_file.specs.declared.fault.ArchFault.{ArchFault}
 use Rattle.arch_file.specs.Arch.{arch_of}
 use Rattle.service_core.specs.declared.device.Device.{Device}
+use Rattle.service_core.specs.declared.device.TheConstants.{NO_TEXT_LIMIT}
 use Rattle.service_core.specs.Service.{empty_service}
 use Rattle.service_core.specs.Headline.{AreOwnJournals, AreParted, EachIsAlone, IsBook}
 use Rattle.service_core.specs.Owners.{HasOneOwner}
@@ -44,7 +45,7 @@ abbrev pub start_of : ℕ → Architecture → List ℕ → Start (List (Act (Li
 start_of tracks architecture input = start_by (acts_from 1) tracks architecture input
 
 abbrev pub device_of : Options → Arch → Device
-device_of options arch = record { arch = arch; columns = options.columns; rows = options.rows }
+device_of options arch = record { arch = arch; columns = options.columns; rows = options.rows; text_limit = NO_TEXT_LIMIT }
 
 -- the bytes are what a run of the acts from the empty device writes, over the device's own graph.
 -- Each session's line is answered what its tenancy is answered alone, by the service for a single

@@ -7,7 +7,7 @@ use arch_file::{Arch, MAX_TRACKS};
 use clap::Error;
 use grid::{MAX_COLUMNS, MAX_ROWS};
 use option_words::{Given, OptionWord, Program, Takes, read_words, refusal};
-use service_core::Device;
+use service_core::{Device, NO_TEXT_LIMIT};
 use std::alloc::Global;
 use std::convert::AsStr;
 
@@ -128,6 +128,7 @@ impl Options {
             arch,
             columns: self.columns,
             rows: self.rows,
+            text_limit: NO_TEXT_LIMIT,
         }
     }
 }

@@ -20,7 +20,7 @@ use std::time::Clock;
 
 /// The program of a live service, with workers or without: serves the lines of a reader as the
 /// words say, the first being the program's name. Each clause is a promise. Beside it is the number
-/// of lines of definitions that one reads to believe it: 2672 lines in all.
+/// of lines of definitions that one reads to believe it: 2673 lines in all.
 ///
 /// A day is lines that are answered one after another. With workers a run is calls of one machine:
 /// lines of the input, turns of names that wait, steps that workers made, and what is drained to be
@@ -40,24 +40,24 @@ where
     // 1. If it returns, its end has a name, and the status is that of the name. With status 0 all
     // lines of the input were served, all that this gives was kept and written, and no name waits;
     // else that is so of a beginning. It begins where the lines lead that are read of its log.
-    // (2476 lines)
+    // (2477 lines)
     ensures run { IsProgramEnd (S.remaining reader) (W.contents writer)
         (option_map (⟦<Connection<S, W, FileLog<H::File>> as Dialogue>⟧.view) result.connection)
         (option_map (⟦<Devices<W, FileLog<H::File>> as Outlet>⟧.view) result.devices)
         (exit_status result.status) }
     // 2. Each line is answered as that line of a script. So each tenancy is alone, its journal is
     // its own, strips are separated, the book is exact, and nothing has two owners. The lines with
-    // a name's tag are the replies to its own lines, byte for byte. (1766 lines)
+    // a name's tag are the replies to its own lines, byte for byte. (1767 lines)
     ensures told { OfEachDay IsToldLive }
     // 3. With workers it is a day without them: the lines that were served, a line for each step of
     // a worker among them, are answered one after another. Each item of a name was served once, in
-    // the order in which the name said it, or waits, or was lost and is answered so. (1916 lines)
+    // the order in which the name said it, or waits, or was lost and is answered so. (1917 lines)
     ensures one_day { OfAllCalls IsOneDay }
     // 4. What a name said waits only as long as the name has its tenancy: nothing is done to a
-    // later one. (1818 lines)
+    // later one. (1819 lines)
     ensures tenancies { OfAllCalls KeepsTenancies }
     // 5. With workers, of the events of a run, at each moment: nothing is written whose line was
-    // not kept before. (1889 lines)
+    // not kept before. (1890 lines)
     ensures moments { OfAllCalls IsBackedAtEachMoment }
 {
     live_promises();

@@ -7,7 +7,7 @@ use crate::log_lock::LockLog;
 use crate::outcome::Outcome;
 use crate::streams::is_stream;
 use crate::sums::check_sums;
-use crate::whole_part::whole_length;
+use crate::whole_bytes::whole_length;
 use dialogue::{FailedDevice, FileLog, Log};
 use line_text::{ReadError, Source, StdSource, read_all};
 use std::alloc::Global;

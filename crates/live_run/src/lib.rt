@@ -31,8 +31,8 @@ mod streams;
 mod sums;
 mod warnings;
 mod watched;
+mod whole_bytes;
 mod whole_lines;
-mod whole_part;
 
 pub use beginning::first_line;
 pub use differing::LogDifference;
@@ -48,4 +48,5 @@ pub use retelling::is_told;
 pub use serving::serve;
 pub use sums::changed_line;
 pub use warnings::Warnings;
+pub use whole_bytes::whole_part;
 pub use whole_lines::{NO_END, WholeLines};

@@ -189,7 +189,7 @@ impl Options {
         u64::from(self.tenant_memory) * MIB
     }
 
-    /// The device of these sizes and of that architecture.
+    /// The device of these sizes and of that architecture, with that limit.
     pub fn device(&self, arch: Arch) -> Device
         ensures { result ≡ device_of self.now arch }
     {
@@ -197,6 +197,7 @@ impl Options {
             arch,
             columns: self.columns,
             rows: self.rows,
+            text_limit: self.text_limit(),
         }
     }
 }

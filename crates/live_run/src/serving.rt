@@ -65,7 +65,7 @@ fn serve_device<H: Wait + AllocGlobal + Eprint, P: Source + Drop, D: Dialogue>(
         (λ _. D.view dialogue.new ≡ D.view dialogue.old) }
 {
     let graph = device_graph(rt.alloc(), &device)?;
-    let core = Service::with_text_limit(rt.alloc(), device, line.options.text_limit())?;
+    let core = Service::new(rt.alloc(), device)?;
     let mut watched = Watched::new(rt, line.options.text_limit(), &graph, core);
     let outcome = serve_past(rt, line, &mut watched, past, dialogue);
     watched.close();

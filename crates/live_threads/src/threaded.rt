@@ -172,7 +172,7 @@ where
         drop((device, past, devices, reader));
         return RunEnd::not_begun(Outcome::NoMemory);
     };
-    match Service::with_text_limit(rt.alloc(), device, line.options.text_limit()) {
+    match Service::new(rt.alloc(), device) {
         Ok(service) => {
             let opened = Opened {
                 service,

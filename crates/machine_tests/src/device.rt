@@ -8,7 +8,7 @@ use arch_file::{Arch, read_arch};
 use fixtures::ARCHITECTURE;
 use live_input::LiveLines;
 use live_machine::Machine;
-use service_core::{Device, Service};
+use service_core::{Device, NO_TEXT_LIMIT, Service};
 use std::alloc::Global;
 use strips::DeviceGraph;
 
@@ -46,6 +46,7 @@ fn new_core(alloc: Global) -> Option<Service>
                 arch,
                 columns: COLUMNS,
                 rows: 1,
+                text_limit: NO_TEXT_LIMIT,
             };
             Service::new(alloc, device).ok()
         }

@@ -4,7 +4,7 @@ ghost use Rattle.std.specs.Prelude.{◌+◌, ◌<◌, ◌^◌, length};
 use crate::again::TIMES;
 use arch_file::read_arch;
 use script_text::{Script, read_script};
-use service_core::{Device, Service};
+use service_core::{Device, NO_TEXT_LIMIT, Service};
 use sessions::device_graph;
 use std::alloc::Global;
 use strips::DeviceGraph;
@@ -38,6 +38,7 @@ fn make_start_once(alloc: Global, text: &[u8]) -> Option<Start> {
         arch,
         columns: COLUMNS,
         rows: ROWS,
+        text_limit: NO_TEXT_LIMIT,
     };
     let graph = device_graph(alloc, &device).ok()?;
     let core = Service::new(alloc, device).ok()?;

@@ -12,8 +12,8 @@ use Rattle.least_path.specs.LeastPath.{HasNoPath}
 use Rattle.least_path.specs.declared.path.Path.{Path}
 use Rattle.plane_search.specs.Planes.{Family, IsPlane, IsPlaneBound, IsRivalBound, IsKnown, HoldsNothingLess, IsLeastOfTrack}
 use Rattle.plane_search.specs.Starts.{AreStarts, places_of}
-use Rattle.plane_search.specs.Best.{HoldsNone, HoldsNothingBeyond, IsNoLater, Improves, IsLeastOn, IsLeastIn, HasNoneWithin}
-use Rattle.plane_search.specs.Walk.{AreNoCheaper, AreBoundedStarts, CostsMore}
+use Rattle.plane_search.specs.Best.{AreListed, HoldsNone, HoldsNothingBeyond, IsNoLater, Improves, IsLeastOn, IsLeastIn, HasNoneWithin}
+use Rattle.plane_search.specs.Walk.{AreNoCheaper, AreOrderedStarts}
 use Rattle.plane_search.specs.declared.planes.Start.{Start}
 use Rattle.plane_search.proofs.Order.{path_cmp_total, less_under, not_less_dearer, not_less_then}
 use Rattle.plane_search.proofs.Embedding.{path_whole, cost_whole, cmp_whole}
@@ -32,9 +32,6 @@ module _ {f : Family} {track most : ℕ} {starts : List Start} (are : AreStarts 
   -- the plane's nodes
   pub among_nodes : IsPlane f track → All (λ (x : ℕ). x < (f.plane track).count) (places_of starts)
   among_nodes plane k d l = omega (arith, plane.count, (plane.entries_there (get_or (places_of starts) k d) (among (get_or (places_of starts) k d) (Contains-get_or (places_of starts) k d l))).within)
-
-  pub bounded_starts : AreBoundedStarts (f.plane track) f.exit starts
-  bounded_starts start c = are.bounded start c
 
   -- no path from them is cheaper than the plane's bound
   pub none_below : (bound : ℕ) → IsPlaneBound f track bound → AreNoCheaper (f.plane track) f.exit bound (places_of starts)
@@ -67,19 +64,14 @@ module _ {f : Family} {track most : ℕ} {starts : List Start} (are : AreStarts 
     | inr dear ↦ absurd (omega (arith, all, dear.0))
   ]
 
+-- Listed starts are ones that a search can use.
+pub ordered : {f : Family} {track most : ℕ} {starts : List Start} → IsPlane f track → AreListed f track most starts → AreOrderedStarts (f.plane track) f.exit starts
+ordered plane listed = record { within = among_nodes listed.are plane; bounded = listed.are.bounded; rising = listed.rising }
+
 -- a limit below all paths
 pub none_within : (f : Family) (track : ℕ) (most bound : ℕ) (starts : List ℕ) → AreNoCheaper (f.plane track) f.exit bound starts → most < bound → HasNoneWithin f track starts most
 none_within f track most bound starts cheap l [] p = absurd p
 none_within f track most bound starts cheap l (x ∷ rest) p = omega (arith, l, cheap x p.0 rest p.1)
-
--- no path at all
-pub none_at_all : (f : Family) (track : ℕ) (most : ℕ) (starts : List ℕ) → HasNoPath (f.plane track) starts f.exit → HasNoneWithin f track starts most
-none_at_all f track most starts none path p = absurd (none path p)
-
--- all paths from each start are dear
-pub none_from_each : (f : Family) (track : ℕ) (most : ℕ) (starts : List ℕ) → ((start : ℕ) → Contains starts start → CostsMore (f.plane track) f.exit most start 0) → HasNoneWithin f track starts most
-none_from_each f track most starts dear [] p = absurd p
-none_from_each f track most starts dear (x ∷ rest) p = omega (arith, dear x p.0 rest p.1)
 
 -- ---- a path of a plane, in the whole graph
 

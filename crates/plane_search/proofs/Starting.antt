@@ -1,19 +1,19 @@
 -- Walks from one start after another, and what they find.
 use Rattle.std.proofs.Common.{◌≡◌, ◌≢◌, ℕ, ◌+◌, ◌<◌, ◌≤◌, List, [], ◌∷◌, length, map, get_or, arith, ◌∙◌, inl, inr, sym, subst}
-use Rattle.std.specs.List.{sum_by, All, Contains}
+use Rattle.std.specs.List.{sum_by, Contains}
 use Rattle.std.specs.List.Sorted.{IsNonDecreasing}
 use Rattle.std.specs.Ordering.{nat_cmp}
 use Rattle.std.specs.Cmp.Lexicographic.{slice_cmp}
 use Rattle.std.specs.declared.cmp.Ordering.TheVariants.{Less}
 use Rattle.std.proofs.lemmas.Bool.{cases_lt}
 use Rattle.std.proofs.lemmas.List.{get_or-map, length-map}
-use Rattle.std.proofs.lemmas.List.Elements.{Contains-get_or}
+use Rattle.std.proofs.lemmas.List.Elements.{All-contains, Contains-get_or}
 use Rattle.least_path.specs.Graph.{Graph}
 use Rattle.least_path.specs.Path.{Leads, IsPath, cost_of, path_cmp}
 use Rattle.least_path.specs.LeastPath.{IsLeastPath}
 use Rattle.plane_search.specs.declared.planes.Start.{Start}
 use Rattle.plane_search.specs.Starts.{places_of}
-use Rattle.plane_search.specs.Walk.{ArePruned, CostsMore, AreNoCheaper, IsBetween, IsLeastFrom}
+use Rattle.plane_search.specs.Walk.{AreOrderedStarts, CostsMore, AreNoCheaper, IsLeastFrom}
 use Rattle.plane_search.proofs.Members.{Contains-first, only_contained, at_index, listed_end, below_next}
 use Rattle.plane_search.proofs.Order.{not_less_then, cmp_equal}
 
@@ -26,23 +26,6 @@ rising_ends xs list base e is rises len l k b less = elim (cases_lt k e) [
       let high = listed_end xs list base k is (omega (arith, b, len)) in
       absurd (omega (arith, less, low.1, high.1, rises e k 0 m (omega (arith, b, len)))))
 ]
-
--- no place was entered yet
-pub nothing_entered : (g : Graph) (span goal best : ℕ) (costs : List ℕ) → g.count ≤ length costs → All (λ cost. span ≤ cost) costs → IsBetween g span goal best costs
-nothing_entered g span goal best costs room all = record {
-  room = room;
-  least = λ node b small. absurd (omega (arith, small, all node 0 (omega (arith, b, room))));
-  done = λ node b small. absurd (omega (arith, small, all node 0 (omega (arith, b, room))));
-}
-
--- no place was reached yet
-pub nothing_reached : (g : Graph) (span places goal best : ℕ) (costs : List ℕ) → places ≤ length costs → All (λ cost. span ≤ cost) costs → ArePruned g span places goal best costs
-nothing_reached g span places goal best costs room all = record { room = room; least = λ node b small. absurd (omega (arith, small, all node 0 (omega (arith, b, room)))) }
-
--- a path from the starts is dearer than what is less than all of them
-pub beyond : (g : Graph) (goal best most : ℕ) (starts : List ℕ) → AreNoCheaper g goal best starts → most < best → (path : List ℕ) → IsPath g starts goal path → most < cost_of g path
-beyond g goal best most starts cheap l [] p = absurd p
-beyond g goal best most starts cheap l (x ∷ rest) p = omega (arith, l, cheap x p.0 rest p.1)
 
 -- Over the first starts the goal is dearer than the best.
 abbrev pub AreDearStarts : Graph → ℕ → ℕ → List ℕ → ℕ → Type 0
@@ -94,6 +77,12 @@ least_of_starts g goal best starts count path l rises cheap before from = record
         (λ same. after y q p i o.0 o.1 (same ∙ i.cost))
 
 -- ---- starts with their bounds
+
+pub place_within : {g : Graph} {goal : ℕ} {starts : List Start} → AreOrderedStarts g goal starts → (place : ℕ) → Contains (places_of starts) place → place < g.count
+place_within {g} {goal} {starts} ordered place c = All-contains (λ (x : ℕ). x < g.count) (places_of starts) place ordered.within c
+
+abbrev pub no_start : Start
+no_start = record { place = 0; ahead = 0 }
 
 -- the place of start number `index`
 pub place_at : (starts : List Start) (index : ℕ) (d : Start) → index < length starts → get_or (places_of starts) index 0 ≡ (get_or starts index d).place

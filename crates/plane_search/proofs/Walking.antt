@@ -6,8 +6,8 @@ use Rattle.std.specs.Ordering.{nat_cmp}
 use Rattle.std.specs.Cmp.Lexicographic.{slice_cmp}
 use Rattle.std.specs.declared.cmp.Ordering.TheVariants.{Less}
 use Rattle.std.proofs.lemmas.Bool.{cases_eq, cases_lt}
-use Rattle.std.proofs.lemmas.List.{append-nil, reverse-append, get_or-set_same, get_or-set_other}
-use Rattle.std.proofs.lemmas.List.Sums.{sum_by-cons, sum_by-set}
+use Rattle.std.proofs.lemmas.List.{reverse-append, get_or-set_same, get_or-set_other}
+use Rattle.std.proofs.lemmas.List.Sums.{sum_by-cons}
 use Rattle.std.proofs.lemmas.List.Elements.{All-contains, Contains-get_or}
 use Rattle.least_path.specs.Graph.{Graph, IsLawful}
 use Rattle.least_path.specs.Path.{Leads, IsPath, cost_of}
@@ -69,10 +69,6 @@ cost_cases costs place v cost l = elim (cases_eq v place) [
   | inl e ↦ inl (e, ap (λ (x : ℕ). get_or (set costs place cost) x 0) e ∙ get_or-set_same costs place cost 0 l)
   | inr n ↦ inr (n, get_or-set_other costs place v cost 0 n)
 ]
-
--- decreases with each place that is entered
-pub falls : (costs : List ℕ) (place cost : ℕ) → place < length costs → cost < get_or costs place 0 → sum_by (λ (c : ℕ). c) (set costs place cost) < sum_by (λ (c : ℕ). c) costs
-falls costs place cost l less = omega (arith, sum_by-set (λ (c : ℕ). c) costs place cost 0 l, less)
 
 -- at a higher cost everything is dearer
 dearer : (g : Graph) (goal best node c d : ℕ) → c < d → CostsAtLeast g goal best node c → CostsMore g goal best node d
@@ -304,15 +300,6 @@ count_of (Some stop) = 1
 pub taken_back : (items below : List Stop) (last : Option Stop) → items ≡ below ++ option_to_list last → IfNone last (items ≡ []) → reverse items ≡ stack_of last below
 taken_back items below None is none = ap reverse none
 taken_back items below (Some stop) is none = ap reverse is ∙ reverse-push stop below
-
-length_push : (xs : List Stop) (x : Stop) → length (xs ++ x ∷ []) ≡ length xs + 1
-length_push [] x = refl
-length_push (y ∷ xs) x = omega (arith, length_push xs x)
-
--- The walk is shorter by the stop that was taken.
-pub fewer : (items below : List Stop) (last : Option Stop) → items ≡ below ++ option_to_list last → length below + count_of last ≡ length items
-fewer items below None is = omega (arith, ap (λ (xs : List Stop). length xs) is, ap (λ (xs : List Stop). length xs) (append-nil below))
-fewer items below (Some stop) is = omega (arith, ap (λ (xs : List Stop). length xs) is, length_push below stop)
 
 -- ---- the first stop
 

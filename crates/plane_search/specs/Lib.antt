@@ -5,3 +5,4 @@ pub mod Ranking
 pub mod Walk
 pub mod Reach
 pub mod Heap
+pub mod Queues

@@ -6,6 +6,11 @@ use Rattle.least_path.specs.Graph.{Graph}
 use Rattle.plane_search.specs.Walk.{CostsAtLeast, IsUnfit, AreNoCheaper}
 use Rattle.plane_search.specs.declared.queue.Open.{Open}
 
+-- Each place can be marked with each cost up to the limit.
+pub record CanMark (places span limit : ℕ) (entered : List ℕ) : Type 0 where
+  pub room : places ≤ length entered
+  pub few : limit < span
+
 -- The entry is one of a node, and each path over it costs at least its key.
 pub record IsKeyed (g : Graph) (goal : ℕ) (item : Open ℕ) : Type 0 where
   pub within : item.place < g.count

@@ -4,9 +4,12 @@ use Rattle.std.specs.List.{sum_by, All, Contains}
 use Rattle.std.specs.Ordering.{nat_cmp}
 use Rattle.std.specs.Cmp.Lexicographic.{slice_cmp}
 use Rattle.std.specs.declared.cmp.Ordering.TheVariants.{Less}
-use Rattle.least_path.specs.Graph.{Graph}
+use Rattle.std.specs.List.Sorted.{IsNonDecreasing}
+use Rattle.least_path.specs.Graph.{Graph, AreNodes}
 use Rattle.least_path.specs.Path.{Leads, IsPath, cost_of}
 use Rattle.least_path.specs.LowerBound.{IsLowerBound}
+use Rattle.plane_search.specs.Planes.{Family}
+use Rattle.plane_search.specs.Starts.{places_of}
 use Rattle.plane_search.specs.declared.planes.Start.{Start}
 use Rattle.plane_search.specs.declared.walk.Stop.{Stop}
 use Rattle.plane_search.specs.declared.walk.Step.{Step}
@@ -54,6 +57,13 @@ pub record IsFit (g : Graph) (best : ℕ) (entered : List ℕ) (node before cost
   pub sum : cost ≡ before + g.cost node
   pub cheap : cost ≤ best
   pub fresh : cost < get_or entered node 0
+
+-- A walk can go over the place after a way of this cost: it is a place of the plane, each of which
+-- has a mark, and the way is not dearer than the best path.
+pub record CanGoOver (places best : ℕ) (entered : List ℕ) (place before : ℕ) : Type 0 where
+  pub within : place < places
+  pub room : places ≤ length entered
+  pub cheap : before ≤ best
 
 -- The ends of the stop's edges from number `from` up to `to` are unfit.
 abbrev pub AreUnfit : Graph → ℕ → ℕ → List ℕ → Stop → ℕ → ℕ → Type 0
@@ -120,3 +130,17 @@ AreNoCheaper g goal best starts = (start : ℕ) → Contains starts start
 abbrev pub AreBoundedStarts : Graph → ℕ → List Start → Type 0
 AreBoundedStarts g goal starts = (start : Start) → Contains starts start
     → IsLowerBound g goal start.place (Some start.ahead)
+
+-- Each start is a node with a lower bound, and their places are in rising order.
+pub record AreOrderedStarts (g : Graph) (goal : ℕ) (starts : List Start) : Type 0 where
+  pub within : AreNodes g (places_of starts)
+  pub bounded : AreBoundedStarts g goal starts
+  pub rising : IsNonDecreasing (places_of starts)
+
+-- The least path from the starts in the track's plane may cost this: no path costs less, also over
+-- the places that were reached. It is a cost that is marked.
+pub record CanBeLeast (f : Family) (track : ℕ) (starts : List ℕ) (span best : ℕ) (reached : List ℕ) : Type 0 where
+  pub some : 1 ≤ best
+  pub few : best < span
+  pub cheap : AreNoCheaper (f.plane track) f.exit best starts
+  pub pruned : ArePruned (f.plane track) span f.places f.exit best reached

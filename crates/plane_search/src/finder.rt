@@ -1,13 +1,14 @@
 //! A search of a plane for the least path, among those with costs that can be marked.
-ghost use Rattle.std.specs.Prelude.{◌≡◌, ℕ, ◌+◌, ◌<◌, ◌≤◌, true, false, Ok};
+ghost use Rattle.std.specs.Prelude.{◌≡◌, ◌+◌, ◌<◌, ◌≤◌, true, false, Ok};
 ghost use Rattle.plane_search.specs.Starts.{places_of};
-ghost use Rattle.plane_search.specs.Walk.{ArePruned, AreNoCheaper};
-ghost use Rattle.plane_search.specs.Best.{AreListed, IsLeastOn, HasNoneWithin};
+ghost use Rattle.plane_search.specs.Walk.{CanBeLeast};
+ghost use Rattle.plane_search.specs.Best.{IsLeastOn, HasNoneWithin};
 
 use crate::marks::Cell;
-use crate::planes::{Planes, Start};
+use crate::planes::Planes;
 use crate::queue::Queue;
-use crate::reach::{Reach, View};
+use crate::reach::Reach;
+use crate::starts::Starts;
 use crate::walk::{Aim, Walk};
 use least_path::Path;
 use std::alloc::{AllocError, Global};
@@ -30,102 +31,65 @@ impl<C: Cell, Q: Queue> Finder<C, Q> {
         }
     }
 
-    /// Replaces `path` by the least path of a plane from `starts`, by places, if it costs at most
-    /// `most`, and returns whether it does. No path may cost less than `bound`.
+    /// Replaces `path` by the least path of a plane from the starts, by places, if it costs at most
+    /// `most`, and returns whether it does.
     pub(crate) fn find<P: Planes>(
         &mut self,
-        view: &View<'_, P>,
-        starts: &[Start],
-        bound: u64,
+        starts: &Starts<'_, P>,
         most: u64,
         path: &mut Path,
     ) -> Result<bool, AllocError>
-        requires listed { (limit : ℕ) × AreListed (P.family view.now.planes.now) view.now.track limit
-            starts.now }
-        requires least { AreNoCheaper ((P.family view.now.planes.now).plane view.now.track)
-            (P.family view.now.planes.now).exit bound (places_of starts.now) }
-        requires some { 1 ≤ bound }
-        requires few { most + 1 < C.SPAN }
-        ensures found { result ≡ Ok true → IsLeastOn (P.family view.now.planes.now) view.now.track
-            (places_of starts.now) path.new }
+        requires { most + 1 < C.SPAN }
+        ensures found { result ≡ Ok true → IsLeastOn (P.family starts.now.view.now.planes.now)
+            starts.now.view.now.track (places_of starts.now.list.now) path.new }
         ensures within { result ≡ Ok true → path.new.cost ≤ most }
-        ensures none { result ≡ Ok false → HasNoneWithin (P.family view.now.planes.now)
-            view.now.track (places_of starts.now) most }
+        ensures none { result ≡ Ok false → HasNoneWithin (P.family starts.now.view.now.planes.now)
+            starts.now.view.now.track (places_of starts.now.list.now) most }
     {
-        let _tracks = view.planes.tracks();
+        let _tracks = starts.view.planes.tracks();
+        let bound = starts.bound;
         if most < bound {
             return Ok(false);
         }
-        self.reach.forget(view.planes.places())?;
-        if self.find_at(view, starts, bound, path)? {
+        self.reach.forget(starts.view.planes.places())?;
+        if self.find_at(starts, bound, path)? {
             return Ok(true);
         }
         if most == bound {
             return Ok(false);
         }
-        self.find_reached(view, starts, most, path)
-    }
-
-    /// Does as `find` does: finds first what the least path costs.
-    fn find_reached<P: Planes>(
-        &mut self,
-        view: &View<'_, P>,
-        starts: &[Start],
-        most: u64,
-        path: &mut Path,
-    ) -> Result<bool, AllocError>
-        requires listed { (limit : ℕ) × AreListed (P.family view.now.planes.now) view.now.track limit
-            starts.now }
-        requires some { AreNoCheaper ((P.family view.now.planes.now).plane view.now.track)
-            (P.family view.now.planes.now).exit 1 (places_of starts.now) }
-        requires few { most + 1 < C.SPAN }
-        ensures found { result ≡ Ok true → IsLeastOn (P.family view.now.planes.now) view.now.track
-            (places_of starts.now) path.new }
-        ensures within { result ≡ Ok true → path.new.cost ≤ most }
-        ensures none { result ≡ Ok false → HasNoneWithin (P.family view.now.planes.now)
-            view.now.track (places_of starts.now) most }
-    {
-        let _tracks = view.planes.tracks();
-        let least = self.reach.least_cost(view, starts, most)?;
+        let least = self.reach.least_cost(starts, most)?;
         if most < least {
             return Ok(false);
         }
-        self.find_at(view, starts, least, path)
+        self.find_at(starts, least, path)
     }
 
-    /// Replaces `path` by the least path of a plane from `starts`, by places, if it has this cost,
-    /// and returns whether it does. No path may cost less.
+    /// Replaces `path` by the least path of a plane from the starts, by places, if it has this
+    /// cost, and returns whether it does. No path may cost less.
     fn find_at<P: Planes>(
         &mut self,
-        view: &View<'_, P>,
-        starts: &[Start],
+        starts: &Starts<'_, P>,
         best: u64,
         path: &mut Path,
     ) -> Result<bool, AllocError>
-        requires listed { (limit : ℕ) × AreListed (P.family view.now.planes.now) view.now.track limit
-            starts.now }
-        requires least { AreNoCheaper ((P.family view.now.planes.now).plane view.now.track)
-            (P.family view.now.planes.now).exit best (places_of starts.now) }
-        requires some { 1 ≤ best }
-        requires few { best < C.SPAN }
-        requires pruned { ArePruned ((P.family view.now.planes.now).plane view.now.track) C.SPAN
-            (P.family view.now.planes.now).places (P.family view.now.planes.now).exit best
-            self.old.reach.marks }
-        ensures found { result ≡ Ok true → IsLeastOn (P.family view.now.planes.now) view.now.track
-            (places_of starts.now) path.new }
+        requires { CanBeLeast (P.family starts.now.view.now.planes.now) starts.now.view.now.track
+            (places_of starts.now.list.now) C.SPAN best self.old.reach.marks }
+        ensures found { result ≡ Ok true → IsLeastOn (P.family starts.now.view.now.planes.now)
+            starts.now.view.now.track (places_of starts.now.list.now) path.new }
         ensures cost { result ≡ Ok true → path.new.cost ≡ best }
-        ensures none { result ≡ Ok false → HasNoneWithin (P.family view.now.planes.now)
-            view.now.track (places_of starts.now) best }
+        ensures none { result ≡ Ok false → HasNoneWithin (P.family starts.now.view.now.planes.now)
+            starts.now.view.now.track (places_of starts.now.list.now) best }
     {
-        let _tracks = view.planes.tracks();
         let reach = &self.reach;
         let aim = Aim {
-            planes: view.planes,
-            track: view.track,
-            exit: view.exit,
+            planes: starts.view.planes,
+            track: starts.view.track,
+            exit: starts.view.exit,
+            starts: starts.list,
             best,
             reached: &reach.marks,
         };
-        self.walk.least_into(&aim, starts, path)
+        self.walk.least_into(&aim, path)
     }
 }

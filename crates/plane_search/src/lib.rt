@@ -25,6 +25,7 @@ mod queue;
 mod ranking;
 mod reach;
 mod search;
+mod starts;
 mod walk;
 
 pub use planes::{Planes, Start};

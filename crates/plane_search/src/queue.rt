@@ -1,6 +1,7 @@
 //! Places whose edges are to be followed.
 ghost use Rattle.std.specs.Prelude.{◌≡◌, ◌<◌, ◌∷◌, ℕ, [], List, All, IfOk, OnOk, IfSome, IfNone};
 ghost use Rattle.std.specs.List.Sorted.{IsPermutation};
+ghost use Rattle.plane_search.specs.Queues.{CanHold};
 ghost use Rattle.plane_search.specs.declared.queue.Open.{Open};
 
 use std::alloc::AllocError;
@@ -28,8 +29,7 @@ pub(crate) trait Queue: Drop {
 
     /// Adds an entry, which comes next if its key is at most `level`.
     fn put(&mut self, item: Open<u64>, level: u64) -> Result<(), AllocError>
-        requires cost { item.cost < span }
-        requires key { item.key < span }
+        requires { CanHold span item.cost item.key }
         ensures { OnOk result (IsPermutation (item ∷ entries self.old) (entries self.new)) };
 
     /// Takes an entry; `None` if no entry has a key of at most `limit`.

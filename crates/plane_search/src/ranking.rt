@@ -1,11 +1,11 @@
 //! A search that goes through the planes in the order of their bounds.
-ghost use Rattle.std.specs.Prelude.{◌≡◌, ◌≢◌, ◌<◌, ◌≤◌, ℕ, true, false, Some, None, Ok, IfOk, OnOk, map};
-ghost use Rattle.std.specs.Ordering.{nat_cmp};
+ghost use Rattle.std.specs.Prelude.{◌≡◌, ◌<◌, ℕ, false, Some, None, Ok, OnOk};
 ghost use Rattle.least_path.specs.LeastPath.{least_path, TellsLeastPath, HasNoPath};
 ghost use Rattle.plane_search.specs.Planes.{IsPlaneBound, IsKnown, HoldsNothingLess, IsLeastOfTrack};
-ghost use Rattle.plane_search.specs.Ranking.{tracks_in, AreRanked};
+ghost use Rattle.plane_search.specs.Ranking.{IsBestKnown, tracks_in, AreRanked};
 
 use crate::planes::Planes;
+use crate::reach::View;
 use crate::search::TrackSearch;
 use least_path::{Path, least_path_law};
 use std::alloc::{AllocError, Global};
@@ -34,18 +34,15 @@ fn rank_all<P: Planes>(planes: &P, ranking: &mut Vec<Ranked>) -> Result<(), Allo
 /// Whether a plane may hold a path that is less than the known one, which is no greater than those
 /// of the plane `done`.
 #[inline(always)]
-fn may_improve<P: Planes>(planes: &P, track: usize, bound: u64, done: usize, path: &Path) -> bool
-    requires track { track < (P.family planes.now).tracks }
-    requires bound { IsPlaneBound (P.family planes.now) track bound }
-    requires known { IsKnown (P.family planes.now) path.now }
-    requires about { P.is_about planes.now path.now.nodes.items }
-    requires done { done < (P.family planes.now).tracks →
-        HoldsNothingLess (P.family planes.now) done path.now.nodes.items }
+fn may_improve<P: Planes>(view: &View<'_, P>, bound: u64, done: usize, path: &Path) -> bool
+    requires bound { IsPlaneBound (P.family view.now.planes.now) view.now.track bound }
+    requires known { IsBestKnown (P.family view.now.planes.now) (P.is_about view.now.planes.now)
+        done path.now }
     ensures { result ≡ false →
-        HoldsNothingLess (P.family planes.now) track path.now.nodes.items }
+        HoldsNothingLess (P.family view.now.planes.now) view.now.track path.now.nodes.items }
 {
-    let _tracks = planes.tracks();
-    if track == done {
+    let _tracks = view.planes.tracks();
+    if view.track == done {
         return false;
     }
     if bound < path.cost {
@@ -54,7 +51,7 @@ fn may_improve<P: Planes>(planes: &P, track: usize, bound: u64, done: usize, pat
     if path.cost < bound {
         return false;
     }
-    if path.cost < planes.rival_bound(track) {
+    if path.cost < view.planes.rival_bound(view.track) {
         return false;
     }
     true
@@ -68,18 +65,21 @@ fn rank<P: Planes>(
     path: &Path,
     ranking: &mut Vec<Ranked>,
 ) -> Result<(), AllocError>
-    requires known { IsKnown (P.family planes.now) path.now }
-    requires about { P.is_about planes.now path.now.nodes.items }
-    requires done { done < (P.family planes.now).tracks →
-        HoldsNothingLess (P.family planes.now) done path.now.nodes.items }
+    requires { IsBestKnown (P.family planes.now) (P.is_about planes.now) done path.now }
     ensures { OnOk result (AreRanked (P.family planes.now)
         (λ track. HoldsNothingLess (P.family planes.now) track path.now.nodes.items)
         (P.family planes.now).tracks (tracks_in ranking.new.items)) }
 {
     ranking.clear();
+    let exit = planes.exit();
     for track in 0..planes.tracks() {
         let bound = planes.bound(track);
-        if may_improve(planes, track, bound, done, path) {
+        let view = View {
+            planes,
+            track,
+            exit,
+        };
+        if may_improve(&view, bound, done, path) {
             ranking.push(Ranked { bound, track })?;
         }
     }
@@ -119,8 +119,14 @@ impl PlaneSearch {
     {
         let _tracks = planes.tracks();
         rank_all(planes, &mut self.ranking)?;
+        let exit = planes.exit();
         for ranked in self.ranking.as_slice() {
-            if self.search.begin(planes, ranked.track, path)? {
+            let view = View {
+                planes,
+                track: ranked.track,
+                exit,
+            };
+            if self.search.begin(&view, path)? {
                 return Ok(Some(ranked.track));
             }
         }
@@ -151,8 +157,14 @@ impl PlaneSearch {
         let _tracks = planes.tracks();
         rank(planes, done, path, &mut self.ranking)?;
         let known_cost = path.cost;
+        let exit = planes.exit();
         for ranked in self.ranking.as_slice() {
-            self.search.improve(planes, ranked.track, known_cost, path)?;
+            let view = View {
+                planes,
+                track: ranked.track,
+                exit,
+            };
+            self.search.improve(&view, known_cost, path)?;
         }
         Ok(())
     }

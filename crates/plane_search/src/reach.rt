@@ -1,17 +1,17 @@
 //! A pass over a plane that finds what the least path costs: best first, by the cost of a way and
 //! the bound of the rest.
-ghost use Rattle.std.specs.Prelude.{◌≡◌, ◌≢◌, ℕ, List, Some, ◌+◌, ◌<◌, ◌≤◌, ◌^◌, ◌∷◌, IfOk, OnOk, length};
-ghost use Rattle.std.specs.List.{All};
+ghost use Rattle.std.specs.Prelude.{◌≡◌, ℕ, List, ◌+◌, ◌<◌, ◌≤◌, ◌^◌, ◌∷◌, IfOk, OnOk, length};
+ghost use Rattle.std.specs.List.{All, Contains};
 ghost use Rattle.std.specs.List.Sorted.{IsPermutation};
-ghost use Rattle.least_path.specs.Graph.{AreNodes};
-ghost use Rattle.least_path.specs.LowerBound.{IsLowerBound};
 ghost use Rattle.plane_search.specs.Starts.{places_of};
-ghost use Rattle.plane_search.specs.Walk.{AreNoCheaper, AreBoundedStarts};
-ghost use Rattle.plane_search.specs.Reach.{AreSound, IsMet, IsUnderWay, IsFollowing, IsEnd, IsStart, IsBeginning, measure_of};
+ghost use Rattle.plane_search.specs.Walk.{AreNoCheaper};
+ghost use Rattle.plane_search.specs.Queues.{CanHold};
+ghost use Rattle.plane_search.specs.Reach.{CanMark, AreSound, IsMet, IsUnderWay, IsFollowing, IsEnd, IsStart, IsBeginning, measure_of};
 
 use crate::marks::{Cell, Marks};
 use crate::planes::{Planes, Start};
 use crate::queue::{Open, Queue};
+use crate::starts::Starts;
 use std::alloc::{AllocError, Global};
 
 /// A plane.
@@ -55,32 +55,28 @@ impl<C: Cell, Q: Queue> Reach<C, Q> {
     /// places with the least costs of ways to them.
     pub(crate) fn least_cost<P: Planes>(
         &mut self,
-        view: &View<'_, P>,
-        starts: &[Start],
+        starts: &Starts<'_, P>,
         most: u64,
     ) -> Result<u64, AllocError>
-        requires starts { AreNodes ((P.family view.now.planes.now).plane view.now.track)
-            (places_of starts.now) }
-        requires bounded { AreBoundedStarts ((P.family view.now.planes.now).plane view.now.track)
-            (P.family view.now.planes.now).exit starts.now }
-        requires some { AreNoCheaper ((P.family view.now.planes.now).plane view.now.track)
-            (P.family view.now.planes.now).exit 1 (places_of starts.now) }
-        requires few { most + 1 < C.SPAN }
+        requires { most + 1 < C.SPAN }
         ensures least { IfOk result (λ least.
-            AreNoCheaper ((P.family view.now.planes.now).plane view.now.track)
-            (P.family view.now.planes.now).exit least (places_of starts.now)) }
+            AreNoCheaper ((P.family starts.now.view.now.planes.now).plane starts.now.view.now.track)
+            (P.family starts.now.view.now.planes.now).exit least (places_of starts.now.list.now)) }
         ensures met { IfOk result (λ least. least ≤ most →
-            IsMet ((P.family view.now.planes.now).plane view.now.track) (places_of starts.now)
-            (P.family view.now.planes.now).exit least) }
+            IsMet ((P.family starts.now.view.now.planes.now).plane starts.now.view.now.track)
+            (places_of starts.now.list.now) (P.family starts.now.view.now.planes.now).exit least) }
         ensures some { IfOk result (λ least. 1 ≤ least) }
         ensures few { IfOk result (λ least. least ≤ most + 1) }
-        ensures room { OnOk result ((P.family view.now.planes.now).places ≤ length self.new.marks) }
+        ensures room { OnOk result
+            ((P.family starts.now.view.now.planes.now).places ≤ length self.new.marks) }
         ensures sound { OnOk result ((best : ℕ) →
-            AreSound ((P.family view.now.planes.now).plane view.now.track) C.SPAN
-            (places_of starts.now) (P.family view.now.planes.now).exit best self.new.marks) }
+            AreSound ((P.family starts.now.view.now.planes.now).plane starts.now.view.now.track)
+            C.SPAN (places_of starts.now.list.now) (P.family starts.now.view.now.planes.now).exit
+            best self.new.marks) }
     {
+        let view = starts.view;
         let _tracks = view.planes.tracks();
-        self.begin(view, starts, most)?;
+        self.begin(starts, most)?;
         let mut limit = most;
         while let Some(item) = self.queue.take(limit)? {
             limit = self.follow(view, item, limit)?;
@@ -89,29 +85,18 @@ impl<C: Cell, Q: Queue> Reach<C, Q> {
     }
 
     /// Enters the starts.
-    fn begin<P: Planes>(
-        &mut self,
-        view: &View<'_, P>,
-        starts: &[Start],
-        most: u64,
-    ) -> Result<(), AllocError>
-        requires starts { AreNodes ((P.family view.now.planes.now).plane view.now.track)
-            (places_of starts.now) }
-        requires bounded { AreBoundedStarts ((P.family view.now.planes.now).plane view.now.track)
-            (P.family view.now.planes.now).exit starts.now }
-        requires some { AreNoCheaper ((P.family view.now.planes.now).plane view.now.track)
-            (P.family view.now.planes.now).exit 1 (places_of starts.now) }
-        requires few { most < C.SPAN }
+    fn begin<P: Planes>(&mut self, starts: &Starts<'_, P>, most: u64) -> Result<(), AllocError>
+        requires { most < C.SPAN }
         ensures { OnOk result (
-            IsUnderWay ((P.family view.now.planes.now).plane view.now.track) C.SPAN
-            (places_of starts.now) (P.family view.now.planes.now).exit most most self.new.marks
-            (Q.entries self.new.queue)) }
+            IsUnderWay ((P.family starts.now.view.now.planes.now).plane starts.now.view.now.track)
+            C.SPAN (places_of starts.now.list.now) (P.family starts.now.view.now.planes.now).exit
+            most most self.new.marks (Q.entries self.new.queue)) }
     {
-        let _tracks = view.planes.tracks();
-        self.marks.renew(view.planes.places())?;
+        let _tracks = starts.view.planes.tracks();
+        self.marks.renew(starts.view.planes.places())?;
         self.queue.clear();
-        for start in starts {
-            self.offer_start(view, *start, most)?;
+        for start in starts.list {
+            self.offer_start(starts, *start, most)?;
         }
         Ok(())
     }
@@ -119,26 +104,23 @@ impl<C: Cell, Q: Queue> Reach<C, Q> {
     /// Enters a start, if a path from it may cost at most `most`.
     fn offer_start<P: Planes>(
         &mut self,
-        view: &View<'_, P>,
+        starts: &Starts<'_, P>,
         start: Start,
         most: u64,
     ) -> Result<(), AllocError>
-        requires start { start.place < (P.family view.now.planes.now).places }
-        requires other { start.place ≢ (P.family view.now.planes.now).exit }
-        requires bounded { IsLowerBound ((P.family view.now.planes.now).plane view.now.track)
-            (P.family view.now.planes.now).exit start.place (Some start.ahead) }
-        requires room { (P.family view.now.planes.now).places ≤ length self.old.marks }
-        requires few { most < C.SPAN }
-        ensures on { OnOk result ((starts : List ℕ) (k : ℕ) →
-            IsStart starts k start.place →
-            IsBeginning ((P.family view.now.planes.now).plane view.now.track) C.SPAN starts
-            (P.family view.now.planes.now).exit most k self.old.marks (Q.entries self.old.queue) →
-            IsBeginning ((P.family view.now.planes.now).plane view.now.track) C.SPAN starts
-            (P.family view.now.planes.now).exit most (k + 1) self.new.marks
-            (Q.entries self.new.queue)) }
+        requires among { Contains starts.now.list.now start }
+        requires can { CanMark (P.family starts.now.view.now.planes.now).places C.SPAN most
+            self.old.marks }
+        ensures on { OnOk result ((k : ℕ) → IsStart (places_of starts.now.list.now) k start.place →
+            IsBeginning ((P.family starts.now.view.now.planes.now).plane starts.now.view.now.track)
+            C.SPAN (places_of starts.now.list.now) (P.family starts.now.view.now.planes.now).exit
+            most k self.old.marks (Q.entries self.old.queue) →
+            IsBeginning ((P.family starts.now.view.now.planes.now).plane starts.now.view.now.track)
+            C.SPAN (places_of starts.now.list.now) (P.family starts.now.view.now.planes.now).exit
+            most (k + 1) self.new.marks (Q.entries self.new.queue)) }
         ensures room { OnOk result (length self.new.marks ≡ length self.old.marks) }
     {
-        let _tracks = view.planes.tracks();
+        let _tracks = starts.view.planes.tracks();
         if most < start.ahead {
             return Ok(());
         }
@@ -151,8 +133,7 @@ impl<C: Cell, Q: Queue> Reach<C, Q> {
     #[inline(always)]
     fn wait(&mut self, place: usize, cost: u64, key: u64, level: u64) -> Result<(), AllocError>
         requires place { place < 2 ^ 32 }
-        requires cost { cost < C.SPAN }
-        requires key { key < C.SPAN }
+        requires held { CanHold C.SPAN cost key }
         ensures marks { OnOk result (self.new.marks ≡ self.old.marks) }
         ensures added { OnOk result (IsPermutation
             ((record { place = place; cost = cost; key = key }) ∷ Q.entries self.old.queue)
@@ -176,8 +157,7 @@ impl<C: Cell, Q: Queue> Reach<C, Q> {
         limit: u64,
     ) -> Result<u64, AllocError>
         requires place { item.place < (P.family view.now.planes.now).places }
-        requires room { (P.family view.now.planes.now).places ≤ length self.old.marks }
-        requires few { limit < C.SPAN }
+        requires can { CanMark (P.family view.now.planes.now).places C.SPAN limit self.old.marks }
         ensures under_way { IfOk result (λ new_limit. (starts : List ℕ) (most : ℕ) →
             IsUnderWay ((P.family view.now.planes.now).plane view.now.track) C.SPAN starts
             (P.family view.now.planes.now).exit most limit self.old.marks
@@ -213,10 +193,8 @@ impl<C: Cell, Q: Queue> Reach<C, Q> {
         place: usize,
         limit: u64,
     ) -> Result<u64, AllocError>
-        requires from { item.place < (P.family view.now.planes.now).places }
         requires place { place < (P.family view.now.planes.now).places }
-        requires room { (P.family view.now.planes.now).places ≤ length self.old.marks }
-        requires few { limit < C.SPAN }
+        requires can { CanMark (P.family view.now.planes.now).places C.SPAN limit self.old.marks }
         ensures on { IfOk result (λ new_limit. (starts : List ℕ) (most k : ℕ) →
             IsEnd ((P.family view.now.planes.now).plane view.now.track) item.place k place →
             IsFollowing ((P.family view.now.planes.now).plane view.now.track) C.SPAN starts

@@ -2,16 +2,13 @@
 //! costs less. At each place it takes the first edge over which such a path may lead, and at a
 //! place from which none does, it goes back: so the first path that it completes is the least. Each
 //! place is entered once at each cost.
-ghost use Rattle.std.specs.Prelude.{◌≡◌, ℕ, Contains, ◌+◌, ◌<◌, ◌≤◌, ◌^◌, ◌∷◌, ◌++◌, [], true, false, Ok, Some, IfSome, IfNone, OnOk, length};
-ghost use Rattle.std.specs.List.Sorted.{IsNonDecreasing};
+ghost use Rattle.std.specs.Prelude.{◌≡◌, ℕ, Contains, ◌+◌, ◌<◌, ◌^◌, ◌∷◌, ◌++◌, [], true, false, Ok, IfSome, IfNone, OnOk, length};
 ghost use Rattle.std.specs.Option.{option_to_list};
 ghost use Rattle.std.proofs.Common.{set};
-ghost use Rattle.least_path.specs.Graph.{AreNodes};
-ghost use Rattle.least_path.specs.Path.{IsPath, cost_of};
+ghost use Rattle.least_path.specs.Path.{cost_of};
 ghost use Rattle.least_path.specs.LeastPath.{IsLeastPath};
-ghost use Rattle.least_path.specs.LowerBound.{IsLowerBound};
 ghost use Rattle.plane_search.specs.Starts.{places_of};
-ghost use Rattle.plane_search.specs.Walk.{ArePruned, IsFit, IsUnfit, IsNext, AreUnfit, IsWalking, IsBetween, IsLeastFrom, CostsAtLeast, CostsMore, AreNoCheaper, AreBoundedStarts, places_in, stop_at, after_step};
+ghost use Rattle.plane_search.specs.Walk.{AreOrderedStarts, CanBeLeast, CanGoOver, IsFit, IsUnfit, IsNext, AreUnfit, IsBetween, IsLeastFrom, CostsMore, places_in, stop_at, after_step};
 
 use crate::marks::{Cell, Marks};
 use crate::planes::{Planes, Start};
@@ -38,21 +35,23 @@ struct Step {
     cost: u64,
 }
 
-/// A plane, and the cost of the paths that are looked for in it.
+/// A plane, where paths may begin in it, and the cost of those that are looked for.
 #[derive(Drop)]
 pub(crate) struct Aim<'a, P: Planes, C: Cell> {
     pub(crate) planes: &'a P,
     pub(crate) track: usize,
     pub(crate) exit: usize,
+    /// In rising order.
+    pub(crate) starts: &'a [Start],
     pub(crate) best: u64,
     /// The least costs of ways to places, as far as they are known.
     pub(crate) reached: &'a Marks<C>,
     ghost on: { track < (P.family planes.now).tracks },
     ghost to: { exit ≡ (P.family planes.now).exit },
-    ghost some: { 1 ≤ best },
-    ghost few: { best < C.SPAN },
-    ghost pruned: { ArePruned ((P.family planes.now).plane track) C.SPAN (P.family planes.now).places
-        (P.family planes.now).exit best reached.now },
+    ghost ordered: { AreOrderedStarts ((P.family planes.now).plane track)
+        (P.family planes.now).exit starts.now },
+    ghost can: { CanBeLeast (P.family planes.now) track (places_of starts.now) C.SPAN best
+        reached.now },
 }
 
 /// A walk that reuses its memory from one plane to the next.
@@ -71,9 +70,7 @@ fn fitting_cost<P: Planes, C: Cell>(
     place: usize,
     before: u64,
 ) -> Option<u64>
-    requires place { place < (P.family aim.now.planes.now).places }
-    requires room { place < length marks.now }
-    requires before { before ≤ aim.now.best }
+    requires { CanGoOver (P.family aim.now.planes.now).places aim.now.best marks.now place before }
     ensures some { IfSome result (λ cost. IsFit ((P.family aim.now.planes.now).plane aim.now.track)
         aim.now.best marks.now place before cost) }
     ensures none { IfNone result (IsUnfit ((P.family aim.now.planes.now).plane aim.now.track)
@@ -105,9 +102,8 @@ fn fitting_cost<P: Planes, C: Cell>(
 /// lead.
 #[inline(always)]
 fn next_step<P: Planes, C: Cell>(marks: &Marks<C>, aim: &Aim<'_, P, C>, stop: Stop) -> Option<Step>
-    requires place { stop.place < (P.family aim.now.planes.now).places }
-    requires room { (P.family aim.now.planes.now).places ≤ length marks.now }
-    requires cost { stop.cost ≤ aim.now.best }
+    requires { CanGoOver (P.family aim.now.planes.now).places aim.now.best marks.now stop.place
+        stop.cost }
     ensures some { IfSome result (λ step. IsNext ((P.family aim.now.planes.now).plane aim.now.track)
         (P.family aim.now.planes.now).exit aim.now.best marks.now stop step) }
     ensures none { IfNone result (AreUnfit ((P.family aim.now.planes.now).plane aim.now.track)
@@ -136,35 +132,28 @@ impl<C: Cell> Walk<C> {
         }
     }
 
-    /// Replaces `path` by the least path of the plane from `starts`, which rise, if a path has the
-    /// wanted cost, and returns whether there is one. No path may cost less.
+    /// Replaces `path` by the least path of the plane from the starts, if a path has the wanted
+    /// cost, and returns whether there is one.
     pub(crate) fn least_into<P: Planes>(
         &mut self,
         aim: &Aim<'_, P, C>,
-        starts: &[Start],
         path: &mut Path,
     ) -> Result<bool, AllocError>
-        requires starts { AreNodes ((P.family aim.now.planes.now).plane aim.now.track)
-            (places_of starts.now) }
-        requires rising { IsNonDecreasing (places_of starts.now) }
-        requires bounded { AreBoundedStarts ((P.family aim.now.planes.now).plane aim.now.track)
-            (P.family aim.now.planes.now).exit starts.now }
-        requires least { AreNoCheaper ((P.family aim.now.planes.now).plane aim.now.track)
-            (P.family aim.now.planes.now).exit aim.now.best (places_of starts.now) }
         ensures found { result ≡ Ok true →
-            IsLeastPath ((P.family aim.now.planes.now).plane aim.now.track) (places_of starts.now)
-            (P.family aim.now.planes.now).exit path.new.nodes.items }
+            IsLeastPath ((P.family aim.now.planes.now).plane aim.now.track)
+            (places_of aim.now.starts.now) (P.family aim.now.planes.now).exit path.new.nodes.items }
         ensures cost { result ≡ Ok true → path.new.cost
             ≡ cost_of ((P.family aim.now.planes.now).plane aim.now.track) path.new.nodes.items }
         ensures best { result ≡ Ok true → path.new.cost ≡ aim.now.best }
-        ensures none { result ≡ Ok false → (start : ℕ) → Contains (places_of starts.now) start →
+        ensures none { result ≡ Ok false → (start : ℕ) →
+            Contains (places_of aim.now.starts.now) start →
             CostsMore ((P.family aim.now.planes.now).plane aim.now.track)
             (P.family aim.now.planes.now).exit aim.now.best start 0 }
     {
         let _tracks = aim.planes.tracks();
         self.marks.renew(aim.planes.places())?;
-        for start in starts {
-            if self.try_start(aim, *start)? {
+        for start in aim.starts {
+            if self.walk_from(aim, *start)? {
                 self.write_path(aim.exit, &mut path.nodes)?;
                 path.cost = aim.best;
                 return Ok(true);
@@ -173,18 +162,14 @@ impl<C: Cell> Walk<C> {
         Ok(false)
     }
 
-    /// Walks on from a start if a path of the wanted cost may begin there.
-    #[inline(always)]
-    fn try_start<P: Planes>(
+    /// Walks on from a start, if a path of the wanted cost may begin there, until one is complete,
+    /// and returns whether there is one.
+    fn walk_from<P: Planes>(
         &mut self,
         aim: &Aim<'_, P, C>,
         start: Start,
     ) -> Result<bool, AllocError>
-        requires start { start.place < (P.family aim.now.planes.now).places }
-        requires bounded { IsLowerBound ((P.family aim.now.planes.now).plane aim.now.track)
-            (P.family aim.now.planes.now).exit start.place (Some start.ahead) }
-        requires least { CostsAtLeast ((P.family aim.now.planes.now).plane aim.now.track)
-            (P.family aim.now.planes.now).exit aim.now.best start.place 0 }
+        requires among { Contains aim.now.starts.now start }
         requires between { IsBetween ((P.family aim.now.planes.now).plane aim.now.track) C.SPAN
             (P.family aim.now.planes.now).exit aim.now.best self.old.marks }
         ensures found { result ≡ Ok true →
@@ -198,36 +183,11 @@ impl<C: Cell> Walk<C> {
             IsBetween ((P.family aim.now.planes.now).plane aim.now.track) C.SPAN
             (P.family aim.now.planes.now).exit aim.now.best self.new.marks }
     {
+        let _tracks = aim.planes.tracks();
         if aim.best < start.ahead {
             return Ok(false);
         }
-        self.walk_from(aim, start.place)
-    }
-
-    /// Walks on from a start until a path is complete, and returns whether there is one.
-    fn walk_from<P: Planes>(
-        &mut self,
-        aim: &Aim<'_, P, C>,
-        start: usize,
-    ) -> Result<bool, AllocError>
-        requires start { start < (P.family aim.now.planes.now).places }
-        requires least { CostsAtLeast ((P.family aim.now.planes.now).plane aim.now.track)
-            (P.family aim.now.planes.now).exit aim.now.best start 0 }
-        requires between { IsBetween ((P.family aim.now.planes.now).plane aim.now.track) C.SPAN
-            (P.family aim.now.planes.now).exit aim.now.best self.old.marks }
-        ensures found { result ≡ Ok true →
-            IsLeastFrom ((P.family aim.now.planes.now).plane aim.now.track)
-            (P.family aim.now.planes.now).exit aim.now.best start
-            (places_in self.new.stops.items ++ (P.family aim.now.planes.now).exit ∷ []) }
-        ensures none { result ≡ Ok false →
-            CostsMore ((P.family aim.now.planes.now).plane aim.now.track)
-            (P.family aim.now.planes.now).exit aim.now.best start 0 }
-        ensures between { result ≡ Ok false →
-            IsBetween ((P.family aim.now.planes.now).plane aim.now.track) C.SPAN
-            (P.family aim.now.planes.now).exit aim.now.best self.new.marks }
-    {
-        let _tracks = aim.planes.tracks();
-        let mut current = Some(self.begin_at(start));
+        let mut current = Some(self.begin_at(start.place));
         while let Some(stop) = current {
             if let Some(step) = next_step(&self.marks, aim, stop) {
                 self.put_back(stop, step)?;
@@ -244,8 +204,7 @@ impl<C: Cell> Walk<C> {
 
     /// Enters the start, with no other stop.
     fn begin_at(&mut self, start: usize) -> Stop
-        requires start { start < length self.old.marks }
-        requires some { 0 < C.SPAN }
+        requires { start < length self.old.marks }
         ensures stop { result ≡ stop_at start 0 }
         ensures marks { self.new.marks ≡ set self.old.marks start 0 }
         ensures stops { self.new.stops.items ≡ [] }

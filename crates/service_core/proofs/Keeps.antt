@@ -19,20 +19,21 @@ use Rattle.service_core.specs.Kept.{IsLiveIn, IsService}
 use Rattle.service_core.proofs.Lists.{history_of-past, history_of-modified, history_of-push, length-modified, All-modified, set-modified}
 use Rattle.service_core.proofs.Histories.{IsReplayed-push}
 
--- a change that keeps a tenancy's id, its architecture and its strip
+-- a change that keeps a tenancy's id, its architecture, its strip and its text limit
 pub record Keeps (change : History → History) : Type 0 where
   pub id : (h : History) → (change h).id ≡ h.id
   pub arch : (h : History) → (change h).arch ≡ h.arch
   pub strip : (h : History) → (change h).strip ≡ h.strip
+  pub limit : (h : History) → (change h).text_limit ≡ h.text_limit
 
 pub Keeps-with_entry : (e : Entry) → Keeps (with_entry e)
-Keeps-with_entry e = record { id = λ h. refl; arch = λ h. refl; strip = λ h. refl }
+Keeps-with_entry e = record { id = λ h. refl; arch = λ h. refl; strip = λ h. refl; limit = λ h. refl }
 
 pub Keeps-with_here : (here : Option Bool) → Keeps (with_here here)
-Keeps-with_here here = record { id = λ h. refl; arch = λ h. refl; strip = λ h. refl }
+Keeps-with_here here = record { id = λ h. refl; arch = λ h. refl; strip = λ h. refl; limit = λ h. refl }
 
 pub Keeps-closed : Keeps closed_history
-Keeps-closed = record { id = λ h. refl; arch = λ h. refl; strip = λ h. refl }
+Keeps-closed = record { id = λ h. refl; arch = λ h. refl; strip = λ h. refl; limit = λ h. refl }
 
 abbrev width_in : Option History → Option ℕ
 width_in o = option_map (λ h. h.strip.width) (if_live o)
@@ -64,6 +65,7 @@ alone-changed : (device : Device) (change : History → History) (h : History) �
 alone-changed device change h keeps was replayed = record {
   arch = keeps.arch h ∙ was.arch;
   strip = keeps.strip h ∙ (was.strip ∙ ap (λ width. strip_on device width) (ap (λ s. s.width) (sym (keeps.strip h))));
+  limit = keeps.limit h ∙ was.limit;
   replayed = replayed;
 }
 
@@ -88,7 +90,7 @@ IsService-evicted device strips hs id was = record {
   linked = λ other. grind (arith, nat_tests, history_of-modified hs id other closed_history, strip_of-without strips id other, no_width (history_of hs other), was.linked other);
   few = omega (arith, length-modified hs id closed_history, was.few);
   ids = ids-modified hs id closed_history Keeps-closed was.ids;
-  alone = All-modified (IsAloneOn device) hs id closed_history (λ h at is. record { arch = is.arch; strip = is.strip; replayed = is.replayed }) was.alone;
+  alone = All-modified (IsAloneOn device) hs id closed_history (λ h at is. record { arch = is.arch; strip = is.strip; limit = is.limit; replayed = is.replayed }) was.alone;
 }
 
 none_from_width : (o : Option PlacedStrip) → option_map (λ (s : PlacedStrip). s.width) o ≡ None → o ≡ None
@@ -117,7 +119,7 @@ IsService-admitted device strips hs width offset was few =
       linked = λ other. grind (arith, nat_tests, history_of-push hs h other, strip_of-push strips strip other (no_strip-next device strips hs was), was.linked other);
       few = omega (arith, length-append hs (h ∷ []));
       ids = ids-push hs h refl was.ids;
-      alone = All-push (IsAloneOn device) hs h was.alone (record { arch = refl; strip = refl; replayed = record { told = refl; count = refl; few = omega arith } });
+      alone = All-push (IsAloneOn device) hs h was.alone (record { arch = refl; strip = refl; limit = refl; replayed = record { told = refl; count = refl; few = omega arith } });
     }
 
 pub IsService-empty : (device : Device) → IsService device [] []

@@ -15,14 +15,15 @@ use Rattle.service_core.specs.Run.{IsStepOf, step_entry}
 pub slot_is : (slot : SlotState) (id : ℕ) (state : State) → slot.id ≡ id → slot.state ≡ state → slot ≡ record { id = id; state = state; here = slot.here }
 slot_is slot id state its_id its_state = rw (← its_id, ← its_state) refl
 
-pub history_is : (x y : History) → x.id ≡ y.id → x.arch ≡ y.arch → x.strip ≡ y.strip → x.live ≡ y.live → x.here ≡ y.here → x.entries ≡ y.entries → x ≡ y
-history_is x y id arch strip live here entries =
-    ap (λ i. record { id = i; arch = x.arch; strip = x.strip; live = x.live; here = x.here; entries = x.entries }) id
-    ∙ (ap (λ a. record { id = y.id; arch = a; strip = x.strip; live = x.live; here = x.here; entries = x.entries }) arch
-    ∙ (ap (λ s. record { id = y.id; arch = y.arch; strip = s; live = x.live; here = x.here; entries = x.entries }) strip
-    ∙ (ap (λ l. record { id = y.id; arch = y.arch; strip = y.strip; live = l; here = x.here; entries = x.entries }) live
-    ∙ (ap (λ o. record { id = y.id; arch = y.arch; strip = y.strip; live = y.live; here = o; entries = x.entries }) here
-    ∙ ap (λ es. record { id = y.id; arch = y.arch; strip = y.strip; live = y.live; here = y.here; entries = es }) entries))))
+pub history_is : (x y : History) → x.id ≡ y.id → x.arch ≡ y.arch → x.strip ≡ y.strip → x.text_limit ≡ y.text_limit → x.live ≡ y.live → x.here ≡ y.here → x.entries ≡ y.entries → x ≡ y
+history_is x y id arch strip limit live here entries =
+    ap (λ i. record x { id = i }) id
+    ∙ (ap (λ a. record x { id = y.id; arch = a }) arch
+    ∙ (ap (λ s. record x { id = y.id; arch = y.arch; strip = s }) strip
+    ∙ (ap (λ l. record x { id = y.id; arch = y.arch; strip = y.strip; text_limit = l }) limit
+    ∙ (ap (λ l. record y { live = l; here = x.here; entries = x.entries }) live
+    ∙ (ap (λ o. record y { here = o; entries = x.entries }) here
+    ∙ ap (λ es. record y { entries = es }) entries)))))
 
 -- a job that is given back to the slot is given back to the tenancy
 pub gives_back : (h : History) (slot new : SlotState) (back : JobState) → slot ≡ slot_of h → GivesBack slot back new → GivesBack (slot_of h) back (slot_of (with_here new.here h))

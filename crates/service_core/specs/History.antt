@@ -10,11 +10,12 @@ use Rattle.service_core.specs.declared.entry.Entry.{Entry}
 
 -- a tenancy, live or closed: its id, the device's architecture, its strip's size, whether the next
 -- step of its running job is here (`None` if it is out, otherwise whether it was made already), and
--- its journal
+-- its journal, whose texts may have at most `text_limit` bytes
 pub record History : Type 0 where
   pub id : ℕ
   pub arch : Arch
   pub strip : Strip
+  pub text_limit : ℕ
   pub live : Bool
   pub here : Option Bool
   pub entries : List Entry

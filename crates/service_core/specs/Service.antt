@@ -46,7 +46,7 @@ strip_on device width = record { width = width; rows = device.rows; io_rat = dev
 
 -- a tenancy of that id and width at its admission
 abbrev pub admitted_history : Device → ℕ → ℕ → History
-admitted_history device id width = record { id = id; arch = device.arch; strip = strip_on device width; live = true; here = Some false; entries = [] }
+admitted_history device id width = record { id = id; arch = device.arch; strip = strip_on device width; text_limit = device.text_limit; live = true; here = Some false; entries = [] }
 
 -- one more tenancy, with the next id
 abbrev pub with_tenancy : ServiceState → ℕ → ℕ → ServiceState
@@ -66,10 +66,11 @@ without_tenancy state id = record state {
 abbrev pub with_change : ServiceState → ℕ → (History → History) → ServiceState
 with_change state id change = record state { histories = with_changed state.histories id change }
 
--- the tenancy has that device, and its journal is that of the tenancy alone
+-- the tenancy has that device and its text limit, and its journal is that of the tenancy alone
 pub record IsAloneOn (device : Device) (h : History) : Type 0 where
   pub arch : h.arch ≡ device.arch
   pub strip : h.strip ≡ strip_on device h.strip.width
+  pub limit : h.text_limit ≡ device.text_limit
   pub replayed : IsReplayed h.arch h.strip h.entries
 
 -- this holds of all tenancies

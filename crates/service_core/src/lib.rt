@@ -26,7 +26,7 @@ mod service;
 mod tenancy;
 mod texts;
 
-pub use device::Device;
+pub use device::{Device, NO_TEXT_LIMIT};
 pub use device_book::Owned;
 pub use entry::Entry;
 pub use job_window::window_for;

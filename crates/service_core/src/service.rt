@@ -51,13 +51,13 @@ impl Model for Service {
     ghost Value = { ServiceState };
 
     ghost view = { λ s. record {
-      device = record { arch = s.arch; columns = s.layout.columns; rows = s.rows };
+      device = record { arch = s.arch; columns = s.layout.columns; rows = s.rows; text_limit = s.text_limit };
       plan = s.layout;
       histories = s.tenancies.items;
     } };
 
     ghost invariant = { λ s. IsSound s.book
-        (record { arch = s.arch; columns = s.layout.columns; rows = s.rows }) s.layout.strips
+        (record { arch = s.arch; columns = s.layout.columns; rows = s.rows; text_limit = s.text_limit }) s.layout.strips
         s.tenancies.items };
 }
 
@@ -80,23 +80,9 @@ impl Drop for Service {
 }
 
 impl Service {
-    /// Returns the service of a device without tenancies. The texts of a journal have no limit.
-    /// Fails with [`AllocError`] if memory runs out.
+    /// Returns the service of a device without tenancies. Fails with [`AllocError`] if memory runs
+    /// out.
     pub fn new(alloc: Global, device: Device) -> Result<Self, AllocError>
-        requires { IsDevice device }
-        ensures { IfOk result (λ service. service ≡ empty_service device) }
-    {
-        Service::with_text_limit(alloc, device, u64::MAX)
-    }
-
-    /// Returns the service of a device without tenancies. The texts of a journal may have at most
-    /// `text_limit` bytes; a text that many entries share counts once. A command that would exceed
-    /// the limit is answered [`NotServed::NoMemory`]. Fails with [`AllocError`] if memory runs out.
-    pub fn with_text_limit(
-        alloc: Global,
-        device: Device,
-        text_limit: u64,
-    ) -> Result<Self, AllocError>
         requires { IsDevice device }
         ensures { IfOk result (λ service. service ≡ empty_service device) }
     {
@@ -104,6 +90,7 @@ impl Service {
             arch,
             columns,
             rows,
+            text_limit,
         } = device;
         let book = Book::new(alloc, &arch, columns, rows)?;
         Ok(Service {
@@ -158,11 +145,12 @@ impl Service {
         self.tenancies[id as usize - 1].entry(place)
     }
 
-    /// The most bytes that the texts of a journal may have, also of a closed tenancy: they never
-    /// have more. `None` if there is no such journal.
+    /// The most bytes that the texts of a journal may have, also of a closed tenancy: the device's
+    /// limit, and they never have more. `None` if there is no such journal.
     #[tactic(auto, using(crate::proofs::Lists::by_id))]
     pub fn text_limit(&self, id: u32) -> Option<u64>
         ensures some { is_some result ≡ is_some (history_of self.now.histories id) }
+        ensures limit { IfSome result (λ limit. limit ≡ self.now.device.text_limit) }
         ensures fits { IfSome result (λ limit. FitInto limit (journal_of self.now id)) }
     {
         if id == 0 || id as usize > self.tenancies.len() {

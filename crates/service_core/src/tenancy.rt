@@ -46,7 +46,7 @@ impl Model for Tenancy {
 
     ghost Value = { History };
 
-    ghost view = { λ t. record { id = t.id; arch = t.arch; strip = t.strip; live = is_some t.slot; here = slot_here t.slot; entries = t.journal.items } };
+    ghost view = { λ t. record { id = t.id; arch = t.arch; strip = t.strip; text_limit = t.text_limit; live = is_some t.slot; here = slot_here t.slot; entries = t.journal.items } };
 
     ghost invariant = { λ t. IsHistory t.id t.arch t.strip t.slot t.journal.items t.held t.text_limit };
 }
@@ -65,6 +65,7 @@ impl Tenancy {
           id = id;
           arch = arch.now;
           strip = strip;
+          text_limit = text_limit;
           live = true;
           here = Some false;
           entries = [];
@@ -116,7 +117,8 @@ impl Tenancy {
 
     /// The most bytes that the journal's texts may have, which they never exceed.
     pub(crate) fn text_limit(&self) -> u64
-        ensures { FitInto result self.now.entries }
+        ensures value { result ≡ self.now.text_limit }
+        ensures fits { FitInto result self.now.entries }
     {
         self.text_limit
     }

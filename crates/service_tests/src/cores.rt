@@ -9,7 +9,7 @@ use arch_file::{Arch, read_arch};
 use fixtures::ARCHITECTURE;
 use job_state::{AnyJob, Done};
 use line_text::Text;
-use service_core::{Device, PutReply, Receipt, Service, window_for};
+use service_core::{Device, NO_TEXT_LIMIT, PutReply, Receipt, Service, window_for};
 use std::alloc::Global;
 use strips::{DeviceGraph, Window};
 use tenant_slot::{Command, Reply, SharedText, StateName, StepReply};
@@ -35,6 +35,7 @@ pub(crate) fn new_core(alloc: Global, columns: u32) -> Option<Service>
                 arch,
                 columns,
                 rows: 1,
+                text_limit: NO_TEXT_LIMIT,
             };
             Service::new(alloc, device).ok()
         }
@@ -51,8 +52,9 @@ pub(crate) fn limited_core(alloc: Global, text_limit: u64) -> Option<Service> {
                 arch,
                 columns: 9,
                 rows: 1,
+                text_limit,
             };
-            Service::with_text_limit(alloc, device, text_limit).ok()
+            Service::new(alloc, device).ok()
         }
         None => None,
     }

@@ -30,4 +30,4 @@ abbrev pub some_arch : Arch
 some_arch = record { io_rat = 1; pins = []; cluster_size = 1; lut_size = 1; tracks = 1; fc_output = 1; fc_input = 1; fc_pad = 1 }
 
 abbrev pub no_service : ServiceState
-no_service = empty_service (record { arch = some_arch; columns = 1; rows = 1 })
+no_service = empty_service (record { arch = some_arch; columns = 1; rows = 1; text_limit = 0 })

@@ -1,5 +1,5 @@
 -- The front of a text: what is printed there is read back.
-use Rattle.std.proofs.Common.{◌≡◌, ℕ, ◌+◌, ◌-◌, ◌*◌, ◌/◌, ◌%◌, ◌^◌, ◌<◌, ◌≤◌, Bool, true, false, IsTrue, not, cond, ◌&&◌, eqb, List, [], ◌∷◌, ◌++◌, length, take, drop, decimal, Option, Some, None, refl, ap, sym, ◌∙◌, arith, append-nil}
+use Rattle.std.proofs.Common.{◌≡◌, ℕ, ◌+◌, ◌-◌, ◌*◌, ◌/◌, ◌%◌, ◌^◌, ◌<◌, ◌≤◌, Bool, true, false, IsTrue, not, cond, ◌&&◌, eqb, List, [], ◌∷◌, ◌++◌, length, take, drop, decimal, Option, Some, None, refl, ap, sym, ◌∙◌, arith}
 use Rattle.std.specs.Prelude.{nat_le, nat_lt}
 use Rattle.std.specs.List.{before_first, list_all, position_or_len, starts_with}
 use Rattle.std.proofs.lemmas.Bool.{and_from, and_parts, eq-eqb}

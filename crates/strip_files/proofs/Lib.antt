@@ -1,4 +1,5 @@
 mod Begun
 pub mod Fronts
 pub mod Nets
+pub mod Places
 pub mod Told

@@ -4,7 +4,7 @@ use Rattle.std.proofs.lemmas.Bool.{true≢false}
 use Rattle.std.proofs.lemmas.List.{length_push}
 use Rattle.line_text.specs.Decimal.{decimal_of}
 use Rattle.strip_files.specs.EachLine.{AddsNext, AreEachFrom}
-use Rattle.strip_files.specs.NetLines.{IsNetLine, name_end, word_end}
+use Rattle.strip_files.specs.NetLines.{IsNetLine, word_end}
 
 pub some_at : {X : Type 0} (N : Type 0) (P : X → Type 0) (found : Option X) (x : X) → found ≡ Some x → MatchOption found N P → P x
 some_at N P None x e h = absurd cc

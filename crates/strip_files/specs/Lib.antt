@@ -4,6 +4,7 @@ pub mod Fronts
 pub mod NetLines
 pub mod NodeLines
 pub mod Parts
+pub mod PlaceLines
 pub mod SizeLines
 pub mod Sizes
 pub mod Starts

@@ -8,8 +8,8 @@
 //!
 //! It is proved that it is safe and returns, that what was read is on the largest strip, and that
 //! the nodes and the nets that were read, with the nets' names, are those of the `.route` file's
-//! lines, and the blocks, with their kinds and names, those of the `.net` file's, one each and in
-//! order.
+//! lines, the blocks and BLEs, with their kinds and names, those of the `.net` file's, and the
+//! blocks' places those of the `.place` file's, one each and in order.
 #![tactic(auto)]
 
 mod block;

@@ -1,6 +1,7 @@
 //! The `.net` file: the blocks, and the BLEs of each.
 ghost use Rattle.std.specs.Prelude.{◌≡◌, ◌+◌, ◌++◌, ◌∷◌, [], length, true, false, MatchOption, OnOk};
-ghost use Rattle.strip_files.specs.BlockLines.{IsBlockReadOn, IsLineOfBlock, block_lines, block_start, listed_names};
+ghost use Rattle.strip_files.specs.BlockLines.{AreElementsNamed, IsBlockReadOn, IsElementReadOn, IsLineOfBlock, block_lines, block_start, listed_names};
+ghost use Rattle.line_text.specs.Words.{texts};
 ghost use Rattle.strip_files.specs.EachLine.{AreEachFrom};
 ghost use Rattle.strip_files.specs.Starts.{AddsTo, block_starts, is_block_line, is_element_line, listed_elements};
 
@@ -57,6 +58,7 @@ impl<'t> Listed<'t> {
             ≡ block_starts text.now) }
         ensures names { OnOk result (AreEachFrom IsLineOfBlock 0 (block_lines text.now)
             (listed_names self.new.blocks.items)) }
+        ensures elements { OnOk result (AreElementsNamed text.now self.new.elements.items) }
     {
         let mut number = 0usize;
         let mut rest = text;
@@ -78,6 +80,8 @@ impl<'t> Listed<'t> {
             (listed_elements self.old.blocks.items) (listed_elements self.new.blocks.items)) }
         ensures names { OnOk result (IsBlockReadOn line.now self.old.blocks.items
             self.new.blocks.items) }
+        ensures elements { OnOk result (IsElementReadOn line.now self.old.elements.items
+            self.new.elements.items) }
     {
         let mut scanner = Scanner::new(line);
         if scanner.takes("subblock: ") {
@@ -150,6 +154,8 @@ impl<'t> Listed<'t> {
     fn element(&mut self, name: &'t [u8]) -> Result<(), TextError<Fault>>
         ensures elements { OnOk result (length self.new.elements.items
             ≡ length self.old.elements.items + 1) }
+        ensures names { OnOk result (texts self.new.elements.items
+            ≡ texts self.old.elements.items ++ name.now ∷ []) }
         ensures blocks { self.new.blocks.items ≡ self.old.blocks.items }
     {
         match self.blocks.last() {

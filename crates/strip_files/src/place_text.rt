@@ -1,8 +1,10 @@
 //! The `.place` file: the size of the strip, and the places of its blocks.
-ghost use Rattle.std.specs.Prelude.{◌+◌, ◌≡◌, ◌≤◌, ℕ, [], length, take, true, OnOk, IfOk};
+ghost use Rattle.std.specs.Prelude.{◌+◌, ◌-◌, ◌≡◌, ◌≤◌, ◌++◌, ◌∷◌, ℕ, List, [], length, take, true, None, is_some, nat_lt, IfOk, IfSome, OnOk};
 ghost use Rattle.grid.specs.declared.TheConstants.{MAX_COLUMNS, MAX_ROWS};
 ghost use Rattle.strip_files.specs.BlockLines.{AreFirstNamed, listed_names, named_blocks};
 ghost use Rattle.strip_files.specs.Fronts.{Stops};
+ghost use Rattle.grid.specs.declared.place.Place.{Place};
+ghost use Rattle.strip_files.specs.PlaceLines.{HavePlaces, IsLineOfPlace, IsPlaceLine, IsPlaceReadOn, is_place_line, places_of};
 ghost use Rattle.strip_files.specs.SizeLines.{IsSizeRead, IsWithin, size_line};
 ghost use Rattle.strip_files.specs.Starts.{ArePlaced, first_elements, listed_elements};
 ghost use Rattle.text_parts.specs.PartEnds.{is_no_digit};
@@ -27,7 +29,8 @@ pub(crate) struct Placed<'t> {
 impl<'t> Placed<'t> {
     /// Returns empty contents.
     pub(crate) fn new(alloc: Global) -> Self
-        ensures { result.blocks.items ≡ [] }
+        ensures blocks { result.blocks.items ≡ [] }
+        ensures size { result.size ≡ None }
     {
         Placed {
             size: None,
@@ -42,11 +45,13 @@ impl<'t> Placed<'t> {
         text: &[u8],
         listed: &[ListedBlock<'t>],
     ) -> Result<StripSize, TextError<FileFault>>
-        requires { self.old.blocks.items ≡ [] }
+        requires blocks { self.old.blocks.items ≡ [] }
+        requires size { self.old.size ≡ None }
         ensures starts { IfOk result (λ size.
             first_elements self.new.blocks.items ≡ listed_elements listed.now) }
         ensures names { IfOk result (λ size.
             named_blocks self.new.blocks.items ≡ listed_names listed.now) }
+        ensures places { IfOk result (λ size. HavePlaces text.now self.new.blocks.items) }
     {
         let mut number = 0usize;
         let mut rest = text;
@@ -73,8 +78,12 @@ impl<'t> Placed<'t> {
     ) -> Result<(), TextError<Fault>>
         requires starts { ArePlaced listed.now self.old.blocks.items }
         requires names { AreFirstNamed listed.now self.old.blocks.items }
+        requires sized { (1 ≤ number) × (is_some self.old.size ≡ nat_lt 2 number) }
         ensures starts { OnOk result (ArePlaced listed.now self.new.blocks.items) }
         ensures names { OnOk result (AreFirstNamed listed.now self.new.blocks.items) }
+        ensures places { OnOk result (IsPlaceReadOn (number - 1) line.now self.old.blocks.items
+            self.new.blocks.items) }
+        ensures sized { OnOk result (is_some self.new.size ≡ nat_lt 1 number) }
     {
         match (number, self.size) {
             (1, _) if line.starts_with(b"Netlist file: ") => Ok(()),
@@ -86,8 +95,8 @@ impl<'t> Placed<'t> {
                 self.size = Some(size);
                 Ok(())
             }
-            (_, Some(_)) if line.is_empty() || line.starts_with(b"#") => Ok(()),
-            (_, Some(size)) => self.block(size, line, listed),
+            (_, Some(size)) if has_block(line) => self.block(size, line, listed),
+            (_, Some(_)) => Ok(()),
         }
     }
 
@@ -102,6 +111,10 @@ impl<'t> Placed<'t> {
         requires names { AreFirstNamed listed.now self.old.blocks.items }
         ensures starts { OnOk result (ArePlaced listed.now self.new.blocks.items) }
         ensures names { OnOk result (AreFirstNamed listed.now self.new.blocks.items) }
+        ensures place { OnOk result ((block : List ℕ × Place)
+            × (places_of self.new.blocks.items ≡ places_of self.old.blocks.items ++ block ∷ [])
+            × IsLineOfPlace (length (places_of self.old.blocks.items)) line.now block) }
+        ensures size { self.new.size ≡ self.old.size }
     {
         let Some((name, place, number)) = place_in(line) else {
             return Err(TextError::Fault(Fault::BadBlock));
@@ -137,8 +150,17 @@ fn is_there(size: StripSize, place: Place) -> bool
     logic || pads
 }
 
+/// Whether a line after the size has a block: it is not empty, and no comment.
+fn has_block(line: &[u8]) -> bool
+    ensures { result ≡ is_place_line line.now }
+{
+    !line.is_empty() && line[0] != b'#'
+}
+
 /// The name, the place and the number of a block's line: `NAME COLUMN ROW PAD #NUMBER`.
-fn place_in(line: &[u8]) -> Option<(&[u8], Place, u32)> {
+fn place_in(line: &[u8]) -> Option<(&[u8], Place, u32)>
+    ensures { IfSome result (λ found. IsPlaceLine found.2 line.now found.0.now found.1) }
+{
     let mut scanner = Scanner::new(line);
     let name = scanner.word();
     scanner.text(" ")?;

@@ -1,10 +1,11 @@
 //! The three files together.
-ghost use Rattle.std.specs.Prelude.{◌≡◌, ◌+◌, [], position, IfOk};
+ghost use Rattle.std.specs.Prelude.{◌≡◌, ◌+◌, [], position, None, IfOk};
 ghost use Rattle.std.specs.Str.{bytes_eq};
-ghost use Rattle.strip_files.specs.BlockLines.{AreBlocksNamed};
+ghost use Rattle.strip_files.specs.BlockLines.{AreBlocksNamed, AreElementsNamed};
 ghost use Rattle.strip_files.specs.NetLines.{AreNamed};
 ghost use Rattle.strip_files.specs.NodeLines.{AreTold, node_lines};
 ghost use Rattle.strip_files.specs.Parts.{elements_of, first_element, first_node, nodes_of, stretch};
+ghost use Rattle.strip_files.specs.PlaceLines.{HavePlaces};
 ghost use Rattle.strip_files.specs.Starts.{AreBegun, AreBlocksBegun};
 
 use crate::block::PlacedBlock;
@@ -149,6 +150,9 @@ pub fn read_strip(
     ensures blocks { IfOk result (λ strip. AreBlocksBegun texts.entry.net.now strip.blocks.items) }
     ensures block_names { IfOk result (λ strip.
         AreBlocksNamed texts.entry.net.now strip.blocks.items) }
+    ensures places { IfOk result (λ strip. HavePlaces texts.entry.place.now strip.blocks.items) }
+    ensures elements { IfOk result (λ strip.
+        AreElementsNamed texts.entry.net.now strip.elements.items) }
 {
     let mut listed = Listed::new(alloc);
     let mut placed = Placed::new(alloc);
@@ -177,6 +181,7 @@ fn read_all<'t>(
     requires no_blocks { listed.old.blocks.items ≡ [] }
     requires no_elements { listed.old.elements.items ≡ [] }
     requires none_placed { placed.old.blocks.items ≡ [] }
+    requires no_size { placed.old.size ≡ None }
     ensures nodes { IfOk result (λ size. AreTold (node_lines texts.entry.route.now)
         routed.new.nodes.items) }
     ensures nets { IfOk result (λ size. AreBegun texts.entry.route.now routed.new.nets.items) }
@@ -185,6 +190,10 @@ fn read_all<'t>(
         AreBlocksBegun texts.entry.net.now placed.new.blocks.items) }
     ensures block_names { IfOk result (λ size.
         AreBlocksNamed texts.entry.net.now placed.new.blocks.items) }
+    ensures places { IfOk result (λ size.
+        HavePlaces texts.entry.place.now placed.new.blocks.items) }
+    ensures elements { IfOk result (λ size.
+        AreElementsNamed texts.entry.net.now listed.new.elements.items) }
 {
     listed.read(texts.net)?;
     let size = placed.read(texts.place, &listed.blocks)?;
@@ -211,6 +220,7 @@ fn strip_of<'t>(
     ensures nodes { result.nodes.items ≡ routed.entry.nodes.items }
     ensures nets { result.nets.items ≡ routed.entry.nets.items }
     ensures blocks { result.blocks.items ≡ placed.entry.blocks.items }
+    ensures elements { result.elements.items ≡ listed.entry.elements.items }
 {
     let Listed {
         pins,

@@ -12,7 +12,7 @@ use arch_file::{Arch, read_arch};
 use fixtures::{AND, ARCHITECTURE};
 use job_state::{AnyJob, Done};
 use line_text::Text;
-use service_core::{Device, Receipt, window_for};
+use service_core::{Device, NO_TEXT_LIMIT, Receipt, window_for};
 use shared_core::{Begun, Core};
 use std::alloc::Global;
 use std::sync::ledger::{Blank, Ledger};
@@ -46,6 +46,7 @@ pub(crate) fn new_device(alloc: Global) -> Option<Device>
             arch,
             columns: COLUMNS,
             rows: 1,
+            text_limit: NO_TEXT_LIMIT,
         }),
         None => None,
     }

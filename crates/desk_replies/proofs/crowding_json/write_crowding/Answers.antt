@@ -1,6 +1,5 @@
 use Rattle.std.proofs.Common.{ℕ, List, [], ◌∷◌, ◌++◌, codes, map, ◌∙◌, ap}
 use Rattle.json.specs.Json.{Json}
-use Rattle.json.specs.Token.{Token}
 use Rattle.json.specs.Tree.{json_tokens}
 use Rattle.json_text.specs.Values.{list_of, number_of}
 use Rattle.json_text.proofs.Tokens.{members_more, object_written, ok_then, one_member}

@@ -1,4 +1,4 @@
-use Rattle.std.proofs.Common.{ℕ, ◌≡◌, ◌∙◌, ◌+◌, List, length, map, min, drop, ap, sym, arith}
+use Rattle.std.proofs.Common.{ℕ, ◌≡◌, ◌∙◌, ◌+◌, List, length, map, drop, ap, sym, arith}
 use Rattle.std.proofs.lemmas.List.{length-map}
 use Rattle.printed_replies.specs.Replies.{AnsweredLine, answered_line}
 use Rattle.script_text.specs.Script.{named_act}

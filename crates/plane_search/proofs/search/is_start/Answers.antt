@@ -1,13 +1,9 @@
 use Rattle.std.proofs.Common.{◌≢◌, ℕ, get_or, arith, ◌∙◌, sym, subst}
 use Rattle.std.specs.List.{Contains}
 use Rattle.plane_search.specs.Starts.{places_of}
-use Rattle.plane_search.specs.declared.planes.Start.{Start}
 use Rattle.plane_search.proofs.Members.{at_index, below_next}
-use Rattle.plane_search.proofs.Starting.{place_at, place_among, as_many}
+use Rattle.plane_search.proofs.Starting.{no_start, place_at, place_among, as_many}
 use Rattle.plane_search.proofs.search.is_start.Goals as goal
-
-abbrev no_start : Start
-no_start = record { place = 0; ahead = 0 }
 
 pub returns-then-start-place : goal.returns-then-start-place
 returns-then-start-place c =

@@ -16,23 +16,19 @@ overflow_add-place g c =
     let family = c.tracks-tracks.ensures.lawful in
     let plane = family.planes c.args.aim.now.track c.args.aim.now.on in
     let q = listed_end _ _ _ _ c.ends-ends.ensures.value c.loop-edge-test.true in
-    omega (arith, end_within (f.plane c.args.aim.now.track) plane.lawful c.args.stop.place _ (omega (arith, c.requires.place, plane.count)) q.2, plane.count, family.few)
+    omega (arith, end_within (f.plane c.args.aim.now.track) plane.lawful c.args.stop.place _ (omega (arith, c.requires.within, plane.count)) q.2, plane.count, family.few)
 
-pub fitting_cost-requires-clause-place : goal.fitting_cost-requires-clause-place
-fitting_cost-requires-clause-place g c =
+pub fitting_cost-requires : goal.fitting_cost-requires
+fitting_cost-requires g c =
     let f = g.P.Planes.family c.args.aim.now.planes.now in
     let family = c.tracks-tracks.ensures.lawful in
     let plane = family.planes c.args.aim.now.track c.args.aim.now.on in
     let q = listed_end _ _ _ _ c.ends-ends.ensures.value c.loop-edge-test.true in
-    omega (arith, end_within (f.plane c.args.aim.now.track) plane.lawful c.args.stop.place _ (omega (arith, c.requires.place, plane.count)) q.2, plane.count)
-
-pub fitting_cost-requires-clause-room : goal.fitting_cost-requires-clause-room
-fitting_cost-requires-clause-room g c =
-    let f = g.P.Planes.family c.args.aim.now.planes.now in
-    let family = c.tracks-tracks.ensures.lawful in
-    let plane = family.planes c.args.aim.now.track c.args.aim.now.on in
-    let q = listed_end _ _ _ _ c.ends-ends.ensures.value c.loop-edge-test.true in
-    omega (arith, end_within (f.plane c.args.aim.now.track) plane.lawful c.args.stop.place _ (omega (arith, c.requires.place, plane.count)) q.2, plane.count, c.requires.room)
+    record {
+      within = omega (arith, end_within (f.plane c.args.aim.now.track) plane.lawful c.args.stop.place _ (omega (arith, c.requires.within, plane.count)) q.2, plane.count);
+      room = c.requires.room;
+      cheap = c.requires.cheap;
+    }
 
 pub returns-in-Some-clause-some : goal.returns-in-Some-clause-some
 returns-in-Some-clause-some g c =

@@ -13,11 +13,14 @@ loop-ranked-init g c =
     done_first f (λ (k : ℕ). HoldsNone f k) (λ (k : ℕ). ⊥) (tracks_in c.as_slice-ranked-items.result.now)
     (subst (λ (ranking : List Ranked). AreRanked f (λ (k : ℕ). ⊥) f.tracks (tracks_in ranking)) (sym c.as_slice-ranked-items.ensures.value) c.in_ok-rank_all.ensures) (λ k h. absurd h)
 
-pub begin-requires : goal.begin-requires
-begin-requires g c =
+pub invariant_of-view : goal.invariant_of-view
+invariant_of-view g c =
     let f = g.P.Planes.family c.args.planes.now in
     let are = subst (λ (ranking : List Ranked). AreRanked f (λ (k : ℕ). ⊥) f.tracks (tracks_in ranking)) (sym c.as_slice-ranked-items.ensures.value) c.in_ok-rank_all.ensures in
-    track_below c.as_slice-ranked-items.result.now are c.loop-ranked.ranked-index (record { bound = 0; track = 0 }) c.loop-ranked-test.true
+    record {
+      on = track_below c.as_slice-ranked-items.result.now are c.loop-ranked.ranked-index (record { bound = 0; track = 0 }) c.loop-ranked-test.true;
+      to = c.exit-exit.ensures;
+    }
 
 pub loop-ranked-preserved : goal.loop-ranked-preserved
 loop-ranked-preserved g c =

@@ -11,11 +11,14 @@ loop-ranked-init g c =
     way_first (tracks_in c.as_slice-ranked-items.result.now) c.args.path.now c.requires.known
     (subst (λ (ranking : List Ranked). AreRanked f (λ k. HoldsNothingLess f k c.args.path.now.nodes.items) f.tracks (tracks_in ranking)) (sym c.as_slice-ranked-items.ensures.value) c.in_ok-rank.ensures)
 
-pub improve-requires-clause-track : goal.improve-requires-clause-track
-improve-requires-clause-track g c =
+pub invariant_of-view : goal.invariant_of-view
+invariant_of-view g c =
     let f = g.P.Planes.family c.args.planes.now in
     let are = subst (λ (ranking : List Ranked). AreRanked f (λ k. HoldsNothingLess f k c.args.path.now.nodes.items) f.tracks (tracks_in ranking)) (sym c.as_slice-ranked-items.ensures.value) c.in_ok-rank.ensures in
-    track_below c.as_slice-ranked-items.result.now are c.loop-ranked.ranked-index (record { bound = 0; track = 0 }) c.loop-ranked-test.true
+    record {
+      on = track_below c.as_slice-ranked-items.result.now are c.loop-ranked.ranked-index (record { bound = 0; track = 0 }) c.loop-ranked-test.true;
+      to = c.exit-exit.ensures;
+    }
 
 pub loop-ranked-preserved : goal.loop-ranked-preserved
 loop-ranked-preserved g c =

@@ -8,7 +8,7 @@ pub returns-then-item-cost-clause-under_way : goal.returns-then-item-cost-clause
 returns-then-item-cost-clause-under_way g c = λ starts most w. taken_over (λ e. c.if-item-cost.true (omega (arith, e, c.cost-cost.ensures))) w
 
 pub loop-end-init : goal.loop-end-init
-loop-end-init g c = (c.requires.room, omega arith, omega arith, λ starts most w. w)
+loop-end-init g c = (c.requires.can.room, omega arith, omega arith, λ starts most w. w)
 
 pub overflow_add-place : goal.overflow_add-place
 overflow_add-place g c =

@@ -14,7 +14,7 @@ loop-item-init g c = (omega arith, c.in_ok-begin.ensures)
 
 pub follow-requires-clause-place : goal.follow-requires-clause-place
 follow-requires-clause-place g c =
-    let plane = c.tracks-tracks.ensures.lawful.planes c.args.view.now.track c.args.view.now.on in
+    let plane = c.tracks-tracks.ensures.lawful.planes c.args.starts.now.view.now.track c.args.starts.now.view.now.on in
     let entries = g.Q.Queue.entries in
     let taken : IsPermutation (entries c.loop-item.self.queue) (c.in-Some.item ∷ entries c.take.new.self) = rw c.in-Some.is at c.in_ok-item.ensures.some in
     omega (arith, plane.count, ((moved taken c.loop-item.invariant.1).reaching.keyed c.in-Some.item (Contains-first c.in-Some.item (entries c.take.new.self))).within)
@@ -23,7 +23,7 @@ pub loop-item-preserved : goal.loop-item-preserved
 loop-item-preserved g c =
     let entries = g.Q.Queue.entries in
     let taken : IsPermutation (entries c.loop-item.self.queue) (c.in-Some.item ∷ entries c.take.new.self) = rw c.in-Some.is at c.in_ok-item.ensures.some in
-    (omega (arith, c.loop-item.invariant.0, c.in_ok-limit.ensures.limit), c.in_ok-limit.ensures.under_way (places_of c.args.starts.now) c.args.most (moved taken c.loop-item.invariant.1))
+    (omega (arith, c.loop-item.invariant.0, c.in_ok-limit.ensures.limit), c.in_ok-limit.ensures.under_way (places_of c.args.starts.now.list.now) c.args.most (moved taken c.loop-item.invariant.1))
 
 pub loop-item-smaller : goal.loop-item-smaller
 loop-item-smaller g c =
@@ -33,10 +33,10 @@ loop-item-smaller g c =
 
 pub returns-clause-least : goal.returns-clause-least
 returns-clause-least g c =
-    let f = g.P.Planes.family c.args.view.now.planes.now in
-    let plane = c.tracks-tracks.ensures.lawful.planes c.args.view.now.track c.args.view.now.on in
+    let f = g.P.Planes.family c.args.starts.now.view.now.planes.now in
+    let plane = c.tracks-tracks.ensures.lawful.planes c.args.starts.now.view.now.track c.args.starts.now.view.now.on in
     let entries = g.Q.Queue.entries c.loop-item.self.queue in
     let above : All (λ (item : Open ℕ). c.loop-item.limit < item.key) entries = rw c.in_default.is at c.in_ok-item.ensures.none in
-    none_cheaper plane.lawful (omega (arith, c.loop-item.invariant.0, c.requires.few)) c.loop-item.invariant.1
+    none_cheaper plane.lawful (omega (arith, c.loop-item.invariant.0, c.requires)) c.loop-item.invariant.1
     (λ item has. All-contains (λ (item : Open ℕ). c.loop-item.limit < item.key) entries item above has)
-    (λ start h. All-contains (λ (x : ℕ). x < (f.plane c.args.view.now.track).count) (places_of c.args.starts.now) start c.requires.starts h)
+    (λ start h. All-contains (λ (x : ℕ). x < (f.plane c.args.starts.now.view.now.track).count) (places_of c.args.starts.now.list.now) start c.args.starts.now.ordered.within h)

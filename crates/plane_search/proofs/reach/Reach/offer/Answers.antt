@@ -31,7 +31,7 @@ pub returns-then-place-view-clause-on : goal.returns-then-place-view-clause-on
 returns-then-place-view-clause-on g c =
     let plane = c.tracks-tracks.ensures.lawful.planes c.args.view.now.track c.args.view.now.on in
     let some = plane.lawful.cost_from c.args.place (omega (arith, plane.count, c.requires.place)) in
-    λ starts most k is w. end_passed c.args.place _ (omega (arith, c.if-limit-cost.false)) (λ _. met_at_goal c.args.place _ (c.if-place-view.true ∙ c.args.view.now.to) is.within is.is (omega (arith, c.cost.ensures, some, c.if-limit-cost.false, c.requires.few)) (omega (arith, c.cost.ensures, some)) w) is.is (inr (λ rest leads. omega (arith, c.cost.ensures, some))) w
+    λ starts most k is w. end_passed c.args.place _ (omega (arith, c.if-limit-cost.false)) (λ _. met_at_goal c.args.place _ (c.if-place-view.true ∙ c.args.view.now.to) is.within is.is (omega (arith, c.cost.ensures, some, c.if-limit-cost.false, c.requires.can.few)) (omega (arith, c.cost.ensures, some)) w) is.is (inr (λ rest leads. omega (arith, c.cost.ensures, some))) w
 
 pub returns-in_default-clause-on : goal.returns-in_default-clause-on
 returns-in_default-clause-on g c = λ starts most k is w. end_passed c.args.place c.args.limit (omega arith) (λ met. met) is.is (inr (λ rest leads. absurd (c.in_default.ensures rest leads))) w
@@ -45,11 +45,11 @@ returns-clause-on g c =
     let plane = c.tracks-tracks.ensures.lawful.planes c.args.view.now.track c.args.view.now.on in
     λ starts most k is w. rw (c.in_ok-wait.ensures.marks, c.enter.ensures)
     (end_entered plane.lawful c.args.place _ _ (omega (arith, c.cost.ensures)) is.within is.is (omega (arith, plane.count, c.requires.place)) (λ e. c.if-place-view.false (e ∙ sym c.args.view.now.to))
-    (omega (arith, c.if-is_entered.ensures)) (omega (arith, c.if-limit-cost.false, c.requires.few)) (λ rest leads. omega (arith, c.in-Some.ensures rest leads)) c.in_ok-wait.ensures.added w)
+    (omega (arith, c.if-is_entered.ensures)) (omega (arith, c.if-limit-cost.false, c.requires.can.few)) (λ rest leads. omega (arith, c.in-Some.ensures rest leads)) c.in_ok-wait.ensures.added w)
 
 pub returns-clause-room : goal.returns-clause-room
 returns-clause-room g c = rw (c.in_ok-wait.ensures.marks, c.enter.ensures) (length-set _ _ _)
 
 pub returns-clause-nearer : goal.returns-clause-nearer
 returns-clause-nearer g c = rw (c.in_ok-wait.ensures.marks, c.enter.ensures)
-    (measure_falls _ c.args.place _ _ _ _ (omega (arith, c.requires.place, c.requires.room)) (omega (arith, c.if-is_entered.ensures)) c.in_ok-wait.ensures.added)
+    (measure_falls _ c.args.place _ _ _ _ (omega (arith, c.requires.place, c.requires.can.room)) (omega (arith, c.if-is_entered.ensures)) c.in_ok-wait.ensures.added)

@@ -25,7 +25,7 @@ invariant_of-self-2 c =
     let can : ChecksAdmission _ c.args.width (Ok c.in_ok-offset.offset) = rw (← c.self.view_is) at said in
     let few : length hs < 65535 = can.0.ids_left in
     let same : c.len.result ≡ length hs = search rules in
-    let items : c.push.new.self.items ≡ hs ++ admitted_history (record { arch = c.self.inside.arch; columns = c.self.inside.layout.columns; rows = c.self.inside.rows }) (length hs + 1) c.args.width ∷ [] = search rules in
+    let items : c.push.new.self.items ≡ hs ++ admitted_history (record { arch = c.self.inside.arch; columns = c.self.inside.layout.columns; rows = c.self.inside.rows; text_limit = c.self.inside.text_limit }) (length hs + 1) c.args.width ∷ [] = search rules in
     rw (c.place.ensures, same, items) (sound_admitted c.self.inside.book _ c.self.inside.layout.strips hs c.args.width c.in_ok-offset.offset c.self.invariant few)
 
 pub returns : goal.returns
@@ -34,5 +34,5 @@ returns c =
     let said : ChecksAdmission c.args.self.now c.args.width (Ok c.in_ok-offset.offset) = c.in_ok-offset.ensures in
     let can : ChecksAdmission _ c.args.width (Ok c.in_ok-offset.offset) = rw (← c.self.view_is) at said in
     let same : c.len.result ≡ length hs = search rules in
-    let items : c.push.new.self.items ≡ hs ++ admitted_history (record { arch = c.self.inside.arch; columns = c.self.inside.layout.columns; rows = c.self.inside.rows }) (length hs + 1) c.args.width ∷ [] = search rules in
+    let items : c.push.new.self.items ≡ hs ++ admitted_history (record { arch = c.self.inside.arch; columns = c.self.inside.layout.columns; rows = c.self.inside.rows; text_limit = c.self.inside.text_limit }) (length hs + 1) c.args.width ∷ [] = search rules in
     rw (c.place.ensures, same, items, ← c.self.view_is) (can.0, refl, can.1, refl)

@@ -30,7 +30,7 @@ claim-requires c =
     let old : History = c.index_mut-tenancy.result.now in
     let live : IsLiveIn c.self.inside.tenancies.items c.id-id.result = search rules in
     let is : old ≡ get_or c.self.inside.tenancies.items (c.id-id.result - 1) old = search rules in
-    let place : IsPlaceOf (record { device = record { arch = c.self.inside.arch; columns = c.self.inside.layout.columns; rows = c.self.inside.rows }; plan = c.self.inside.layout; histories = c.self.inside.tenancies.items }) c.id-id.result c.place_of-offset.result = rw (← c.self.view_is) at c.place_of-offset.ensures in
+    let place : IsPlaceOf (record { device = record { arch = c.self.inside.arch; columns = c.self.inside.layout.columns; rows = c.self.inside.rows; text_limit = c.self.inside.text_limit }; plan = c.self.inside.layout; histories = c.self.inside.tenancies.items }) c.id-id.result c.place_of-offset.result = rw (← c.self.view_is) at c.place_of-offset.ensures in
     let flag : old.live ≡ true = ap (λ (h : History). h.live) is ∙ live.flag old in
     let put : PutsHistory old c.args.done (Ok c.in-Ok.reply) c.put.new.self = subst (λ r. PutsHistory old c.args.done r c.put.new.self) c.in-Ok.is c.put.ensures in
     let stand : StandsIn (extent_of c.self.inside.arch c.self.inside.layout.columns c.self.inside.rows) c.place_of-offset.result c.put.new.self.arch c.put.new.self.strip =
@@ -38,8 +38,8 @@ claim-requires c =
     record {
       live = put_live old c.args.done c.in-Ok.reply c.put.new.self put ∙ flag;
       few = omega (arith, live.within, c.self.invariant.kept.few);
-      there = in_book_there c.self.inside.book (record { arch = c.self.inside.arch; columns = c.self.inside.layout.columns; rows = c.self.inside.rows }) c.place_of-offset.result c.put.new.self c.self.invariant.book.extent stand;
-      free = put_free c.self.inside.book (record { arch = c.self.inside.arch; columns = c.self.inside.layout.columns; rows = c.self.inside.rows }) c.self.inside.layout.strips c.self.inside.tenancies.items c.id-id.result c.place_of-offset.result old c.args.done c.in-Ok.reply c.put.new.self c.self.invariant place.parted live is place.at put;
+      there = in_book_there c.self.inside.book (record { arch = c.self.inside.arch; columns = c.self.inside.layout.columns; rows = c.self.inside.rows; text_limit = c.self.inside.text_limit }) c.place_of-offset.result c.put.new.self c.self.invariant.book.extent stand;
+      free = put_free c.self.inside.book (record { arch = c.self.inside.arch; columns = c.self.inside.layout.columns; rows = c.self.inside.rows; text_limit = c.self.inside.text_limit }) c.self.inside.layout.strips c.self.inside.tenancies.items c.id-id.result c.place_of-offset.result old c.args.done c.in-Ok.reply c.put.new.self c.self.invariant place.parted live is place.at put;
     }
 
 pub invariant_of-self-in-Ok : goal.invariant_of-self-in-Ok
@@ -47,11 +47,11 @@ invariant_of-self-in-Ok c =
     let old : History = c.index_mut-tenancy.result.now in
     let live : IsLiveIn c.self.inside.tenancies.items c.id-id.result = search rules in
     let is : old ≡ get_or c.self.inside.tenancies.items (c.id-id.result - 1) old = search rules in
-    let place : IsPlaceOf (record { device = record { arch = c.self.inside.arch; columns = c.self.inside.layout.columns; rows = c.self.inside.rows }; plan = c.self.inside.layout; histories = c.self.inside.tenancies.items }) c.id-id.result c.place_of-offset.result = rw (← c.self.view_is) at c.place_of-offset.ensures in
+    let place : IsPlaceOf (record { device = record { arch = c.self.inside.arch; columns = c.self.inside.layout.columns; rows = c.self.inside.rows; text_limit = c.self.inside.text_limit }; plan = c.self.inside.layout; histories = c.self.inside.tenancies.items }) c.id-id.result c.place_of-offset.result = rw (← c.self.view_is) at c.place_of-offset.ensures in
     let flag : old.live ≡ true = ap (λ (h : History). h.live) is ∙ live.flag old in
     let put : PutsHistory old c.args.done (Ok c.in-Ok.reply) c.put.new.self = subst (λ r. PutsHistory old c.args.done r c.put.new.self) c.in-Ok.is c.put.ensures in
     sound_put c.self.inside.book c.claim.new.book _ c.self.inside.layout.strips c.self.inside.tenancies.items c.id-id.result c.place_of-offset.result old c.args.done c.in-Ok.reply c.put.new.self c.self.invariant live is place.at flag put
-    (put_free c.self.inside.book (record { arch = c.self.inside.arch; columns = c.self.inside.layout.columns; rows = c.self.inside.rows }) c.self.inside.layout.strips c.self.inside.tenancies.items c.id-id.result c.place_of-offset.result old c.args.done c.in-Ok.reply c.put.new.self c.self.invariant place.parted live is place.at put) c.claim.ensures
+    (put_free c.self.inside.book (record { arch = c.self.inside.arch; columns = c.self.inside.layout.columns; rows = c.self.inside.rows; text_limit = c.self.inside.text_limit }) c.self.inside.layout.strips c.self.inside.tenancies.items c.id-id.result c.place_of-offset.result old c.args.done c.in-Ok.reply c.put.new.self c.self.invariant place.parted live is place.at put) c.claim.ensures
 
 pub invariant_of-self-in-Err : goal.invariant_of-self-in-Err
 invariant_of-self-in-Err c =

@@ -12,8 +12,8 @@ serve-requires-clause-there c =
     let old : History = c.index_mut-tenancy.result.now in
     let live : IsLiveIn c.self.inside.tenancies.items c.args.id = search rules in
     let is : old ≡ get_or c.self.inside.tenancies.items (c.args.id - 1) old = search rules in
-    let place : IsPlaceOf (record { device = record { arch = c.self.inside.arch; columns = c.self.inside.layout.columns; rows = c.self.inside.rows }; plan = c.self.inside.layout; histories = c.self.inside.tenancies.items }) c.args.id c.place_of-offset.result = rw (← c.self.view_is) at c.place_of-offset.ensures in
-    in_book_there c.self.inside.book (record { arch = c.self.inside.arch; columns = c.self.inside.layout.columns; rows = c.self.inside.rows }) c.place_of-offset.result old c.self.invariant.book.extent (place.stands old (live_is _ c.args.id old live is))
+    let place : IsPlaceOf (record { device = record { arch = c.self.inside.arch; columns = c.self.inside.layout.columns; rows = c.self.inside.rows; text_limit = c.self.inside.text_limit }; plan = c.self.inside.layout; histories = c.self.inside.tenancies.items }) c.args.id c.place_of-offset.result = rw (← c.self.view_is) at c.place_of-offset.ensures in
+    in_book_there c.self.inside.book (record { arch = c.self.inside.arch; columns = c.self.inside.layout.columns; rows = c.self.inside.rows; text_limit = c.self.inside.text_limit }) c.place_of-offset.result old c.self.invariant.book.extent (place.stands old (live_is _ c.args.id old live is))
 
 pub invariant_of-self : goal.invariant_of-self
 invariant_of-self c =
@@ -21,7 +21,7 @@ invariant_of-self c =
     let live : IsLiveIn c.self.inside.tenancies.items c.args.id = search rules in
     let is : old ≡ get_or c.self.inside.tenancies.items (c.args.id - 1) old = search rules in
     let flag : old.live ≡ true = ap (λ (h : History). h.live) is ∙ live.flag old in
-    let place : IsPlaceOf (record { device = record { arch = c.self.inside.arch; columns = c.self.inside.layout.columns; rows = c.self.inside.rows }; plan = c.self.inside.layout; histories = c.self.inside.tenancies.items }) c.args.id c.place_of-offset.result = rw (← c.self.view_is) at c.place_of-offset.ensures in
+    let place : IsPlaceOf (record { device = record { arch = c.self.inside.arch; columns = c.self.inside.layout.columns; rows = c.self.inside.rows; text_limit = c.self.inside.text_limit }; plan = c.self.inside.layout; histories = c.self.inside.tenancies.items }) c.args.id c.place_of-offset.result = rw (← c.self.view_is) at c.place_of-offset.ensures in
     sound_served c.self.inside.book c.serve.new.book _ c.self.inside.layout.strips c.self.inside.tenancies.items c.args.id c.place_of-offset.result old c.args.command c.serve.result c.serve.new.self c.self.invariant live is place.at flag c.serve.ensures.served c.serve.ensures.book
 
 pub returns : goal.returns

@@ -39,5 +39,5 @@ returns c =
     let live : c.args.self.now.live ≡ true = c.requires.live in (
       c.put_from-reply.result.0.foreign,
       stands.made,
-      history_is _ _ (rw (← c.self.view_is) refl) (rw (← c.self.view_is) refl) (rw (← c.self.view_is) refl) (rw live refl) stands.here (rw (items, stands.entry, ← c.self.view_is) refl),
+      history_is _ _ (rw (← c.self.view_is) refl) (rw (← c.self.view_is) refl) (rw (← c.self.view_is) refl) (rw (← c.self.view_is) refl) (rw live refl) stands.here (rw (items, stands.entry, ← c.self.view_is) refl),
     )

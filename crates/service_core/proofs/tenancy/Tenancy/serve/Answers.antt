@@ -47,4 +47,4 @@ returns-in-Ok-clause-book c =
     let after : state_after (start c.self.inside.arch c.self.inside.strip) (events_of c.push.new.self.items) ≡ (step (state_of c.args.self.now) (Asked c.args.command)).0 =
     rw (← c.self.view_is, items) (state_after-push (start c.self.inside.arch c.self.inside.strip) c.self.inside.journal.items e) in
     slot_gives_up c.args.book.now c.give_up.new.book c.args.offset c.args.self.now
-    (record { id = c.self.inside.id; arch = c.self.inside.arch; strip = c.self.inside.strip; live = true; here = c.accept.new.self.here; entries = c.push.new.self.items }) c.in-Some.slot.state c.args.command c.in-Ok.recorded.reply (rw (← c.self.view_is) here) told after c.give_up.ensures
+    (record { id = c.self.inside.id; arch = c.self.inside.arch; strip = c.self.inside.strip; text_limit = c.self.inside.text_limit; live = true; here = c.accept.new.self.here; entries = c.push.new.self.items }) c.in-Some.slot.state c.args.command c.in-Ok.recorded.reply (rw (← c.self.view_is) here) told after c.give_up.ensures

@@ -1,7 +1,8 @@
 use Rattle.std.proofs.Common.{◌≡◌, ◌<◌, ◌∙◌, ◌++◌, List, [], ℕ, length, ap, arith, sym, subst, filter, append-nil}
 use Rattle.std.proofs.lemmas.Bool.Decides.{nat_tests}
 use Rattle.line_text.specs.Lines.{physical_lines}
-use Rattle.strip_files.specs.BlockLines.{IsLineOfBlock, block_lines, listed_names}
+use Rattle.line_text.specs.Words.{texts}
+use Rattle.strip_files.specs.BlockLines.{IsLineOfBlock, IsLineOfElement, block_lines, element_lines, listed_names}
 use Rattle.strip_files.specs.EachLine.{AreEachFrom}
 use Rattle.strip_files.specs.declared.block.BlockKind.{BlockKind}
 use Rattle.strip_files.proofs.Nets.{each_step}
@@ -25,7 +26,13 @@ loop-rest-preserved c =
     (let step = each_step IsLineOfBlock is_block_line c.split_line.result.0.now (physical_lines later) old new more c.in_default.ensures.names told in
     let here : AreEachFrom IsLineOfBlock (length old) (block_lines rest) step.0 = subst (λ (lines : List (List ℕ)). AreEachFrom IsLineOfBlock (length old) (filter is_block_line lines) step.0) (sym lines_are) step.1 in
     subst (λ (all : List (BlockKind × List ℕ)). AreEachFrom IsLineOfBlock 0 (block_lines c.args.text.now) all) (sym step.2) (c.loop-rest.invariant.1 step.0 here)) in
-    (begun ∙ ap (λ (lines : List (List ℕ)). starts ++ starts_of is_element_line is_block_line count lines) (sym lines_are) ∙ c.loop-rest.invariant.0, named)
+    let before : List (List ℕ) = texts c.loop-rest.self.elements.items in
+    let after : List (List ℕ) = texts c.line.new.self.elements.items in
+    let elements : (more : List (List ℕ)) → AreEachFrom IsLineOfElement (length after) (element_lines later) more → AreEachFrom IsLineOfElement 0 (element_lines c.args.text.now) (after ++ more) = λ more told.
+    (let step = each_step IsLineOfElement is_element_line c.split_line.result.0.now (physical_lines later) before after more c.in_default.ensures.elements told in
+    let here : AreEachFrom IsLineOfElement (length before) (element_lines rest) step.0 = subst (λ (lines : List (List ℕ)). AreEachFrom IsLineOfElement (length before) (filter is_element_line lines) step.0) (sym lines_are) step.1 in
+    subst (λ (all : List (List ℕ)). AreEachFrom IsLineOfElement 0 (element_lines c.args.text.now) all) (sym step.2) (c.loop-rest.invariant.2 step.0 here)) in
+    (begun ∙ ap (λ (lines : List (List ℕ)). starts ++ starts_of is_element_line is_block_line count lines) (sym lines_are) ∙ c.loop-rest.invariant.0, named, elements)
 
 pub returns-clause-starts : goal.returns-clause-starts
 unfolding starts_of
@@ -43,3 +50,11 @@ returns-clause-names c =
     let names = listed_names c.loop-rest.self.blocks.items in
     subst (λ (all : List (BlockKind × List ℕ)). AreEachFrom IsLineOfBlock 0 (block_lines c.args.text.now) all) (append-nil names)
     (c.loop-rest.invariant.1 [] (subst (λ (rest : List ℕ). AreEachFrom IsLineOfBlock (length names) (block_lines rest) []) (sym none) tt))
+
+pub returns-clause-elements : goal.returns-clause-elements
+returns-clause-elements c =
+    let short : length c.loop-rest.rest.now ≡ 0 = grind (arith, nat_tests, c.loop-rest-test.ensures) in
+    let none : c.loop-rest.rest.now ≡ [] = nothing c.loop-rest.rest.now short in
+    let names : List (List ℕ) = texts c.loop-rest.self.elements.items in
+    subst (λ (all : List (List ℕ)). AreEachFrom IsLineOfElement 0 (element_lines c.args.text.now) all) (append-nil names)
+    (c.loop-rest.invariant.2 [] (subst (λ (rest : List ℕ). AreEachFrom IsLineOfElement (length names) (element_lines rest) []) (sym none) tt))

@@ -1,0 +1,11 @@
+use Rattle.std.proofs.Common.{inr, subst}
+use Rattle.desk_replies.specs.Pictured.{IsTextEnd}
+use Rattle.desk_replies.proofs.picture.run.Goals as goal
+
+pub returns-in-Ok : goal.returns-in-Ok
+returns-in-Ok g c =
+    inr (inr (record {
+      printed = c.in-Ok.text.items;
+      are_printed = c.in-Ok.ensures.ok;
+      end = subst (λ text. IsTextEnd c.args.size text c.draw_text-outcome.result) c.as_slice.ensures.value c.draw_text-outcome.ensures;
+    }))

@@ -1,6 +1,0 @@
-use Rattle.std.proofs.Common.{◌≡◌, take}
-use Rattle.live_run.specs.WholePart.{whole_bytes}
-use Rattle.live_run.proofs.whole_part.whole_part.Given as goal
-
-abbrev pub invariant-loop-i : goal.invariant-loop-i
-invariant-loop-i l = l.whole ≡ whole_bytes (take l.i l.bytes)
