@@ -97,13 +97,7 @@ fn run_of<E: Sink>(
         Ok(PinnedEnd::Placed { run, .. }) => Ok(run),
         Ok(PinnedEnd::NeverRouted) => Err(Outcome::Unrouted),
         Ok(PinnedEnd::Refused(refusal)) => {
-            let RouteJob {
-                wishes,
-                arch,
-                request,
-                ..
-            } = job;
-            Err(told_unfit(alloc, wishes, arch, request, refusal, teller))
+            Err(told_unfit(alloc, job.wishes, job.arch, job.request, refusal, teller))
         }
         Ok(PinnedEnd::NotPinned(fault)) => {
             let _ = tell_pin_fault(teller, path, pins, job.size, fault);

@@ -300,13 +300,7 @@ fn write_run<O: FileOutputs, W: Sink, E: Sink>(
             Err(outcome)
         }
         End::Refused(refusal) => {
-            let RouteJob {
-                wishes,
-                arch,
-                request,
-                ..
-            } = job;
-            Err(told_unfit(alloc, wishes, arch, request, refusal, teller))
+            Err(told_unfit(alloc, job.wishes, job.arch, job.request, refusal, teller))
         }
     }
 }

@@ -18,7 +18,7 @@ use Rattle.desk_replies.specs.declared.files.FilesJob.{FilesJob}
 use Rattle.desk_replies.specs.declared.files.FilesWishes.{FilesWishes}
 use Rattle.desk_replies.specs.declared.lines.Lines.{Lines}
 
--- the lines of a script with the first lines of their replies, so many of them refused
+-- the lines of a script with the first lines of their replies, and how many of them are refused
 pub record AreTold (lines : Lines) (replies : List AnsweredLine) (told : List ToldLine) (refused : ℕ) : Type 0 where
   pub asked : List ScriptLine
   pub are_asked : map numbered asked ≡ lines_asked lines.number lines.text.now
@@ -52,7 +52,8 @@ pub record ArePrinted (input : Option (List ℕ)) (job : FilesJob) (refused : �
   pub saved : AreSavedFrom job printed refused old new
 
 -- The script is that of the file, and its replies are the input: exactly the present files of each
--- name are written under its name, and its lines with their replies; and so many are refused.
+-- name are written under its name, and its lines with their replies. `refused` is how many of the
+-- lines are refused.
 pub record AreServed (text : List ℕ → Option (List ℕ)) (input : Option (List ℕ)) (wishes : FilesWishes) (refused : ℕ) (old new : Option (List NamedBytes)) : Type 0 where
   pub script : List ℕ
   pub read : IsBeginning (text wishes.script.now) (2 ^ 64 - 1) script

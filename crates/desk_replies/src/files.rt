@@ -1,26 +1,23 @@
 //! The tool that saves the files which the service printed.
-ghost use Rattle.std.specs.Prelude.{◌≡◌, count_by, map, option_map, IfOk};
-ghost use Rattle.std.specs.List.{flat_map};
+ghost use Rattle.std.specs.Prelude.{◌≡◌, count_by, map, IfOk};
 ghost use Rattle.desk_common.specs.Outputs.{AreAdded};
 ghost use Rattle.desk_replies.specs.Asked.{IsFilesAskedFor, IsFilesForm};
-ghost use Rattle.desk_replies.specs.Saved.{files_of_name, if_present, replies_files};
+ghost use Rattle.desk_replies.specs.Saved.{replies_files};
 ghost use Rattle.desk_replies.specs.Served.{ArePrinted, AreRepliesSaved, AreSaved, AreSavedFrom, AreServed};
 ghost use Rattle.script_replies.specs.Accounts.{account_now, accounts_of};
 ghost use Rattle.script_replies.specs.Told.{is_refused};
 ghost use Rattle.script_text.specs.Script.{named_act};
 
 use crate::lines::Lines;
-use crate::outdated::tell_outdated;
+use crate::saved_accounts::save_files;
 use crate::script_input::{acts_of, lines_of, replies_of};
 use crate::tenants::save_replies;
 use desk_circuits::{LineCounts, facts_of, print_usages, usages_text};
-use desk_common::{DEVICE, FOLDER, FileOutputs, FileRole, FileTexts, NewFile, Outcome, ResultFile};
+use desk_common::{DEVICE, FOLDER, FileOutputs, FileRole, FileTexts, Outcome};
 use line_text::{Failed, Sink, Source, read_all, write_all};
 use option_words::{Given, OptionWord, Program, Takes};
 use printed_replies::Replies;
-use script_replies::{
-    Account, PrintedFile, ToldLine, accounts_of, script_lines, told_lines, write_told,
-};
+use script_replies::{Account, ToldLine, accounts_of, script_lines, told_lines, write_told};
 use script_text::Act;
 use std::alloc::Global;
 use text_parts::{Part, write_parts};
@@ -250,76 +247,6 @@ fn save_and_print<O: FileOutputs, W: Sink, E: Sink>(
 {
     let files = save_files(outputs, job.wishes.folder, answers.accounts, teller)?;
     print(alloc, outputs, job, answers, files, writer, teller)
-}
-
-/// Writes the present files of all names into the folder, and returns how many they are.
-fn save_files<O: FileOutputs, E: Sink>(
-    outputs: &mut O,
-    folder: &str,
-    accounts: &[Account<'_, '_>],
-    teller: &mut E,
-) -> Result<u32, Outcome>
-    ensures { IfOk result (λ _. AreAdded (O.written outputs.old) (O.written outputs.new)
-        (flat_map (files_of_name folder.now) (map account_now accounts.now))) }
-{
-    outputs.make_folder(folder, teller)?;
-    let mut files = 0u32;
-    for account in accounts {
-        let saved = save_name(outputs, folder, *account, teller)?;
-        files = files.saturating_add(saved);
-    }
-    Ok(files)
-}
-
-/// Writes the present files of a name, and returns how many they are.
-fn save_name<O: FileOutputs, E: Sink>(
-    outputs: &mut O,
-    folder: &str,
-    account: Account<'_, '_>,
-    teller: &mut E,
-) -> Result<u32, Outcome>
-    ensures { IfOk result (λ _. AreAdded (O.written outputs.old) (O.written outputs.new)
-        (files_of_name folder.now (account_now account.entry))) }
-{
-    let Ok(name) = str::from_utf8(account.name) else {
-        return Ok(0);
-    };
-    let files = account.files;
-    let net = save_file(outputs, file_of(folder, name, "net"), files.net, teller)?;
-    let place = save_file(outputs, file_of(folder, name, "place"), files.place, teller)?;
-    let route = save_file(outputs, file_of(folder, name, "route"), files.route, teller)?;
-    tell_outdated(account, "not written", teller);
-    Ok(u32::from(net) + u32::from(place) + u32::from(route))
-}
-
-/// A file of that kind of a name.
-fn file_of<'a>(folder: &'a str, name: &'a str, kind: &'static str) -> ResultFile<'a>
-    ensures { result ≡ record { folder = folder.entry; name = name.entry; kind = kind.entry } }
-{
-    ResultFile { folder, name, kind }
-}
-
-/// Writes a file if it is present, and returns whether it is.
-fn save_file<O: FileOutputs, E: Sink>(
-    outputs: &mut O,
-    file: ResultFile<'_>,
-    printed: PrintedFile<'_>,
-    teller: &mut E,
-) -> Result<bool, Outcome>
-    ensures { IfOk result (λ _. AreAdded (O.written outputs.old) (O.written outputs.new)
-        (if_present file.entry.folder.now file.entry.name.now file.entry.kind.now
-        (option_map (λ text. text.now) printed.entry.text))) }
-{
-    match printed.text {
-        Some(text) => {
-            outputs.write_files(&[NewFile { file, bytes: text }], teller)?;
-            Ok(true)
-        }
-        None => {
-            outputs.tell_stale(file, teller);
-            Ok(false)
-        }
-    }
 }
 
 /// Writes the lines of each name with their replies into the folder, and prints all lines beside

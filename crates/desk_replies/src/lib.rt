@@ -22,6 +22,7 @@ mod report_facts;
 mod report_json;
 mod report_moves;
 mod report_paths;
+mod saved_accounts;
 mod script_input;
 mod size;
 mod states;

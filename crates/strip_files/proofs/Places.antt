@@ -7,7 +7,7 @@ use Rattle.strip_files.specs.EachLine.{AddsNext, AreEachFrom}
 use Rattle.strip_files.specs.PlaceLines.{IsLineOfPlace, has_place, is_place_line}
 use Rattle.strip_files.proofs.Nets.{each_step}
 
--- a line after so many, and the places of the lines after it
+-- a line with this number of lines before it, and the places of the lines after it
 pub place_step : (before : ℕ) (line : List ℕ) (lines : List (List ℕ)) (old new more : List (List ℕ × Place)) → AddsNext (has_place before line) (IsLineOfPlace (length old) line) old new
     → AreEachFrom IsLineOfPlace (length new) (filter is_place_line (drop (2 - (before + 1)) lines)) more
     → (rest : List (List ℕ × Place)) × AreEachFrom IsLineOfPlace (length old) (filter is_place_line (drop (2 - before) (line ∷ lines))) rest × (new ++ more ≡ old ++ rest)

@@ -40,10 +40,10 @@ places_of blocks = map (λ block. (block.name.now, block.place)) blocks
 abbrev pub HavePlaces : List ℕ → List PlacedBlock → Type 0
 HavePlaces text blocks = AreEachFrom IsLineOfPlace 0 (place_lines text) (places_of blocks)
 
--- private: whether the line after so many has a block
+-- private: whether a line has a block, with this number of lines before it
 abbrev pub has_place : ℕ → List ℕ → Bool
 has_place before line = if nat_lt before 2 then false else is_place_line line
 
--- private: the block of the line after so many is read
+-- private: the block of a line is read, with this number of lines before it
 abbrev pub IsPlaceReadOn : ℕ → List ℕ → List PlacedBlock → List PlacedBlock → Type 0
 IsPlaceReadOn before line old new = AddsNext (has_place before line) (IsLineOfPlace (length (places_of old)) line) (places_of old) (places_of new)

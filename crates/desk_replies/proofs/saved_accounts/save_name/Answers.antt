@@ -4,7 +4,7 @@ use Rattle.desk_common.proofs.Added.{added_none}
 use Rattle.desk_replies.specs.Saved.{if_present}
 use Rattle.desk_replies.proofs.SavedFiles.{name_added, no_utf8}
 use Rattle.script_replies.specs.Accounts.{account_now}
-use Rattle.desk_replies.proofs.files.save_name.Goals as goal
+use Rattle.desk_replies.proofs.saved_accounts.save_name.Goals as goal
 
 pub returns-in_default : goal.returns-in_default
 returns-in_default g c = rw (no_utf8 c.args.account.name.now c.in_default.ensures.cases.0) (added_none _)

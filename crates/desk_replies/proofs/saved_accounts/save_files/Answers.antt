@@ -5,7 +5,7 @@ use Rattle.std.specs.List.{flat_map}
 use Rattle.desk_common.specs.Outputs.{AreAdded}
 use Rattle.desk_replies.specs.Saved.{files_of_name}
 use Rattle.script_replies.specs.Accounts.{account_now}
-use Rattle.desk_replies.proofs.files.save_files.Goals as goal
+use Rattle.desk_replies.proofs.saved_accounts.save_files.Goals as goal
 
 pub returns : goal.returns
 returns g c =
