@@ -1,5 +1,5 @@
 //! Reads the program's words to an errand.
-ghost use Rattle.std.specs.Prelude.{IfOk};
+ghost use Rattle.std.specs.Prelude.{IfOk, OnErr};
 ghost use Rattle.desk.specs.Errands.{IsErrandOf};
 
 use crate::tools::{COMPLETION, MANUAL, ToolsForm, shell_of};
@@ -164,7 +164,9 @@ fn errand_by<'a, S: AsStr>(
 
 /// What a call asks, or why it is refused.
 fn errand_of<'a>(call: &Call<'a>) -> Result<Errand<'a>, &'static str>
-    ensures { IfOk result (IsErrandOf call.now.tool.name.now call.now.given) }
+    ensures asked { IfOk result (IsErrandOf call.now.tool.name.now call.now.given) }
+    ensures refused { OnErr result ((errand : Errand) →
+        IsErrandOf call.now.tool.name.now call.now.given errand → ⊥) }
 {
     match call.tool.name {
         "script" => Ok(Errand::Script(script::wishes_of(&call.given)?)),

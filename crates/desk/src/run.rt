@@ -1,12 +1,15 @@
 //! Runs errands.
+ghost use Rattle.line_text.specs.Writing.{Writes};
+ghost use Rattle.desk.specs.Ends.{IsEndOf, IsHelpEnd, IsScriptEnd, versions_text};
+
 use crate::errand::{Errand, read_errand};
 use crate::tools::print_tools;
 use clap::Error;
 use clap::error::ErrorKind;
 use desk_circuits::warn_of_netlist;
 use desk_common::{
-    DeviceOption, FileRole, Folders, MAX_DEVICE_READ, Outcome, device_options, device_path,
-    read_file, with_device,
+    DeviceOption, FileRole, FileTexts, Folders, MAX_DEVICE_READ, Outcome, device_options,
+    device_path, read_file, with_device,
 };
 use desk_layouts::{check, configure, strip};
 use desk_netlists::{random, route, script};
@@ -106,19 +109,31 @@ fn run_plain<H: Files + AllocGlobal, S: AsStr, R: Source, W: Sink, E: Sink>(
     let name = words.first().map_or("", |word| word.as_str());
     let asked = words.get(1).map_or("", |word| word.as_str());
     let tool = words.get(2).map_or("--help", |word| word.as_str());
+    let Streams {
+        reader,
+        writer,
+        teller,
+        is_terminal,
+        built_from,
+    } = streams;
     match asked {
-        "help" if words.len() < 4 => run_read(rt, &[name, tool, "--help"], streams),
+        "help" if words.len() < 4 => {
+            let words = [name, tool, "--help"];
+            run_read(rt, &words, reader, writer, teller, is_terminal)
+        }
         "--version" | "-V" if words.len() == 2 => {
-            let built_from = streams.built_from;
-            let written = write_versions(streams.writer, built_from);
+            let written = write_versions(writer, built_from);
             Ok(Outcome::of_writing(written))
         }
-        _ => run_read(rt, words, streams),
+        _ => run_read(rt, words, reader, writer, teller, is_terminal),
     }
 }
 
 /// Writes the versions of the three programs, a line each.
-fn write_versions<W: Sink>(writer: &mut W, built_from: &str) -> Result<(), Failed> {
+fn write_versions<W: Sink>(writer: &mut W, built_from: &str) -> Result<(), Failed>
+    ensures { Writes W.contents W.has_failed writer.old writer.new (versions_text built_from.now)
+        result }
+{
     write_parts(
         writer,
         &[
@@ -138,25 +153,37 @@ fn write_versions<W: Sink>(writer: &mut W, built_from: &str) -> Result<(), Faile
 fn run_read<H: Files + AllocGlobal, S: AsStr, R: Source, W: Sink, E: Sink>(
     rt: &H,
     words: &[S],
-    streams: Streams<'_, R, W, E>,
+    reader: &mut R,
+    writer: &mut W,
+    teller: &mut E,
+    is_terminal: bool,
 ) -> Result<Outcome, Error> {
     match read_errand(rt.alloc(), words) {
-        Ok(errand) => Ok(run(rt, errand, streams)),
+        Ok(errand) => Ok(run(rt, errand, reader, writer, teller, is_terminal)),
         Err(error) if error.kind() == ErrorKind::OutOfMemory => Ok(Outcome::NoMemory),
         Err(error) if error.kind() == ErrorKind::DisplayHelp => {
-            Ok(print_help(rt.alloc(), error, streams.writer))
+            Ok(print_help(rt.alloc(), error, writer))
         }
         Err(error) => Err(error),
     }
 }
 
+/// Writes the help.
+fn write_help<W: Sink>(writer: &mut W, text: &str) -> Result<(), Failed>
+    ensures { Writes W.contents W.has_failed writer.old writer.new text.now result }
+{
+    write_all(writer, text.as_bytes())
+}
+
 /// Prints the help, and returns how the errand ended.
-fn print_help<W: Sink>(alloc: Global, help: Error, writer: &mut W) -> Outcome {
+fn print_help<W: Sink>(alloc: Global, help: Error, writer: &mut W) -> Outcome
+    ensures { IsHelpEnd W.contents W.has_failed writer.old writer.new result }
+{
     match help.to_string(alloc) {
         Ok(text) => {
-            let outcome = Outcome::of_writing(write_all(writer, text.as_bytes()));
+            let written = write_help(writer, text.as_str());
             drop(text);
-            outcome
+            Outcome::of_writing(written)
         }
         Err(_) => Outcome::NoMemory,
     }
@@ -166,15 +193,14 @@ fn print_help<W: Sink>(alloc: Global, help: Error, writer: &mut W) -> Outcome {
 fn run<H: Files + AllocGlobal, R: Source, W: Sink, E: Sink>(
     rt: &H,
     errand: Errand<'_>,
-    streams: Streams<'_, R, W, E>,
-) -> Outcome {
-    let Streams {
-        reader,
-        writer,
-        teller,
-        is_terminal,
-        built_from: _,
-    } = streams;
+    reader: &mut R,
+    writer: &mut W,
+    teller: &mut E,
+    is_terminal: bool,
+) -> Outcome
+    ensures { IsEndOf W.contents W.has_failed writer.old writer.new (R.remaining reader.old)
+        (⟦<H as FileTexts>⟧.text rt.now) (⟦<H as FileTexts>⟧.fails rt.now) errand.entry result }
+{
     let mut folders = Folders::new(rt);
     match errand {
         Errand::Script(wishes) => print_script(rt.alloc(), wishes, reader, writer, teller),
@@ -205,7 +231,10 @@ fn print_script<R: Source, W: Sink, E: Sink>(
     reader: &mut R,
     writer: &mut W,
     teller: &mut E,
-) -> Outcome {
+) -> Outcome
+    ensures { IsScriptEnd W.contents W.has_failed writer.old writer.new (R.remaining reader.old)
+        wishes.entry result }
+{
     match read_all(alloc, reader) {
         Ok(text) => {
             let outcome = script::print(wishes, text.as_slice(), writer);

@@ -1,4 +1,7 @@
 //! The tools and their options, for shells and for the manual.
+ghost use Rattle.std.specs.Prelude.{IfOk, OnErr};
+ghost use Rattle.desk.specs.Errands.{IsShellAskedFor};
+
 use crate::errand::{LAYOUTS, OTHERS, ROUTES, TOOLBOX, VIEWS};
 use completions::{write_cases, write_fish_names, write_fish_options, write_names, write_page};
 use desk_common::Outcome;
@@ -44,7 +47,10 @@ pub(crate) enum ToolsForm {
 }
 
 /// The script for the shell that is given, or why the words are refused.
-pub(crate) fn shell_of(given: &Given<'_>) -> Result<ToolsForm, &'static str> {
+pub(crate) fn shell_of(given: &Given<'_>) -> Result<ToolsForm, &'static str>
+    ensures asked { IfOk result (IsShellAskedFor given.now) }
+    ensures refused { OnErr result ((form : ToolsForm) → IsShellAskedFor given.now form → ⊥) }
+{
     match given.text("shell").unwrap_or("") {
         "bash" => Ok(ToolsForm::Bash),
         "zsh" => Ok(ToolsForm::Zsh),

@@ -8,7 +8,6 @@ use Rattle.blif.specs.declared.latches.Latch.{Latch}
 use Rattle.longest_path.specs.declared.longest.Longest.{Longest}
 use Rattle.longest_path.specs.declared.longest.Longest.TheVariants.{Path, NoPath, Loop}
 use Rattle.longest_path.specs.declared.longest.LongestPath.{LongestPath}
-use Rattle.script_replies.specs.declared.accounts.Account.{Account}
 use Rattle.script_replies.specs.declared.usage.Usage.{Usage}
 use Rattle.json.specs.Json.{Json, null}
 use Rattle.json_text.specs.Values.{known_number, list_of, name_of, number_of, object_of}
@@ -74,13 +73,6 @@ usage_members name usage =
 
 abbrev pub name_json : NameFacts → Json
 name_json facts = object_of (usage_members facts.name.now facts.usage ++ circuit_members facts.circuit)
-
--- the name and what it used
-abbrev pub told_of : NameFacts → List ℕ × Usage
-told_of facts = (facts.name.now, facts.usage)
-
-abbrev pub told_in : Account → List ℕ × Usage
-told_in account = (account.name.now, account.usage)
 
 abbrev pub line_members : ℕ → ℕ → ℕ → List (List ℕ × Json)
 line_members served refused files = (codes "served", number_of served) ∷ (codes "refused", number_of refused) ∷ (codes "files_written", number_of files) ∷ []

@@ -1,3 +1,9 @@
 pub mod Fields
 pub mod Json
 pub mod Channels
+pub mod Strips
+pub mod PathWires
+pub mod Measured
+pub mod PathLines
+pub mod EachText
+pub mod Usages

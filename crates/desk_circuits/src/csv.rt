@@ -1,7 +1,7 @@
 //! Fields of tables.
 ghost use Rattle.std.specs.List.{flat_map};
 ghost use Rattle.line_text.specs.Writing.{Writes};
-ghost use Rattle.desk_circuits.specs.Fields.{doubled_quote, quote, quoted_field};
+ghost use Rattle.desk_circuits.specs.Fields.{doubled_quote, number_field, number_fields, quote, quoted_field};
 
 use line_text::{Failed, Sink, write_all};
 use text_parts::{Part, write_parts};
@@ -43,9 +43,19 @@ fn write_byte<K: Sink>(sink: &mut K, byte: u8) -> Result<(), Failed>
 }
 
 /// Writes numbers, each after a comma.
-pub fn write_numbers<W: Sink>(writer: &mut W, numbers: &[u64]) -> Result<(), Failed> {
+pub fn write_numbers<W: Sink>(writer: &mut W, numbers: &[u64]) -> Result<(), Failed>
+    ensures { Writes W.contents W.has_failed writer.old writer.new (number_fields numbers.now)
+        result }
+{
     for number in numbers {
-        write_parts(writer, &[Part::Text(","), Part::Long(*number)])?;
+        write_number(writer, *number)?;
     }
     Ok(())
+}
+
+/// Writes a number after a comma.
+fn write_number<W: Sink>(writer: &mut W, number: u64) -> Result<(), Failed>
+    ensures { Writes W.contents W.has_failed writer.old writer.new (number_field number) result }
+{
+    write_parts(writer, &[Part::Text(","), Part::Long(number)])
 }

@@ -8,7 +8,7 @@ ghost use Rattle.json_text.specs.Values.{list_of, member_tokens};
 ghost use Rattle.json_text.specs.declared.pen.Scalar.TheVariants.{Null};
 
 use crate::longest::{MeasuredCircuit, end_name};
-use crate::path_hops::name_of;
+use crate::wires::name_of;
 use blif::Circuit;
 use json_text::{JsonPen, Member, Scalar};
 use longest_path::{Longest, LongestPath};

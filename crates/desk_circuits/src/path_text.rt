@@ -1,12 +1,21 @@
 //! The stops of a netlist's longest path as a text.
+ghost use Rattle.std.specs.Prelude.{ℕ, ◌≡◌, List, option_map};
+ghost use Rattle.desk_circuits.specs.EachText.{IsEmptyOr};
+ghost use Rattle.desk_circuits.specs.Measured.{ShowsLongest, ShowsNetlistStops, ShowsPresentStops};
+ghost use Rattle.desk_circuits.specs.PathWires.{ShowsStops, ShowsStopsOn};
+ghost use Rattle.desk_circuits.specs.Strips.{files_of_texts, present_files};
+ghost use Rattle.line_text.specs.Writing.{Writes};
+ghost use Rattle.script_replies.specs.Present.{states_of};
+
 use crate::longest::{MeasuredCircuit, measure};
+use crate::wires::{stops_on, strip_of};
 use blif::Circuit;
 use line_text::{Failed, Sink};
 use longest_path::LongestPath;
-use path_stops::{MeasuredStop, measured_stops, stops_of, write_stops};
+use path_stops::write_stops;
 use script_replies::NameFiles;
-use std::alloc::{AllocError, Global};
-use strip_files::{RoutedStrip, StripTexts, read_strip};
+use std::alloc::Global;
+use strip_files::{RoutedStrip, StripTexts};
 
 /// Writes the stops of a path through a netlist, with the wires between them, by the netlist's
 /// three files. Writes nothing if these are not the files of one tenancy, or if memory runs out.
@@ -16,34 +25,38 @@ pub fn write_path_stops<W: Sink>(
     circuit: &Circuit,
     path: &LongestPath,
     writer: &mut W,
-) -> Result<(), Failed> {
-    let Ok(strip) = read_strip(alloc, texts) else {
+) -> Result<(), Failed>
+    ensures { (text : List ℕ)
+        × IsEmptyOr (ShowsStops (files_of_texts texts.entry) circuit.now path.now) text
+        × Writes W.contents W.has_failed writer.old writer.new text result }
+{
+    let Ok(strip) = strip_of(alloc, texts) else {
         return Ok(());
     };
-    let written = match stops_on(alloc, &strip, circuit, path) {
-        Ok(stops) => {
-            let written = write_stops(writer, &strip, circuit, &stops);
-            drop(stops);
-            written
-        }
-        Err(_) => Ok(()),
-    };
+    let written = write_stops_on(alloc, &strip, circuit, path, writer);
     drop(strip);
     written
 }
 
-/// Returns the stops of a path over that strip, with the wires between them. Fails with
-/// [`AllocError`] if memory runs out.
-pub fn stops_on(
+/// Writes the stops of a path over that strip. Writes nothing if memory runs out.
+fn write_stops_on<W: Sink>(
     alloc: Global,
     strip: &RoutedStrip<'_>,
     circuit: &Circuit,
     path: &LongestPath,
-) -> Result<Vec<MeasuredStop>, AllocError> {
-    let stops = stops_of(alloc, strip, circuit, path)?;
-    let measured = measured_stops(alloc, strip, circuit, &stops);
-    drop(stops);
-    measured
+    writer: &mut W,
+) -> Result<(), Failed>
+    ensures { (text : List ℕ) × IsEmptyOr (ShowsStopsOn strip.now circuit.now path.now) text
+        × Writes W.contents W.has_failed writer.old writer.new text result }
+{
+    match stops_on(alloc, strip, circuit, path) {
+        Ok(stops) => {
+            let written = write_stops(writer, strip, circuit, &stops);
+            drop(stops);
+            written
+        }
+        Err(_) => Ok(()),
+    }
 }
 
 /// Writes the stops of the longest path of the netlist that a name has. Writes nothing if one of
@@ -52,11 +65,14 @@ pub fn write_present_stops<W: Sink>(
     alloc: Global,
     files: NameFiles<'_, '_>,
     writer: &mut W,
-) -> Result<(), Failed> {
-    let (Some(netlist), Some(texts)) = (files.netlist, texts_of(files)) else {
-        return Ok(());
-    };
-    write_netlist_stops(alloc, netlist, texts, writer)
+) -> Result<(), Failed>
+    ensures { (text : List ℕ) × IsEmptyOr (ShowsPresentStops (states_of files.entry)) text
+        × Writes W.contents W.has_failed writer.old writer.new text result }
+{
+    match (files.netlist, texts_of(files)) {
+        (Some(netlist), Some(texts)) => write_netlist_stops(alloc, netlist, texts, writer),
+        _ => Ok(()),
+    }
 }
 
 /// Writes the stops of the longest path of a netlist, by its three files. Writes nothing if it has
@@ -66,7 +82,11 @@ pub fn write_netlist_stops<W: Sink>(
     netlist: &[u8],
     texts: StripTexts<'_>,
     writer: &mut W,
-) -> Result<(), Failed> {
+) -> Result<(), Failed>
+    ensures { (text : List ℕ)
+        × IsEmptyOr (ShowsNetlistStops netlist.now (files_of_texts texts.entry)) text
+        × Writes W.contents W.has_failed writer.old writer.new text result }
+{
     match measure(alloc, netlist, None) {
         Some(measured) => {
             let written = write_measured_stops(alloc, texts, &measured, writer);
@@ -83,7 +103,11 @@ fn write_measured_stops<W: Sink>(
     texts: StripTexts<'_>,
     measured: &MeasuredCircuit,
     writer: &mut W,
-) -> Result<(), Failed> {
+) -> Result<(), Failed>
+    ensures { (text : List ℕ)
+        × IsEmptyOr (ShowsLongest (files_of_texts texts.entry) measured.now.circuit measured.now.longest) text
+        × Writes W.contents W.has_failed writer.old writer.new text result }
+{
     match measured.path() {
         Some(path) => write_path_stops(alloc, texts, measured.circuit(), path, writer),
         None => Ok(()),
@@ -91,10 +115,11 @@ fn write_measured_stops<W: Sink>(
 }
 
 /// The three files, if all are present.
-pub(crate) fn texts_of<'p>(files: NameFiles<'_, 'p>) -> Option<StripTexts<'p>> {
-    Some(StripTexts {
-        net: files.net.text?,
-        place: files.place.text?,
-        route: files.route.text?,
-    })
+pub(crate) fn texts_of<'p>(files: NameFiles<'_, 'p>) -> Option<StripTexts<'p>>
+    ensures { option_map files_of_texts result ≡ present_files (states_of files.entry) }
+{
+    match (files.net.text, files.place.text, files.route.text) {
+        (Some(net), Some(place), Some(route)) => Some(StripTexts { net, place, route }),
+        _ => None,
+    }
 }

@@ -1,2 +1,3 @@
 pub mod PlaceHeading
 pub mod Refusals
+pub mod StripTexts

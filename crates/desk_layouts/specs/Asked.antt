@@ -1,5 +1,6 @@
 -- What the options of a tool that reads a layout say, and what its `.place` file adds.
-use Rattle.std.specs.Prelude.{ℕ, ◌≡◌, List, Option, Some, codes, IfSome}
+use Rattle.std.specs.Prelude.{ℕ, ◌≡◌, List, Option, Some, codes, option_map, IfSome}
+use Rattle.std.specs.Option.{option_map_or}
 use Rattle.blif.specs.declared.circuit.Circuit.{Circuit}
 use Rattle.grid.specs.declared.Strip.{Strip}
 use Rattle.implements.specs.Layouts.{Layout}
@@ -7,10 +8,17 @@ use Rattle.layout_files.specs.Cursors.{IsPlain}
 use Rattle.layout_text.specs.LayoutText.{place_text}
 use Rattle.option_words.specs.declared.given.Given.{Given}
 use Rattle.option_words.specs.Values.{number_of, text_of}
+use Rattle.layout_verdict.specs.Shapes.{AreLawful}
 use Rattle.layout_verdict.specs.declared.shape.StripShape.{StripShape}
 use Rattle.strip_files.specs.SizeLines.{HasSize, IsWithin}
 use Rattle.strip_files.specs.declared.size.StripSize.{StripSize}
+use Rattle.desk_common.specs.Numbers.{IsNumberIn}
+use Rattle.desk_layouts.specs.declared.configure.ConfigureWishes.{ConfigureWishes}
 use Rattle.desk_layouts.specs.declared.layout_input.LayoutPaths.{LayoutPaths}
+
+-- the numbers that are given are within the limits of a strip
+abbrev pub AreWithinLimits : Option ℕ → Option ℕ → ℕ → Type 0
+AreWithinLimits columns rows tracks = AreLawful (option_map_or (λ number. number) columns 1) (option_map_or (λ number. number) rows 1) tracks
 
 -- each path and each number is that of its option
 pub record IsAskedFor (given : Given) (paths : LayoutPaths) : Type 0 where
@@ -19,9 +27,15 @@ pub record IsAskedFor (given : Given) (paths : LayoutPaths) : Type 0 where
   pub net : text_of given (codes "packing") ≡ Some paths.net.now
   pub place : text_of given (codes "places") ≡ Some paths.place.now
   pub route : text_of given (codes "routes") ≡ Some paths.route.now
-  pub columns : paths.columns ≡ number_of 32 given (codes "columns")
-  pub rows : paths.rows ≡ number_of 32 given (codes "rows")
+  pub columns : IsNumberIn given (codes "columns") paths.columns
+  pub rows : IsNumberIn given (codes "rows") paths.rows
   pub tracks : number_of 32 given (codes "tracks") ≡ Some paths.tracks
+  pub lawful : AreWithinLimits paths.columns paths.rows paths.tracks
+
+-- so is the path of the file for the Verilog, if one is given
+pub record IsConfigureAskedFor (given : Given) (wishes : ConfigureWishes) : Type 0 where
+  pub paths : IsAskedFor given wishes.paths
+  pub verilog : option_map (λ path. path.now) wishes.verilog ≡ text_of given (codes "verilog")
 
 -- the strip has the tracks that are asked for, and the columns and the rows if they are given
 abbrev pub IsAskedShape : LayoutPaths → StripShape → Type 0

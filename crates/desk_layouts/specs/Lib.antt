@@ -1,4 +1,6 @@
 pub mod Asked
 pub mod Checked
 pub mod Configured
+pub mod Drawn
 pub mod Refused
+pub mod StripAsked

@@ -1,5 +1,5 @@
 //! The tool that writes what a device is loaded with.
-ghost use Rattle.std.specs.Prelude.{◌≡◌, ℕ, List, Ok, IfErr, IfOk};
+ghost use Rattle.std.specs.Prelude.{◌≡◌, ℕ, List, Ok, IfErr, IfOk, OnErr};
 ghost use Rattle.std.specs.Option.{ForSome};
 ghost use Rattle.desk_common.specs.Outcomes.{IsFileFailure};
 ghost use Rattle.blif.specs.LawfulCircuits.{IsCircuit};
@@ -7,7 +7,7 @@ ghost use Rattle.grid.specs.Sizes.{IsStripSize};
 ghost use Rattle.layout_verdict.specs.Verdicts.{IsImplemented};
 ghost use Rattle.line_text.specs.Lines.{JoinedLine, lines_of};
 ghost use Rattle.line_text.specs.Writing.{TakesAll};
-ghost use Rattle.desk_layouts.specs.Asked.{IsAskedFor};
+ghost use Rattle.desk_layouts.specs.Asked.{IsConfigureAskedFor};
 ghost use Rattle.desk_layouts.specs.Configured.{IsConfigurationOf, IsConfigured, IsUnwritten, IsUnwrittenOr, Works, text_with};
 ghost use Rattle.desk_layouts.specs.Refused.{IsFailure};
 
@@ -75,7 +75,9 @@ pub struct ConfigureWishes<'a> {
 
 /// What the options ask for, or why they are refused.
 pub fn wishes_of<'a>(given: &Given<'a>) -> Result<ConfigureWishes<'a>, &'static str>
-    ensures { IfOk result (λ wishes. IsAskedFor given.now wishes.paths) }
+    ensures asked { IfOk result (IsConfigureAskedFor given.now) }
+    ensures refused { OnErr result ((wishes : ConfigureWishes) →
+        IsConfigureAskedFor given.now wishes → ⊥) }
 {
     let paths = paths_of(given)?;
     Ok(ConfigureWishes {

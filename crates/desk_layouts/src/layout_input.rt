@@ -1,8 +1,9 @@
 //! What the tools take that read a layout: its architecture, its netlist and its three files.
-ghost use Rattle.std.specs.Prelude.{◌≡◌, IfOk, IfSome};
+ghost use Rattle.std.specs.Prelude.{◌≡◌, ℕ, None, Option, Some, IfOk, IfSome, OnErr};
 ghost use Rattle.desk_layouts.specs.Asked.{IsAskedFor, IsAskedShape, IsOnlyShape, IsSizeOfPlaces};
 ghost use Rattle.std.specs.Option.{option_map_or};
-ghost use Rattle.option_words.specs.Values.{number_of, text_of};
+ghost use Rattle.option_words.specs.Values.{text_of};
+ghost use Rattle.desk_common.specs.Numbers.{IsNumberIn};
 
 use desk_common::{DEVICE, NO_DEVICE};
 use layout_verdict::StripShape;
@@ -108,7 +109,8 @@ pub struct LayoutPaths<'a> {
 
 /// What the options ask for, or why they are refused.
 pub fn paths_of<'a>(given: &Given<'a>) -> Result<LayoutPaths<'a>, &'static str>
-    ensures { IfOk result (IsAskedFor given.now) }
+    ensures asked { IfOk result (IsAskedFor given.now) }
+    ensures refused { OnErr result ((paths : LayoutPaths) → IsAskedFor given.now paths → ⊥) }
 {
     if given.text("tracks").is_none() {
         return Err(NO_TRACKS);
@@ -133,14 +135,17 @@ pub fn paths_of<'a>(given: &Given<'a>) -> Result<LayoutPaths<'a>, &'static str>
 
 /// The path that an option gives.
 fn path_in<'a>(given: &Given<'a>, name: &str) -> Result<&'a str, &'static str>
-    ensures { IfOk result (λ path. text_of given.now name.now ≡ Some path.now) }
+    ensures told { IfOk result (λ path. text_of given.now name.now ≡ Some path.now) }
+    ensures refused { OnErr result (text_of given.now name.now ≡ None) }
 {
     given.text(name).ok_or(NO_FILE)
 }
 
 /// The value of an option with a number, if it is given.
 fn number_in(given: &Given<'_>, name: &str) -> Result<Option<u32>, &'static str>
-    ensures { IfOk result (λ number. number ≡ number_of 32 given.now name.now) }
+    ensures asked { IfOk result (IsNumberIn given.now name.now) }
+    ensures refused { OnErr result ((number : Option ℕ) →
+        IsNumberIn given.now name.now number → ⊥) }
 {
     match given.text(name) {
         Some(_) => Ok(Some(given.number(name)?)),

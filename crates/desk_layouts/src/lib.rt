@@ -13,5 +13,8 @@ mod layout_input;
 mod refused_file;
 pub mod strip;
 mod strip_check;
+mod strip_page;
+mod strip_wishes;
+mod without_routes;
 
 pub use layout_input::{LayoutPaths, paths_of};

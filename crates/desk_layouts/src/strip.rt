@@ -1,12 +1,18 @@
 //! The tool that draws one tenancy.
-use crate::strip_check::{Against, against_of, check_against};
+ghost use Rattle.std.specs.Prelude.{IfOk, IfSome, OnErr, OnOk};
+ghost use Rattle.desk_layouts.specs.Drawn.{IsCheckedAndShown, IsDrawn, IsPackedDrawn, IsPlacedDrawn, IsShown, IsThere, bytes_of, without_nets};
+ghost use Rattle.desk_layouts.specs.StripAsked.{IsFullAskedFor, IsShownAskedFor, IsStripAskedFor};
+
+use crate::strip_check::{against_of, check_against};
+use crate::strip_page::print_page;
+use crate::strip_wishes::Shown;
+pub use crate::strip_wishes::StripWishes;
+use crate::without_routes::{no_routes, without_nets};
 use arch_file::MAX_TRACKS;
-use desk_common::{DEVICE, FileRole, NO_DEVICE, Outcome, read_file};
-use line_text::{MemorySink, Sink, TextError, split_line, write_slices};
+use desk_common::{DEVICE, FileRole, FileTexts, NO_DEVICE, Outcome};
+use line_text::{Sink, TextError, split_line};
 use option_words::{Given, OptionWord, Program, Takes};
-use page::{PageItem, viewer, write_page};
 use std::alloc::{AllocError, Global};
-use std::rt::Files;
 use strip_files::{RoutedStrip, StripTexts, block_in, net_in, read_strip};
 use strip_picture::{DrawError, Full, View, draw, draw_with_ends};
 
@@ -112,28 +118,11 @@ Example: fpgad_desk strip T.net T.place T.route --heat > t.svg",
     ],
 };
 
-/// The three files of a tenancy, and what is drawn of it.
-#[derive(Clone, Copy)]
-pub struct StripWishes<'a> {
-    net_file: &'a str,
-    place_file: &'a str,
-    route_file: &'a str,
-    against: Option<Against<'a>>,
-    shown: Shown<'a>,
-}
-
-/// What is drawn of the routes.
-#[derive(Clone, Copy)]
-enum Shown<'a> {
-    Nets,
-    Net(&'a str),
-    Channels(Full),
-    /// All of them, on a page for a browser.
-    Page,
-}
-
 /// What the options ask for, or why they are refused.
-pub fn wishes_of<'a>(given: &Given<'a>) -> Result<StripWishes<'a>, &'static str> {
+pub fn wishes_of<'a>(given: &Given<'a>) -> Result<StripWishes<'a>, &'static str>
+    ensures asked { IfOk result (IsStripAskedFor given.now) }
+    ensures refused { OnErr result ((wishes : StripWishes) → IsStripAskedFor given.now wishes → ⊥) }
+{
     let against = against_of(given)?;
     let route_file = given.text("routes").ok_or(NO_FILE)?;
     if against.is_some() && route_file == NONE {
@@ -149,7 +138,10 @@ pub fn wishes_of<'a>(given: &Given<'a>) -> Result<StripWishes<'a>, &'static str>
 }
 
 /// What is to be drawn of the routes: one net, or the channels, or all nets.
-fn shown_of<'a>(given: &Given<'a>) -> Result<Shown<'a>, &'static str> {
+fn shown_of<'a>(given: &Given<'a>) -> Result<Shown<'a>, &'static str>
+    ensures asked { IfOk result (IsShownAskedFor given.now) }
+    ensures refused { OnErr result ((shown : Shown) → IsShownAskedFor given.now shown → ⊥) }
+{
     if given.is_given("page") {
         return Ok(Shown::Page);
     }
@@ -162,7 +154,10 @@ fn shown_of<'a>(given: &Given<'a>) -> Result<Shown<'a>, &'static str> {
 }
 
 /// The number of used tracks of a full channel.
-fn full_of(given: &Given<'_>) -> Result<Full, &'static str> {
+fn full_of(given: &Given<'_>) -> Result<Full, &'static str>
+    ensures asked { IfOk result (IsFullAskedFor given.now) }
+    ensures refused { OnErr result ((full : Full) → IsFullAskedFor given.now full → ⊥) }
+{
     if given.text("tracks").is_none() {
         return Ok(Full::Fullest);
     }
@@ -174,67 +169,79 @@ fn full_of(given: &Given<'_>) -> Result<Full, &'static str> {
 }
 
 /// Draws a tenancy from its files.
-pub fn print<H: Files + AllocGlobal, W: Sink, E: Sink>(
-    rt: &H,
+pub fn print<F: FileTexts + AllocGlobal, W: Sink, E: Sink>(
+    files: &F,
     wishes: StripWishes<'_>,
     writer: &mut W,
     teller: &mut E,
-) -> Result<(), Outcome> {
-    let net = read_file(rt, FileRole::Net, wishes.net_file, u64::MAX, teller)?;
-    let outcome = print_packed(rt, wishes, net.as_slice(), writer, teller);
+) -> Result<(), Outcome>
+    ensures { OnOk result (IsDrawn W.contents W.has_failed writer.old writer.new
+        (F.text files.now) wishes.entry) }
+{
+    let net = files.read_text(FileRole::Net, wishes.net_file, u64::MAX, teller)?;
+    let outcome = print_packed(files, wishes, net.as_slice(), writer, teller);
     drop(net);
     outcome
 }
 
 /// Draws a tenancy from the text of its packing and its other files.
-fn print_packed<H: Files + AllocGlobal, W: Sink, E: Sink>(
-    rt: &H,
+fn print_packed<F: FileTexts + AllocGlobal, W: Sink, E: Sink>(
+    files: &F,
     wishes: StripWishes<'_>,
     net: &[u8],
     writer: &mut W,
     teller: &mut E,
-) -> Result<(), Outcome> {
-    let place = read_file(rt, FileRole::Places, wishes.place_file, u64::MAX, teller)?;
-    let outcome = print_placed(rt, wishes, net, place.as_slice(), writer, teller);
+) -> Result<(), Outcome>
+    ensures { OnOk result (IsPackedDrawn W.contents W.has_failed writer.old writer.new
+        (F.text files.now) wishes.entry net.now) }
+{
+    let place = files.read_text(FileRole::Places, wishes.place_file, u64::MAX, teller)?;
+    let outcome = print_placed(files, wishes, net, place.as_slice(), writer, teller);
     drop(place);
     outcome
 }
 
 /// Draws a tenancy from the texts of its packing and placement and the file of its routes.
-fn print_placed<H: Files + AllocGlobal, W: Sink, E: Sink>(
-    rt: &H,
+fn print_placed<F: FileTexts + AllocGlobal, W: Sink, E: Sink>(
+    files: &F,
     wishes: StripWishes<'_>,
     net: &[u8],
     place: &[u8],
     writer: &mut W,
     teller: &mut E,
-) -> Result<(), Outcome> {
+) -> Result<(), Outcome>
+    ensures { OnOk result (IsPlacedDrawn W.contents W.has_failed writer.old writer.new
+        (F.text files.now) wishes.entry net.now place.now) }
+{
     if wishes.route_file == NONE {
-        return print_unrouted(rt.alloc(), wishes, net, place, writer);
+        return print_unrouted(files.alloc(), wishes, net, place, writer);
     }
-    let route = read_file(rt, FileRole::Routes, wishes.route_file, u64::MAX, teller)?;
+    let route = files.read_text(FileRole::Routes, wishes.route_file, u64::MAX, teller)?;
     let texts = StripTexts {
         net,
         place,
         route: route.as_slice(),
     };
-    let outcome = checked_and_drawn(rt, wishes, texts, writer, teller);
+    let outcome = checked_and_drawn(files, wishes, texts, writer, teller);
     drop(route);
     outcome
 }
 
 /// Draws a tenancy from the texts of its files. If a netlist is given, it is checked first.
-fn checked_and_drawn<H: Files + AllocGlobal, W: Sink, E: Sink>(
-    rt: &H,
+fn checked_and_drawn<F: FileTexts + AllocGlobal, W: Sink, E: Sink>(
+    files: &F,
     wishes: StripWishes<'_>,
     texts: StripTexts<'_>,
     writer: &mut W,
     teller: &mut E,
-) -> Result<(), Outcome> {
+) -> Result<(), Outcome>
+    ensures { OnOk result (IsCheckedAndShown W.contents W.has_failed writer.old writer.new
+        (F.text files.now) wishes.entry (bytes_of texts.entry)) }
+{
     if let Some(against) = wishes.against {
-        check_against(rt, against, texts, teller)?;
+        check_against(files, against, texts, teller)?;
     }
-    draw_strip(rt.alloc(), texts, wishes.shown, writer)
+    draw_strip(files.alloc(), texts, wishes.shown, writer)
 }
 
 /// Draws a tenancy without routes from the texts of its packing and placement.
@@ -244,7 +251,10 @@ fn print_unrouted<W: Sink>(
     net: &[u8],
     place: &[u8],
     writer: &mut W,
-) -> Result<(), Outcome> {
+) -> Result<(), Outcome>
+    ensures { OnOk result (IsShown W.contents W.has_failed writer.old writer.new wishes.entry.shown
+        (without_nets net.now place.now)) }
+{
     let route = no_routes(alloc, place)?;
     let outcome = match without_nets(alloc, net) {
         Ok(net) => {
@@ -263,62 +273,16 @@ fn print_unrouted<W: Sink>(
     outcome
 }
 
-/// The text of a `.net` file with an empty line in place of each list of pins: no block has a net.
-/// Fails if memory runs out.
-fn without_nets(alloc: Global, net: &[u8]) -> Result<Vec<u8>, AllocError> {
-    let mut text = Vec::new(alloc);
-    let mut rest = net;
-    while !rest.is_empty() {
-        let (line, later) = split_line(rest);
-        if !line.starts_with(b"pinlist:") {
-            text.extend_from_slice(line)?;
-        }
-        text.push(b'\n')?;
-        rest = later;
-    }
-    Ok(text)
-}
-
-/// The text of a `.route` file without nets, for a strip of the size in that `.place` file.
-fn no_routes(alloc: Global, place: &[u8]) -> Result<Vec<u8>, Outcome> {
-    let (_, rest) = split_line(place);
-    let (size, _) = split_line(rest);
-    let mut text = MemorySink::new(alloc);
-    match write_slices(&mut text, &[size, b".\n\nRouting:\n\n"]) {
-        Ok(()) => Ok(text.into_bytes()),
-        Err(_) => {
-            drop(text);
-            Err(Outcome::NoMemory)
-        }
-    }
-}
-
-/// Prints the page of one tenancy.
-fn print_page<W: Sink>(texts: StripTexts<'_>, writer: &mut W) -> Result<(), Outcome> {
-    let items = [
-        item("net", texts.net),
-        item("place", texts.place),
-        item("route", texts.route),
-    ];
-    write_page(writer, viewer(), items.as_slice()).or(Err(Outcome::OutputFailed))
-}
-
-/// A text of the tenancy.
-fn item<'a>(kind: &'static str, text: &'a [u8]) -> PageItem<'a> {
-    PageItem {
-        kind,
-        name: b"strip",
-        text,
-    }
-}
-
 /// Draws a tenancy from the texts of its files.
 fn draw_strip<W: Sink>(
     alloc: Global,
     texts: StripTexts<'_>,
     shown: Shown<'_>,
     writer: &mut W,
-) -> Result<(), Outcome> {
+) -> Result<(), Outcome>
+    ensures { OnOk result (IsShown W.contents W.has_failed writer.old writer.new shown.entry
+        (bytes_of texts.entry)) }
+{
     let strip = match read_strip(alloc, texts) {
         Ok(strip) => strip,
         Err(TextError::NoMemory) => return Err(Outcome::NoMemory),
@@ -375,7 +339,9 @@ fn global_ends(alloc: Global, route: &[u8], net: usize) -> Result<Vec<usize>, Al
 }
 
 /// The view that is asked for. None if no net has the name.
-fn view_of(strip: &RoutedStrip<'_>, shown: Shown<'_>) -> Option<View> {
+fn view_of(strip: &RoutedStrip<'_>, shown: Shown<'_>) -> Option<View>
+    ensures { IfSome result (λ _. IsThere strip.now shown.entry) }
+{
     match shown {
         Shown::Nets => Some(View::Nets),
         Shown::Channels(full) => Some(View::Channels(full)),

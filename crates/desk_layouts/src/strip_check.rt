@@ -1,15 +1,19 @@
 //! The check of a layout against its netlist, before it is drawn.
+ghost use Rattle.std.specs.Prelude.{Option, IfOk, OnErr, OnOk};
+ghost use Rattle.desk_common.specs.Outputs.{IsBeginning};
+ghost use Rattle.desk_layouts.specs.Drawn.{AreChecked, Implement, ImplementOn, IsRefusedStrip, bytes_of};
+ghost use Rattle.desk_layouts.specs.StripAsked.{IsCheckAskedFor};
+
 use crate::given_files::MAX_READ;
 use crate::laid_circuit::laid_circuit;
 use crate::layout_input::size_in_places;
 use arch_file::MAX_TRACKS;
-use desk_common::{FileRole, NO_DEVICE, NetlistSource, Outcome, read_file};
+use desk_common::{FileRole, FileTexts, NO_DEVICE, NetlistSource, Outcome};
 use layout_verdict::{LayoutTexts, StripShape};
-use line_text::Sink;
+use line_text::{Sink, TextError};
 use option_words::Given;
 use std::alloc::Global;
-use std::rt::Files;
-use strip_files::StripTexts;
+use strip_files::{StripTexts, read_strip};
 
 /// Why a netlist is refused without its device.
 const NO_TRACKS: &str = "--netlist needs --arch and --tracks";
@@ -24,7 +28,11 @@ pub(crate) struct Against<'a> {
 
 /// The netlist against which a layout is to be checked, if one is given, or why the options are
 /// refused.
-pub(crate) fn against_of<'a>(given: &Given<'a>) -> Result<Option<Against<'a>>, &'static str> {
+pub(crate) fn against_of<'a>(given: &Given<'a>) -> Result<Option<Against<'a>>, &'static str>
+    ensures asked { IfOk result (IsCheckAskedFor given.now) }
+    ensures refused { OnErr result ((against : Option Against) →
+        IsCheckAskedFor given.now against → ⊥) }
+{
     let Some(netlist) = given.text("netlist") else {
         return Ok(None);
     };
@@ -45,34 +53,46 @@ pub(crate) fn against_of<'a>(given: &Given<'a>) -> Result<Option<Against<'a>>, &
 
 /// Checks the layout with these files against the netlist, as `fpgad_desk check` does. What is
 /// wrong is written to the teller.
-pub(crate) fn check_against<H: Files + AllocGlobal, E: Sink>(
-    rt: &H,
+pub(crate) fn check_against<F: FileTexts + AllocGlobal, E: Sink>(
+    files: &F,
     against: Against<'_>,
-    files: StripTexts<'_>,
+    texts: StripTexts<'_>,
     teller: &mut E,
-) -> Result<(), Outcome> {
-    let arch = read_file(rt, FileRole::Architecture, against.arch, MAX_READ, teller)?;
-    let outcome = check_on(rt, against, arch.as_slice(), files, teller);
+) -> Result<(), Outcome>
+    ensures { OnOk result (AreChecked (F.text files.now) against.entry (bytes_of texts.entry)) }
+{
+    let arch = files.read_text(FileRole::Architecture, against.arch, MAX_READ, teller)?;
+    let outcome = check_on(files, against, arch.as_slice(), texts, teller);
     drop(arch);
     outcome
 }
 
 /// Checks the layout on an architecture with this text.
-fn check_on<H: Files + AllocGlobal, E: Sink>(
-    rt: &H,
+fn check_on<F: FileTexts + AllocGlobal, E: Sink>(
+    files: &F,
     against: Against<'_>,
     arch: &[u8],
-    files: StripTexts<'_>,
+    texts: StripTexts<'_>,
     teller: &mut E,
-) -> Result<(), Outcome> {
-    let netlist = read_file(rt, FileRole::Netlist, against.netlist, MAX_READ, teller)?;
-    let outcome = check_texts(rt.alloc(), against, arch, netlist.as_slice(), files, teller);
+) -> Result<(), Outcome>
+    ensures { OnOk result (ImplementOn (F.text files.now) against.entry arch.now
+        (bytes_of texts.entry)) }
+{
+    let netlist = files.read_text(FileRole::Netlist, against.netlist, MAX_READ, teller)?;
+    let outcome = check_texts(
+        files.alloc(),
+        against,
+        arch,
+        netlist.as_slice(),
+        texts,
+        teller,
+    );
     drop(netlist);
     outcome
 }
 
 /// Checks the layout against the netlist with this text, on a strip of the size in the `.place`
-/// file. A file without a size is left to the drawing, which refuses it.
+/// file.
 fn check_texts<E: Sink>(
     alloc: Global,
     against: Against<'_>,
@@ -80,9 +100,12 @@ fn check_texts<E: Sink>(
     netlist: &[u8],
     files: StripTexts<'_>,
     teller: &mut E,
-) -> Result<(), Outcome> {
+) -> Result<(), Outcome>
+    ensures { OnOk result (Implement against.entry.tracks arch.now netlist.now
+        (bytes_of files.entry)) }
+{
     let Some(size) = size_in_places(files.place) else {
-        return Ok(());
+        return Err(outcome_without_size(alloc, files));
     };
     let Some(shape) = StripShape::new(size.columns, size.rows, against.tracks) else {
         return Err(Outcome::NoMemory);
@@ -99,5 +122,19 @@ fn check_texts<E: Sink>(
             Ok(())
         }
         Err(outcome) => Err(outcome),
+    }
+}
+
+/// How the errand ends with a `.place` file without a size: it is refused as it is by the drawing.
+fn outcome_without_size(alloc: Global, files: StripTexts<'_>) -> Outcome
+    ensures { IsRefusedStrip result }
+{
+    match read_strip(alloc, files) {
+        Err(TextError::Fault(fault)) => Outcome::StripRefused(fault),
+        Err(TextError::NoMemory) => Outcome::NoMemory,
+        Ok(strip) => {
+            drop(strip);
+            Outcome::NoMemory
+        }
     }
 }

@@ -1,5 +1,5 @@
 //! The tool that makes the log of a live service shorter.
-ghost use Rattle.std.specs.Prelude.{◌≡◌, ℕ, List, eqb, IfErr, IfOk, OnOk};
+ghost use Rattle.std.specs.Prelude.{◌≡◌, ℕ, List, eqb, IfErr, IfOk, OnErr, OnOk};
 ghost use Rattle.std.specs.List.{starts_with};
 ghost use Rattle.line_text.specs.Writing.{TakesAll};
 ghost use Rattle.live_run.specs.Headings.{heading};
@@ -82,7 +82,8 @@ pub struct LogWishes<'a> {
 
 /// What the options ask for, or why they are refused.
 pub fn wishes_of<'a>(given: &Given<'a>) -> Result<LogWishes<'a>, &'static str>
-    ensures { IfOk result (IsAskedFor given.now) }
+    ensures asked { IfOk result (IsAskedFor given.now) }
+    ensures refused { OnErr result ((wishes : LogWishes) → IsAskedFor given.now wishes → ⊥) }
 {
     let tracks = given.number("tracks")?;
     let columns = given.number("columns")?;

@@ -1,4 +1,5 @@
 mod Printing
 mod Runs
 mod Saving
+mod Sizes
 mod Stems

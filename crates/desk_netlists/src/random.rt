@@ -1,4 +1,11 @@
 //! The tool that prints a script with random circuits.
+ghost use Rattle.std.specs.Prelude.{◌≡◌, ◌≢◌, Some, codes, IfNone, IfOk, IfSome, OnErr};
+ghost use Rattle.option_words.specs.Values.{text_of};
+ghost use Rattle.random_script.specs.Plans.{HavePlan};
+ghost use Rattle.random_script.specs.declared.plan.LoadParameters.{LoadParameters};
+ghost use Rattle.random_script.specs.declared.plan.Phase.{Phase};
+ghost use Rattle.desk_netlists.specs.Asked.{IsLoadAskedFor, IsRandomAskedFor, word_of};
+
 use arch_file::{MAX_CLUSTER_SIZE, MAX_LUT_SIZE};
 use desk_common::Outcome;
 use line_text::Sink;
@@ -77,7 +84,10 @@ pub struct RandomWishes {
 }
 
 /// What the options ask for, or why they are refused.
-pub fn wishes_of(given: &Given<'_>) -> Result<RandomWishes, &'static str> {
+pub fn wishes_of(given: &Given<'_>) -> Result<RandomWishes, &'static str>
+    ensures asked { IfOk result (IsRandomAskedFor given.now) }
+    ensures refused { OnErr result ((wishes : RandomWishes) → IsRandomAskedFor given.now wishes → ⊥) }
+{
     Ok(RandomWishes {
         plan: plan_of(given)?,
         is_alone: given.is_given("blif"),
@@ -95,20 +105,50 @@ pub fn print<W: Sink>(wishes: RandomWishes, writer: &mut W) -> Outcome {
 }
 
 /// The plan that the options give, or why they are refused.
-fn plan_of(given: &Given<'_>) -> Result<Plan, &'static str> {
-    let wishes = LoadParameters {
+fn plan_of(given: &Given<'_>) -> Result<Plan, &'static str>
+    ensures asked { IfOk result (λ plan. IsLoadAskedFor given.now plan.wishes) }
+    ensures room { IfOk result (λ plan. HavePlan plan.wishes) }
+    ensures refused { OnErr result ((load : LoadParameters) → IsLoadAskedFor given.now load →
+        HavePlan load → ⊥) }
+{
+    let load = load_of(given)?;
+    Plan::new(load).ok_or(NO_ROOM)
+}
+
+/// The parameters of the script that the options give, or why they are refused.
+fn load_of(given: &Given<'_>) -> Result<LoadParameters, &'static str>
+    ensures asked { IfOk result (IsLoadAskedFor given.now) }
+    ensures only { IfOk result (λ load. (other : LoadParameters) → IsLoadAskedFor given.now other →
+        other ≡ load) }
+    ensures refused { OnErr result ((load : LoadParameters) → IsLoadAskedFor given.now load → ⊥) }
+{
+    Ok(LoadParameters {
         tables: given.number("tables")?,
         tenancies: given.number("tenancies")?,
         inputs: given.number("inputs")?,
         cluster: given.number("cluster")?,
         seed: given.long_number("seed")?,
-        until: given.text("until").and_then(phase).ok_or(NO_PHASE)?,
-    };
-    Plan::new(wishes).ok_or(NO_ROOM)
+        until: until_of(given)?,
+    })
+}
+
+/// The last phase that the options give, or why they are refused.
+fn until_of(given: &Given<'_>) -> Result<Phase, &'static str>
+    ensures asked { IfOk result (λ until. text_of given.now (codes "until") ≡ Some (word_of until)) }
+    ensures refused { OnErr result ((until : Phase) →
+        text_of given.now (codes "until") ≢ Some (word_of until)) }
+{
+    match given.text("until") {
+        Some(word) => phase(word).ok_or(NO_PHASE),
+        None => Err(NO_PHASE),
+    }
 }
 
 /// The phase with this name, if there is one.
-fn phase(word: &str) -> Option<Phase> {
+fn phase(word: &str) -> Option<Phase>
+    ensures some { IfSome result (λ until. word.now ≡ word_of until) }
+    ensures none { IfNone result ((until : Phase) → word.now ≢ word_of until) }
+{
     match word {
         "reading" => Some(Phase::Reading),
         "packing" => Some(Phase::Packing),

@@ -1,6 +1,7 @@
 //! What the options of the tool that routes one netlist ask for.
-ghost use Rattle.std.specs.Prelude.{◌≡◌, Some, IfOk};
-ghost use Rattle.option_words.specs.Values.{number_of, text_of};
+ghost use Rattle.std.specs.Prelude.{◌≡◌, ℕ, None, Option, Some, IfOk, OnErr};
+ghost use Rattle.option_words.specs.Values.{text_of};
+ghost use Rattle.desk_common.specs.Numbers.{IsNumberIn};
 ghost use Rattle.desk_netlists.specs.Asked.{AreTracksAskedFor, IsFormAskedFor, IsRouteAskedFor, IsSizeAskedFor, extras_of};
 
 use crate::route_wishes::{Extras, RouteForm, RouteWishes, Size, Tracks, device_size};
@@ -17,7 +18,9 @@ const ONE_FORM: &str = "give only one of --csv, --json and --path";
 
 /// What the options ask for, or why they are refused.
 pub fn wishes_of<'a>(given: &Given<'a>) -> Result<RouteWishes<'a>, &'static str>
-    ensures { IfOk result (IsRouteAskedFor given.now) }
+    ensures asked { IfOk result (IsRouteAskedFor given.now) }
+    ensures refused { OnErr result ((wishes : RouteWishes) →
+        IsRouteAskedFor given.now wishes → ⊥) }
 {
     let effort = given.number("effort")?;
     if effort > 100 {
@@ -52,14 +55,16 @@ fn extras_of(given: &Given<'_>) -> Extras
 
 /// The path that an option gives.
 fn path_in<'a>(given: &Given<'a>, name: &str) -> Result<&'a str, &'static str>
-    ensures { IfOk result (λ path. text_of given.now name.now ≡ Some path.now) }
+    ensures told { IfOk result (λ path. text_of given.now name.now ≡ Some path.now) }
+    ensures refused { OnErr result (text_of given.now name.now ≡ None) }
 {
     given.text(name).ok_or(NO_FILE)
 }
 
 /// The form of the summary, or why the options are refused.
 fn form_of(given: &Given<'_>) -> Result<RouteForm, &'static str>
-    ensures { IfOk result (IsFormAskedFor given.now) }
+    ensures asked { IfOk result (IsFormAskedFor given.now) }
+    ensures refused { OnErr result ((form : RouteForm) → IsFormAskedFor given.now form → ⊥) }
 {
     let is_table = given.is_given("csv");
     let is_json = given.is_given("json");
@@ -76,7 +81,8 @@ fn form_of(given: &Given<'_>) -> Result<RouteForm, &'static str>
 /// The size of the device. Without one of --columns and --rows it is the least that fits with the
 /// other one.
 fn size_of(given: &Given<'_>) -> Result<Size, &'static str>
-    ensures { IfOk result (IsSizeAskedFor given.now) }
+    ensures asked { IfOk result (IsSizeAskedFor given.now) }
+    ensures refused { OnErr result ((size : Size) → IsSizeAskedFor given.now size → ⊥) }
 {
     let columns = number_in(given, "columns")?;
     let rows = number_in(given, "rows")?;
@@ -94,7 +100,9 @@ fn size_of(given: &Given<'_>) -> Result<Size, &'static str>
 
 /// The value of an option with a number, if it is given.
 fn number_in(given: &Given<'_>, name: &str) -> Result<Option<u32>, &'static str>
-    ensures { IfOk result (λ number. number ≡ number_of 32 given.now name.now) }
+    ensures asked { IfOk result (IsNumberIn given.now name.now) }
+    ensures refused { OnErr result ((number : Option ℕ) →
+        IsNumberIn given.now name.now number → ⊥) }
 {
     match given.text(name) {
         Some(_) => Ok(Some(given.number(name)?)),
@@ -104,7 +112,9 @@ fn number_in(given: &Given<'_>, name: &str) -> Result<Option<u32>, &'static str>
 
 /// The number of tracks. None if the least is wanted.
 fn tracks_of(given: &Given<'_>) -> Result<Option<Tracks>, &'static str>
-    ensures { IfOk result (AreTracksAskedFor given.now) }
+    ensures asked { IfOk result (AreTracksAskedFor given.now) }
+    ensures refused { OnErr result ((tracks : Option Tracks) →
+        AreTracksAskedFor given.now tracks → ⊥) }
 {
     match (given.text("tracks"), given.is_given("least-tracks")) {
         (Some(_), false) => {

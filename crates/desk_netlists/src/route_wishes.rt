@@ -1,6 +1,7 @@
 //! What the tool that routes one netlist is asked for, and its options.
-ghost use Rattle.std.specs.Prelude.{◌≡◌, ◌≤◌, IfSome};
+ghost use Rattle.std.specs.Prelude.{◌≡◌, ◌≤◌, IfNone, IfSome};
 ghost use Rattle.strip_place.specs.declared.placing.TheConstants.{MAX_EFFORT};
+ghost use Rattle.arch_file.specs.Arch.{IsWithin};
 ghost use Rattle.arch_file.specs.declared.arch.TheConstants.{MAX_TRACKS};
 ghost use Rattle.grid.specs.declared.TheConstants.{MAX_COLUMNS, MAX_ROWS};
 
@@ -227,7 +228,8 @@ pub(crate) struct GivenSize {
 
 /// That size, if a device may have it.
 pub(crate) fn device_size(columns: u32, rows: u32) -> Option<GivenSize>
-    ensures { IfSome result (λ size. (size.columns ≡ columns) × (size.rows ≡ rows)) }
+    ensures some { IfSome result (λ size. (size.columns ≡ columns) × (size.rows ≡ rows)) }
+    ensures none { IfNone result (IsWithin 1 columns MAX_COLUMNS × IsWithin 1 rows MAX_ROWS → ⊥) }
 {
     if !(1..=MAX_COLUMNS).contains(&columns) || !(1..=MAX_ROWS).contains(&rows) {
         return None;

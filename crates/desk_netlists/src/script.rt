@@ -1,6 +1,6 @@
 //! The tool that prints the script of a tenancy.
-ghost use Rattle.std.specs.Prelude.{◌≡◌, codes, IfOk};
-ghost use Rattle.option_words.specs.Values.{number_of};
+ghost use Rattle.std.specs.Prelude.{ℕ, Option, codes, IfOk, OnErr};
+ghost use Rattle.desk_common.specs.Numbers.{IsNumberIn};
 ghost use Rattle.desk_netlists.specs.Asked.{IsScriptAskedFor};
 ghost use Rattle.desk_netlists.specs.Scripts.{Prints};
 
@@ -44,7 +44,9 @@ Example: fpgad_desk script --name T --width 2 --seed 1 --effort 50 < t.blif >> m
 
 /// What the options ask for, or why they are refused.
 pub fn wishes_of<'a>(given: &Given<'a>) -> Result<ScriptParameters<'a>, &'static str>
-    ensures { IfOk result (IsScriptAskedFor given.now) }
+    ensures asked { IfOk result (IsScriptAskedFor given.now) }
+    ensures refused { OnErr result ((wishes : ScriptParameters) →
+        IsScriptAskedFor given.now wishes → ⊥) }
 {
     let name = given.text("name").ok_or(NO_NAME)?.as_bytes();
     if !is_name(name) {
@@ -60,7 +62,9 @@ pub fn wishes_of<'a>(given: &Given<'a>) -> Result<ScriptParameters<'a>, &'static
 
 /// The width, if one is given.
 fn width_of(given: &Given<'_>) -> Result<Option<u32>, &'static str>
-    ensures { IfOk result (λ width. width ≡ number_of 32 given.now (codes "width")) }
+    ensures asked { IfOk result (IsNumberIn given.now (codes "width")) }
+    ensures refused { OnErr result ((width : Option ℕ) →
+        IsNumberIn given.now (codes "width") width → ⊥) }
 {
     match given.text("width") {
         Some(_) => Ok(Some(given.number("width")?)),

@@ -1,4 +1,11 @@
+mod Ended
 mod Examples
+mod MoveLemmas
+mod OveruseLemmas
+mod PageLemmas
 mod SavedFiles
 mod StateLemmas
 mod WishLemmas
+mod WrittenTexts
+mod Facts
+mod PathTexts

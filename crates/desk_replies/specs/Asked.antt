@@ -21,8 +21,8 @@ pub record IsDeviceAskedFor (given : Given) (size : DeviceSize) : Type 0 where
 -- what `files` prints is what is given
 abbrev pub IsFilesForm : Given → FilesForm → Type 0
 IsFilesForm given files.Lines = (is_given given (codes "csv") ≡ false) × (is_given given (codes "json") ≡ false)
-IsFilesForm given files.Table = is_given given (codes "csv") ≡ true
-IsFilesForm given files.Json = is_given given (codes "json") ≡ true
+IsFilesForm given files.Table = (is_given given (codes "csv") ≡ true) × (is_given given (codes "json") ≡ false)
+IsFilesForm given files.Json = (is_given given (codes "csv") ≡ false) × (is_given given (codes "json") ≡ true)
 
 -- each wish of `files` is that of its own option
 pub record IsFilesAskedFor (given : Given) (wishes : FilesWishes) : Type 0 where
@@ -34,9 +34,9 @@ pub record IsFilesAskedFor (given : Given) (wishes : FilesWishes) : Type 0 where
 -- what `report` prints is what is given
 abbrev pub IsReportForm : Given → ReportForm → Type 0
 IsReportForm given report.Lines = (is_given given (codes "csv") ≡ false) × (is_given given (codes "json") ≡ false) × (is_given given (codes "moves") ≡ false)
-IsReportForm given report.Table = is_given given (codes "csv") ≡ true
-IsReportForm given report.Json = is_given given (codes "json") ≡ true
-IsReportForm given report.Moves = is_given given (codes "moves") ≡ true
+IsReportForm given report.Table = (is_given given (codes "csv") ≡ true) × (is_given given (codes "json") ≡ false) × (is_given given (codes "moves") ≡ false)
+IsReportForm given report.Json = (is_given given (codes "csv") ≡ false) × (is_given given (codes "json") ≡ true) × (is_given given (codes "moves") ≡ false)
+IsReportForm given report.Moves = (is_given given (codes "csv") ≡ false) × (is_given given (codes "json") ≡ false) × (is_given given (codes "moves") ≡ true)
 
 -- each wish of `report` is that of its own option
 pub record IsReportAskedFor (given : Given) (wishes : ReportWishes) : Type 0 where

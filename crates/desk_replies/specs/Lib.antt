@@ -1,10 +1,17 @@
 pub mod Asked
 pub mod Lines
+pub mod Moves
+pub mod Overused
+pub mod Paged
 pub mod Pictured
 pub mod ReportJson
 pub mod Reported
 pub mod Saved
 pub mod Served
+pub mod Sizes
 pub mod States
 pub mod Tables
 pub mod Wishes
+pub mod Written
+pub mod Paths
+pub mod Printed

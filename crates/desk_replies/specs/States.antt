@@ -1,7 +1,9 @@
 -- The states of names, by the replies to a script.
-use Rattle.std.specs.Prelude.{ℕ, ◌+◌, List, [], ◌∷◌, ◌++◌, map, drop, codes, ◌||◌, Bool, if◌then◌else◌}
+use Rattle.std.specs.Prelude.{ℕ, ◌≡◌, ◌+◌, List, [], ◌∷◌, ◌++◌, map, drop, codes, ◌||◌, Bool, false, if◌then◌else◌}
 use Rattle.std.specs.Borrow.{Bor}
 use Rattle.std.specs.List.{fold, position_or_len}
+use Rattle.std.specs.Map.{lookup}
+use Rattle.std.specs.Option.{option_map_or}
 use Rattle.std.specs.Str.{bytes_eq}
 use Rattle.indexmap.specs.IndexMap.{insert_entry}
 use Rattle.line_text.specs.Lines.{physical_lines}
@@ -79,3 +81,16 @@ same_name one other = bytes_eq one.now other.now
 
 abbrev pub last_states : List NameState → List (Bor (List ℕ) × NameState)
 last_states states = fold (λ last one. insert_entry same_name last one.name one) [] states
+
+abbrev pub LastStates : Type 0
+LastStates = List (Bor (List ℕ) × NameState)
+
+-- these are the last states of names after acts with these replies
+pub record AreLastStates (acts : List (Act (List ℕ))) (replies : List AnsweredLine) (last : LastStates) : Type 0 where
+  pub states : List NameState
+  pub are_after : map state_after states ≡ states_from 0 acts replies
+  pub are_last : last ≡ last_states states
+
+-- whether the last state of a name is Unrouted
+abbrev pub is_unrouted : LastStates → List ℕ → Bool
+is_unrouted last name = option_map_or (λ one. bytes_eq one.state.now (codes "Unrouted")) (lookup (λ (key : Bor (List ℕ)). bytes_eq name key.now) last) false

@@ -1,26 +1,27 @@
 //! The tool that saves the files which the service printed.
-ghost use Rattle.std.specs.Prelude.{◌≡◌, count_by, map, IfOk};
+ghost use Rattle.std.specs.Prelude.{◌≡◌, count_by, map, IfOk, OnErr};
 ghost use Rattle.desk_common.specs.Outputs.{AreAdded};
 ghost use Rattle.desk_replies.specs.Asked.{IsFilesAskedFor, IsFilesForm};
+ghost use Rattle.desk_replies.specs.Printed.{IsPrintedFor};
 ghost use Rattle.desk_replies.specs.Saved.{replies_files};
 ghost use Rattle.desk_replies.specs.Served.{ArePrinted, AreRepliesSaved, AreSaved, AreSavedFrom, AreServed};
 ghost use Rattle.script_replies.specs.Accounts.{account_now, accounts_of};
 ghost use Rattle.script_replies.specs.Told.{is_refused};
 ghost use Rattle.script_text.specs.Script.{named_act};
 
+use crate::files_text::print_form;
 use crate::lines::Lines;
 use crate::saved_accounts::save_files;
 use crate::script_input::{acts_of, lines_of, replies_of};
 use crate::tenants::save_replies;
-use desk_circuits::{LineCounts, facts_of, print_usages, usages_text};
+use desk_circuits::LineCounts;
 use desk_common::{DEVICE, FOLDER, FileOutputs, FileRole, FileTexts, Outcome};
-use line_text::{Failed, Sink, Source, read_all, write_all};
+use line_text::{Sink, Source, read_all};
 use option_words::{Given, OptionWord, Program, Takes};
 use printed_replies::Replies;
-use script_replies::{Account, ToldLine, accounts_of, script_lines, told_lines, write_told};
+use script_replies::{Account, ToldLine, accounts_of, script_lines, told_lines};
 use script_text::Act;
 use std::alloc::Global;
-use text_parts::{Part, write_parts};
 
 const NO_FILE: &str = "give a script and a folder";
 
@@ -89,7 +90,7 @@ pub struct FilesWishes<'a> {
 
 /// What is printed.
 #[derive(Clone, Copy)]
-enum FilesForm {
+pub(crate) enum FilesForm {
     /// The lines beside their replies, and what each name used.
     Lines,
     /// What each name used, as a table.
@@ -100,7 +101,8 @@ enum FilesForm {
 
 /// What the options ask for, or why they are refused.
 pub fn wishes_of<'a>(given: &Given<'a>) -> Result<FilesWishes<'a>, &'static str>
-    ensures { IfOk result (IsFilesAskedFor given.now) }
+    ensures asked { IfOk result (IsFilesAskedFor given.now) }
+    ensures refused { OnErr result ((wishes : FilesWishes) → IsFilesAskedFor given.now wishes → ⊥) }
 {
     Ok(FilesWishes {
         script: given.text("script").ok_or(NO_FILE)?,
@@ -112,7 +114,8 @@ pub fn wishes_of<'a>(given: &Given<'a>) -> Result<FilesWishes<'a>, &'static str>
 
 /// What is to be printed, or why the options are refused.
 fn form_of(given: &Given<'_>) -> Result<FilesForm, &'static str>
-    ensures { IfOk result (IsFilesForm given.now) }
+    ensures asked { IfOk result (IsFilesForm given.now) }
+    ensures refused { OnErr result ((form : FilesForm) → IsFilesForm given.now form → ⊥) }
 {
     match (given.is_given("csv"), given.is_given("json")) {
         (false, false) => Ok(FilesForm::Lines),
@@ -132,8 +135,9 @@ pub fn run<F: FileTexts + AllocGlobal, O: FileOutputs, R: Source, W: Sink, E: Si
     writer: &mut W,
     teller: &mut E,
 ) -> Result<usize, Outcome>
-    ensures { IfOk result (λ refused. AreServed (F.text files.now) (R.remaining reader.old)
-        wishes.entry refused (O.written outputs.old) (O.written outputs.new)) }
+    ensures { IfOk result (λ refused. AreServed W.contents W.has_failed writer.old writer.new
+        (F.text files.now) (R.remaining reader.old) wishes.entry refused
+        (O.written outputs.old) (O.written outputs.new)) }
 {
     let script = files.read_text(FileRole::Script, wishes.script, u64::MAX, teller)?;
     let job = FilesJob {
@@ -161,8 +165,8 @@ fn run_on_lines<O: FileOutputs, R: Source, W: Sink, E: Sink>(
     writer: &mut W,
     teller: &mut E,
 ) -> Result<usize, Outcome>
-    ensures { IfOk result (λ refused. ArePrinted (R.remaining reader.old) job.entry refused
-        (O.written outputs.old) (O.written outputs.new)) }
+    ensures { IfOk result (λ refused. ArePrinted W.contents W.has_failed writer.old writer.new
+        (R.remaining reader.old) job.entry refused (O.written outputs.old) (O.written outputs.new)) }
 {
     match read_all(alloc, reader) {
         Ok(printed) => {
@@ -190,8 +194,8 @@ fn run_on_texts<O: FileOutputs, W: Sink, E: Sink>(
     writer: &mut W,
     teller: &mut E,
 ) -> Result<usize, Outcome>
-    ensures { IfOk result (λ refused. AreSavedFrom job.entry printed.now refused (O.written outputs.old)
-        (O.written outputs.new)) }
+    ensures { IfOk result (λ refused. AreSavedFrom W.contents W.has_failed writer.old writer.new
+        job.entry printed.now refused (O.written outputs.old) (O.written outputs.new)) }
 {
     let acts = acts_of(alloc, job.lines)?;
     let outcome = match replies_of(alloc, &acts, printed) {
@@ -216,7 +220,7 @@ fn run_on_replies<O: FileOutputs, W: Sink, E: Sink>(
     writer: &mut W,
     teller: &mut E,
 ) -> Result<usize, Outcome>
-    ensures { IfOk result (λ refused. AreSaved job.entry
+    ensures { IfOk result (λ refused. AreSaved W.contents W.has_failed writer.old writer.new job.entry
         (accounts_of (map named_act acts.now) replies.now) replies.now refused
         (O.written outputs.old) (O.written outputs.new)) }
 {
@@ -241,7 +245,7 @@ fn save_and_print<O: FileOutputs, W: Sink, E: Sink>(
     writer: &mut W,
     teller: &mut E,
 ) -> Result<usize, Outcome>
-    ensures { IfOk result (λ refused. AreSaved job.entry
+    ensures { IfOk result (λ refused. AreSaved W.contents W.has_failed writer.old writer.new job.entry
         (map account_now answers.entry.accounts.now) answers.entry.replies.now
         refused (O.written outputs.old) (O.written outputs.new)) }
 {
@@ -260,7 +264,8 @@ fn print<O: FileOutputs, W: Sink, E: Sink>(
     writer: &mut W,
     teller: &mut E,
 ) -> Result<usize, Outcome>
-    ensures { IfOk result (λ refused. AreRepliesSaved job.entry answers.entry.replies.now refused
+    ensures { IfOk result (λ refused. AreRepliesSaved W.contents W.has_failed writer.old writer.new
+        job.entry (map account_now answers.entry.accounts.now) answers.entry.replies.now refused
         (O.written outputs.old) (O.written outputs.new)) }
 {
     let lines = job.lines;
@@ -296,6 +301,9 @@ fn print_told<O: FileOutputs, W: Sink, E: Sink>(
     ensures counted { IfOk result (λ refused. refused ≡ count_by is_refused told.now) }
     ensures written { IfOk result (λ _. AreAdded (O.written outputs.old) (O.written outputs.new)
         (replies_files wishes.entry.folder.now told.now answers.entry.replies.now)) }
+    ensures printed { IfOk result (λ refused. IsPrintedFor W.contents W.has_failed
+        writer.old writer.new wishes.entry.form (map account_now answers.entry.accounts.now)
+        told.now refused) }
 {
     let refused = refused_in(told);
     let counts = LineCounts {
@@ -313,65 +321,4 @@ fn refused_in(told: &[ToldLine<'_>]) -> usize
     ensures { result ≡ count_by is_refused told.now }
 {
     told.iter().filter(|line| line.is_refused()).count()
-}
-
-/// Prints what is asked for.
-fn print_form<W: Sink>(
-    alloc: Global,
-    form: FilesForm,
-    accounts: &[Account<'_, '_>],
-    told: &[ToldLine<'_>],
-    counts: LineCounts,
-    writer: &mut W,
-) -> Result<(), Outcome> {
-    match form {
-        FilesForm::Lines => {
-            let written = write_told(writer, told)
-                .and_then(|()| print_usages(alloc, false, accounts, writer))
-                .and_then(|()| write_summary(writer, counts));
-            written.or(Err(Outcome::OutputFailed))
-        }
-        FilesForm::Table => {
-            print_usages(alloc, true, accounts, writer).or(Err(Outcome::OutputFailed))
-        }
-        FilesForm::Json => print_object(alloc, accounts, counts, writer),
-    }
-}
-
-/// Prints what each name used as one object.
-fn print_object<W: Sink>(
-    alloc: Global,
-    accounts: &[Account<'_, '_>],
-    counts: LineCounts,
-    writer: &mut W,
-) -> Result<(), Outcome> {
-    let Ok(names) = facts_of(alloc, accounts) else {
-        return Err(Outcome::NoMemory);
-    };
-    let text = usages_text(alloc, counts, &names);
-    drop(names);
-    match text {
-        Ok(text) => {
-            let written = write_all(writer, text.as_slice());
-            drop(text);
-            written.or(Err(Outcome::OutputFailed))
-        }
-        Err(_) => Err(Outcome::NoMemory),
-    }
-}
-
-/// Writes the numbers of lines that were served and refused, and of files.
-fn write_summary<W: Sink>(writer: &mut W, counts: LineCounts) -> Result<(), Failed> {
-    write_parts(
-        writer,
-        &[
-            Part::Text("served "),
-            Part::Long(counts.served),
-            Part::Text(", refused "),
-            Part::Long(counts.refused),
-            Part::Text(", files written "),
-            Part::Long(counts.files),
-            Part::Text("\n"),
-        ],
-    )
 }

@@ -1,14 +1,18 @@
 //! Where the routing of an unrouted tenancy is overused.
-ghost use Rattle.std.specs.Prelude.{IfSome};
+ghost use Rattle.std.specs.Prelude.{◌≡◌, is_some, map, IfSome, None, OnOk, Some};
+ghost use Rattle.line_text.specs.Writing.{Writes};
 ghost use Rattle.one_user.specs.Tracks.{IsLawful};
 ghost use Rattle.arch_file.specs.Arch.{IsWithin};
 ghost use Rattle.arch_file.specs.declared.arch.TheConstants.{MAX_TRACKS};
-ghost use Rattle.grid.specs.declared.TheConstants.{MAX_ROWS};
+ghost use Rattle.script_text.specs.Script.{named_act};
+ghost use Rattle.desk_replies.specs.Overused.{IsCrowdedBy, IsCrowdingFor, IsCrowdingOf, IsDevice, IsOveruse, IsOveruseBy, IsOveruseIf, IsOveruseOf, IsPlanOf, changed_text, crowded_text, is_placed};
+ghost use Rattle.desk_replies.specs.Wishes.{wish_now, wish_of};
+ghost use Rattle.desk_replies.specs.Written.{AreTextsOf, WritesSome};
 
 use crate::layout_wish::{LayoutWish, wish_of};
-use arch_file::MAX_TRACKS;
-use device_report::Report;
-use grid::{MAX_COLUMNS, MAX_ROWS};
+use crate::shared_device::SharedDevice;
+use device_report::{Report, TenancyUse};
+use grid::MAX_COLUMNS;
 use line_text::{Failed, Sink, is_word, write_slices};
 use one_user::{Crowding, DevicePlan, Request, crowding_with, write_crowding};
 use script_replies::Replies;
@@ -16,29 +20,18 @@ use script_text::Act;
 use std::alloc::Global;
 use strip_place::MAX_EFFORT;
 
-/// What is written after a name whose netlist was changed.
-const NOT_KNOWN: &[u8] = b" nodes left overused: not known, since its netlist was changed\n";
-
-/// A device, of which each tenancy has a strip of columns.
-#[derive(Clone, Copy)]
-pub(crate) struct SharedDevice<'a> {
-    /// The text of its architecture.
+/// A device of that architecture; `None` if its rows or tracks are not known, or not within the
+/// limits.
+pub(crate) fn device_with<'a>(
     arch: &'a [u8],
-    /// 1 to 64.
-    rows: u32,
-    /// Tracks of each channel, 1 to 64.
-    tracks: u32,
-    ghost rows_lawful: { IsWithin 1 rows MAX_ROWS },
-    ghost tracks_lawful: { IsWithin 1 tracks MAX_TRACKS },
-}
-
-impl<'a> SharedDevice<'a> {
-    /// A device of that architecture; `None` if its rows or tracks are not within the limits.
-    pub(crate) fn new(arch: &'a [u8], rows: u32, tracks: u32) -> Option<Self> {
-        if rows < 1 || rows > MAX_ROWS || tracks < 1 || tracks > MAX_TRACKS {
-            return None;
-        }
-        Some(SharedDevice { arch, rows, tracks })
+    rows: Option<u32>,
+    tracks: Option<u32>,
+) -> Option<SharedDevice<'a>>
+    ensures { IsDevice arch.now rows tracks result }
+{
+    match (rows, tracks) {
+        (Some(rows), Some(tracks)) => SharedDevice::new(arch, rows, tracks),
+        _ => None,
     }
 }
 
@@ -57,35 +50,105 @@ pub(crate) fn write_overuses<W: Sink>(
     report: &Report<'_>,
     served: ServedScript<'_>,
     writer: &mut W,
-) -> Result<(), Failed> {
-    for uses in &report.tenancies {
-        if is_word(uses.tenancy.state, "Unrouted") {
-            write_overuse(alloc, served, uses.tenancy.name, writer)?;
-        }
+) -> Result<(), Failed>
+    ensures { OnOk result (WritesSome W.contents W.has_failed writer.old writer.new
+        (AreTextsOf (IsOveruseOf served.entry.device (map named_act served.entry.acts.now)
+        served.entry.replies.now) report.now.tenancies.items)) }
+{
+    write_all_overuses(alloc, &report.tenancies, served, writer)
+}
+
+/// Writes for each of these tenancies that is Unrouted where its routing is overused.
+fn write_all_overuses<W: Sink>(
+    alloc: Global,
+    tenancies: &[TenancyUse<'_>],
+    served: ServedScript<'_>,
+    writer: &mut W,
+) -> Result<(), Failed>
+    ensures { OnOk result (WritesSome W.contents W.has_failed writer.old writer.new
+        (AreTextsOf (IsOveruseOf served.entry.device (map named_act served.entry.acts.now)
+        served.entry.replies.now) tenancies.now)) }
+{
+    for uses in tenancies {
+        let is_unrouted = is_word(uses.tenancy.state, "Unrouted");
+        write_overuse_if(alloc, is_unrouted, served, uses.tenancy.name, writer)?;
     }
     Ok(())
+}
+
+/// Writes where the routing of a name is overused, if it is Unrouted.
+fn write_overuse_if<W: Sink>(
+    alloc: Global,
+    is_unrouted: bool,
+    served: ServedScript<'_>,
+    name: &[u8],
+    writer: &mut W,
+) -> Result<(), Failed>
+    ensures { OnOk result (WritesSome W.contents W.has_failed writer.old writer.new
+        (IsOveruseIf is_unrouted served.entry.device (map named_act served.entry.acts.now)
+        served.entry.replies.now name.now)) }
+{
+    if is_unrouted {
+        write_overuse(alloc, served, name, writer)
+    } else {
+        Ok(())
+    }
 }
 
 /// Writes the name, and the number of nodes that are overused after the last iteration of the
 /// routing that it asked for; then the most overused ones, and the nets on them. The netlist is
 /// packed, placed and routed again for that, as it was asked for. Nothing is written if the routing
-/// is not given up, or if the device is not known.
+/// is not given up, if memory runs out, or if the device is not known.
 pub(crate) fn write_overuse<W: Sink>(
     alloc: Global,
     served: ServedScript<'_>,
     name: &[u8],
     writer: &mut W,
-) -> Result<(), Failed> {
-    let Some(device) = served.device else {
-        return Ok(());
-    };
-    let wish = wish_of(name, served.acts, served.replies);
+) -> Result<(), Failed>
+    ensures { OnOk result (WritesSome W.contents W.has_failed writer.old writer.new
+        (IsOveruse served.entry.device (map named_act served.entry.acts.now)
+        served.entry.replies.now name.now)) }
+{
+    match served.device {
+        Some(device) => {
+            let wish = wish_of(name, served.acts, served.replies);
+            write_overuse_on(alloc, device, wish, name, writer)
+        }
+        None => Ok(()),
+    }
+}
+
+/// Writes where the routing of a name with that wish is overused.
+fn write_overuse_on<W: Sink>(
+    alloc: Global,
+    device: SharedDevice<'_>,
+    wish: LayoutWish<'_>,
+    name: &[u8],
+    writer: &mut W,
+) -> Result<(), Failed>
+    ensures { OnOk result (WritesSome W.contents W.has_failed writer.old writer.new
+        (IsOveruseBy (is_placed (wish_now wish.entry)) device.entry (wish_now wish.entry)
+        name.now)) }
+{
     match plan_of(device, wish) {
         Some((plan, request)) => {
             write_overused(alloc, plan, request, device.tracks, name, writer)
         }
-        None => write_slices(writer, &[name, NOT_KNOWN]),
+        None => write_changed(name, writer),
     }
+}
+
+/// Writes that the overused nodes of a name are not known.
+fn write_changed<W: Sink>(name: &[u8], writer: &mut W) -> Result<(), Failed>
+    ensures { Writes W.contents W.has_failed writer.old writer.new (changed_text name.now) result }
+{
+    write_slices(
+        writer,
+        &[
+            name,
+            b" nodes left overused: not known, since its netlist was changed\n",
+        ],
+    )
 }
 
 /// Writes the name and the most overused nodes, if there are any.
@@ -99,6 +162,8 @@ fn write_overused<W: Sink>(
 ) -> Result<(), Failed>
     requires lawful { IsLawful plan request }
     requires tracks { IsWithin 1 tracks MAX_TRACKS }
+    ensures { OnOk result (WritesSome W.contents W.has_failed writer.old writer.new
+        (IsCrowdedBy plan.entry request.entry tracks name.now)) }
 {
     let Ok(Some(crowding)) = crowding_with(alloc, plan, tracks, request) else {
         return Ok(());
@@ -109,7 +174,10 @@ fn write_overused<W: Sink>(
 }
 
 /// Writes the name and the most overused nodes.
-fn write_named<W: Sink>(name: &[u8], crowding: &Crowding, writer: &mut W) -> Result<(), Failed> {
+fn write_named<W: Sink>(name: &[u8], crowding: &Crowding, writer: &mut W) -> Result<(), Failed>
+    ensures { Writes W.contents W.has_failed writer.old writer.new
+        (crowded_text name.now crowding.now) result }
+{
     write_slices(writer, &[name, b" "])?;
     write_crowding(writer, crowding)
 }
@@ -117,13 +185,23 @@ fn write_named<W: Sink>(name: &[u8], crowding: &Crowding, writer: &mut W) -> Res
 /// Where the routing of an Unrouted name is overused: its netlist is packed, placed and routed
 /// again, as it was asked for. `None` if the routing is not given up, if that is not known, or if
 /// memory runs out.
-pub(crate) fn crowding_of(
-    alloc: Global,
-    served: ServedScript<'_>,
-    name: &[u8],
-) -> Option<Crowding> {
-    let device = served.device?;
-    let wish = wish_of(name, served.acts, served.replies);
+pub(crate) fn crowding_of(alloc: Global, served: ServedScript<'_>, name: &[u8]) -> Option<Crowding>
+    ensures { IfSome result (IsCrowdingOf served.entry.device
+        (map named_act served.entry.acts.now) served.entry.replies.now name.now) }
+{
+    match served.device {
+        Some(device) => {
+            let wish = wish_of(name, served.acts, served.replies);
+            crowding_on(alloc, device, wish)
+        }
+        None => None,
+    }
+}
+
+/// Where the routing of a name with that wish is overused.
+fn crowding_on(alloc: Global, device: SharedDevice<'_>, wish: LayoutWish<'_>) -> Option<Crowding>
+    ensures { IfSome result (IsCrowdingFor device.entry (wish_now wish.entry)) }
+{
     let (plan, request) = plan_of(device, wish)?;
     match crowding_with(alloc, plan, device.tracks, request) {
         Ok(found) => found,
@@ -136,7 +214,10 @@ fn plan_of<'a>(
     device: SharedDevice<'a>,
     wish: LayoutWish<'a>,
 ) -> Option<(DevicePlan<'a>, Request<'a>)>
-    ensures { IfSome result (λ found. IsLawful found.0 found.1) }
+    ensures lawful { IfSome result (λ found. IsLawful found.0 found.1) }
+    ensures planned { IfSome result (λ found.
+        IsPlanOf device.entry (wish_now wish.entry) found.0 found.1) }
+    ensures placed { is_some result ≡ is_placed (wish_now wish.entry) }
 {
     let netlist = wish.netlist?;
     let start = wish.start?;

@@ -1,23 +1,27 @@
 //! The tool that prints a page for a browser.
-ghost use Rattle.std.specs.Prelude.{◌<◌, ◌^◌, length, IfOk};
+ghost use Rattle.std.specs.Prelude.{◌≡◌, ◌<◌, ◌^◌, length, map, option_map, IfOk, OnErr, OnOk};
+ghost use Rattle.line_text.specs.Writing.{Writes};
 ghost use Rattle.desk_replies.specs.Asked.{IsPageAskedFor};
+ghost use Rattle.desk_replies.specs.Overused.{IsDevice, IsOveruse};
+ghost use Rattle.desk_replies.specs.Paged.{AreAround, AreEmpty, AreScriptTexts, IsPage, IsPageAfter, IsPageOfInput, IsPageOfScript, IsPageOfText, IsPageShown, IsPageWith, device_text, number_in, sink_text, size_text, text_items};
+ghost use Rattle.script_replies.specs.Accounts.{accounts_of};
+ghost use Rattle.script_text.specs.Script.{named_act};
 
 use crate::lines::Lines;
 use crate::outdated::tell_outdated;
-use crate::overuse::{ServedScript, SharedDevice, write_overuse};
+use crate::overuse::{ServedScript, device_with};
+use crate::page_items::write_page_of;
 use crate::page_texts::PageTexts;
 use crate::script_input::{acts_of, lines_of, replies_of};
+use crate::shared_device::SharedDevice;
 use crate::states::{NameState, present_states};
-use desk_circuits::write_present_stops;
-use desk_common::{DEVICE, FileRole, Outcome, read_file};
+use desk_common::{DEVICE, FileRole, FileTexts, Outcome};
 use indexmap::IndexMap;
-use line_text::{Failed, MemorySink, Sink, Source, decimal_u32, is_word, read_all, write_all};
+use line_text::{Failed, Sink, Source, decimal_u32, read_all};
 use option_words::{Given, OptionWord, Program, Takes};
-use page::{PageItem, Viewer, viewer, write_page};
-use script_replies::{Account, PrintedFile, Replies, accounts_of};
+use script_replies::{Account, Replies, accounts_of};
 use script_text::Act;
 use std::alloc::Global;
-use std::rt::Files;
 use text_parts::{Part, write_parts};
 
 const NO_FILE: &str = "give a script";
@@ -99,7 +103,8 @@ pub struct PageWishes<'a> {
 
 /// What the options ask for, or why they are refused.
 pub fn wishes_of<'a>(given: &Given<'a>) -> Result<PageWishes<'a>, &'static str>
-    ensures { IfOk result (IsPageAskedFor given.now) }
+    ensures asked { IfOk result (IsPageAskedFor given.now) }
+    ensures refused { OnErr result ((wishes : PageWishes) → IsPageAskedFor given.now wishes → ⊥) }
 {
     Ok(PageWishes {
         script: given.text("script").ok_or(NO_FILE)?,
@@ -111,23 +116,26 @@ pub fn wishes_of<'a>(given: &Given<'a>) -> Result<PageWishes<'a>, &'static str>
 }
 
 /// Reads the script, and what was printed for its lines, and prints the page.
-pub fn run<H: Files + AllocGlobal, R: Source, W: Sink, E: Sink>(
-    rt: &H,
+pub fn run<F: FileTexts + AllocGlobal, R: Source, W: Sink, E: Sink>(
+    files: &F,
     wishes: PageWishes<'_>,
     reader: &mut R,
     writer: &mut W,
     teller: &mut E,
-) -> Result<(), Outcome> {
-    let script = read_file(rt, FileRole::Script, wishes.script, u64::MAX, teller)?;
-    let outcome = run_on_script(rt, wishes, script.as_slice(), reader, writer, teller);
+) -> Result<(), Outcome>
+    ensures { IfOk result (λ _. IsPageShown W.contents W.has_failed writer.old writer.new
+        (F.text files.now) (R.remaining reader.old) wishes.entry) }
+{
+    let script = files.read_text(FileRole::Script, wishes.script, u64::MAX, teller)?;
+    let outcome = run_on_script(files, wishes, script.as_slice(), reader, writer, teller);
     drop(script);
     outcome
 }
 
 /// Reads the architecture if it has a file of its own, and what was printed for the script, and
 /// prints the page.
-fn run_on_script<H: Files + AllocGlobal, R: Source, W: Sink, E: Sink>(
-    rt: &H,
+fn run_on_script<F: FileTexts + AllocGlobal, R: Source, W: Sink, E: Sink>(
+    files: &F,
     wishes: PageWishes<'_>,
     script: &[u8],
     reader: &mut R,
@@ -135,20 +143,32 @@ fn run_on_script<H: Files + AllocGlobal, R: Source, W: Sink, E: Sink>(
     teller: &mut E,
 ) -> Result<(), Outcome>
     requires { length script.now < 2 ^ 63 }
+    ensures { IfOk result (λ _. IsPageOfScript W.contents W.has_failed writer.old writer.new
+        (F.text files.now) (R.remaining reader.old) wishes.entry script.now) }
 {
-    let lines = lines_of(script, wishes.arch.is_none());
     let Some(path) = wishes.arch else {
-        return run_on_lines(rt.alloc(), wishes, lines, reader, writer, teller);
+        let lines = lines_of(script, true);
+        return run_on_lines(files.alloc(), wishes, lines, reader, writer, teller);
     };
-    let arch = read_file(rt, FileRole::Architecture, path, u64::MAX, teller)?;
-    let lines = Lines {
-        text: lines.text,
-        architecture: arch.as_slice(),
-        number: lines.number,
-    };
-    let outcome = run_on_lines(rt.alloc(), wishes, lines, reader, writer, teller);
+    let arch = files.read_text(FileRole::Architecture, path, u64::MAX, teller)?;
+    let lines = lines_with(script, arch.as_slice());
+    let outcome = run_on_lines(files.alloc(), wishes, lines, reader, writer, teller);
     drop(arch);
     outcome
+}
+
+/// All lines of a script, with an architecture that it doesn't begin with.
+fn lines_with<'a>(script: &'a [u8], architecture: &'a [u8]) -> Lines<'a>
+    requires { length script.now < 2 ^ 63 }
+    ensures text { result.text.now ≡ script.now }
+    ensures architecture { result.architecture.now ≡ architecture.now }
+    ensures number { result.number ≡ 1 }
+{
+    Lines {
+        text: script,
+        architecture,
+        number: 1,
+    }
 }
 
 /// Reads what was printed for these lines, and prints the page.
@@ -159,7 +179,10 @@ fn run_on_lines<R: Source, W: Sink, E: Sink>(
     reader: &mut R,
     writer: &mut W,
     teller: &mut E,
-) -> Result<(), Outcome> {
+) -> Result<(), Outcome>
+    ensures { IfOk result (λ _. IsPageOfInput W.contents W.has_failed writer.old writer.new
+        (R.remaining reader.old) wishes.entry lines.entry) }
+{
     match read_all(alloc, reader) {
         Ok(printed) => {
             let outcome = print(alloc, wishes, lines, printed.as_slice(), writer, teller);
@@ -178,7 +201,10 @@ fn print<W: Sink, E: Sink>(
     printed: &[u8],
     writer: &mut W,
     teller: &mut E,
-) -> Result<(), Outcome> {
+) -> Result<(), Outcome>
+    ensures { IfOk result (λ _. IsPageOfText W.contents W.has_failed writer.old writer.new
+        wishes.entry lines.entry printed.now) }
+{
     let acts = acts_of(alloc, lines)?;
     let outcome = match replies_of(alloc, &acts, printed) {
         Ok(replies) => {
@@ -201,64 +227,147 @@ fn print_acts<W: Sink, E: Sink>(
     replies: &Replies<'_, '_>,
     writer: &mut W,
     teller: &mut E,
-) -> Result<(), Outcome> {
+) -> Result<(), Outcome>
+    ensures { IfOk result (λ _. IsPage W.contents W.has_failed writer.old writer.new
+        wishes.entry lines.entry (map named_act acts.now) replies.now) }
+{
     let served = ServedScript {
         acts,
         replies,
         device: device_of(wishes, lines),
     };
-    print_served(alloc, wishes, lines, served, writer, teller)
+    let job = PageJob {
+        wishes,
+        lines,
+        served,
+    };
+    print_served(alloc, job, writer, teller)
+}
+
+/// A page of a script that was served.
+#[derive(Clone, Copy)]
+struct PageJob<'a> {
+    wishes: PageWishes<'a>,
+    lines: Lines<'a>,
+    served: ServedScript<'a>,
 }
 
 /// The device, if its rows and tracks are given.
-fn device_of<'a>(wishes: PageWishes<'_>, lines: Lines<'a>) -> Option<SharedDevice<'a>> {
-    let rows = decimal_u32(wishes.rows?.as_bytes())?;
-    let tracks = decimal_u32(wishes.tracks?.as_bytes())?;
-    SharedDevice::new(lines.architecture, rows, tracks)
+fn device_of<'a>(wishes: PageWishes<'_>, lines: Lines<'a>) -> Option<SharedDevice<'a>>
+    ensures { IsDevice lines.entry.architecture.now (number_in wishes.entry.rows)
+        (number_in wishes.entry.tracks) result }
+{
+    device_with(
+        lines.architecture,
+        number_in(wishes.rows),
+        number_in(wishes.tracks),
+    )
+}
+
+/// The number that an option gives, if it does.
+fn number_in(text: Option<&str>) -> Option<u32>
+    ensures { result ≡ number_in text.entry }
+{
+    decimal_u32(text?.as_bytes())
 }
 
 /// Prints the page of a script that was served.
-fn print_served<'a, W: Sink, E: Sink>(
+fn print_served<W: Sink, E: Sink>(
     alloc: Global,
-    wishes: PageWishes<'_>,
-    lines: Lines<'a>,
-    served: ServedScript<'a>,
+    job: PageJob<'_>,
     writer: &mut W,
     teller: &mut E,
-) -> Result<(), Outcome> {
+) -> Result<(), Outcome>
+    ensures { IfOk result (λ _. IsPageAfter W.contents W.has_failed writer.old writer.new
+        job.entry.wishes job.entry.lines job.entry.served.device
+        (map named_act job.entry.served.acts.now) job.entry.served.replies.now) }
+{
+    let served = job.served;
     let Ok(states) = present_states(alloc, served.acts, served.replies) else {
         return Err(Outcome::NoMemory);
     };
-    let mut texts = PageTexts::new(alloc);
-    let outcome = match texts.fill(alloc, lines, served.replies, &states) {
-        Ok(()) => {
-            write_device(wishes, &mut texts.device);
-            print_texts(alloc, served, &states, &texts, writer, teller)
-        }
-        Err(outcome) => Err(outcome),
-    };
-    drop(texts);
+    let outcome = print_states(alloc, job, &states, writer, teller);
     drop(states);
     outcome
 }
 
+/// Prints the page of a script after which names have these last states.
+fn print_states<W: Sink, E: Sink>(
+    alloc: Global,
+    job: PageJob<'_>,
+    states: &IndexMap<&[u8], NameState<'_>>,
+    writer: &mut W,
+    teller: &mut E,
+) -> Result<(), Outcome>
+    ensures { IfOk result (λ _. IsPageWith W.contents W.has_failed writer.old writer.new
+        job.entry.wishes job.entry.lines job.entry.served.device
+        (map named_act job.entry.served.acts.now) job.entry.served.replies.now states.now.entries) }
+{
+    let mut texts = PageTexts::new(alloc);
+    let outcome = print_filled(alloc, job, states, &mut texts, writer, teller);
+    drop(texts);
+    outcome
+}
+
+/// Fills the texts and prints the page of them.
+fn print_filled<W: Sink, E: Sink>(
+    alloc: Global,
+    job: PageJob<'_>,
+    states: &IndexMap<&[u8], NameState<'_>>,
+    texts: &mut PageTexts,
+    writer: &mut W,
+    teller: &mut E,
+) -> Result<(), Outcome>
+    requires { AreEmpty texts.old }
+    ensures { IfOk result (λ _. IsPageWith W.contents W.has_failed writer.old writer.new
+        job.entry.wishes job.entry.lines job.entry.served.device
+        (map named_act job.entry.served.acts.now) job.entry.served.replies.now states.now.entries) }
+{
+    fill_texts(alloc, job, states, texts)?;
+    print_texts(alloc, job.served, states, texts, writer, teller)
+}
+
+/// Writes the texts about the script and the device. Fails if memory runs out.
+fn fill_texts(
+    alloc: Global,
+    job: PageJob<'_>,
+    states: &IndexMap<&[u8], NameState<'_>>,
+    texts: &mut PageTexts,
+) -> Result<(), Outcome>
+    requires { AreEmpty texts.old }
+    ensures texts { OnOk result (AreScriptTexts job.entry.lines job.entry.served.replies.now
+        states.now.entries texts.new) }
+    ensures device { OnOk result (sink_text texts.new.device ≡ device_text job.entry.wishes) }
+{
+    texts.fill(alloc, job.lines, job.served.replies, states)?;
+    write_device(job.wishes, &mut texts.device).or(Err(Outcome::NoMemory))
+}
+
 /// Writes the sizes of the device that are given.
-fn write_device<W: Sink>(wishes: PageWishes<'_>, writer: &mut W) {
-    if let Some(columns) = wishes.columns {
-        let _ = write_parts(
+fn write_device<W: Sink>(wishes: PageWishes<'_>, writer: &mut W) -> Result<(), Failed>
+    ensures { Writes W.contents W.has_failed writer.old writer.new (device_text wishes.entry)
+        result }
+{
+    write_size("columns", wishes.columns, writer)?;
+    write_size("tracks", wishes.tracks, writer)
+}
+
+/// Writes a size, if it is given.
+fn write_size<W: Sink>(word: &'static str, size: Option<&str>, writer: &mut W) -> Result<(), Failed>
+    ensures { Writes W.contents W.has_failed writer.old writer.new
+        (size_text word.now (option_map (λ text. text.now) size.entry)) result }
+{
+    match size {
+        Some(size) => write_parts(
             writer,
             &[
-                Part::Text("columns "),
-                Part::Text(columns),
+                Part::Text(word),
+                Part::Text(" "),
+                Part::Text(size),
                 Part::Text("\n"),
             ],
-        );
-    }
-    if let Some(tracks) = wishes.tracks {
-        let _ = write_parts(
-            writer,
-            &[Part::Text("tracks "), Part::Text(tracks), Part::Text("\n")],
-        );
+        ),
+        None => Ok(()),
     }
 }
 
@@ -266,119 +375,28 @@ fn write_device<W: Sink>(wishes: PageWishes<'_>, writer: &mut W) {
 fn print_texts<'a, W: Sink, E: Sink>(
     alloc: Global,
     served: ServedScript<'a>,
-    states: &IndexMap<&'a [u8], NameState<'a>>,
+    states: &IndexMap<&[u8], NameState<'_>>,
     texts: &PageTexts,
     writer: &mut W,
     teller: &mut E,
-) -> Result<(), Outcome> {
+) -> Result<(), Outcome>
+    ensures { IfOk result (λ _. AreAround W.contents W.has_failed writer.old writer.new
+        (IsOveruse served.entry.device (map named_act served.entry.acts.now)
+        served.entry.replies.now) (text_items texts.now) states.now.entries
+        (accounts_of (map named_act served.entry.acts.now) served.entry.replies.now)) }
+{
     let Ok(accounts) = accounts_of(alloc, served.acts, served.replies) else {
         return Err(Outcome::NoMemory);
     };
-    for account in &accounts {
-        tell_outdated(*account, "not shown", teller);
-    }
+    tell_all_outdated(&accounts, teller);
     let written = write_page_of(alloc, served, states, &accounts, texts, writer);
     drop(accounts);
     written.or(Err(Outcome::OutputFailed))
 }
 
-/// Writes the page: the viewer around these texts, and the files of these names with the stops of
-/// their longest paths, and where the routings of those that are Unrouted are overused.
-fn write_page_of<'a, W: Sink>(
-    alloc: Global,
-    served: ServedScript<'a>,
-    states: &IndexMap<&'a [u8], NameState<'a>>,
-    accounts: &[Account<'a, 'a>],
-    texts: &PageTexts,
-    writer: &mut W,
-) -> Result<(), Failed> {
-    let viewer = viewer();
-    write_all(writer, viewer.head.as_bytes())?;
-    write_texts(texts, writer)?;
+/// Says which files of these names are not shown, since they are outdated.
+fn tell_all_outdated<E: Sink>(accounts: &[Account<'_, '_>], teller: &mut E) {
     for account in accounts {
-        write_files(*account, writer)?;
-        write_stops_of(alloc, *account, writer)?;
-        if is_unrouted(states, account.name) {
-            write_overuse_of(alloc, served, account.name, writer)?;
-        }
+        tell_outdated(*account, "not shown", teller);
     }
-    write_all(writer, viewer.tail.as_bytes())
-}
-
-/// Writes the texts about the script and the device.
-fn write_texts<W: Sink>(texts: &PageTexts, writer: &mut W) -> Result<(), Failed> {
-    write_text("lines", b"", texts.lines.as_bytes(), writer)?;
-    write_text("refused", b"", texts.refused.as_bytes(), writer)?;
-    write_text("states", b"", texts.states.as_bytes(), writer)?;
-    write_text("device", b"", texts.device.as_bytes(), writer)
-}
-
-/// Whether the last state of a name is Unrouted.
-fn is_unrouted(states: &IndexMap<&[u8], NameState<'_>>, name: &[u8]) -> bool {
-    match states.get(&name) {
-        Some(state) => is_word(state.state, "Unrouted"),
-        None => false,
-    }
-}
-
-/// Writes where the routing of a name is overused, if memory suffices to find that.
-fn write_overuse_of<W: Sink>(
-    alloc: Global,
-    served: ServedScript<'_>,
-    name: &[u8],
-    writer: &mut W,
-) -> Result<(), Failed> {
-    let mut text = MemorySink::new(alloc);
-    let written = match write_overuse(alloc, served, name, &mut text) {
-        Ok(()) => write_text("overuse", name, text.as_bytes(), writer),
-        Err(_) => Ok(()),
-    };
-    drop(text);
-    written
-}
-
-/// Writes the stops of the longest path of a name's netlist, if there is one and memory suffices to
-/// find it.
-fn write_stops_of<W: Sink>(
-    alloc: Global,
-    account: Account<'_, '_>,
-    writer: &mut W,
-) -> Result<(), Failed> {
-    let mut text = MemorySink::new(alloc);
-    let written = match write_present_stops(alloc, account.files, &mut text) {
-        Ok(()) if !text.as_bytes().is_empty() => {
-            write_text("path", account.name, text.as_bytes(), writer)
-        }
-        Ok(()) | Err(_) => Ok(()),
-    };
-    drop(text);
-    written
-}
-
-/// Writes the files of a name that are present.
-fn write_files<W: Sink>(account: Account<'_, '_>, writer: &mut W) -> Result<(), Failed> {
-    let files = account.files;
-    write_file("net", account.name, files.net, writer)?;
-    write_file("place", account.name, files.place, writer)?;
-    write_file("route", account.name, files.route, writer)
-}
-
-/// Writes a file of a name, if it is present.
-fn write_file<W: Sink>(
-    kind: &str,
-    name: &[u8],
-    file: PrintedFile<'_>,
-    writer: &mut W,
-) -> Result<(), Failed> {
-    match file.text {
-        Some(text) => write_text(kind, name, text, writer),
-        None => Ok(()),
-    }
-}
-
-/// Writes one text of a name, without a viewer around it.
-fn write_text<W: Sink>(kind: &str, name: &[u8], text: &[u8], writer: &mut W) -> Result<(), Failed> {
-    let item = PageItem { kind, name, text };
-    let none = Viewer { head: "", tail: "" };
-    write_page(writer, none, &[item])
 }

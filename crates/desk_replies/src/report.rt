@@ -1,16 +1,21 @@
 //! The tool that says how full the device is.
-ghost use Rattle.std.specs.Prelude.{◌<◌, ◌^◌, length, true, false, is_some, IfOk};
+ghost use Rattle.std.specs.Prelude.{◌<◌, ◌^◌, length, map, true, is_some, option_map, IfOk, OnErr};
+ghost use Rattle.desk_replies.specs.Overused.{IsOveruseOf};
+ghost use Rattle.desk_replies.specs.Paths.{told_accounts};
+ghost use Rattle.script_replies.specs.Accounts.{accounts_of};
+ghost use Rattle.script_text.specs.Script.{named_act};
 ghost use Rattle.desk_replies.specs.Asked.{IsReportAskedFor, IsReportForm};
-ghost use Rattle.desk_replies.specs.Reported.{IsObject, IsReportShown, IsReported, IsShown};
+ghost use Rattle.desk_replies.specs.Reported.{IsObject, IsReportShown, IsReported, IsShown, IsShownAlone, IsShownBy};
 
 use crate::device_input::device_in;
 use crate::lines::Lines;
-use crate::overuse::{ServedScript, SharedDevice, write_overuses};
+use crate::overuse::ServedScript;
 use crate::report_facts::{Told, facts_of};
 use crate::report_json::print_json;
 use crate::report_moves::print_moves;
-use crate::report_paths::{write_path_table, write_paths};
+use crate::report_paths::{write_path_table, write_told};
 use crate::script_input::{acts_of, lines_of, replies_of};
+use crate::shared_device::SharedDevice;
 use crate::size::{PADS, TRACKS, size_of};
 use crate::tenancy_table::write_table;
 use desk_common::{COLUMNS, DEVICE, FileRole, Outcome, ROWS, read_file};
@@ -128,7 +133,8 @@ pub struct ReportWishes<'a> {
 
 /// What the options ask for, or why they are refused.
 pub fn wishes_of<'a>(given: &Given<'a>) -> Result<ReportWishes<'a>, &'static str>
-    ensures { IfOk result (IsReportAskedFor given.now) }
+    ensures asked { IfOk result (IsReportAskedFor given.now) }
+    ensures refused { OnErr result ((wishes : ReportWishes) → IsReportAskedFor given.now wishes → ⊥) }
 {
     Ok(ReportWishes {
         size: size_of(given)?,
@@ -140,7 +146,8 @@ pub fn wishes_of<'a>(given: &Given<'a>) -> Result<ReportWishes<'a>, &'static str
 
 /// What is to be printed, or why the options are refused.
 fn form_of(given: &Given<'_>) -> Result<ReportForm, &'static str>
-    ensures { IfOk result (IsReportForm given.now) }
+    ensures asked { IfOk result (IsReportForm given.now) }
+    ensures refused { OnErr result ((form : ReportForm) → IsReportForm given.now form → ⊥) }
 {
     let is_table = given.is_given("csv");
     let is_json = given.is_given("json");
@@ -259,11 +266,8 @@ fn print<W: Sink>(
     writer: &mut W,
 ) -> Result<(), Outcome>
     ensures { IfOk result (λ _. IsShown W.contents W.has_failed writer.old writer.new
-        wishes.entry.form (is_some lines.entry) report.now) }
+        wishes.entry.form (is_some lines.entry) printed.now report.now) }
 {
-    if let ReportForm::Moves = wishes.form {
-        return print_moves(alloc, report, writer);
-    }
     let Some(lines) = lines else {
         return print_plain(alloc, wishes.form, report, writer);
     };
@@ -292,7 +296,9 @@ fn print_acts<W: Sink>(
     replies: &Replies<'_, '_>,
     writer: &mut W,
 ) -> Result<(), Outcome>
-    ensures { IfOk result (λ _. IsShown W.contents W.has_failed writer.old writer.new form true report.now) }
+    ensures { IfOk result (λ _. IsShownBy W.contents W.has_failed writer.old writer.new
+        (IsOveruseOf device.entry (map named_act acts.now) replies.now) form
+        (accounts_of (map named_act acts.now) replies.now) report.now) }
 {
     let served = ServedScript {
         acts,
@@ -302,19 +308,21 @@ fn print_acts<W: Sink>(
     print_served(alloc, form, report, served, writer)
 }
 
-/// Prints a report without longest paths.
+/// Prints a report without longest paths, or moves.
 fn print_plain<W: Sink>(
     alloc: Global,
     form: ReportForm,
     report: &Report<'_>,
     writer: &mut W,
 ) -> Result<(), Outcome>
-    ensures { IfOk result (λ _. IsShown W.contents W.has_failed writer.old writer.new form false report.now) }
+    ensures { IfOk result (λ _. IsShownAlone W.contents W.has_failed writer.old writer.new form
+        report.now) }
 {
     match form {
         ReportForm::Table => write_table(writer, report).or(Err(Outcome::OutputFailed)),
         ReportForm::Json => print_object(alloc, report, None, writer),
-        _ => write_report(writer, report).or(Err(Outcome::OutputFailed)),
+        ReportForm::Moves => print_moves(alloc, report, writer),
+        ReportForm::Lines => write_report(writer, report).or(Err(Outcome::OutputFailed)),
     }
 }
 
@@ -325,7 +333,8 @@ fn print_object<W: Sink>(
     told: Option<Told<'_>>,
     writer: &mut W,
 ) -> Result<(), Outcome>
-    ensures { IfOk result (λ _. IsObject W.contents W.has_failed writer.old writer.new report.now) }
+    ensures { IfOk result (λ _. IsObject W.contents W.has_failed writer.old writer.new
+        (option_map told_accounts told.entry) report.now) }
 {
     let Ok(facts) = facts_of(alloc, report, told) else {
         return Err(Outcome::NoMemory);
@@ -344,7 +353,10 @@ fn print_served<'a, W: Sink>(
     served: ServedScript<'a>,
     writer: &mut W,
 ) -> Result<(), Outcome>
-    ensures { IfOk result (λ _. IsShown W.contents W.has_failed writer.old writer.new form true report.now) }
+    ensures { IfOk result (λ _. IsShownBy W.contents W.has_failed writer.old writer.new
+        (IsOveruseOf served.entry.device (map named_act served.entry.acts.now)
+        served.entry.replies.now) form
+        (accounts_of (map named_act served.entry.acts.now) served.entry.replies.now) report.now) }
 {
     let Ok(accounts) = accounts_of(alloc, served.acts, served.replies) else {
         return Err(Outcome::NoMemory);
@@ -358,7 +370,7 @@ fn print_served<'a, W: Sink>(
     outcome
 }
 
-/// Prints a report by a served script.
+/// Prints a report by a served script, or moves.
 fn print_told<W: Sink>(
     alloc: Global,
     form: ReportForm,
@@ -366,26 +378,18 @@ fn print_told<W: Sink>(
     told: Told<'_>,
     writer: &mut W,
 ) -> Result<(), Outcome>
-    ensures { IfOk result (λ _. IsShown W.contents W.has_failed writer.old writer.new form true report.now) }
+    ensures { IfOk result (λ _. IsShownBy W.contents W.has_failed writer.old writer.new
+        (IsOveruseOf told.entry.served.device (map named_act told.entry.served.acts.now)
+        told.entry.served.replies.now) form (told_accounts told.entry) report.now) }
 {
     match form {
         ReportForm::Table => write_path_table(alloc, report, told.accounts, writer).or(Err(
             Outcome::OutputFailed,
         )),
         ReportForm::Json => print_object(alloc, report, Some(told), writer),
-        _ => print_lines(alloc, report, told, writer),
+        ReportForm::Moves => print_moves(alloc, report, writer),
+        ReportForm::Lines => {
+            write_told(alloc, report, told, writer).or(Err(Outcome::OutputFailed))
+        }
     }
-}
-
-/// Prints a report in lines, by a served script.
-fn print_lines<W: Sink>(
-    alloc: Global,
-    report: &Report<'_>,
-    told: Told<'_>,
-    writer: &mut W,
-) -> Result<(), Outcome> {
-    let written = write_report(writer, report)
-        .and_then(|()| write_paths(alloc, report, told.accounts, writer))
-        .and_then(|()| write_overuses(alloc, report, told.served, writer));
-    written.or(Err(Outcome::OutputFailed))
 }

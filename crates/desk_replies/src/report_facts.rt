@@ -1,5 +1,11 @@
 //! What is known of a report's tenancies, for its JSON.
-ghost use Rattle.std.specs.Prelude.{◌≡◌, ◌++◌, IfOk, OnOk, map};
+ghost use Rattle.std.specs.Prelude.{◌≡◌, ◌++◌, codes, true, List, IfOk, IfSome, OnOk, map, option_map};
+ghost use Rattle.std.specs.Str.{bytes_eq};
+ghost use Rattle.script_replies.specs.Accounts.{account_now};
+ghost use Rattle.script_text.specs.Script.{named_act};
+ghost use Rattle.desk_replies.specs.Overused.{IsCrowdingOf};
+ghost use Rattle.desk_replies.specs.Paths.{AreFactsOf, HasCircuit, IsFactOf, account_of, told_accounts};
+ghost use Rattle.desk_replies.specs.declared.report_facts.TenancyFacts.{TenancyFacts};
 
 use crate::overuse::{ServedScript, crowding_of};
 use desk_circuits::{MeasuredCircuit, present_circuit};
@@ -34,8 +40,8 @@ pub(crate) fn facts_of<'t>(
     report: &Report<'t>,
     told: Option<Told<'_>>,
 ) -> Result<Vec<TenancyFacts<'t>>, AllocError>
-    ensures { IfOk result (λ facts. map (λ one. one.uses) facts.items
-        ≡ report.now.tenancies.items) }
+    ensures { IfOk result (λ facts. AreFactsOf (option_map told_accounts told.entry)
+        report.now.tenancies.items facts.items) }
 {
     let mut facts = Vec::new(alloc);
     match add_facts(alloc, &report.tenancies, told, &mut facts) {
@@ -54,8 +60,9 @@ fn add_facts<'t>(
     told: Option<Told<'_>>,
     facts: &mut Vec<TenancyFacts<'t>>,
 ) -> Result<(), AllocError>
-    ensures { OnOk result (map (λ one. one.uses) facts.new.items
-        ≡ map (λ one. one.uses) facts.old.items ++ tenancies.now) }
+    ensures { OnOk result ((added : List TenancyFacts)
+        × (facts.new.items ≡ facts.old.items ++ added)
+        × AreFactsOf (option_map told_accounts told.entry) tenancies.now added) }
 {
     for uses in tenancies {
         facts.push(fact_of(alloc, *uses, told))?;
@@ -65,7 +72,7 @@ fn add_facts<'t>(
 
 /// What is known of a tenancy.
 fn fact_of<'t>(alloc: Global, uses: TenancyUse<'t>, told: Option<Told<'_>>) -> TenancyFacts<'t>
-    ensures { result.uses ≡ uses.entry }
+    ensures { IsFactOf (option_map told_accounts told.entry) uses.entry result }
 {
     match told {
         Some(told) => TenancyFacts {
@@ -82,7 +89,13 @@ fn fact_of<'t>(alloc: Global, uses: TenancyUse<'t>, told: Option<Told<'_>>) -> T
 }
 
 /// Where the routing of a tenancy that is Unrouted is overused, if that is known.
-fn crowding_by(alloc: Global, served: ServedScript<'_>, uses: TenancyUse<'_>) -> Option<Crowding> {
+fn crowding_by(alloc: Global, served: ServedScript<'_>, uses: TenancyUse<'_>) -> Option<Crowding>
+    ensures unrouted { IfSome result (λ _.
+        bytes_eq uses.entry.tenancy.state.now (codes "Unrouted") ≡ true) }
+    ensures crowding { IfSome result (IsCrowdingOf served.entry.device
+        (map named_act served.entry.acts.now) served.entry.replies.now
+        uses.entry.tenancy.name.now) }
+{
     if is_word(uses.tenancy.state, "Unrouted") {
         crowding_of(alloc, served, uses.tenancy.name)
     } else {
@@ -95,10 +108,23 @@ pub(crate) fn circuit_of(
     alloc: Global,
     accounts: &[Account<'_, '_>],
     name: &[u8],
-) -> Option<MeasuredCircuit> {
+) -> Option<MeasuredCircuit>
+    ensures { HasCircuit (map account_now accounts.now) name.now result }
+{
+    match account_of(accounts, name) {
+        Some(account) => present_circuit(alloc, account.files),
+        None => None,
+    }
+}
+
+/// The first account of that name.
+fn account_of<'a, 'p>(accounts: &[Account<'a, 'p>], name: &[u8]) -> Option<Account<'a, 'p>>
+    ensures { option_map account_now result
+        ≡ account_of (map account_now accounts.now) name.now }
+{
     for account in accounts {
         if account.name == name {
-            return present_circuit(alloc, account.files);
+            return Some(*account);
         }
     }
     None

@@ -1,6 +1,9 @@
 //! Where a device has room, and the moves that join its gaps, as lines of a script.
-ghost use Rattle.std.specs.Prelude.{◌≤◌};
+ghost use Rattle.std.specs.Prelude.{◌≡◌, ◌≤◌, codes, flat_map, option_map, IfOk};
 ghost use Rattle.grid.specs.declared.TheConstants.{MAX_COLUMNS};
+ghost use Rattle.line_text.specs.Writing.{TakesAll, Writes};
+ghost use Rattle.strip_moves.specs.Gaps.{gaps_of};
+ghost use Rattle.desk_replies.specs.Moves.{AreJoined, AreMoves, gaps_text, joining_text, line_to, move_line, room_line, strips_of, tenancy_of, widest_line};
 
 use desk_common::Outcome;
 use device_report::{Report, Room, TenancyUse};
@@ -16,25 +19,44 @@ pub(crate) fn print_moves<W: Sink>(
     alloc: Global,
     report: &Report<'_>,
     writer: &mut W,
-) -> Result<(), Outcome> {
+) -> Result<(), Outcome>
+    ensures { IfOk result (λ _. AreMoves W.contents W.has_failed writer.old writer.new report.now) }
+{
     let Ok(strips) = strips_of(alloc, report) else {
         return Err(Outcome::NoMemory);
     };
-    let printed = print_gaps(alloc, report, &strips, writer).and_then(|()| print_joining(
-        alloc, report, &strips, writer,
-    ));
+    let printed = print_strips(alloc, report, &strips, writer);
     drop(strips);
     printed
 }
 
 /// The strips of the tenancies of a report.
-fn strips_of(alloc: Global, report: &Report<'_>) -> Result<Vec<PlacedStrip>, AllocError> {
-    let strip = |uses: &TenancyUse<'_>| PlacedStrip {
-        id: uses.tenancy.id,
-        offset: uses.tenancy.offset,
-        width: uses.tenancy.width,
-    };
-    report.tenancies.iter().map(strip).collect(alloc)
+fn strips_of(alloc: Global, report: &Report<'_>) -> Result<Vec<PlacedStrip>, AllocError>
+    ensures { IfOk result (λ strips. strips.items ≡ strips_of report.now) }
+{
+    report
+        .tenancies
+        .iter()
+        .map(|uses| PlacedStrip {
+            id: uses.tenancy.id,
+            offset: uses.tenancy.offset,
+            width: uses.tenancy.width,
+        })
+        .collect(alloc)
+}
+
+/// Prints the gaps between these strips, and the moves that join them.
+fn print_strips<W: Sink>(
+    alloc: Global,
+    report: &Report<'_>,
+    strips: &[PlacedStrip],
+    writer: &mut W,
+) -> Result<(), Outcome>
+    requires { strips.now ≡ strips_of report.now }
+    ensures { IfOk result (λ _. AreMoves W.contents W.has_failed writer.old writer.new report.now) }
+{
+    print_gaps(alloc, report, strips, writer)?;
+    print_joining(alloc, report, strips, writer)
 }
 
 /// Prints the gaps and the widest strip that would be admitted now.
@@ -43,7 +65,10 @@ fn print_gaps<W: Sink>(
     report: &Report<'_>,
     strips: &[PlacedStrip],
     writer: &mut W,
-) -> Result<(), Outcome> {
+) -> Result<(), Outcome>
+    ensures { IfOk result (λ _. TakesAll W.contents W.has_failed writer.old writer.new
+        (gaps_text (gaps_of report.now.size.columns strips.now) report.now.widest)) }
+{
     let Ok(gaps) = gaps_of(alloc, report.size.columns, strips) else {
         return Err(Outcome::NoMemory);
     };
@@ -58,10 +83,14 @@ fn print_joining<W: Sink>(
     report: &Report<'_>,
     strips: &[PlacedStrip],
     writer: &mut W,
-) -> Result<(), Outcome> {
+) -> Result<(), Outcome>
+    ensures { IfOk result (λ _. AreJoined W.contents W.has_failed writer.old writer.new
+        report.now.tenancies.items
+        (record { columns = report.now.size.columns; strips = strips.now })) }
+{
     match joining_moves(alloc, report.size.columns, strips) {
         Ok(Some(joining)) => {
-            let written = write_joining(report, &joining, writer);
+            let written = write_joining(&report.tenancies, &joining, writer);
             drop(joining);
             written.or(Err(Outcome::OutputFailed))
         }
@@ -71,44 +100,90 @@ fn print_joining<W: Sink>(
 }
 
 /// Writes the gaps and the widest strip, as comments.
-fn write_gaps<W: Sink>(gaps: &[Room], widest: Option<Room>, writer: &mut W) -> Result<(), Failed> {
+fn write_gaps<W: Sink>(gaps: &[Room], widest: Option<Room>, writer: &mut W) -> Result<(), Failed>
+    ensures { Writes W.contents W.has_failed writer.old writer.new (gaps_text gaps.now widest)
+        result }
+{
+    write_rooms(gaps, writer)?;
+    write_widest("widest", widest, writer)
+}
+
+/// Writes the gaps, as comments.
+fn write_rooms<W: Sink>(gaps: &[Room], writer: &mut W) -> Result<(), Failed>
+    ensures { Writes W.contents W.has_failed writer.old writer.new
+        (flat_map (room_line (codes "gap")) gaps.now) result }
+{
     for gap in gaps {
         write_room("gap", *gap, writer)?;
     }
-    write_widest("widest", widest, writer)
+    Ok(())
 }
 
 /// Writes the moves as lines of a script, and the widest strip after them as a comment.
 fn write_joining<W: Sink>(
-    report: &Report<'_>,
+    tenancies: &[TenancyUse<'_>],
     joining: &Joining,
     writer: &mut W,
-) -> Result<(), Failed> {
-    for one in &joining.moves {
-        write_move(report, *one, writer)?;
-    }
+) -> Result<(), Failed>
+    ensures { Writes W.contents W.has_failed writer.old writer.new
+        (joining_text tenancies.now joining.now) result }
+{
+    write_moves(tenancies, &joining.moves, writer)?;
     write_widest("then widest", joining.widest, writer)
 }
 
+/// Writes the moves as lines of a script.
+fn write_moves<W: Sink>(
+    tenancies: &[TenancyUse<'_>],
+    moves: &[StripMove],
+    writer: &mut W,
+) -> Result<(), Failed>
+    ensures { Writes W.contents W.has_failed writer.old writer.new
+        (flat_map (move_line tenancies.now) moves.now) result }
+{
+    for one in moves {
+        write_move(tenancies, *one, writer)?;
+    }
+    Ok(())
+}
+
 /// Writes a move as a line of a script.
-fn write_move<W: Sink>(report: &Report<'_>, one: StripMove, writer: &mut W) -> Result<(), Failed> {
-    match report
-        .tenancies
-        .iter()
-        .find(|uses| uses.tenancy.id == one.id)
-    {
-        Some(uses) => write_parts(
-            writer,
-            &[
-                Part::Text("op move "),
-                Part::Bytes(uses.tenancy.name),
-                Part::Text(" "),
-                Part::Number(one.offset),
-                Part::Text("\n"),
-            ],
-        ),
+fn write_move<W: Sink>(
+    tenancies: &[TenancyUse<'_>],
+    one: StripMove,
+    writer: &mut W,
+) -> Result<(), Failed>
+    ensures { Writes W.contents W.has_failed writer.old writer.new (move_line tenancies.now one)
+        result }
+{
+    match tenancy_of(tenancies, one.id) {
+        Some(uses) => write_line_to(one.offset, uses, writer),
         None => Ok(()),
     }
+}
+
+/// The first of the tenancies with that id.
+fn tenancy_of<'r, 't>(tenancies: &'r [TenancyUse<'t>], id: u32) -> Option<&'r TenancyUse<'t>>
+    ensures { option_map (λ uses. uses.now) result ≡ tenancy_of tenancies.now id }
+{
+    tenancies.iter().find(|uses| uses.tenancy.id == id)
+}
+
+/// Writes a move of a tenancy to that offset as a line of a script.
+fn write_line_to<W: Sink>(offset: u32, uses: &TenancyUse<'_>, writer: &mut W) -> Result<(), Failed>
+    ensures { Writes W.contents W.has_failed writer.old writer.new (line_to offset uses.now)
+        result }
+{
+    write_parts(
+        writer,
+        &[
+            Part::Text("op move "),
+            Part::Bytes(uses.tenancy.name),
+            Part::Text(" "),
+            Part::Number(offset),
+            Part::Text("\n"),
+        ],
+    )
 }
 
 /// Writes a widest strip as a comment.
@@ -116,7 +191,10 @@ fn write_widest<W: Sink>(
     words: &'static str,
     widest: Option<Room>,
     writer: &mut W,
-) -> Result<(), Failed> {
+) -> Result<(), Failed>
+    ensures { Writes W.contents W.has_failed writer.old writer.new (widest_line words.now widest)
+        result }
+{
     match widest {
         Some(room) => write_room(words, room, writer),
         None => write_parts(
@@ -127,7 +205,10 @@ fn write_widest<W: Sink>(
 }
 
 /// Writes columns side by side as a comment: the words, their number, and the offset.
-fn write_room<W: Sink>(words: &'static str, room: Room, writer: &mut W) -> Result<(), Failed> {
+fn write_room<W: Sink>(words: &'static str, room: Room, writer: &mut W) -> Result<(), Failed>
+    ensures { Writes W.contents W.has_failed writer.old writer.new (room_line words.now room)
+        result }
+{
     write_parts(
         writer,
         &[

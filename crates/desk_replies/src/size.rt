@@ -1,5 +1,5 @@
 //! The size of a device, as the tools take it.
-ghost use Rattle.std.specs.Prelude.{IfOk};
+ghost use Rattle.std.specs.Prelude.{IfOk, OnErr};
 ghost use Rattle.desk_replies.specs.Asked.{IsDeviceAskedFor};
 
 use desk_common::{COLUMNS, DEVICE, NO_DEVICE, ROWS};
@@ -27,7 +27,8 @@ pub(crate) const SIZES: &[OptionWord] = &[TRACKS, COLUMNS, ROWS, DEVICE, PADS];
 
 /// The size that the options give, or why they are refused.
 pub fn size_of(given: &Given<'_>) -> Result<DeviceSize, &'static str>
-    ensures { IfOk result (IsDeviceAskedFor given.now) }
+    ensures asked { IfOk result (IsDeviceAskedFor given.now) }
+    ensures refused { OnErr result ((size : DeviceSize) → IsDeviceAskedFor given.now size → ⊥) }
 {
     let columns = given.number("columns")?;
     let rows = given.number("rows")?;

@@ -3,7 +3,7 @@ ghost use Rattle.std.specs.Prelude.{◌≡◌, ◌++◌, map, IfOk, OnOk};
 ghost use Rattle.script_replies.specs.Usage.{first_word};
 ghost use Rattle.script_text.specs.Script.{named_act, named_operator};
 ghost use Rattle.script_text.specs.declared.operator_line.OperatorLine.TheVariants.{List};
-ghost use Rattle.desk_replies.specs.States.{after_word, granted_states, last_states, listed_state, operator_states, session_states, state_after, states_from, states_in};
+ghost use Rattle.desk_replies.specs.States.{AreLastStates, after_word, granted_states, last_states, listed_state, operator_states, session_states, state_after, states_from, states_in};
 
 use indexmap::IndexMap;
 use line_text::{is_word, skip_blanks, split_line, split_word};
@@ -25,7 +25,9 @@ pub(crate) fn present_states<'a>(
     alloc: Global,
     acts: &[Act<&'a [u8]>],
     replies: &Replies<'a, 'a>,
-) -> Result<IndexMap<&'a [u8], NameState<'a>>, AllocError> {
+) -> Result<IndexMap<&'a [u8], NameState<'a>>, AllocError>
+    ensures { IfOk result (λ last. AreLastStates (map named_act acts.now) replies.now last.entries) }
+{
     let states = states_after(alloc, acts, replies)?;
     let last = last_states(alloc, &states);
     drop(states);

@@ -46,3 +46,4 @@ mod PinAparts
 pub mod NetSearches
 mod Alike
 mod StepRows
+pub mod BlockInputs

@@ -16,6 +16,7 @@ use Rattle.fabric_planes.specs.Labels.{is_there, node_at, family_of}
 use Rattle.fabric_planes.specs.Laid.{IsWireOf}
 use Rattle.fabric_planes.specs.Layout.{Terminals, pins_of, level_at, stride_of, in_column, offset_of, place_of, place_count, shows, labels_of, planes_of, IsNetSearch}
 use Rattle.fabric_planes.specs.Pins.{IsShownPin, ArePins, ArePrices}
+use Rattle.fabric_planes.specs.Prices.{IsWireOn}
 use Rattle.fabric_planes.specs.Steps.{AreSteps, NO_CLASS}
 use Rattle.fabric_planes.specs.Tables.{IsFirstAt, AreFirsts, NO_WIRE}
 use Rattle.fabric_planes.proofs.Bounded.{IsShownThere, shown_there}
@@ -77,6 +78,21 @@ module _ {basis : Basis} (is : IsBasis basis) where
         absurd (wire_or_pin place number x offset w pin at)
   ]
 
+  -- if a wire is at the place, one of each track is
+  pub track_there : (place number track : ℕ) → track < basis.arch.tracks → IsWireOf basis place number → (k : ℕ) × IsWireOn basis place track k
+  track_there place number track few w =
+      let kind = (node number).kind in
+      let there = each_track basis kind (node number).x (node number).y (node number).n track w.wire.wire few ((lawful is).nodes number w.wire.within) in
+      let found = (lawful is).all (make_node (node number).x kind (node number).y track) there in
+      let same : place_of basis (node found.0) ≡ place_of basis (node number) =
+      ap (λ (v : Node). place_of basis v) found.2 ∙ ap (λ (o : ℕ). ((node number).x + 2) * stride_of basis + o) (same_offset basis kind (node number).x (node number).y track (node number).n w.wire.wire) in (
+        found.0,
+        record {
+          wire = record { wire = record { within = found.1; wire = subst IsWire (sym (ap (λ (v : Node). v.kind) found.2)) w.wire.wire }; is_at = same ∙ w.is_at };
+          on_track = ap (λ (v : Node). v.n) found.2;
+        },
+      )
+
   module _ (t : Terminals) (cost : ℕ → ℕ) (starts : List ℕ) (goal : ℕ) (search : IsNetSearch basis cost starts goal t) (firsts : List ℕ) (told : AreFirsts basis firsts) where
     -- a wire of the track is at the place
     pub record IsWireThere (track place : ℕ) : Type 0 where
@@ -103,13 +119,8 @@ module _ {basis : Basis} (is : IsBasis basis) where
     -- if a wire of the first track is at the place, one of each track is
     other_track : (track place number : ℕ) → track < basis.arch.tracks → IsWireOf basis place number → IsWireThere track place
     other_track track place number few w =
-        let kind = (node number).kind in
-        let there = each_track basis kind (node number).x (node number).y (node number).n track w.wire.wire few ((lawful is).nodes number w.wire.within) in
-        let found = (lawful is).all (make_node (node number).x kind (node number).y track) there in
-        let same : place_of basis (node found.0) ≡ place_of basis (node number) =
-        ap (λ (v : Node). place_of basis v) found.2 ∙ ap (λ (o : ℕ). ((node number).x + 2) * stride_of basis + o) (same_offset basis kind (node number).x (node number).y track (node number).n w.wire.wire) in
-        let of : IsWireOf basis place found.0 = record { wire = record { within = found.1; wire = subst IsWire (sym (ap (λ (v : Node). v.kind) found.2)) w.wire.wire }; is_at = same ∙ w.is_at } in
-        wire_shown_at track place found.0 of (ap (λ (v : Node). v.n) found.2)
+        let found = track_there place number track few w in
+        wire_shown_at track place found.0 found.1.wire found.1.on_track
 
     -- a pin is at the place
     pub record IsPinThere (track place : ℕ) : Type 0 where

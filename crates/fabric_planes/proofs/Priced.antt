@@ -11,7 +11,7 @@ use Rattle.fabric_planes.specs.Laid.{IsWireOf}
 use Rattle.fabric_planes.specs.Layout.{place_of, place_count}
 use Rattle.fabric_planes.specs.declared.price_table.PriceAt.{PriceAt}
 use Rattle.fabric_planes.specs.Pins.{ArePrices, AreByPlace}
-use Rattle.fabric_planes.specs.Prices.{IsSpot, IsRepriced}
+use Rattle.fabric_planes.specs.Prices.{AreByPlaceBut, ComesFrom, IsSpot, IsRepriced, IsWireOn}
 use Rattle.fabric_planes.specs.Ways.{IsWireAt}
 use Rattle.fabric_planes.proofs.Consecutive.{wires_order}
 use Rattle.fabric_planes.proofs.Found.{place_low}
@@ -46,11 +46,6 @@ pub record ArePricesBut (basis : Basis) (cost : ℕ → ℕ) (but : ℕ → Type
   pub told : (place number : ℕ) → IsWireOf basis place number → (but number → ⊥) → (slice_index prices (((graph_of basis).node number).n * place_count basis + place) ≡ 255 → ⊥)
       → slice_index prices (((graph_of basis).node number).n * place_count basis + place) ≡ cost number
   pub others : (track place : ℕ) → track < basis.arch.tracks → place < place_count basis → ((number : ℕ) → IsWireOf basis place number → ((graph_of basis).node number).n ≡ track → ⊥) → slice_index prices (track * place_count basis + place) ≡ 255
-
--- the prices of all wires are at most these costs, except for some nodes
-pub record AreByPlaceBut (basis : Basis) (cost : ℕ → ℕ) (but : ℕ → Type 0) (prices : List ℕ) : Type 0 where
-  pub long : length prices ≡ place_count basis * basis.arch.tracks
-  pub low : (place number : ℕ) → IsWireOf basis place number → (but number → ⊥) → slice_index prices (place * basis.arch.tracks + ((graph_of basis).node number).n) ≤ cost number
 
 -- the node is one of those in the list from this index on
 abbrev pub IsLeft : List ℕ → ℕ → ℕ → Type 0
@@ -208,14 +203,72 @@ all_told basis cost but prices none are = record {
 
 -- ---- the same place by place
 
-pub none_by_place : (basis : Basis) (cost : ℕ → ℕ) (prices : List ℕ) → length prices ≡ place_count basis * basis.arch.tracks → AreByPlaceBut basis cost (λ number. 0 ≤ number) prices
-none_by_place basis cost prices long = record {
-  long = long;
-  low = λ place number w not. absurd (not (omega arith));
-}
-
 pub all_by_place : (basis : Basis) (cost : ℕ → ℕ) (but : ℕ → Type 0) (prices : List ℕ) → ((number : ℕ) → number < (graph_of basis).count → but number → ⊥) → AreByPlaceBut basis cost but prices → AreByPlace basis cost prices
 all_by_place basis cost but prices none are = record {
   long = are.long;
   low = λ place number w. are.low place number w (none number w.wire.within);
 }
+
+-- ---- the wires of one place after another
+
+module _ {basis : Basis} (is : IsBasis basis) (cost : ℕ → ℕ) where
+  abbrev of : ℕ → Node
+  of = (graph_of basis).node
+
+  -- at first no price is set
+  pub begun_by_place : (prices : List ℕ) → length prices ≡ place_count basis * basis.arch.tracks → AreByPlaceBut basis cost (ComesFrom basis 0 0) prices
+  begun_by_place prices long = record {
+    long = long;
+    low = λ place number w not. absurd (not (
+      w.wire,
+      elim (cases_eq (place_of basis (of number)) 0) [
+        | inl here ↦ inl (here, omega arith)
+        | inr later ↦ inr (omega (arith, later))
+      ],
+    ));
+  }
+
+  -- the wire of a track is done
+  pub next_wire : (place track number : ℕ) → IsWireOn basis place track number → (k : ℕ) → ComesFrom basis place track k → ComesFrom basis place (track + 1) k ⊎ (k ≡ number)
+  next_wire place track number on k (w, inr later) = inl (w, inr later)
+  next_wire place track number on k (w, inl (here, from)) = elim (cases_eq (of k).n track) [
+    | inl same ↦ inr (same_wire is k number w on.wire.wire (same ∙ sym on.on_track) (here ∙ sym on.wire.is_at))
+    | inr other ↦ inl (w, inl (here, omega (arith, from, other)))
+  ]
+
+  -- all wires of a place are done
+  pub next_place : (place tracks : ℕ) (prices : List ℕ) → basis.arch.tracks ≤ tracks → AreByPlaceBut basis cost (ComesFrom basis place tracks) prices → AreByPlaceBut basis cost (ComesFrom basis (place + 1) 0) prices
+  next_place place tracks prices few are = record {
+    long = are.long;
+    low = λ p number w not. are.low p number w (λ from. elim from.1 [
+      | inl here ↦ omega (arith, here.1, few, track_low is number w.wire)
+      | inr later ↦ not (
+        w.wire,
+        elim (cases_eq (place_of basis (of number)) (place + 1)) [
+          | inl next ↦ inl (next, omega arith)
+          | inr more ↦ inr (omega (arith, later, more))
+        ],
+      )
+    ]);
+  }
+
+  -- a place has no wire
+  pub skip_place : (place : ℕ) (prices : List ℕ) → ((number : ℕ) → IsWireOf basis place number → ⊥) → AreByPlaceBut basis cost (ComesFrom basis place 0) prices → AreByPlaceBut basis cost (ComesFrom basis (place + 1) 0) prices
+  skip_place place prices none are = record {
+    long = are.long;
+    low = λ p number w not. are.low p number w (λ from. elim from.1 [
+      | inl here ↦ none number (record { wire = w.wire; is_at = here.0 })
+      | inr later ↦ not (
+        w.wire,
+        elim (cases_eq (place_of basis (of number)) (place + 1)) [
+          | inl next ↦ inl (next, omega arith)
+          | inr more ↦ inr (omega (arith, later, more))
+        ],
+      )
+    ]);
+  }
+
+  -- no wire comes after the last place
+  pub none_after : (place : ℕ) → place_count basis ≤ place → (number : ℕ) → ComesFrom basis place 0 number → ⊥
+  none_after place past number (w, inl here) = omega (arith, past, here.0, place_below is number w)
+  none_after place past number (w, inr later) = omega (arith, past, later, place_below is number w)

@@ -3,6 +3,7 @@ use Rattle.std.specs.Prelude.{◌≡◌, ℕ, ◌+◌}
 use Rattle.rr_graph.specs.Graph.{Basis, graph_of}
 use Rattle.fabric_planes.specs.declared.layout.Layout.{Layout}
 use Rattle.fabric_planes.specs.ArrivalRows.{AreArrivalRows}
+use Rattle.fabric_planes.specs.InputSides.{AreInputSides}
 use Rattle.fabric_planes.specs.Layout.{band_of, stride_of, place_of}
 use Rattle.fabric_planes.specs.PinRows.{ArePinRows}
 use Rattle.fabric_planes.specs.Tables.{IsShapeOf, AreFirsts}
@@ -21,6 +22,7 @@ pub record IsLayout (basis : Basis) (layout : Layout) : Type 0 where
   pub to_block : layout.to_block.items ≡ far_table Block (basis.strip.width + 3) (band_of basis) (stride_of basis)
   pub arrivals : AreArrivalRows basis layout.arrivals
   pub pins : ArePinRows basis layout.pins
+  pub inputs : AreInputSides basis layout.inputs.items
 
 -- the wire with this number is at the place
 pub record IsWireOf (basis : Basis) (place number : ℕ) : Type 0 where

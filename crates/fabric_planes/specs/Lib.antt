@@ -26,4 +26,5 @@ pub mod NetTables
 pub mod Shown
 pub mod Fars
 pub mod NetSearches
+pub mod InputSides
 pub mod KeptLayouts

@@ -4,6 +4,7 @@ use Rattle.rr_graph.specs.Geometry.{IsWire}
 use Rattle.rr_graph.specs.Graph.{Basis, graph_of}
 use Rattle.fabric_planes.specs.declared.price_table.PriceAt.{PriceAt}
 use Rattle.fabric_planes.specs.declared.price_table.PriceTable.{PriceTable}
+use Rattle.fabric_planes.specs.Laid.{IsWireOf}
 use Rattle.fabric_planes.specs.Layout.{place_of, place_count}
 use Rattle.fabric_planes.specs.Pins.{ArePrices, AreByPlace}
 use Rattle.fabric_planes.specs.Ways.{IsWireAt}
@@ -38,6 +39,21 @@ pub record IsSpot (basis : Basis) (number : ℕ) (spot : PriceAt) : Type 0 where
   pub low : spot.by_track < basis.arch.tracks * place_count basis
   pub is_by_place : spot.by_place ≡ place_of basis ((graph_of basis).node number) * basis.arch.tracks + ((graph_of basis).node number).n
   pub low_by_place : spot.by_place < place_count basis * basis.arch.tracks
+
+-- the wire of this track is at the place
+pub record IsWireOn (basis : Basis) (place track number : ℕ) : Type 0 where
+  pub wire : IsWireOf basis place number
+  pub on_track : ((graph_of basis).node number).n ≡ track
+
+-- the node is a wire at the place, on this track or a later one, or at a later place
+abbrev pub ComesFrom : Basis → ℕ → ℕ → ℕ → Type 0
+ComesFrom basis place track number =
+    IsWireAt basis number × (((place_of basis ((graph_of basis).node number) ≡ place) × (track ≤ ((graph_of basis).node number).n)) ⊎ (place < place_of basis ((graph_of basis).node number)))
+
+-- the prices of all wires are at most these costs, except for some nodes
+pub record AreByPlaceBut (basis : Basis) (cost : ℕ → ℕ) (but : ℕ → Type 0) (prices : List ℕ) : Type 0 where
+  pub long : length prices ≡ place_count basis * basis.arch.tracks
+  pub low : (place number : ℕ) → IsWireOf basis place number → (but number → ⊥) → slice_index prices (place * basis.arch.tracks + ((graph_of basis).node number).n) ≤ cost number
 
 -- a wire's price is set by its cost
 pub record IsPriceSet (basis : Basis) (cost number : ℕ) (old new old_by_place new_by_place : List ℕ) : Type 0 where

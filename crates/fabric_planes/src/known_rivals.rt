@@ -87,6 +87,18 @@ impl Bounds {
         Ok(())
     }
 
+    /// Returns whether some path of another track may cost no more than those with this head. If
+    /// none does, the bounds of all paths tell as much as those of paths that come before.
+    fn has_others(&self, head: Head) -> bool {
+        let most = head.cost.min(20000) as u16;
+        for track in 0..self.all.len() {
+            if self.all[track] <= most && track != head.track {
+                return true;
+            }
+        }
+        false
+    }
+
     /// Fills in for each track a lower bound of the paths that come before any path with this head;
     /// of all paths if there is none.
     pub fn fill_rivals<'a, G: StripGraph, C: NodeCosts>(
@@ -105,9 +117,11 @@ impl Bounds {
             self.new.rivals.items) }
     {
         planes.strip.graph.laws();
-        match head {
-            Some(head) => self.fill_before(planes, head),
-            None => self.copy_all(),
+        if let Some(head) = head {
+            if self.has_others(head) {
+                return self.fill_before(planes, head);
+            }
         }
+        self.copy_all()
     }
 }

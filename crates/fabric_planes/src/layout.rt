@@ -6,10 +6,12 @@ ghost use Rattle.fabric_planes.specs.Tables.{IsFirstWire, AreFirsts};
 
 use crate::arrival_rows::ArrivalRows;
 use crate::distances::{Target, far_table};
+use crate::input_sides::input_sides;
 use crate::pin_rows::PinRows;
 use crate::shape::Shape;
 use crate::shaped_graph::ShapedGraph;
 use crate::steps::{FirstWires, Steps};
+use arch_file::Sides;
 use rr_graph::{Node, NodeKind, StripGraph};
 use std::alloc::{AllocError, Global};
 
@@ -62,6 +64,8 @@ pub struct Layout {
     pub(crate) arrivals: ArrivalRows,
     /// The ends of pins.
     pub(crate) pins: PinRows,
+    /// The sides of the input pins of a logic block, in the order of their numbers.
+    pub(crate) inputs: Vec<Sides>,
 }
 
 impl Layout {
@@ -84,6 +88,7 @@ impl Layout {
         let to_block = far_table(alloc, shape, Target::Block)?;
         let arrivals = ArrivalRows::new(alloc, &shaped)?;
         let pins = PinRows::new(alloc, &shaped)?;
+        let inputs = input_sides(alloc, graph)?;
         Ok(Layout {
             shape,
             firsts,
@@ -93,6 +98,7 @@ impl Layout {
             to_block,
             arrivals,
             pins,
+            inputs,
         })
     }
 }

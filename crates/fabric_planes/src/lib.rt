@@ -22,6 +22,7 @@ mod bounds;
 mod costs;
 mod distances;
 mod ends;
+mod input_sides;
 mod kept_layout;
 mod known_rivals;
 mod labels;

@@ -1,6 +1,7 @@
 //! Lower bounds of the costs of a sink's pins, side by side.
 ghost use Rattle.std.specs.Prelude.{◌≡◌, ◌≤◌, true};
 
+use crate::side_bounds::DEAR;
 use arch_file::Sides;
 
 /// Lower bounds of the costs of a sink's pins on each side of its block or pad.
@@ -22,6 +23,19 @@ fn lower(bound: u16, is_on: bool, other: u16) -> u16
 
 impl PinBounds {
     ghost use Rattle.fabric_planes.specs.SideBounds.{AreFew, AreLow, AreNoDearer};
+
+    /// The bounds without a pin: the most that they count.
+    pub(crate) fn most() -> PinBounds
+        ensures { AreFew result }
+    {
+        let dear = DEAR as u16;
+        PinBounds {
+            top: dear,
+            bottom: dear,
+            right: dear,
+            left: dear,
+        }
+    }
 
     /// The bounds with one more pin.
     pub(crate) fn with(self, sides: Sides, cost: u16) -> PinBounds

@@ -4,10 +4,11 @@ ghost use Rattle.rr_graph.specs.Geometry.{IsWire};
 ghost use Rattle.rr_graph.specs.Graph.{Basis, graph_of};
 ghost use Rattle.fabric_planes.specs.Laid.{IsLayout};
 ghost use Rattle.fabric_planes.specs.Pins.{ArePrices, AreByPlace};
-ghost use Rattle.fabric_planes.specs.Prices.{IsSpot, IsPrice, IsRepriced, AgreeBut, HasPrices, HasRoom, HasRoomByPlace};
+ghost use Rattle.fabric_planes.specs.Prices.{IsSpot, IsPrice, IsPriceSet, IsRepriced, IsWireOn, AgreeBut, AreByPlaceBut, ComesFrom, HasPrices, HasRoom, HasRoomByPlace};
+ghost use Rattle.fabric_planes.specs.Tables.{IsFirstAt};
 
 use crate::costs::NodeCosts;
-use crate::layout::Layout;
+use crate::layout::{Layout, NO_WIRE};
 use crate::strip_planes::StripPlanes;
 use crate::untold_prices::untold_prices;
 use rr_graph::{NodeKind, StripGraph};
@@ -56,6 +57,21 @@ impl<'a, G: StripGraph> StripPlanes<'a, G> {
             _ => None,
         }
     }
+
+    /// Where the price of the wire of a track at a place is.
+    #[inline(always)]
+    fn spot_at(&self, track: usize, place: usize) -> PriceAt
+        requires { (number : ℕ) × IsWireOn (G.basis self.now.graph.now) place track number }
+        ensures { (number : ℕ) → IsWireOn (G.basis self.now.graph.now) place track number →
+            IsSpot (G.basis self.now.graph.now) number result }
+    {
+        let (graph, shape) = (self.graph, self.layout.shape);
+        graph.laws();
+        PriceAt {
+            by_track: track * shape.places() + place,
+            by_place: place * shape.tracks as usize + track,
+        }
+    }
 }
 
 /// Sets the price of a node, if it is a wire.
@@ -93,6 +109,44 @@ struct CostedPlanes<'a, G: StripGraph, C: NodeCosts> {
 }
 
 impl<'a, G: StripGraph, C: NodeCosts> CostedPlanes<'a, G, C> {
+    /// Sets the price of the wire of a track at a place.
+    #[inline(always)]
+    fn price_wire(&self, prices: &mut Vec<u8>, by_place: &mut Vec<u8>, place: usize, track: usize)
+        requires there { (number : ℕ) × IsWireOn (G.basis self.now.strip.graph.now) place track
+            number }
+        requires long { HasRoom (G.basis self.now.strip.graph.now) prices.old.items }
+        requires long_by_place { HasRoomByPlace (G.basis self.now.strip.graph.now)
+            by_place.old.items }
+        ensures { (number : ℕ) → IsWireOn (G.basis self.now.strip.graph.now) place track number →
+            IsPriceSet (G.basis self.now.strip.graph.now) (C.costs self.now.costs.now number) number
+            prices.old.items prices.new.items by_place.old.items by_place.new.items }
+    {
+        let strip = &self.strip;
+        strip.graph.laws();
+        let spot = strip.spot_at(track, place);
+        let price = price_for(self.costs.cost(strip.wire_number(track, place)));
+        prices[spot.by_track] = price;
+        by_place[spot.by_place] = price;
+    }
+
+    /// Sets the prices of the wires at a place that has some.
+    fn price_place(&self, prices: &mut Vec<u8>, by_place: &mut Vec<u8>, place: usize)
+        requires there { (first : ℕ) × IsFirstAt (G.basis self.now.strip.graph.now) place first }
+        requires told { ArePrices (G.basis self.now.strip.graph.now) (C.costs self.now.costs.now)
+            prices.old.items }
+        requires low { AreByPlaceBut (G.basis self.now.strip.graph.now) (C.costs self.now.costs.now)
+            (ComesFrom (G.basis self.now.strip.graph.now) place 0) by_place.old.items }
+        ensures told { ArePrices (G.basis self.now.strip.graph.now) (C.costs self.now.costs.now)
+            prices.new.items }
+        ensures low { AreByPlaceBut (G.basis self.now.strip.graph.now) (C.costs self.now.costs.now)
+            (ComesFrom (G.basis self.now.strip.graph.now) (place + 1) 0) by_place.new.items }
+    {
+        self.strip.graph.laws();
+        for track in 0..self.strip.layout.shape.tracks as usize {
+            self.price_wire(prices, by_place, place, track);
+        }
+    }
+
     /// Sets the prices of all wires.
     fn price_all(&self, prices: &mut Vec<u8>, by_place: &mut Vec<u8>)
         requires before { ArePrices (G.basis self.now.strip.graph.now) (C.costs self.now.costs.now)
@@ -104,9 +158,12 @@ impl<'a, G: StripGraph, C: NodeCosts> CostedPlanes<'a, G, C> {
         ensures low { AreByPlace (G.basis self.now.strip.graph.now) (C.costs self.now.costs.now)
             by_place.new.items }
     {
-        let (graph, layout, costs) = (self.strip.graph, self.strip.layout, self.costs);
-        for number in 0..graph.count() {
-            set_price(prices, by_place, graph, layout, costs, number);
+        self.strip.graph.laws();
+        let firsts = self.strip.layout.firsts.as_slice();
+        for place in 0..firsts.len() {
+            if firsts[place] != NO_WIRE {
+                self.price_place(prices, by_place, place);
+            }
         }
     }
 

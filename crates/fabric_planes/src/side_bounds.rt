@@ -1,18 +1,20 @@
 //! Lower bounds of the costs of the last wires and the pins before a sink.
 ghost use Rattle.std.specs.Prelude.{All, ◌≡◌, ◌+◌, ◌*◌, ◌^◌, ◌<◌, ◌≤◌, ℕ, true, length, slice_index, OnOk};
+ghost use Rattle.rr_graph.specs.Geometry.{is_block_row};
 ghost use Rattle.rr_graph.specs.Graph.{graph_of};
 ghost use Rattle.fabric_planes.specs.Aheads.{AreLeast, AreSides};
-ghost use Rattle.fabric_planes.specs.SideBounds.{AreFew, AreNoDearer, ArePinBounds, AreSidesBounded, AreWiresBounded, IsLowFor, IsSideBounded, by_side};
+ghost use Rattle.fabric_planes.specs.SideBounds.{AreFew, AreLow, AreNoDearer, ArePinBounds, AreSidesBounded, AreWiresBounded, IsLowFor, IsSideBounded, by_side};
 
 use crate::costs::NodeCosts;
 use crate::pin_bounds::PinBounds;
 use crate::priced_graph::PricedGraph;
 use crate::side::Side;
+use arch_file::Sides;
 use rr_graph::{Node, NodeKind, StripGraph, is_together, sides_at};
 use std::alloc::{AllocError, Global};
 
 /// The most that the cost of a pin or of a wire counts in these bounds.
-const DEAR: u64 = 19000;
+pub(crate) const DEAR: u64 = 19000;
 
 /// A bound above those of all wires: there is no wire.
 const APART: u16 = 20000;
@@ -26,6 +28,18 @@ fn counted(cost: u64) -> u16
 }
 
 impl<'a, G: StripGraph, C: NodeCosts> PricedGraph<'a, G, C> {
+    /// The bounds with the pin of this number on these sides.
+    #[inline(always)]
+    fn with_pin(&self, pins: PinBounds, number: usize, sides: Sides) -> PinBounds
+        requires within { number < (graph_of (G.basis self.now.graph.now)).count }
+        requires few { AreFew pins }
+        ensures few { AreFew result }
+        ensures falls { AreNoDearer result pins }
+        ensures low { AreLow sides result (C.costs self.now.costs.now number) }
+    {
+        pins.with(sides, counted(self.costs.cost(number)))
+    }
+
     /// The bounds with the pin of this number, if it is one of the sink's block or pad.
     fn with_own(&self, pins: PinBounds, number: usize, sink: Node) -> PinBounds
         requires within { number < (graph_of (G.basis self.now.graph.now)).count }
@@ -41,8 +55,41 @@ impl<'a, G: StripGraph, C: NodeCosts> PricedGraph<'a, G, C> {
         if !is_together(graph.strip(), pin, sink) {
             return pins;
         }
-        let sides = sides_at(graph.arch(), graph.strip(), pin);
-        pins.with(sides, counted(self.costs.cost(number)))
+        self.with_pin(pins, number, sides_at(graph.arch(), graph.strip(), pin))
+    }
+
+    /// Lower bounds of the costs of a pad's pins.
+    fn pad_bounds(&self, sink: Node) -> PinBounds
+        ensures few { AreFew result }
+        ensures low { ArePinBounds (G.basis self.now.graph.now) (C.costs self.now.costs.now) sink
+            result }
+    {
+        let graph = self.graph;
+        graph.laws();
+        let mut pins = PinBounds::most();
+        let numbers = graph.numbers_at(NodeKind::Ipin, sink.x, sink.y);
+        for number in numbers.first..numbers.end {
+            pins = self.with_own(pins, number, sink);
+        }
+        pins
+    }
+
+    /// Lower bounds of the costs of a logic block's pins.
+    fn block_bounds(&self, sink: Node) -> PinBounds
+        requires { is_block_row (G.basis self.now.graph.now).strip sink.y ≡ true }
+        ensures few { AreFew result }
+        ensures low { ArePinBounds (G.basis self.now.graph.now) (C.costs self.now.costs.now) sink
+            result }
+    {
+        let graph = self.graph;
+        graph.laws();
+        let inputs = self.layout.inputs.as_slice();
+        let mut pins = PinBounds::most();
+        let numbers = graph.numbers_at(NodeKind::Ipin, sink.x, sink.y);
+        for number in numbers.first..numbers.end {
+            pins = self.with_pin(pins, number, inputs[number - numbers.first]);
+        }
+        pins
     }
 
     /// Lower bounds of the costs of a sink's pins.
@@ -52,19 +99,11 @@ impl<'a, G: StripGraph, C: NodeCosts> PricedGraph<'a, G, C> {
             result }
     {
         let graph = self.graph;
-        graph.laws();
-        let dear = DEAR as u16;
-        let mut pins = PinBounds {
-            top: dear,
-            bottom: dear,
-            right: dear,
-            left: dear,
-        };
-        let numbers = graph.numbers_at(NodeKind::Ipin, sink.x, sink.y);
-        for number in numbers.first..numbers.end {
-            pins = self.with_own(pins, number, sink);
+        if 1 <= sink.y && sink.y <= graph.strip().rows {
+            self.block_bounds(sink)
+        } else {
+            self.pad_bounds(sink)
         }
-        pins
     }
 }
 

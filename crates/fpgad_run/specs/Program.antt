@@ -1,5 +1,5 @@
 -- What a script and an architecture give before anything runs, and how a run ends.
-use Rattle.std.specs.Prelude.{ℕ, ◌≡◌, Bool, true, false, List, [], map, take, Result, Ok, Err, Option, Some, None, unwrap_or, ⊤, IsOk}
+use Rattle.std.specs.Prelude.{ℕ, ◌≡◌, Bool, true, false, List, [], map, take, Result, Ok, Err, Option, Some, None, unwrap_or, ⊤, IsOk, IfSome}
 use Rattle.std.specs.Io.KnownBytes.{Appends}
 use Rattle.arch_file.specs.declared.arch.Arch.{Arch}
 use Rattle.arch_file.specs.declared.fault.ArchFault.{ArchFault}
@@ -77,13 +77,11 @@ Decides start InputFailed = ⊤
 Decides start NoMemory = ⊤
 Decides start outcome = start ≡ Err outcome
 
--- what is written: replies, or a beginning of them if the device fails; nothing if the run ends
--- before
+-- what is written, if the input is known: replies, or a beginning of them if the device fails;
+-- nothing if the run ends before
 abbrev pub WritesSuch : (List ℕ → List ℕ → Type 0) → Option (List ℕ) → Outcome → Option (List ℕ) → Option (List ℕ) → Type 0
-WritesSuch AreReplies (Some input) Done old new = (output : List ℕ) × AreReplies input output × Appends old new output
-WritesSuch AreReplies (Some input) OutputFailed old new = (output : List ℕ) × (n : ℕ) × AreReplies input output × Appends old new (take n output)
-WritesSuch AreReplies None Done old new = ⊤
-WritesSuch AreReplies None OutputFailed old new = ⊤
+WritesSuch AreReplies input Done old new = IfSome input (λ text. (output : List ℕ) × AreReplies text output × Appends old new output)
+WritesSuch AreReplies input OutputFailed old new = IfSome input (λ text. (output : List ℕ) × (n : ℕ) × AreReplies text output × Appends old new (take n output))
 WritesSuch AreReplies input outcome old new = new ≡ old
 
 abbrev pub Writes : Options → Architecture → Option (List ℕ) → Outcome → Option (List ℕ) → Option (List ℕ) → Type 0

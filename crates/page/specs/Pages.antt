@@ -5,19 +5,23 @@ use Rattle.page.specs.declared.page.PageItem.{PageItem}
 use Rattle.page.specs.declared.page.Viewer.{Viewer}
 use Rattle.page.specs.Shown.{escape_of}
 
--- the beginning of an item's element: its kind and its name as HTML shows them
-abbrev pub kind_text : PageItem → List ℕ
-kind_text item = concat (codes "<pre hidden class=\"data\" data-kind=\"" ∷ []) ++ flat_map escape_of item.kind.now
+-- the beginning of an element: its kind and its name as HTML shows them
+abbrev pub kind_text : List ℕ → List ℕ
+kind_text kind = concat (codes "<pre hidden class=\"data\" data-kind=\"" ∷ []) ++ flat_map escape_of kind
 
-abbrev pub name_text : PageItem → List ℕ
-name_text item = concat (codes "\" data-name=\"" ∷ []) ++ flat_map escape_of item.name.now
+abbrev pub name_text : List ℕ → List ℕ
+name_text name = concat (codes "\" data-name=\"" ∷ []) ++ flat_map escape_of name
 
-abbrev pub start_text : PageItem → List ℕ
-start_text item = kind_text item ++ (name_text item ++ concat (codes "\">\n" ∷ []))
+abbrev pub start_text : List ℕ → List ℕ → List ℕ
+start_text kind name = kind_text kind ++ (name_text name ++ concat (codes "\">\n" ∷ []))
 
--- the hidden element of an item, with its text as HTML shows it
+-- the hidden element of a text with that kind and name, as HTML shows it
+abbrev pub element_text : List ℕ → List ℕ → List ℕ → List ℕ
+element_text kind name text = start_text kind name ++ (flat_map escape_of text ++ concat (codes "</pre>\n" ∷ []))
+
+-- that of an item
 abbrev pub item_text : PageItem → List ℕ
-item_text item = start_text item ++ (flat_map escape_of item.text.now ++ concat (codes "</pre>\n" ∷ []))
+item_text item = element_text item.kind.now item.name.now item.text.now
 
 -- the page: the viewer around the items
 abbrev pub page_text : Viewer → List PageItem → List ℕ

@@ -4,10 +4,11 @@
 //! Its script reads the texts out of hidden elements, and builds what it shows from them as text
 //! alone.
 //!
-//! [`write_page`] writes exactly the viewer's head, the items and the viewer's tail, and each byte
-//! of an item as [`write_shown`] does. [`texts_are_inert`] is the law that nothing in such a text
-//! is markup: whatever names and lines the items have, no element, attribute or script begins or
-//! ends in them. What the viewer's script does is not proved; `bench/page` tries it in a browser.
+//! [`write_page`] writes exactly the viewer's head, the items and the viewer's tail, [`write_item`]
+//! one item, and each byte of an item as [`write_shown`] does. [`texts_are_inert`] is the law that
+//! nothing in such a text is markup: whatever names and lines the items have, no element, attribute
+//! or script begins or ends in them. What the viewer's script does is not proved; `bench/page`
+//! tries it in a browser.
 #![tactic(auto)]
 
 mod fixed_text;
@@ -17,5 +18,5 @@ mod shown;
 
 pub use fixed_text::viewer;
 pub use law::texts_are_inert;
-pub use page::{PageItem, Viewer, write_page};
+pub use page::{PageItem, Viewer, write_item, write_page};
 pub use shown::write_shown;

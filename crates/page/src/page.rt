@@ -58,8 +58,8 @@ fn write_items<K: Sink>(sink: &mut K, items: &[PageItem<'_>]) -> Result<(), Fail
     Ok(())
 }
 
-/// Writes the element of an item.
-fn write_item<K: Sink>(sink: &mut K, item: PageItem<'_>) -> Result<(), Failed>
+/// Writes the element of an item. If the sink fails, it has taken a first part of it.
+pub fn write_item<K: Sink>(sink: &mut K, item: PageItem<'_>) -> Result<(), Failed>
     ensures { Writes K.contents K.has_failed sink.old sink.new (item_text item.entry) result }
 {
     write_start(sink, item)?;
@@ -69,7 +69,8 @@ fn write_item<K: Sink>(sink: &mut K, item: PageItem<'_>) -> Result<(), Failed>
 
 /// Writes the beginning of an item's element.
 fn write_start<K: Sink>(sink: &mut K, item: PageItem<'_>) -> Result<(), Failed>
-    ensures { Writes K.contents K.has_failed sink.old sink.new (start_text item.entry) result }
+    ensures { Writes K.contents K.has_failed sink.old sink.new (start_text item.entry.kind.now
+        item.entry.name.now) result }
 {
     write_kind(sink, item)?;
     write_name(sink, item)?;
@@ -78,7 +79,8 @@ fn write_start<K: Sink>(sink: &mut K, item: PageItem<'_>) -> Result<(), Failed>
 
 /// Writes the beginning of an item's element, up to its kind.
 fn write_kind<K: Sink>(sink: &mut K, item: PageItem<'_>) -> Result<(), Failed>
-    ensures { Writes K.contents K.has_failed sink.old sink.new (kind_text item.entry) result }
+    ensures { Writes K.contents K.has_failed sink.old sink.new (kind_text item.entry.kind.now)
+        result }
 {
     write_parts(
         sink,
@@ -89,7 +91,8 @@ fn write_kind<K: Sink>(sink: &mut K, item: PageItem<'_>) -> Result<(), Failed>
 
 /// Writes the end of the kind, and the name.
 fn write_name<K: Sink>(sink: &mut K, item: PageItem<'_>) -> Result<(), Failed>
-    ensures { Writes K.contents K.has_failed sink.old sink.new (name_text item.entry) result }
+    ensures { Writes K.contents K.has_failed sink.old sink.new (name_text item.entry.name.now)
+        result }
 {
     write_parts(sink, &[Part::Text("\" data-name=\"")])?;
     write_shown(sink, item.name)

@@ -26,7 +26,7 @@ use wires_law::no_switch_joins;
 use workers_law::same_with_workers;
 
 /// Serves a script, and writes the replies. Each clause is a promise. Beside it is the number of
-/// lines of definitions that one reads to believe it: 2147 lines in all.
+/// lines of definitions that one reads to believe it: 2145 lines in all.
 ///
 /// A run is a list of calls of the core, each with its answer, from the empty device to a state.
 /// Jobs may be out in it for any time, and be put in any order.
@@ -51,7 +51,7 @@ pub fn serve<H: Threads + Wait + Clock + AllocGlobal + Sync, R: Source, W: Sink>
     ensures input { result ≡ Outcome.InputFailed → R.has_failed reader.new ≡ true }
     ensures output { result ≡ Outcome.OutputFailed → W.has_failed writer.new ≡ true }
     // 3. What is written is the text of a run: each line of the script makes its calls, and is
-    // answered by what they return. A device that fails has taken a beginning of it. (1898 lines)
+    // answered by what they return. A device that fails has taken a beginning of it. (1896 lines)
     ensures written { options.now.workers ≡ 0 →
         Writes options.now architecture.entry (R.remaining reader.old) result
         (W.contents writer.old) (W.contents writer.new) }
@@ -71,7 +71,7 @@ pub fn serve<H: Threads + Wait + Clock + AllocGlobal + Sync, R: Source, W: Sink>
     // 9. No switch of the device joins what two tenancies own. (1172 lines)
     ensures untouched { OfEachRun (λ device calls. AreUntouched device) }
     // 10. With workers, what is written is what the sessions and the operator are answered by the
-    // calls of all threads together. (1948 lines)
+    // calls of all threads together. (1946 lines)
     ensures with_workers { 1 ≤ options.now.workers →
         RunsOnThreads options.now architecture.entry (R.remaining reader.old) result
         (W.contents writer.old) (W.contents writer.new) }

@@ -95,8 +95,10 @@ impl Plan {
     ///
     /// The device has a quarter more places for logic blocks than there are full clusters; it is a
     /// square, as far as 64 rows and 256 columns allow.
+    #[tactic(auto, using(crate::proofs::Rooms::in_all_rows))]
     pub fn new(wishes: LoadParameters) -> Option<Self>
         ensures wishes { IfSome result (λ plan. plan.wishes ≡ wishes) }
+        ensures some { IfSome result (λ _. HavePlan wishes) }
         ensures none { IfNone result (HavePlan wishes → ⊥) }
     {
         let checked = check(wishes)?;
@@ -115,6 +117,7 @@ impl Plan {
         requires places { (1 ≤ places) × (places ≤ 10_000) }
         requires rows { (1 ≤ rows) × (rows ≤ MAX_ROWS) }
         ensures wishes { IfSome result (λ plan. plan.wishes ≡ checked.wishes) }
+        ensures some { IfSome result (λ _. HasRoom checked.wishes.tenancies places rows) }
         ensures none { IfNone result (HasRoom checked.wishes.tenancies places rows → ⊥) }
     {
         let wishes = checked.wishes;

@@ -1,4 +1,4 @@
-use Rattle.std.proofs.Common.{ℕ, List, [], ◌∷◌, codes}
+use Rattle.std.proofs.Common.{[], ◌∷◌, codes}
 use Rattle.std.specs.Prelude.{option_map}
 use Rattle.json.specs.Json.{Json}
 use Rattle.json_text.proofs.Tokens.{object_written, ok_then, one_member}

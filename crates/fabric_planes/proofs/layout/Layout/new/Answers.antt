@@ -26,4 +26,5 @@ returns g c =
       to_block = c.in_ok-to_block.ensures ∙ same Block;
       arrivals = c.in_ok-arrivals.ensures;
       pins = c.in_ok-pins.ensures;
+      inputs = c.in_ok-inputs.ensures;
     }

@@ -1,34 +1,55 @@
-use Rattle.std.proofs.Common.{◌+◌, ◌≤◌, inl, inr, arith}
-use Rattle.std.proofs.lemmas.Bool.{cases_eq}
-use Rattle.fabric_planes.proofs.Priced.{repriced, repriced_by_place, all_but, all_told, all_by_place, none_by_place}
+use Rattle.std.proofs.Common.{◌≡◌, ◌<◌, ◌≤◌, ◌∙◌, ℕ, List, ap, sym, length, inl, inr, arith}
+use Rattle.std.specs.Prelude.{slice_index}
+use Rattle.fabric_planes.specs.Layout.{place_count}
+use Rattle.fabric_planes.specs.Prices.{ComesFrom}
+use Rattle.fabric_planes.specs.Tables.{NO_WIRE}
+use Rattle.fabric_planes.proofs.Found.{firsts_cases}
+use Rattle.fabric_planes.proofs.Numbers.{number_some}
+use Rattle.fabric_planes.proofs.Priced.{begun_by_place, skip_place, none_after, all_by_place}
 use Rattle.fabric_planes.proofs.price_table.CostedPlanes.price_all.Goals as goal
+use Rattle.fabric_planes.proofs.price_table.CostedPlanes.price_all.Goals.{then-firsts-place, else-firsts-place}
 
-pub loop-number-init : goal.loop-number-init
-loop-number-init g c = record {
+pub price_place-requires-clause-there : goal.price_place-requires-clause-there
+price_place-requires-clause-there g c =
+    let strip = c.args.self.now.strip in
+    let basis = g.G.StripGraph.basis strip.graph.now in
+    let firsts = strip.layout.now.firsts.items in
+    let place = c.loop-place.place in
+    let same = c.as_slice-firsts.ensures.value in
+    let within : place < place_count basis = omega (arith, c.loop-place-test.true, ap (λ (xs : List ℕ). length xs) same, strip.laid.firsts.long) in
+    elim (firsts_cases c.laws.ensures.basis firsts strip.laid.firsts place within) [
+      | inl none ↦ absurd (c.if-firsts-place.true (ap (λ (xs : List ℕ). slice_index xs place) same ∙ none))
+      | inr first ↦ (slice_index firsts place, first)
+    ]
+
+pub loop-place-init : goal.loop-place-init
+loop-place-init g c = record {
   told = c.requires.before;
-  low = none_by_place (g.G.StripGraph.basis c.args.self.now.strip.graph.now) (g.C.NodeCosts.costs c.args.self.now.costs.now) c.args.by_place.now.items c.requires.long_by_place;
+  low = begun_by_place c.laws.ensures.basis (g.C.NodeCosts.costs c.args.self.now.costs.now) c.args.by_place.now.items c.requires.long_by_place;
 }
 
-pub loop-number-preserved : goal.loop-number-preserved
-loop-number-preserved g c =
-    let basis = g.G.StripGraph.basis c.args.self.now.strip.graph.now in
+pub loop-place-preserved : goal.loop-place-preserved
+loop-place-preserved g c =
+    let strip = c.args.self.now.strip in
+    let firsts = strip.layout.now.firsts.items in
+    let is = c.laws.ensures.basis in
     let cost = g.C.NodeCosts.costs c.args.self.now.costs.now in
-    let number = c.loop-number.number in
-    let old = c.loop-number.prices.items in
-    let new = c.set_price.new.prices.items in
-    let old_by = c.loop-number.by_place.items in
-    let new_by = c.set_price.new.by_place.items in
-    record {
-      told = all_told basis cost (λ k. ⊥) new (λ k n. n)
-          (repriced c.count-number-end.ensures.basis cost number (λ k. ⊥) (λ k. ⊥) old new old_by new_by (λ k n. absurd n) (all_but basis cost (λ k. ⊥) old c.loop-number.invariant.told) c.set_price.ensures);
-      low = repriced_by_place c.count-number-end.ensures.basis cost number (λ k. number ≤ k) (λ k. number + 1 ≤ k) old new old_by new_by
-          (λ k from. elim (cases_eq k number) [
-            | inl same ↦ inr same
-            | inr other ↦ inl (omega (arith, from, other))
-          ]) c.loop-number.invariant.low c.set_price.ensures;
-    }
+    let place = c.loop-place.place in
+    elim c.if-firsts-place.branch [
+      | then-firsts-place w ↦ record { told = rw w.prices-is w.price_place.ensures.told; low = rw w.by_place-is w.price_place.ensures.low }
+      | else-firsts-place w ↦
+          let none : slice_index firsts place ≡ NO_WIRE = ap (λ (xs : List ℕ). slice_index xs place) (sym c.as_slice-firsts.ensures.value) ∙ w.if-firsts-place.false in
+          record {
+            told = rw w.prices-is c.loop-place.invariant.told;
+            low = rw w.by_place-is (skip_place is cost place c.loop-place.by_place.items (λ number wire. number_some is firsts strip.laid.firsts place number wire none) c.loop-place.invariant.low);
+          }
+    ]
 
 pub returns-clause-low : goal.returns-clause-low
 returns-clause-low g c =
-    all_by_place (g.G.StripGraph.basis c.args.self.now.strip.graph.now) (g.C.NodeCosts.costs c.args.self.now.costs.now) (λ k. c.loop-number.number ≤ k) c.loop-number.by_place.items
-    (λ k within from. omega (arith, within, from, c.loop-number-test.false, c.count-number-end.ensures.value)) c.loop-number.invariant.low
+    let strip = c.args.self.now.strip in
+    let basis = g.G.StripGraph.basis strip.graph.now in
+    let cost = g.C.NodeCosts.costs c.args.self.now.costs.now in
+    let place = c.loop-place.place in
+    let past : place_count basis ≤ place = omega (arith, c.loop-place-test.false, ap (λ (xs : List ℕ). length xs) c.as_slice-firsts.ensures.value, strip.laid.firsts.long) in
+    all_by_place basis cost (ComesFrom basis place 0) c.loop-place.by_place.items (λ k within from. none_after c.laws.ensures.basis cost place past k from) c.loop-place.invariant.low

@@ -1,10 +1,9 @@
-use Rattle.std.proofs.Common.{◌≤◌}
 use Rattle.fabric_planes.specs.Pins.{ArePrices}
-use Rattle.fabric_planes.proofs.Priced.{AreByPlaceBut}
+use Rattle.fabric_planes.specs.Prices.{AreByPlaceBut, ComesFrom}
 use Rattle.fabric_planes.proofs.price_table.CostedPlanes.price_all.Given as goal
 
-abbrev pub invariant-loop-number : goal.invariant-loop-number
-invariant-loop-number g l = record {
+abbrev pub invariant-loop-place : goal.invariant-loop-place
+invariant-loop-place g l = record {
   told : ArePrices (g.G.StripGraph.basis l.self.strip.graph.now) (g.C.NodeCosts.costs l.self.costs.now) l.prices.items;
-  low : AreByPlaceBut (g.G.StripGraph.basis l.self.strip.graph.now) (g.C.NodeCosts.costs l.self.costs.now) (λ k. l.number ≤ k) l.by_place.items;
+  low : AreByPlaceBut (g.G.StripGraph.basis l.self.strip.graph.now) (g.C.NodeCosts.costs l.self.costs.now) (ComesFrom (g.G.StripGraph.basis l.self.strip.graph.now) l.place 0) l.by_place.items;
 }

@@ -1,4 +1,5 @@
-use Rattle.fabric_planes.proofs.Priced.{ArePricesBut, AreByPlaceBut, IsLeft}
+use Rattle.fabric_planes.specs.Prices.{AreByPlaceBut}
+use Rattle.fabric_planes.proofs.Priced.{ArePricesBut, IsLeft}
 use Rattle.fabric_planes.proofs.price_table.CostedPlanes.set_prices.Given as goal
 
 abbrev pub invariant-loop-node : goal.invariant-loop-node

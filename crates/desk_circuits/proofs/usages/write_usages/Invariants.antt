@@ -1,0 +1,9 @@
+use Rattle.std.proofs.Common.{take}
+use Rattle.script_replies.specs.Accounts.{account_now}
+use Rattle.desk_circuits.specs.Usages.{ShowsUsage}
+use Rattle.desk_circuits.proofs.Shown.{IsShown}
+use Rattle.desk_circuits.proofs.usages.write_usages.Given as goal
+
+-- the accounts before this one are shown
+abbrev pub invariant-loop-account : goal.invariant-loop-account
+invariant-loop-account g l = IsShown g.W.Sink.contents g.W.Sink.has_failed (λ account. ShowsUsage l.is_table (account_now account)) (take l.account-index l.accounts) l.initial.writer l.writer

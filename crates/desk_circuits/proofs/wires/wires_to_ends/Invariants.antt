@@ -1,0 +1,7 @@
+use Rattle.std.proofs.Common.{◌≡◌, fold, max, take}
+use Rattle.desk_circuits.specs.PathWires.{wires_to_end}
+use Rattle.desk_circuits.proofs.wires.wires_to_ends.Given as goal
+
+-- the most wires to the ends before this stop
+abbrev pub invariant-loop-stop : goal.invariant-loop-stop
+invariant-loop-stop l = l.most ≡ fold (λ most stop. max most (wires_to_end stop)) 0 (take l.stop-index l.stops)

@@ -1,0 +1,23 @@
+use Rattle.std.proofs.Common.{◌≡◌, true, codes, sym}
+use Rattle.std.proofs.lemmas.Result.{on_ok_weaker}
+use Rattle.std.proofs.lemmas.Slice.Eq.{bytes_eq-Decides}
+use Rattle.std.specs.Str.{bytes_eq}
+use Rattle.desk_layouts.specs.Drawn.{AreChecked, without_nets}
+use Rattle.desk_layouts.proofs.StripTexts.{texts_without_routes, unchecked}
+use Rattle.desk_layouts.proofs.strip.print_placed.Goals as goal
+
+pub returns-then-eq : goal.returns-then-eq
+returns-then-eq g c =
+    let text = g.F.FileTexts.text c.args.files.now in
+    let wishes = c.args.wishes in
+    let bytes = without_nets c.args.net.now c.args.place.now in
+    let is_none : bytes_eq wishes.route_file.now (codes "-") ≡ true = sym c.if-eq.ensures in
+    let same : wishes.route_file.now ≡ codes "-" = (bytes_eq-Decides wishes.route_file.now (codes "-")).0 is_none in
+    on_ok_weaker c.print_unrouted.result
+    (λ shown. record {
+      bytes = bytes;
+      are = texts_without_routes text wishes c.args.net.now c.args.place.now is_none;
+      checked = unchecked wishes.against (λ against. AreChecked text against bytes) (λ some. wishes.checked_routes some same);
+      shown = shown;
+    })
+    c.print_unrouted.ensures

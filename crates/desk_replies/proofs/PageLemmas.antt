@@ -1,0 +1,96 @@
+-- Texts of a page that are written one after another.
+use Rattle.std.proofs.Common.{◌≡◌, ◌∙◌, ℕ, ◌+◌, ◌<◌, ◌≤◌, Bool, List, [], ◌++◌, length, take, Option, Some, None, Result, Ok, Err, inl, inr, refl, ap, subst, arith, codes, true, false, if◌then◌else◌}
+use Rattle.std.specs.List.{flat_map, slice_get}
+use Rattle.std.specs.Option.{option_map_or}
+use Rattle.std.specs.Result.{OnOk, is_ok}
+use Rattle.std.proofs.lemmas.Bool.{false≢true}
+use Rattle.std.proofs.lemmas.Option.{slice_get_cases}
+use Rattle.desk_circuits.specs.EachText.{IsEmptyOr}
+use Rattle.desk_circuits.specs.Measured.{ShowsPresentStops}
+use Rattle.line_text.proofs.WritingLemmas.{all_loop, all_same, all_then, part_loop, part_same}
+use Rattle.line_text.specs.Writing.{TakesAll, TakesPart, Writes}
+use Rattle.line_text.specs.declared.source.Failed.{Failed}
+use Rattle.page.specs.Pages.{element_text}
+use Rattle.page.specs.declared.page.Viewer.{Viewer}
+use Rattle.printed_replies.specs.Replies.{AnsweredLine}
+use Rattle.script_replies.specs.Accounts.{NameAccount, accounts_of}
+use Rattle.script_replies.specs.declared.listing.ToldLine.{ToldLine}
+use Rattle.script_text.specs.declared.act.Act.{Act}
+use Rattle.desk_replies.specs.Overused.{IsOveruse}
+use Rattle.desk_replies.specs.Paged.{AreAround, AreItemsOf, AreScriptTexts, AreTexts, IsItem, IsItemIf, IsPageWith, device_text, file_item, file_items, script_items, sink_text, text_items}
+use Rattle.desk_replies.specs.States.{LastStates, is_unrouted}
+use Rattle.desk_replies.specs.Written.{AreTextsOf, WritesSome}
+use Rattle.desk_replies.specs.declared.lines.Lines.{Lines}
+use Rattle.desk_replies.specs.declared.shared_device.SharedDevice.{SharedDevice}
+use Rattle.desk_replies.specs.declared.page_texts.PageTexts.{PageTexts}
+use Rattle.desk_replies.specs.declared.page_tool.PageWishes.{PageWishes}
+
+-- the texts at a place of a list, if it has that place
+pub more_at : {S X : Type 0} {contents : S → Option (List ℕ)} {has_failed : S → Bool} {a b c : S} (f : X → List ℕ) (xs : List X) (i : ℕ) → i < length xs → TakesAll contents has_failed a b (flat_map f (take i xs)) →
+    TakesAll contents has_failed b c (option_map_or f (slice_get xs i) []) → TakesAll contents has_failed a c (flat_map f (take (i + 1) xs))
+more_at f xs i within before next =
+    elim (slice_get_cases xs i).1 [
+      | inl found ↦ all_loop f xs i found.0 found.2 before (all_same next (ap (λ one. option_map_or f one []) found.2))
+      | inr none ↦ let past : length xs ≤ i = none.0 in absurd (omega arith)
+    ]
+
+pub part_at : {S X : Type 0} {contents : S → Option (List ℕ)} {has_failed : S → Bool} {a b c : S} (f : X → List ℕ) (xs : List X) (i : ℕ) → i < length xs → TakesAll contents has_failed a b (flat_map f (take i xs)) →
+    TakesPart contents has_failed b c (option_map_or f (slice_get xs i) []) → TakesPart contents has_failed a c (flat_map f xs)
+part_at f xs i within before next =
+    elim (slice_get_cases xs i).1 [
+      | inl found ↦ part_loop f xs i found.0 found.2 before (part_same next (ap (λ one. option_map_or f one []) found.2))
+      | inr none ↦ let past : length xs ≤ i = none.0 in absurd (omega arith)
+    ]
+
+-- an item of a text, if it is made
+pub item_made : (P : List ℕ → Type 0) (kind name bytes : List ℕ) (shown : Option (List ℕ)) (made : Result (Unit {0}) Failed) (is_made : Bool) → OnOk made (P bytes) → is_made ≡ is_ok made → shown ≡ (if is_made then Some bytes else None) →
+    IsItem P kind name (file_item kind name shown)
+item_made P kind name bytes shown (Ok u) is_made is same e = rw (e ∙ ap (λ (b : Bool). if b then Some bytes else None) same) (inr (bytes, is, refl))
+item_made P kind name bytes shown (Err failed) is_made is same e = rw (e ∙ ap (λ (b : Bool). if b then Some bytes else None) same) (inl refl)
+
+-- an item of a text that is not empty, if it is made
+pub item_if : (P : List ℕ → Type 0) (kind name bytes : List ℕ) (shown : Option (List ℕ)) (is_made : Bool) → (is_made ≡ true → P bytes) → shown ≡ (if is_made then Some bytes else None) → IsItem P kind name (file_item kind name shown)
+item_if P kind name bytes shown true is e = rw e (inr (bytes, is refl, refl))
+item_if P kind name bytes shown false is e = rw e (inl refl)
+
+-- what holds of the text of a sink that took it
+pub ok_has : (Q : Type 0) (r : Result (Unit {0}) Failed) → is_ok r ≡ true → OnOk r Q → Q
+ok_has Q (Ok u) e has = has
+ok_has Q (Err failed) e has = absurd (false≢true e)
+
+-- what is shown, if it is not empty
+pub not_empty : (P : List ℕ → Type 0) (bytes : List ℕ) → (bytes ≡ [] → ⊥) → IsEmptyOr P bytes → P bytes
+not_empty P bytes some (inl none) = absurd (some none)
+not_empty P bytes some (inr is) = is
+
+-- the files of a name, and what follows them
+pub name_written : {S : Type 0} (contents : S → Option (List ℕ)) (has_failed : S → Bool) (a b c d : S) (overuse : List ℕ → List ℕ → Type 0) (last : LastStates) (account : NameAccount) (r : Result (Unit {0}) Failed) → TakesAll contents has_failed a b (file_items account) →
+    WritesSome contents has_failed b c (IsItem (ShowsPresentStops account.files) (codes "path") account.name) →
+    OnOk r (WritesSome contents has_failed c d (IsItemIf (is_unrouted last account.name) (overuse account.name) (codes "overuse") account.name)) → OnOk r (WritesSome contents has_failed a d (AreItemsOf overuse last account))
+name_written contents has_failed a b c d overuse last account (Ok u) files stops crowded = (
+  file_items account ++ (stops.0 ++ crowded.0),
+  record { stops = stops.0; are_stops = stops.1; overuse = crowded.0; is_overuse = crowded.1; are_shown = refl },
+  all_then files (all_then stops.2 crowded.2),
+)
+name_written contents has_failed a b c d overuse last account (Err failed) files stops crowded = tt
+
+-- the viewer around the texts and the names
+pub around_written : {S : Type 0} (contents : S → Option (List ℕ)) (has_failed : S → Bool) (a b c d e : S) (overuse : List ℕ → List ℕ → Type 0) (texts : List ℕ) (last : LastStates) (accounts : List NameAccount) (viewer : Viewer) (r : Result (Unit {0}) Failed) → TakesAll contents has_failed a b viewer.head.now →
+    TakesAll contents has_failed b c texts → WritesSome contents has_failed c d (AreTextsOf (AreItemsOf overuse last) accounts) → Writes contents has_failed d e viewer.tail.now r → OnOk r (AreAround contents has_failed a e overuse texts last accounts)
+around_written contents has_failed a b c d e overuse texts last accounts viewer (Ok u) head shown names tail =
+    record { viewer = viewer; names = names.0; are_names = names.1; written = all_then head (all_then shown (all_then names.2 tail)) }
+around_written contents has_failed a b c d e overuse texts last accounts viewer (Err failed) head shown names tail = tt
+
+-- the texts are those of the script
+pub items_same : (wishes : PageWishes) (told : List ToldLine) (last : LastStates) (texts : PageTexts) → AreTexts told last texts → sink_text texts.device ≡ device_text wishes → text_items texts ≡ script_items wishes told last
+items_same wishes told last texts are device =
+    λ k. element_text (codes "lines") [] (are.0 k) ++ (element_text (codes "refused") [] (are.1 k) ++ (element_text (codes "states") [] (are.2 k) ++ element_text (codes "device") [] (device k)))
+
+pub page_with : {S : Type 0} {contents : S → Option (List ℕ)} {has_failed : S → Bool} {a b : S} (wishes : PageWishes) (lines : Lines) (device : Option SharedDevice) (acts : List (Act (List ℕ))) (replies : List AnsweredLine) (last : LastStates) (texts : PageTexts) → AreScriptTexts lines replies last texts →
+    sink_text texts.device ≡ device_text wishes → AreAround contents has_failed a b (IsOveruse device acts replies) (text_items texts) last (accounts_of acts replies) → IsPageWith contents has_failed a b wishes lines device acts replies last
+page_with {contents = contents} {has_failed = has_failed} {a = a} {b = b} wishes lines device acts replies last texts script sizes around = record {
+  told = script.0;
+  refused = script.1;
+  are_told = script.2;
+  shown = subst (λ (items : List ℕ). AreAround contents has_failed a b (IsOveruse device acts replies) items last (accounts_of acts replies)) (items_same wishes script.0 last texts script.3 sizes) around;
+}

@@ -1,0 +1,5 @@
+use Rattle.std.proofs.lemmas.Result.{IfOk-weaker}
+use Rattle.desk_replies.proofs.page_tool.print_acts.Goals as goal
+
+pub returns : goal.returns
+returns g c = IfOk-weaker c.print_served.result _ _ (λ _ page. record { device = c.device_of.result; is_device = c.device_of.ensures; page = page }) c.print_served.ensures

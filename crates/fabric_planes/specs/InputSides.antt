@@ -1,0 +1,15 @@
+-- Private: the sides of the input pins of logic blocks.
+use Rattle.std.specs.Prelude.{ℕ, ◌≡◌, ◌+◌, ◌<◌, List, length, slice_index_or, true}
+use Rattle.arch_file.specs.declared.arch.Sides.{Sides}
+use Rattle.rr_graph.specs.declared.node.NodeKind.TheVariants.{Ipin}
+use Rattle.rr_graph.specs.Geometry.{is_block_row, sides_at}
+use Rattle.rr_graph.specs.Graph.{AreNumbersAt, Basis, graph_of}
+
+-- the list has the pin's sides at this index
+pub record HasSides (basis : Basis) (list : List Sides) (index pin : ℕ) : Type 0 where
+  pub within : index < length list
+  pub sides : (d : Sides) → slice_index_or list index d ≡ sides_at basis.arch basis.strip ((graph_of basis).node pin)
+
+-- of each block the list has the sides of all input pins, in the order of their numbers
+abbrev pub AreInputSides : Basis → List Sides → Type 0
+AreInputSides basis list = (x y first end index : ℕ) → is_block_row basis.strip y ≡ true → AreNumbersAt (graph_of basis) Ipin x y first end → first + index < end → HasSides basis list index (first + index)
