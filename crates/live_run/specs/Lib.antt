@@ -3,6 +3,7 @@ pub mod Headings
 pub mod Limits
 pub mod Lines
 pub mod Outcomes
+pub mod Restart
 pub mod Retelling
 pub mod Runs
 pub mod Sums

@@ -1,4 +1,6 @@
 //! In what a file differs from the log that is wanted.
+ghost use Rattle.live_run.specs.Restart.{IsOtherLog};
+
 use line_text::{skip_blanks, split_line, split_word};
 use std::fmt;
 
@@ -34,7 +36,9 @@ pub enum LogDifference {
 
 impl LogDifference {
     /// In what a file that begins so differs from a log with that first line.
-    pub(crate) fn of(first_line: &[u8], head: &[u8]) -> Self {
+    pub(crate) fn of(first_line: &[u8], head: &[u8]) -> Self
+        ensures { IsOtherLog result }
+    {
         let (wanted, _) = split_line(first_line);
         let (line, _) = split_line(head);
         if !line.starts_with(FIRST) {

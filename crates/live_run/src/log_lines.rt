@@ -26,8 +26,8 @@ enum Device<'h, R: Wait, F: Read + Write + OpenFile + LockLog + Drop> {
 
 impl<'h, R: Wait, F: Read + Write + OpenFile + LockLog + Drop> LogLines<'h, R, F> {
     /// The first bytes of a file.
-    pub(crate) fn of_part(file: Take<F>) -> Self {
-        LogLines::of_device(Device::Whole(StdSource::new(file)))
+    pub(crate) fn of_part(part: StdSource<Take<F>>) -> Self {
+        LogLines::of_device(Device::Whole(part))
     }
 
     /// The bytes of a file that another service still writes, and the handle that is to lock it.

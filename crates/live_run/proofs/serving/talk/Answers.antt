@@ -1,4 +1,3 @@
-use Rattle.std.proofs.Common.{◌≡◌}
 use Rattle.line_service.proofs.AlongLemmas.{conversation_along}
 use Rattle.live_input.specs.Serving.{AnswersLine, state_in}
 use Rattle.live_run.proofs.RunLemmas.{nothing_said}
