@@ -14,7 +14,7 @@ use Rattle.live_run.specs.WholePart.{whole_bytes}
 abbrev pub is_log : List ℕ → List ℕ → Bool
 is_log first bytes = starts_with eqb first (take (length first) bytes)
 
--- private: the number of bytes of whole lines, if there are at least so many bytes
+-- private: the number of bytes of whole lines; 0 of fewer bytes than that
 abbrev pub whole_from : ℕ → List ℕ → ℕ
 whole_from least bytes = if nat_lt (length bytes) least then 0 else whole_bytes bytes
 
@@ -33,11 +33,14 @@ differing_line kept = first_differing no_lines (kept_lines kept)
 abbrev pub line_behind : List ℕ → List ℕ → List ℕ
 line_behind first kept = added_line first (lines_sum no_lines (kept_lines kept))
 
--- The file is a log with that first line, and no line of it says another sum. It then holds the
--- lines that are kept, and the one that is added; and this is read again.
+-- a log with that first line, of which no line says another sum
+abbrev pub CanRestart : List ℕ → List ℕ → Type 0
+CanRestart first bytes = (is_log first bytes ≡ true) × (differing_line (kept_part first bytes) ≡ None)
+
+-- The file was such a log. It then holds the lines that are kept, and the one that is added; and
+-- this is read again.
 pub record IsRestarted (first bytes : List ℕ) (after past : Option (List ℕ)) : Type 0 where
-  pub log : is_log first bytes ≡ true
-  pub sums : differing_line (kept_part first bytes) ≡ None
+  pub can : CanRestart first bytes
   pub file : after ≡ Some (kept_part first bytes ++ line_behind first (kept_part first bytes))
   pub all : past ≡ after
 
@@ -83,6 +86,7 @@ EndsLeaving whole added bytes after outcome = ((outcome ≡ LogUnreadable) × (a
 abbrev pub HasNextLine : List ℕ → List ℕ → List ℕ → Type 0
 HasNextLine first kept line = (differing_line kept ≡ None) × (line ≡ line_behind first kept)
 
--- a file that is not opened stays as it is; or it is opened, and fails when it is written
+-- A file that is not opened stays as it is. One that is opened may fail when it is written or read
+-- again.
 abbrev pub EndsRestart : List ℕ → List ℕ → Option (List ℕ) → Outcome → Type 0
-EndsRestart first bytes after outcome = (IsRefusal first bytes outcome × (after ≡ Some bytes)) ⊎ ((is_log first bytes ≡ true) × IsLeftUnread (kept_part first bytes) (line_behind first (kept_part first bytes)) after outcome)
+EndsRestart first bytes after outcome = (IsRefusal first bytes outcome × (after ≡ Some bytes)) ⊎ (CanRestart first bytes × IsLeftUnread (kept_part first bytes) (line_behind first (kept_part first bytes)) after outcome)

@@ -1,4 +1,4 @@
-//! The file of a log.
+//! A log that is open.
 ghost use Rattle.std.specs.Prelude.{◌≢◌, IfErr};
 
 use crate::log_file::StoredLog;
@@ -35,7 +35,7 @@ where
     ensures { IfErr result (λ outcome. outcome ≢ Outcome.Done) }
 {
     match open_locked(rt, path) {
-        Ok(file) => open_own(StoredLog::new(rt, path, file), rt.alloc(), first_line),
+        Ok(file) => open_own(rt.alloc(), StoredLog::new(rt, path, file), first_line),
         Err(Outcome::LogInUse) if follows => follow_log(rt, path, first_line),
         Err(outcome) => Err(outcome),
     }
@@ -43,8 +43,8 @@ where
 
 /// Opens the log in that file, which is locked.
 fn open_own<'h, H: Files + Wait + AllocGlobal>(
-    mut stored: StoredLog<'h, '_, H>,
     alloc: Global,
+    mut stored: StoredLog<'h, '_, H>,
     first_line: &[u8],
 ) -> Result<KeptLog<'h, H, H::File>, Outcome>
 where

@@ -9,7 +9,7 @@ use std::rt::Files;
 
 /// A file that is read from its beginning, cut off, and added to.
 pub(crate) trait LogFile {
-    ghost use Rattle.std.specs.Prelude.{◌≡◌, ℕ, List, Option, IfErr, IfOk, IfSome, OnErr, OnOk, Some, length, option_map, take};
+    ghost use Rattle.std.specs.Prelude.{◌≡◌, ℕ, List, Option, IfOk, IfSome, OnErr, OnOk, Some, length, option_map, take};
     ghost use Rattle.std.specs.Io.KnownBytes.{Appends};
 
     // The bytes that it holds, if they are known.
@@ -22,12 +22,12 @@ pub(crate) trait LogFile {
         ensures { IfOk result (λ count. IfSome (content self.now)
             (λ bytes. count ≡ length bytes)) };
 
-    /// Its first bytes, at most so many.
+    /// Its first `most` bytes, or all of them if it has fewer.
     fn part(&self, most: u64) -> Result<Self::Part, Failed>
         ensures { IfOk result (λ part. IfSome (content self.now)
             (λ bytes. Self.Part.remaining part ≡ Some (take most bytes))) };
 
-    /// Cuts off what is behind so many bytes.
+    /// Cuts off all but the first `most` bytes.
     fn cut(&mut self, most: u64) -> Result<(), Failed>
         ensures ok { OnOk result (content self.new
             ≡ option_map (λ bytes. take most bytes) (content self.old)) }

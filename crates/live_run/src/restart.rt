@@ -8,7 +8,7 @@ use crate::outcome::Outcome;
 use crate::sums::check_sums;
 use crate::whole_bytes::whole_length;
 use dialogue::FailedDevice;
-use line_text::{Failed, Source, read_all};
+use line_text::read_all;
 use std::alloc::Global;
 
 /// More bytes than the first line of a log has.
@@ -62,7 +62,7 @@ pub(crate) fn length_to_keep<L: LogFile>(
     whole_lines_of(alloc, file, first_line.len() as u64)
 }
 
-/// The first bytes of a file, at most so many.
+/// The first `most` bytes of a file, or all of them if it has fewer.
 fn first_bytes<L: LogFile>(alloc: Global, file: &L, most: u64) -> Result<Vec<u8>, Outcome>
     ensures ok { IfOk result (λ head. IfSome (L.content file.now) (λ bytes.
         head.items ≡ take most bytes)) }
@@ -107,7 +107,7 @@ fn difference_of<L: LogFile>(
     Ok(difference)
 }
 
-/// The line that is added to a log with so many bytes of whole lines. Checks the sums that they
+/// The line that is added to a log whose whole lines have `whole` bytes. Checks the sums that they
 /// say.
 fn line_to_add<L: LogFile>(
     alloc: Global,
@@ -131,7 +131,7 @@ fn line_to_add<L: LogFile>(
     }
 }
 
-/// Leaves so many bytes of a file, with these added. Returns what it then holds.
+/// Leaves the first `whole` bytes of a file, with `added` behind them. Returns what it then holds.
 fn leave<L: LogFile>(file: &mut L, whole: u64, added: &[u8]) -> Result<L::Part, Outcome>
     ensures ok { IfOk result (λ past. IfSome (L.content file.old) (λ bytes.
         IsLeft whole added.now bytes (L.content file.new) (L.Part.remaining past))) }
