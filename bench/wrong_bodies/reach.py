@@ -22,6 +22,8 @@ USE = re.compile(r"^\s*" + VISIBLE + r"(?:ghost )?use ([^;]*?)(?:;|$)", re.M)
 CALL = re.compile(r"::\s*(\w+)|\b(\w+)(?=\(|::<)")
 # Before a member's name, which is looked up in each crate, before that of a function, and before the crate of a name that no import has.
 ANYWHERE, CALLED, OWN = "?", "!", "="
+# Before the name of a function that is no member: code alone names it, and a definition may have the same name.
+FUNCTION = "fn "
 Part = collections.namedtuple("Part", "crate needs names text")
 
 
@@ -34,7 +36,7 @@ class File:
     """A file's imports: by which name it writes what of which crate."""
 
     def __init__(self, crate, text, is_source):
-        self.crate, self.is_source, self.imports = crate, is_source, {}
+        self.crate, self.is_source, self.imports, self.of_code = crate, is_source, {}, set()
         for said in USE.findall(re.sub(r"\s*\n\s+(?=[\w◌}])", " ", text)):
             path, _, group = said.partition("{")
             steps = re.split(r"\.|::", path.strip(" .:"))
@@ -48,6 +50,8 @@ class File:
                 old, _, new = name.strip().partition(" as ")
                 for it, is_it in zip(words_of(new or old), words_of(old)) if not new else [(new.strip(), old.strip())]:
                     self.imports[it] = (of, is_it)
+                    if steps[:1] != ["Rattle"]:
+                        self.of_code.add(it)
 
     def names(self, text):
         """What a text of this file names."""
@@ -56,10 +60,14 @@ class File:
             found.add(self.imports.get(word, (OWN + self.crate, word)))
             if self.is_source:
                 found.add((ANYWHERE, word))
+            if word in self.of_code:
+                crate, name = self.imports[word]
+                found.add((crate, FUNCTION + name))
         if not self.is_source:
             return found
         # Calls, and paths like `line_text::Line`.
-        return found | {(CALLED, path or name) for path, name in CALL.findall(text)} | {*PATH.findall(text)}
+        paths = PATH.findall(text)
+        return found | {(CALLED, path or name) for path, name in CALL.findall(text)} | {*paths} | {(of, FUNCTION + name) for of, name in paths}
 
 
 def file_of(crate, lines, is_source):
@@ -134,7 +142,10 @@ def source_parts(crate, traits, lines):
             text = "\n".join(public_lines(group))
             if named:
                 defined = named + (variants(group) if any("enum " in line for line in group) else [])
+                defined = [FUNCTION + it if kinds.get(it) == "fn" else it for it in defined]
                 yield Part(crate, [((crate, name),) for name in defined], file.names(text), text)
+            continue
+        if group == head and re.fullmatch(r"impl \w+ {", head[0]):
             continue
         trait, type = owners(head)
         hides = trait == "Model" and type not in open_types

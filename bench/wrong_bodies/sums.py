@@ -1,15 +1,19 @@
 """Over which text an edit was refused: the sums that `edits/ledger.txt` has, one line an edit.
 
-An edit's sum is of its own text, of its crate's src, specs and proofs, and of what the crates below state, as far as the crate's text reaches
-it by name (`wrong_bodies.reach`): definitions of specs, and sources without the functions' bodies and without private functions. So a body
-that changes below asks for nothing, nor does a statement that the crate cannot name. Comments and empty lines count nowhere."""
+An edit's sum is of its own text, of its crate's src and specs, of the answers and invariants of its functions, of what the crate's lemmas
+state, as far as one of these cites them (`wrong_bodies.statements`), and of what the crates below state, as far as all this reaches it by name
+(`wrong_bodies.reach`): definitions of specs, and sources without the functions' bodies and without private functions. So a body that changes
+below asks for nothing, nor does the proof of a lemma, which nobody sees who cites it, nor a statement that the crate cannot name. Comments and
+empty lines count nowhere, and of imports what they bring: from where a file takes a name is no change (`wrong_bodies.imports`)."""
 import fcntl
 import hashlib
 import os
 import re
 
 from wrong_bodies.edits import BLOCK, FUNCTION, TOP, crates, edits_of, read
+from wrong_bodies.imports import Preludes, is_prelude
 from wrong_bodies.reach import TRAIT, Reach, file_of, source_parts, spec_parts
+from wrong_bodies.statements import cited
 
 LEDGER = f"{TOP}/edits/ledger.txt"
 
@@ -49,13 +53,16 @@ def stated(lines):
 
 
 def files(top, crate, *parts):
-    """The paths and lines of a crate's files; comments are taken out."""
+    """The paths and lines of a crate's files but its preludes; comments are taken out, and imports stand first and by what they bring."""
+    preludes = Preludes(top)
     for part in parts:
         for at, folders, names in os.walk(f"{top}/crates/{crate}/{part}"):
             folders.sort()
             for name in sorted(names):
-                lines = [line for line in read(f"{at}/{name}").split("\n") if not line.strip().startswith(("//", "--"))]
-                yield os.path.relpath(f"{at}/{name}", f"{top}/crates/{crate}"), lines
+                path = os.path.relpath(f"{at}/{name}", f"{top}/crates/{crate}")
+                if not is_prelude(path):
+                    lines = [line for line in read(f"{at}/{name}").split("\n") if not line.strip().startswith(("//", "--"))]
+                    yield path, preludes.canonical([it for it in lines if it not in ("mod Prelude", "pub mod Prelude")])
 
 
 def texts(top, crate, *parts):
@@ -83,11 +90,12 @@ def crate_sums(top=TOP):
     reach, sums = Reach(parts, {name: under(name) for name in uses}), {}
     for name in uses:
         if edits_of(name, top):
+            said = [*files(top, name, "src", "specs"), *cited(list(files(top, name, "src", "specs", "proofs")))]
             named = set()
-            for path, lines in files(top, name, "src", "specs", "proofs"):
+            for path, lines in said:
                 named |= file_of(name, lines, path.endswith(".rt")).names("\n".join(lines))
-            said = sorted({(it.crate, it.text) for it in reach.of(named, under(name))})
-            sums[name] = sum_of(*texts(top, name, "src", "specs", "proofs"), said)
+            reached = sorted({(it.crate, it.text) for it in reach.of(named, under(name))})
+            sums[name] = sum_of([(path, code("\n".join(lines))) for path, lines in said], reached)
     return sums
 
 

@@ -1,19 +1,6 @@
 -- The draft holds what the lines read so far describe.
-use Rattle.std.proofs.Common.{◌≡◌, ◌∙◌, ℕ, ◌<◌, ◌≤◌, List, Bool, true, false, cond, ◌||◌, eqb, length, get_or, set, Option, Some, None, is_some, refl, ap, sym, arith}
-use Rattle.std.specs.Option.{option_or}
-use Rattle.std.proofs.lemmas.Bool.{eqb-true}
-use Rattle.std.proofs.lemmas.Bool.Decides.{nat_tests}
-use Rattle.std.proofs.lemmas.List.{length-set, get_or-set_same, get_or-set_other}
-use Rattle.arch_file.specs.declared.arch.Pin.{Pin}
-use Rattle.arch_file.specs.declared.draft.Draft.{Draft}
-use Rattle.arch_file.specs.declared.fault.ArchKeyword.{ArchKeyword}
-use Rattle.arch_file.specs.declared.fault.ArchKeyword.TheVariants.{IoRat, ChanWidthIo, ChanWidthX, ChanWidthY, Inpin, Outpin, SubblocksPerClb, SubblockLutSize, FcType, FcOutput, FcInput, FcPad, SwitchBlockType, Segment}
-use Rattle.arch_file.specs.Draft.{Follows, IsLimited, Sets, found_with}
-use Rattle.arch_file.specs.FcTypes.{is_fractional_type}
-use Rattle.arch_file.specs.Values.{decimal_from, is_fractional_from, whole_from}
-use Rattle.arch_file.specs.Ranks.{rank_of}
+use Rattle.arch_file.proofs.Prelude.{◌≡◌, ◌∙◌, ℕ, ◌<◌, ◌≤◌, List, Bool, true, false, cond, ◌||◌, eqb, length, get_or, set, Option, Some, None, is_some, refl, ap, sym, arith, option_or, eqb-true, nat_tests, length-set, get_or-set_same, get_or-set_other, Pin, Draft, ArchKeyword, IoRat, ChanWidthIo, ChanWidthX, ChanWidthY, Inpin, Outpin, SubblocksPerClb, SubblockLutSize, FcType, FcOutput, FcInput, FcPad, SwitchBlockType, Segment, Follows, IsLimited, Sets, found_with, is_fractional_type, decimal_from, is_fractional_from, whole_from, rank_of, same_keyword}
 use Rattle.arch_file.proofs.KeywordRanks.{alike_by_rank}
-use Rattle.arch_file.specs.Words.{same_keyword}
 
 abbrev Words : Type 0
 Words = List (List ℕ)
@@ -34,11 +21,6 @@ rank_below FcInput = omega arith
 rank_below FcPad = omega arith
 rank_below SwitchBlockType = omega arith
 rank_below Segment = omega arith
-
--- a function applied to a conditional
-cond_ap : {A B : Type 0} (f : A → B) (b : Bool) (x y : A) → cond b (f x) (f y) ≡ f (cond b x y)
-cond_ap f true x y = refl
-cond_ap f false x y = refl
 
 -- one more keyword, which was not found before
 or_new : (b : Bool) (found : Option Words) (words : Words) → (b ≡ true → is_some found ≡ false) → option_or found (cond b (Some words) None) ≡ cond b (Some words) found

@@ -1,26 +1,6 @@
 -- The faults that are found at the end of the text.
-use Rattle.std.proofs.Common.{◌≡◌, ◌∙◌, ℕ, List, [], ◌∷◌, ◌++◌, Bool, true, false, cond, not, Some, None, map, filter, refl, ap, sym, arith, nat_le, nat_lt, ◌==◌, ◌&&◌, ◌≤◌, ◌<◌, Ok, slice_index_or, zero, suc, length, get_or}
-use Rattle.std.proofs.lemmas.Bool.{and_parts, eqb-true, ltb-true}
-use Rattle.std.proofs.lemmas.Bool.Decides.{nat_tests}
-use Rattle.arch_file.specs.declared.arch.Pin.{Pin}
-use Rattle.arch_file.specs.declared.draft.Draft.{Draft}
-use Rattle.std.specs.List.{find}
-use Rattle.line_text.specs.Lines.{JoinedLine}
-use Rattle.line_text.proofs.InOrder.{Each, InOrder, InOrder-append, InOrder-filter, InOrder-map, by_number-same, first_of, least_by_in_order}
-use Rattle.arch_file.specs.declared.fault.ArchFaultKind.{ArchFaultKind}
-use Rattle.arch_file.specs.declared.fault.ArchFaultKind.TheVariants.{BadClass, Missing}
-use Rattle.arch_file.specs.declared.fault.ArchKeyword.{ArchKeyword}
-use Rattle.arch_file.specs.ArchFaults.{decimal_at, end_faults, has_its_pins, is_fractional, pins_of, stands}
-use Rattle.arch_file.specs.declared.fault.ArchKeyword.TheVariants.{IoRat, SubblocksPerClb, SubblockLutSize, FcOutput, FcInput, FcPad}
-use Rattle.arch_file.specs.Arch.{IsWithin}
-use Rattle.arch_file.specs.Draft.{Ends, FollowsLines}
-use Rattle.arch_file.specs.FcTypes.{is_fractional_type}
-use Rattle.arch_file.specs.Pins.{clock_count, output_count}
-use Rattle.arch_file.specs.Values.{reach}
-use Rattle.arch_file.specs.FaultLists.{comes_before, only_if, word_of}
-use Rattle.arch_file.specs.Readings.{least_kind}
-use Rattle.arch_file.specs.Ranks.{rank_of}
-use Rattle.arch_file.specs.Words.{required_keywords}
+use Rattle.arch_file.proofs.Prelude.{◌≡◌, ◌∙◌, ℕ, List, [], ◌∷◌, ◌++◌, Bool, true, false, cond, not, Some, None, map, filter, refl, ap, sym, arith, nat_le, nat_lt, ◌==◌, ◌&&◌, ◌≤◌, ◌<◌, Ok, slice_index_or, zero, suc, length, get_or, and_parts, eqb-true, ltb-true, nat_tests, Pin, Draft, find, JoinedLine, Each, InOrder, InOrder-append, InOrder-filter, InOrder-map, by_number-same, first_of, least_by_in_order, ArchFaultKind, BadClass, Missing, ArchKeyword, decimal_at, end_faults, has_its_pins, is_fractional, pins_of, stands, IoRat, SubblocksPerClb, SubblockLutSize, FcOutput, FcInput, FcPad, IsWithin, Ends, FollowsLines, is_fractional_type, clock_count, reach, comes_before, only_if, word_of, least_kind, rank_of, required_keywords}
+use Rattle.arch_file.specs.Pins.{output_count}
 
 -- keywords are ordered by their index among the required ones
 abbrev Rise : ArchKeyword → ArchKeyword → Type 0

@@ -1,17 +1,5 @@
 -- The definitions, computed on small cases.
-use Rattle.std.proofs.Common.{◌≡◌, ℕ, List, [], ◌∷◌, Some, Ok, Err, refl, codes, take, true, false, lit<}
-use Rattle.std.proofs.lemmas.Fmt.{decimal_digit}
-use Rattle.line_text.specs.Lines.{JoinedLine}
-use Rattle.arch_file.specs.Arch.{arch_of_lines}
-use Rattle.arch_file.specs.ArchFaults.{faults_after, faults_of}
-use Rattle.line_text.specs.LeastFault.{least_fault}
-use Rattle.arch_file.specs.Faults.{printed_fault}
-use Rattle.arch_file.specs.PinLine.{pin_in, pin_line_faults}
-use Rattle.arch_file.specs.Segment.{segment_faults}
-use Rattle.arch_file.specs.Values.{reach, value_faults}
-use Rattle.arch_file.specs.Words.{is_unread, keyword_of}
-use Rattle.arch_file.specs.declared.arch.PinClass.TheVariants.{Input, Output, Clock}
-use Rattle.arch_file.specs.declared.fault.ArchFaultKind.TheVariants.{BadClass, BadNumber, BadSide, Missing, NotProfile, OverLimit, Repeated, Unknown}
+use Rattle.arch_file.proofs.Prelude.{◌≡◌, ℕ, List, [], ◌∷◌, Some, Ok, Err, refl, codes, take, true, false, lit<, decimal_digit, JoinedLine, arch_of_lines, faults_after, faults_of, least_fault, printed_fault, pin_in, pin_line_faults, segment_faults, reach, value_faults, is_unread, keyword_of, Input, Output, Clock, BadClass, BadNumber, BadSide, Missing, NotProfile, OverLimit, Repeated, Unknown}
 use Rattle.arch_file.specs.declared.fault.ArchKeyword.TheVariants as keywords
 
 abbrev line : ℕ → List (List ℕ) → JoinedLine

@@ -1,11 +1,6 @@
 -- The number of pins of an architecture is small.
-use Rattle.std.proofs.Common.{◌≡◌, ℕ, ◌+◌, ◌≤◌, List, [], ◌∷◌, length, cond, refl, arith}
-use Rattle.std.proofs.lemmas.List.Sums.{sum_by-cons}
-use Rattle.arch_file.specs.declared.arch.Arch.{Arch}
-use Rattle.arch_file.specs.declared.arch.Pin.{Pin}
-use Rattle.arch_file.specs.declared.arch.PinClass.{PinClass}
-use Rattle.arch_file.specs.declared.arch.PinClass.TheVariants.{Input, Output, Clock}
-use Rattle.arch_file.specs.Arch.{IsArch, input_count, output_count, clock_count, is_input_class, is_output_class, is_clock_class}
+use Rattle.arch_file.proofs.Prelude.{◌≡◌, ℕ, ◌+◌, ◌≤◌, List, [], ◌∷◌, length, cond, refl, arith, sum_by-cons, Arch, Pin, PinClass, Input, Output, Clock, IsArch, input_count, output_count, is_output_class}
+use Rattle.arch_file.specs.Arch.{clock_count, is_input_class, is_clock_class}
 
 one_class : (class : PinClass) → cond (is_input_class class) 1 0 + (cond (is_output_class class) 1 0 + cond (is_clock_class class) 1 0) ≡ 1
 one_class Input = refl

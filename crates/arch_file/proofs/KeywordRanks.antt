@@ -1,12 +1,5 @@
 -- Keywords with the same spelling have the same rank.
-use Rattle.std.proofs.Common.{◌≡◌, ◌∙◌, ℕ, Bool, true, false, eqb, [], ◌∷◌, Some, get_or, refl, sym, ap, arith}
-use Rattle.std.proofs.lemmas.Bool.{eqb-true}
-use Rattle.std.proofs.lemmas.Bool.Decides.{nat_tests}
-use Rattle.std.proofs.lemmas.Slice.Eq.{bytes_eq-Decides}
-use Rattle.arch_file.specs.declared.fault.ArchKeyword.{ArchKeyword}
-use Rattle.arch_file.specs.declared.fault.ArchKeyword.TheVariants.{IoRat, ChanWidthIo, ChanWidthX, ChanWidthY, SubblocksPerClb, SubblockLutSize, FcType, FcOutput, FcInput, FcPad, SwitchBlockType, Segment, Inpin, Outpin}
-use Rattle.arch_file.specs.Ranks.{rank_of}
-use Rattle.arch_file.specs.Words.{keyword_of, same_keyword, text_of}
+use Rattle.arch_file.proofs.Prelude.{◌≡◌, ◌∙◌, ℕ, Bool, true, false, eqb, [], ◌∷◌, Some, get_or, refl, sym, ap, arith, eqb-true, nat_tests, bytes_eq-Decides, ArchKeyword, IoRat, ChanWidthIo, ChanWidthX, ChanWidthY, SubblocksPerClb, SubblockLutSize, FcType, FcOutput, FcInput, FcPad, SwitchBlockType, Segment, Inpin, Outpin, rank_of, keyword_of, same_keyword, text_of}
 
 -- the keyword of a rank
 ranked : ℕ → ArchKeyword

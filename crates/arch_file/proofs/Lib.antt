@@ -1,3 +1,4 @@
+mod Prelude
 mod DraftLemmas
 mod EndLemmas
 mod Examples

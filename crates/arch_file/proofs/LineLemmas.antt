@@ -1,32 +1,7 @@
 -- The faults of one line, and the words and pins after one more line.
-use Rattle.std.proofs.Common.{◌≡◌, ◌∙◌, ℕ, ◌+◌, ◌<◌, ◌≤◌, List, [], ◌∷◌, ◌++◌, Bool, true, false, cond, ◌||◌, ◌==◌, Option, Some, None, is_some, refl, ap, sym, arith, count_by, nat_lt, length, drop, get_or, codes, eqb}
-use Rattle.std.specs.Option.{option_or, option_to_list}
-use Rattle.std.specs.Str.{bytes_eq}
-use Rattle.std.specs.List.{cons_option}
-use Rattle.std.proofs.lemmas.Bool.{eqb-true}
-use Rattle.std.proofs.lemmas.Bool.Decides.{nat_tests}
-use Rattle.std.proofs.lemmas.List.{append-nil}
-use Rattle.std.proofs.lemmas.List.Elements.{All-push, filter_map-append}
-use Rattle.std.proofs.lemmas.List.Sums.{sum_by_push}
-use Rattle.line_text.specs.Lines.{JoinedLine}
-use Rattle.arch_file.specs.declared.arch.Pin.{Pin}
-use Rattle.arch_file.specs.declared.draft.Draft.{Draft}
-use Rattle.arch_file.specs.declared.fault.ArchFaultKind.{ArchFaultKind}
-use Rattle.arch_file.specs.declared.fault.ArchFaultKind.TheVariants.{NotProfile, Repeated}
-use Rattle.arch_file.specs.declared.fault.ArchKeyword.{ArchKeyword}
-use Rattle.arch_file.specs.declared.fault.ArchKeyword.TheVariants.{IoRat, ChanWidthIo, ChanWidthX, ChanWidthY, Inpin, Outpin, SubblocksPerClb, SubblockLutSize, FcType, FcOutput, FcInput, FcPad, SwitchBlockType, Segment}
-use Rattle.arch_file.specs.ArchFaults.{begins_with, keyword_faults, pin_after, pin_of_words, pins_of, words_at}
-use Rattle.arch_file.specs.Draft.{AddsPin, Follows}
-use Rattle.arch_file.specs.FaultLists.{only_if}
-use Rattle.arch_file.specs.Readings.{least_kind}
-use Rattle.arch_file.specs.FcTypes.{is_fractional_type}
-use Rattle.arch_file.specs.Pins.{clock_count, has_side, input_count, is_clock_class, is_input_class}
-use Rattle.arch_file.specs.PinLine.{pin_in, pin_line_faults}
-use Rattle.arch_file.specs.Segment.{segment_faults}
-use Rattle.arch_file.specs.Values.{decimal_faults, decimal_in, is_fc_type, is_subset, one_faults, value_faults, whole_faults, whole_in, width_faults, word_faults}
-use Rattle.arch_file.specs.Ranks.{rank_of}
+use Rattle.arch_file.proofs.Prelude.{◌≡◌, ◌∙◌, ℕ, ◌+◌, ◌<◌, ◌≤◌, List, [], ◌∷◌, ◌++◌, Bool, true, false, cond, ◌||◌, ◌==◌, Option, Some, None, is_some, refl, ap, sym, arith, count_by, nat_lt, length, drop, get_or, codes, eqb, option_or, option_to_list, bytes_eq, cons_option, eqb-true, nat_tests, append-nil, All-push, filter_map-append, sum_by_push, JoinedLine, Pin, Draft, ArchFaultKind, NotProfile, Repeated, ArchKeyword, IoRat, ChanWidthIo, ChanWidthX, ChanWidthY, Inpin, Outpin, SubblocksPerClb, SubblockLutSize, FcType, FcOutput, FcInput, FcPad, SwitchBlockType, Segment, begins_with, keyword_faults, pin_after, pin_of_words, pins_of, words_at, AddsPin, Follows, only_if, least_kind, is_fractional_type, clock_count, has_side, is_clock_class, is_input_class, pin_in, pin_line_faults, segment_faults, decimal_faults, decimal_in, is_fc_type, is_subset, one_faults, value_faults, whole_faults, whole_in, width_faults, word_faults, rank_of, is_pin_keyword, only_word, same_keyword}
+use Rattle.arch_file.specs.Pins.{input_count}
 use Rattle.arch_file.proofs.KeywordRanks.{alike_by_rank}
-use Rattle.arch_file.specs.Words.{is_pin_keyword, only_word, same_keyword}
 
 -- `Repeated` comes before all of these
 abbrev IsRepeatedFirst : List ArchFaultKind → Type 0

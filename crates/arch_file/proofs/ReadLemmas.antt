@@ -1,26 +1,5 @@
 -- What reading one line adds to the draft.
-use Rattle.std.proofs.Common.{◌≡◌, ◌∙◌, ℕ, ◌<◌, ◌≤◌, List, [], ◌∷◌, ◌++◌, Bool, true, false, cond, not, Option, Some, None, Result, Ok, Err, refl, ap, sym, arith, get_or, set}
-use Rattle.std.specs.Option.{option_map_or, option_or, option_to_list}
-use Rattle.std.proofs.lemmas.List.{append-nil}
-use Rattle.line_text.specs.Lines.{JoinedLine, with_first}
-use Rattle.arch_file.specs.declared.arch.Pin.{Pin}
-use Rattle.arch_file.specs.declared.draft.Draft.{Draft}
-use Rattle.line_text.specs.declared.text_error.TextError.{TextError}
-use Rattle.line_text.specs.declared.text_error.TextError.TheVariants.{NoMemory, Fault}
-use Rattle.arch_file.specs.declared.fault.ArchFaultKind.{ArchFaultKind}
-use Rattle.arch_file.specs.declared.fault.ArchFaultKind.TheVariants.{Unknown}
-use Rattle.arch_file.specs.declared.fault.ArchKeyword.{ArchKeyword}
-use Rattle.arch_file.specs.declared.fault.ArchKeyword.TheVariants.{Segment}
-use Rattle.arch_file.specs.ArchFaults.{first_word_faults, pin_after, pin_of_words, pins_of, words_at}
-use Rattle.arch_file.specs.Draft.{AddsPin, Follows, FollowsLines, Reads, ReadsKeyword, Sets, found_with}
-use Rattle.arch_file.specs.FaultLists.{only_if}
-use Rattle.arch_file.specs.Readings.{least_kind}
-use Rattle.arch_file.specs.Pins.{has_side, is_clock_class, is_input_class}
-use Rattle.arch_file.specs.PinLine.{pin_in, pin_line_faults}
-use Rattle.arch_file.specs.Segment.{segment_faults}
-use Rattle.arch_file.specs.Values.{value_faults}
-use Rattle.arch_file.specs.Ranks.{rank_of}
-use Rattle.arch_file.specs.Words.{is_pin_keyword, is_unread, keyword_of, same_keyword}
+use Rattle.arch_file.proofs.Prelude.{◌≡◌, ◌∙◌, ℕ, ◌<◌, ◌≤◌, List, [], ◌∷◌, ◌++◌, Bool, true, false, cond, not, Option, Some, None, Result, Ok, Err, refl, ap, sym, arith, get_or, set, option_map_or, option_or, option_to_list, append-nil, JoinedLine, with_first, Pin, Draft, TextError, NoMemory, Fault, ArchFaultKind, Unknown, ArchKeyword, Segment, first_word_faults, pin_after, pin_of_words, pins_of, words_at, AddsPin, Follows, FollowsLines, Reads, ReadsKeyword, Sets, found_with, only_if, least_kind, has_side, is_clock_class, is_input_class, pin_in, pin_line_faults, segment_faults, value_faults, rank_of, is_pin_keyword, is_unread, keyword_of, same_keyword}
 use Rattle.arch_file.proofs.DraftLemmas.{Follows-mark, Follows-set}
 use Rattle.arch_file.proofs.LineLemmas.{Follows-add, Follows-same, keyword_faults-pin, keyword_faults-segment, keyword_faults-value, no_pin, one_pin, pin_rank, pins_of-push, segment_pin, segment_rank, words_at-push}
 

@@ -1,27 +1,5 @@
 -- The least fault belongs to the first line that has any.
-use Rattle.std.proofs.Common.{◌≡◌, ◌∙◌, ℕ, zero, suc, ◌+◌, ◌<◌, ◌≤◌, List, [], ◌∷◌, ◌++◌, Bool, true, false, Some, Ok, Err, option_map, length, take, drop, slice_get, refl, ap, sym, subst, arith, nat_lt, add-one}
-use Rattle.std.proofs.Math.Seq.{drop-cons}
-use Rattle.std.proofs.lemmas.Bool.Decides.{nat_tests}
-use Rattle.std.proofs.lemmas.List.{take_more, drop_all, take_all}
-use Rattle.std.proofs.lemmas.Option.{get_or_from_slice_get, slice_get_within}
-use Rattle.std.specs.Option.{option_map_or}
-use Rattle.line_text.specs.LeastFault.{Found, least_by, least_fault, precedes}
-use Rattle.line_text.specs.LineOrder.{RisesFrom}
-use Rattle.line_text.proofs.InOrder.{Each, Each-append, Each-weaker, Precedes, by_number-same, least_before, least_map, precedes-end, precedes-line, turn_of}
-use Rattle.line_text.proofs.RisingLines.{rises_lower}
-use Rattle.line_text.specs.declared.lines.TheConstants.{MAX_TEXT}
-use Rattle.line_text.specs.Lines.{JoinedLine, lines_of}
-use Rattle.arch_file.specs.declared.draft.Draft.{Draft}
-use Rattle.line_text.specs.declared.text_error.TextError.{TextError}
-use Rattle.line_text.specs.declared.text_error.TextError.TheVariants.{NoMemory, Fault}
-use Rattle.arch_file.specs.Arch.{arch_from, arch_of}
-use Rattle.arch_file.specs.Draft.{Reads, ReadsAll, error_at}
-use Rattle.arch_file.specs.declared.fault.ArchFault.{ArchFault}
-use Rattle.arch_file.specs.declared.fault.ArchFaultKind.{ArchFaultKind}
-use Rattle.arch_file.specs.Faults.{number_of}
-use Rattle.arch_file.specs.ArchFaults.{end_faults, faults_after, faults_of, found_at}
-use Rattle.arch_file.specs.FaultLists.{comes_before, word_of}
-use Rattle.arch_file.specs.Readings.{least_kind}
+use Rattle.arch_file.proofs.Prelude.{◌≡◌, ◌∙◌, ℕ, zero, suc, ◌+◌, ◌<◌, ◌≤◌, List, [], ◌∷◌, ◌++◌, Bool, true, false, Some, Ok, Err, option_map, length, take, drop, slice_get, refl, ap, sym, subst, arith, nat_lt, add-one, drop-cons, nat_tests, take_more, get_or_from_slice_get, slice_get_within, option_map_or, Found, least_by, least_fault, precedes, RisesFrom, Each, Each-append, Each-weaker, Precedes, by_number-same, least_before, least_map, precedes-end, precedes-line, turn_of, rises_lower, MAX_TEXT, JoinedLine, lines_of, Draft, TextError, NoMemory, Fault, arch_from, arch_of, Reads, ReadsAll, error_at, ArchFault, ArchFaultKind, number_of, end_faults, faults_after, faults_of, found_at, comes_before, word_of, least_kind}
 
 -- a fault of a line or of the end
 abbrev found : Bool → ℕ → ArchFaultKind → Found ArchFault
@@ -97,10 +75,6 @@ faults_behind-fault lines place line kind rises at is =
     let risen : RisesFrom 1 (line ∷ rest) = subst (RisesFrom 1) (drop_line lines place line at) (rises_drop 1 place lines rises) in
     ap (λ xs. least_fault (faults_after before xs)) (drop_line lines place line at)
     ∙ least_at line.number (faults_of before line.words) kind (faults_after (before ++ line ∷ []) rest) (from_faults_behind (before ++ line ∷ []) rest (line.number + 1) risen.1) is
-
--- only the faults of the end are left
-pub faults_behind-end : (lines : List JoinedLine) (place : ℕ) → length lines ≤ place → faults_after (take place lines) (drop place lines) ≡ found_at true 0 (end_faults lines)
-faults_behind-end lines place ended = rw (take_all place lines ended, drop_all place lines ended) refl
 
 pub least_end : (lines : List JoinedLine) (kind : ArchFaultKind) → least_kind (end_faults lines) ≡ Some kind → least_fault (found_at true 0 (end_faults lines)) ≡ Some (record { line = 0; kind = kind })
 least_end lines kind is =

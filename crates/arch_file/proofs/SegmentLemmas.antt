@@ -1,19 +1,6 @@
 -- Reading the pairs of a segment line one by one.
-use Rattle.std.proofs.Common.{◌≡◌, ◌∙◌, ℕ, ◌+◌, ◌<◌, ◌≤◌, List, [], ◌∷◌, Bool, true, false, cond, length, drop, get_or, refl, ap, sym, arith, add-one, ◌%◌, ◌||◌, not, eq-eqb, Some}
-use Rattle.std.specs.Borrow.{Bor}
-use Rattle.std.specs.Option.{option_eq}
-use Rattle.std.specs.Prelude.{nat_eq}
-use Rattle.std.specs.Str.{bytes_eq}
-use Rattle.std.proofs.Math.Seq.{drop-cons}
-use Rattle.std.proofs.lemmas.List.{drop-map, length-drop}
-use Rattle.line_text.specs.Decimal.{millionths_of}
-use Rattle.arch_file.specs.Segment.{are_ones, is_one, segment_faults, values_under}
-use Rattle.arch_file.specs.Values.{one}
-use Rattle.arch_file.specs.FaultLists.{only_if}
-use Rattle.arch_file.specs.Readings.{least_kind}
-use Rattle.arch_file.specs.declared.fault.ArchFaultKind.TheVariants.{BadNumber, NotProfile}
+use Rattle.arch_file.proofs.Prelude.{◌≡◌, ◌∙◌, ℕ, ◌+◌, ◌<◌, ◌≤◌, List, [], ◌∷◌, Bool, true, false, cond, length, drop, get_or, refl, ap, sym, arith, add-one, ◌%◌, ◌||◌, not, eq-eqb, Some, Bor, option_eq, nat_eq, bytes_eq, drop-cons, drop-map, length-drop, millionths_of, are_ones, is_one, segment_faults, values_under, one, only_if, least_kind, BadNumber, NotProfile, texts}
 use Rattle.arch_file.specs.declared.fault.ArchKeyword.TheVariants as keywords
-use Rattle.arch_file.specs.Words.{texts}
 
 -- nothing is left
 abbrev pub is_none_left : List (List ℕ) → Bool

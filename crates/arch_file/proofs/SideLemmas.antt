@@ -1,14 +1,5 @@
 -- Reading the words after a pin's class one by one.
-use Rattle.std.proofs.Common.{◌≡◌, ◌∙◌, ℕ, List, [], ◌∷◌, ◌++◌, Bool, true, false, ◌&&◌, ◌||◌, not, refl, ap, sym, codes}
-use Rattle.std.specs.List.{list_all}
-use Rattle.std.specs.Str.{bytes_eq}
-use Rattle.std.proofs.Math.Bool.{or-false}
-use Rattle.std.proofs.lemmas.Bool.Decides.{same_from_decides}
-use Rattle.std.proofs.lemmas.List.Recursion.{and_push, or_push}
-use Rattle.std.proofs.lemmas.Slice.Eq.{bytes_eq-Decides}
-use Rattle.arch_file.specs.PinLine.{are_distinct, has, is_side_word}
-use Rattle.arch_file.specs.SideWords.{Shows}
-use Rattle.arch_file.specs.declared.pin_line.SideWords.{SideWords}
+use Rattle.arch_file.proofs.Prelude.{◌≡◌, ◌∙◌, ℕ, List, [], ◌∷◌, ◌++◌, Bool, true, false, ◌&&◌, ◌||◌, not, refl, ap, sym, codes, list_all, bytes_eq, or-false, same_from_decides, and_push, or_push, bytes_eq-Decides, are_distinct, has, is_side_word, Shows, SideWords}
 
 pub bytes_eq_comm : (xs ys : List ℕ) → bytes_eq xs ys ≡ bytes_eq ys xs
 bytes_eq_comm xs ys =

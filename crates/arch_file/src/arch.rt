@@ -1,5 +1,5 @@
 //! What a device consists of.
-ghost use Rattle.std.specs.Prelude.{◌≡◌, ◌<◌};
+ghost use Rattle.std.specs.Prelude.{◌≡◌, ◌<◌, ◌↔◌, IsTrue};
 
 use std::alloc::AllocError;
 use std::marker::Model;
@@ -108,6 +108,29 @@ pub struct Arch {
     pub fc_input: u32,
     /// Tracks that a pad reaches, 1 to all.
     pub fc_pad: u32,
+}
+
+impl Arch {
+    /// Returns whether both architectures have the same numbers and the same pins.
+    pub fn same(&self, other: &Arch) -> bool
+        ensures { IsTrue result ↔ (self.now ≡ other.now) }
+    {
+        self.io_rat == other.io_rat
+            && self.cluster_size == other.cluster_size
+            && self.lut_size == other.lut_size
+            && self.tracks == other.tracks
+            && self.fc_output == other.fc_output
+            && self.fc_input == other.fc_input
+            && self.fc_pad == other.fc_pad
+            && same_pins(self.pins.as_slice(), other.pins.as_slice())
+    }
+}
+
+/// Returns whether both have the same pins, in order.
+fn same_pins(pins: &[Pin], others: &[Pin]) -> bool
+    ensures { IsTrue result ↔ (pins.now ≡ others.now) }
+{
+    pins == others
 }
 
 impl Clone for Arch {

@@ -89,39 +89,25 @@ impl Draft {
         ensures sets { OnOk result (Sets self.old keyword line.now.words self.new) }
     {
         match keyword {
-            ArchKeyword::IoRat => {
-                self.io_rat = values::whole_up_to(line, MAX_IO_RAT)?;
-                Ok(())
-            }
+            ArchKeyword::IoRat => self.io_rat = values::whole_up_to(line, MAX_IO_RAT)?,
             ArchKeyword::SubblocksPerClb => {
                 self.cluster_size = values::whole_up_to(line, MAX_CLUSTER_SIZE)?;
-                Ok(())
             }
             ArchKeyword::SubblockLutSize => {
                 self.lut_size = values::whole_up_to(line, MAX_LUT_SIZE)?;
-                Ok(())
             }
-            ArchKeyword::ChanWidthIo => values::check_one(keyword, line),
-            ArchKeyword::ChanWidthX | ArchKeyword::ChanWidthY => values::check_width(keyword, line),
-            ArchKeyword::FcType => {
-                self.fc_type = values::fc_type(line)?;
-                Ok(())
+            ArchKeyword::ChanWidthIo => values::check_one(keyword, line)?,
+            ArchKeyword::ChanWidthX | ArchKeyword::ChanWidthY => {
+                values::check_width(keyword, line)?;
             }
-            ArchKeyword::FcOutput => {
-                self.fc_output = values::decimal(line)?;
-                Ok(())
-            }
-            ArchKeyword::FcInput => {
-                self.fc_input = values::decimal(line)?;
-                Ok(())
-            }
-            ArchKeyword::FcPad => {
-                self.fc_pad = values::decimal(line)?;
-                Ok(())
-            }
-            ArchKeyword::SwitchBlockType => values::check_switch_block(line),
-            ArchKeyword::Inpin | ArchKeyword::Outpin | ArchKeyword::Segment => Ok(()),
+            ArchKeyword::FcType => self.fc_type = values::fc_type(line)?,
+            ArchKeyword::FcOutput => self.fc_output = values::decimal(line)?,
+            ArchKeyword::FcInput => self.fc_input = values::decimal(line)?,
+            ArchKeyword::FcPad => self.fc_pad = values::decimal(line)?,
+            ArchKeyword::SwitchBlockType => values::check_switch_block(line)?,
+            ArchKeyword::Inpin | ArchKeyword::Outpin | ArchKeyword::Segment => {}
         }
+        Ok(())
     }
 
     /// Whether the keyword was read.

@@ -135,15 +135,10 @@ impl From<LineFault> for ArchFault {
     ghost from_gives = { λ lines fault. fault ≡ fault_of_lines lines };
 
     fn from(fault: LineFault) -> Self {
-        match fault {
-            LineFault::NotAscii(line) => ArchFault {
-                line,
-                kind: ArchFaultKind::NotAscii,
-            },
-            LineFault::LineTooLong(line) => ArchFault {
-                line,
-                kind: ArchFaultKind::LineTooLong,
-            },
-        }
+        let (line, kind) = match fault {
+            LineFault::NotAscii(line) => (line, ArchFaultKind::NotAscii),
+            LineFault::LineTooLong(line) => (line, ArchFaultKind::LineTooLong),
+        };
+        ArchFault { line, kind }
     }
 }

@@ -44,18 +44,14 @@ pub(crate) fn whole_up_to(line: &Line<'_, '_>, limit: u32) -> Result<u32, ArchFa
     ensures low { IfOk result (λ number. 1 ≤ number) }
     ensures high { IfOk result (λ number. number ≤ limit) }
 {
-    match whole_in(line) {
-        None => Err(ArchFaultKind::BadNumber),
-        Some(number) => {
-            if number == 0 {
-                return Err(ArchFaultKind::BadNumber);
-            }
-            if number > limit {
-                return Err(ArchFaultKind::OverLimit);
-            }
-            Ok(number)
-        }
+    let number = whole_in(line).ok_or(ArchFaultKind::BadNumber)?;
+    if number == 0 {
+        return Err(ArchFaultKind::BadNumber);
     }
+    if number > limit {
+        return Err(ArchFaultKind::OverLimit);
+    }
+    Ok(number)
 }
 
 /// The line's decimal, in millionths.
@@ -63,25 +59,17 @@ pub(crate) fn decimal(line: &Line<'_, '_>) -> Result<u64, ArchFaultKind>
     ensures faults { Finds (decimal_faults (decimal_in line.now.words)) result }
     ensures value { IfOk result (λ number. decimal_in line.now.words ≡ Some number) }
 {
-    match decimal_in(line) {
-        None => Err(ArchFaultKind::BadNumber),
-        Some(value) => Ok(value),
-    }
+    decimal_in(line).ok_or(ArchFaultKind::BadNumber)
 }
 
 /// Checks that the line is one decimal and that it is 1.
 pub(crate) fn check_one(keyword: ArchKeyword, line: &Line<'_, '_>) -> Result<(), ArchFaultKind>
     ensures { Finds (one_faults keyword (decimal_in line.now.words)) result }
 {
-    match decimal_in(line) {
-        None => Err(ArchFaultKind::BadNumber),
-        Some(value) => {
-            if value == ONE {
-                Ok(())
-            } else {
-                Err(ArchFaultKind::NotProfile(keyword))
-            }
-        }
+    if decimal(line)? == ONE {
+        Ok(())
+    } else {
+        Err(ArchFaultKind::NotProfile(keyword))
     }
 }
 
@@ -89,15 +77,11 @@ pub(crate) fn check_one(keyword: ArchKeyword, line: &Line<'_, '_>) -> Result<(),
 pub(crate) fn check_width(keyword: ArchKeyword, line: &Line<'_, '_>) -> Result<(), ArchFaultKind>
     ensures { Finds (width_faults keyword line.now.words) result }
 {
-    match line.split_first() {
-        None => Err(ArchFaultKind::BadNumber),
-        Some((kind, rest)) => {
-            if is_word(kind, "uniform") {
-                check_one(keyword, &rest)
-            } else {
-                Err(ArchFaultKind::NotProfile(keyword))
-            }
-        }
+    let (kind, rest) = line.split_first().ok_or(ArchFaultKind::BadNumber)?;
+    if is_word(kind, "uniform") {
+        check_one(keyword, &rest)
+    } else {
+        Err(ArchFaultKind::NotProfile(keyword))
     }
 }
 
@@ -109,18 +93,14 @@ pub(crate) fn fc_type(line: &Line<'_, '_>) -> Result<FcType, ArchFaultKind>
         is_fractional_type meant ≡ option_map_or is_fractional_word (only_word line.now.words)
         false) }
 {
-    match only_word(line) {
-        None => Err(ArchFaultKind::BadNumber),
-        Some(word) => {
-            if is_word(word, "absolute") {
-                return Ok(FcType::Absolute);
-            }
-            if is_word(word, "fractional") {
-                return Ok(FcType::Fractional);
-            }
-            Err(ArchFaultKind::NotProfile(ArchKeyword::FcType))
-        }
+    let word = only_word(line).ok_or(ArchFaultKind::BadNumber)?;
+    if is_word(word, "absolute") {
+        return Ok(FcType::Absolute);
     }
+    if is_word(word, "fractional") {
+        return Ok(FcType::Fractional);
+    }
+    Err(ArchFaultKind::NotProfile(ArchKeyword::FcType))
 }
 
 /// Checks that the line names the one kind of switch block.
@@ -128,15 +108,11 @@ pub(crate) fn check_switch_block(line: &Line<'_, '_>) -> Result<(), ArchFaultKin
     ensures { Finds (word_faults ArchKeyword.SwitchBlockType is_subset (only_word line.now.words))
         result }
 {
-    match only_word(line) {
-        None => Err(ArchFaultKind::BadNumber),
-        Some(word) => {
-            if is_word(word, "subset") {
-                Ok(())
-            } else {
-                Err(ArchFaultKind::NotProfile(ArchKeyword::SwitchBlockType))
-            }
-        }
+    let word = only_word(line).ok_or(ArchFaultKind::BadNumber)?;
+    if is_word(word, "subset") {
+        Ok(())
+    } else {
+        Err(ArchFaultKind::NotProfile(ArchKeyword::SwitchBlockType))
     }
 }
 

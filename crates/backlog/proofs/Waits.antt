@@ -28,12 +28,6 @@ pub not_lost-turns : {T : Type 0} (items : List T) (lost : ℕ) → items_not_lo
 not_lost-turns {T = T} [] lost = none-left {T = T} lost
 not_lost-turns (x ∷ items) lost = ap (λ xs. x ∷ xs) (not_lost-turns items lost)
 
--- as many wait as there are items and lost ones
-pub length-turns : {T : Type 0} (items : List T) (lost : ℕ) → length (turns_of items lost) ≡ length items + lost
-length-turns {T = T} [] zero = refl
-length-turns {T = T} [] (suc lost) = let e = length-turns {T = T} [] lost in omega (arith, e)
-length-turns {T = T} (x ∷ items) lost = let e = length-turns {T = T} items lost in omega (arith, e)
-
 -- an item waits
 pub some_left : {T : Type 0} (items : List T) (lost : ℕ) → 0 < length items → is_none_left (turns_of items lost) ≡ false
 some_left [] lost some = absurd (omega arith)

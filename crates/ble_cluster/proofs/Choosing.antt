@@ -1,15 +1,6 @@
 -- Numbers of BLEs in order, the free ones among them, and the chosen one.
-use Rattle.std.proofs.Common.{◌≡◌, ℕ, zero, suc, ◌+◌, ◌-◌, ◌<◌, ◌≤◌, Bool, true, false, not, List, [], ◌∷◌, Some, None, All, IfSome, filter, length, get_or, refl, ap, subst, ◌∙◌, arith, slice_get, slice_index_or}
+use Rattle.ble_cluster.proofs.Prelude.{◌≡◌, ℕ, zero, suc, ◌+◌, ◌-◌, ◌<◌, ◌≤◌, Bool, true, false, not, List, [], ◌∷◌, Some, None, All, IfSome, filter, length, refl, ap, subst, ◌∙◌, arith, slice_get, slice_index_or, range_with_len, append-nil, get_or-replicate, length-replicate, length-range_with_len, get_or-range_with_len, All-filter, All-from_get_or, get_or_from_slice_get, Arch, LogicElement, element_at, first_most, members_after, next_member, free_in}
 use Rattle.std.specs.Prelude.{replicate}
-use Rattle.std.specs.List.{range_with_len}
-use Rattle.std.proofs.lemmas.List.{append-nil, get_or-replicate, length-replicate}
-use Rattle.std.proofs.lemmas.List.FromFn.{length-range_with_len, get_or-range_with_len}
-use Rattle.std.proofs.lemmas.List.Elements.{All-filter, All-from_get_or}
-use Rattle.std.proofs.lemmas.Option.{get_or_from_slice_get}
-use Rattle.arch_file.specs.declared.arch.Arch.{Arch}
-use Rattle.ble_cluster.specs.Bles.{LogicElement, element_at}
-use Rattle.ble_cluster.specs.Clusters.{first_most, members_after, next_member}
-use Rattle.ble_cluster.specs.FreeBles.{free_in}
 use Rattle.ble_cluster.proofs.Leading.{leading_lawful}
 
 -- numbers below a count
@@ -30,10 +21,7 @@ filter_all test [] all = refl
 filter_all test (number ∷ numbers) all = rw (all 0 number (omega arith)) (ap (λ ns. number ∷ ns) (filter_all test numbers (λ k d h. all (suc k) d (omega (arith, h)))))
 
 pub free_at_first : (n : ℕ) → free_in (replicate n false) ≡ range_with_len 0 n
-free_at_first n =
-    ap (λ count. filter (λ number. not (get_or (replicate n false) number true)) (range_with_len 0 count)) (length-replicate n false)
-    ∙ filter_all (λ number. not (get_or (replicate n false) number true)) (range_with_len 0 n) (All-from_get_or (λ number. not (get_or (replicate n false) number true) ≡ true) (range_with_len 0 n) 0
-    (λ i h. let within : i < n = omega (arith, h, length-range_with_len 0 n) in let e : get_or (range_with_len 0 n) i 0 ≡ i = get_or-range_with_len 0 n i 0 within ∙ omega arith in rw e (ap not (get_or-replicate n i false true within))))
+free_at_first n = grind (arith, length-replicate, filter_all, length-range_with_len, get_or-range_with_len, get_or-replicate)
 
 -- the BLE with a number
 pub element_is : (elements : List LogicElement) (number : ℕ) (element : LogicElement) → slice_get elements number ≡ Some element → element_at elements number ≡ element

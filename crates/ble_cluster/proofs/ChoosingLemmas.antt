@@ -1,18 +1,5 @@
 -- The choice of the next member.
-use Rattle.std.proofs.Common.{◌≡◌, ◌≢◌, ℕ, suc, zero, ◌+◌, ◌<◌, ◌≤◌, ◌⊎◌, inl, inr, Bool, true, false, not, ◌||◌, ◌&&◌, eqb, List, [], ◌∷◌, Option, Some, None, filter, length, take, get_or, if◌then◌else◌, sym, refl, ap, subst, ◌∙◌, arith}
-use Rattle.std.specs.List.{range_with_len}
-use Rattle.std.specs.Option.{ForSome}
-use Rattle.std.proofs.lemmas.List.{take_all, take_more}
-use Rattle.std.proofs.lemmas.Bool.{cases_lt}
-use Rattle.std.proofs.lemmas.Bool.Decides.{nat_tests, eqb_tells}
-use Rattle.arch_file.specs.declared.arch.Arch.{Arch}
-use Rattle.ble_cluster.specs.Nets.{has}
-use Rattle.ble_cluster.specs.Bles.{LogicElement}
-use Rattle.ble_cluster.specs.SharedNets.{AreTouched, gain_at}
-use Rattle.ble_cluster.specs.Choosing.{IsBest, IsFirst, LeadsOver, SharesNet, beats, is_candidate}
-use Rattle.ble_cluster.specs.Clusters.{may_join, next_member, shared_nets}
-use Rattle.ble_cluster.specs.Choosing.{taken_at}
-use Rattle.ble_cluster.specs.FreeBles.{free_in}
+use Rattle.ble_cluster.proofs.Prelude.{◌≡◌, ◌≢◌, ℕ, suc, zero, ◌+◌, ◌<◌, ◌≤◌, ◌⊎◌, inl, inr, Bool, true, false, not, ◌||◌, ◌&&◌, eqb, List, [], ◌∷◌, Option, Some, None, filter, length, take, get_or, if◌then◌else◌, sym, refl, ap, subst, ◌∙◌, arith, range_with_len, ForSome, take_all, take_more, cases_lt, nat_tests, eqb_tells, Arch, has, LogicElement, AreTouched, gain_at, IsBest, IsFirst, LeadsOver, SharesNet, beats, is_candidate, may_join, next_member, shared_nets, taken_at, free_in}
 use Rattle.ble_cluster.proofs.Choice.{IsRising, first_most-is, first_most-none, has-filter, rising-filter, rising-range}
 use Rattle.ble_cluster.proofs.Outside.{has-append}
 
@@ -145,26 +132,15 @@ has_at (number ∷ numbers) (suc place) small = let ih = has_at numbers place (o
 
 -- a touched BLE shares a net
 pub touched_shares : (gains numbers : List ℕ) (place : ℕ) → place < length numbers → AreTouched gains numbers → 0 < gain_at gains (get_or numbers place 0)
-touched_shares gains numbers place small t =
-    let listed = t.touches (get_or numbers place 0) (t.within place 0 small) in
-    let there = has_at numbers place small in
-    grind (arith, nat_tests, listed, there)
+touched_shares gains numbers place small t = grind (arith, has_at)
 
 pub has-range : (start count number : ℕ) → has (range_with_len start count) number ≡ true → (start ≤ number) × (number < start + count)
 has-range start zero number h = absurd cc
-has-range start (suc count) number h = by (eqb_tells start number) (has-range (start + 1) count number)
-  where
-    by : ((eqb start number ≡ true) × (start ≡ number)) ⊎ ((eqb start number ≡ false) × (start ≢ number)) → (has (range_with_len (start + 1) count) number ≡ true → (start + 1 ≤ number) × (number < start + 1 + count)) → (start ≤ number) × (number < start + suc count)
-    by (inl same) ih = (omega (arith, same.1), omega (arith, same.1))
-    by (inr differs) ih = let r = ih (grind (arith, h, differs.0)) in (omega (arith, r.0), omega (arith, r.1))
+has-range start (suc count) number h = grind (arith, has-range (start + 1) count number)
 
 pub in-range : (start count number : ℕ) → start ≤ number → number < start + count → has (range_with_len start count) number ≡ true
 in-range start zero number from to = absurd (omega (arith, from, to))
-in-range start (suc count) number from to = by (eqb_tells start number) (in-range (start + 1) count number)
-  where
-    by : ((eqb start number ≡ true) × (start ≡ number)) ⊎ ((eqb start number ≡ false) × (start ≢ number)) → (start + 1 ≤ number → number < start + 1 + count → has (range_with_len (start + 1) count) number ≡ true) → has (range_with_len start (suc count)) number ≡ true
-    by (inl same) ih = grind (arith, same.0)
-    by (inr differs) ih = let h = ih (omega (arith, from, differs.1)) (omega (arith, to)) in grind (arith, h, differs.0)
+in-range start (suc count) number from to = grind (arith, in-range (start + 1) count number)
 
 module _ (arch : Arch) (elements : List LogicElement) (taken : List Bool) (members : List ℕ) (count : length taken ≡ length elements) where
   -- the candidates, in order

@@ -1,17 +1,6 @@
 -- Counts, marks and latches by net, after one more read or driver.
-use Rattle.std.proofs.Common.{◌≡◌, ◌≢◌, ◌⊎◌, inl, inr, ℕ, ◌+◌, ◌<◌, Bool, true, false, not, cond, ◌==◌, ◌||◌, List, [], ◌∷◌, ◌++◌, Option, Some, None, length, get_or, set, take, min, refl, sym, ap, subst, ◌∙◌, arith, append_assoc, slice_get, get_or-set_other, length-set, zero-add}
+use Rattle.ble_cluster.proofs.Prelude.{◌≡◌, ◌≢◌, ◌⊎◌, inl, inr, ℕ, ◌+◌, ◌<◌, Bool, true, false, not, cond, ◌==◌, ◌||◌, List, [], ◌∷◌, ◌++◌, Option, Some, None, length, get_or, set, take, min, sym, ap, subst, ◌∙◌, arith, append_assoc, slice_get, get_or-set_other, length-set, zero-add, option_to_list, is_some, count_by, flat_map, flat_map-append, get_or-set_at, take_more, append-nil, get_or-replicate, length-replicate, sum_by-append, find-append, list_any-append, get_or_from_slice_get, slice_get-get_or, eqb_tells, Latch, LookupTable, AreCounts, AreDriven, AreLatches, CountsOn}
 use Rattle.std.specs.Prelude.{replicate}
-use Rattle.std.specs.Option.{option_or, option_to_list, is_some}
-use Rattle.std.specs.List.{count_by, flat_map, list_any, find}
-use Rattle.std.proofs.lemmas.Grind.{flat_map-append, get_or-set_at}
-use Rattle.std.proofs.lemmas.List.{take_more, append-nil, get_or-replicate, length-replicate}
-use Rattle.std.proofs.lemmas.List.Sums.{sum_by-append}
-use Rattle.std.proofs.lemmas.List.Folds.{find-append, list_any-append}
-use Rattle.std.proofs.lemmas.Option.{get_or_from_slice_get, slice_get-get_or}
-use Rattle.std.proofs.lemmas.Bool.Decides.{eqb_tells}
-use Rattle.blif.specs.declared.latches.Latch.{Latch}
-use Rattle.blif.specs.LookupTables.{LookupTable}
-use Rattle.ble_cluster.specs.Reads.{AreCounts, AreDriven, AreLatches, CountsOn}
 
 -- the list up to and including the element at an index
 pub take_place : {X : Type 0} (xs : List X) (i : ℕ) (x : X) → i < length xs → slice_get xs i ≡ Some x → take (i + 1) xs ≡ take i xs ++ x ∷ []
@@ -46,8 +35,7 @@ pub counts_on_none : (counts : List ℕ) → CountsOn counts [] counts
 counts_on_none counts reads counted = rw (append-nil reads) counted
 
 pub counts_on : (old mid new some others all : List ℕ) → CountsOn old some mid → CountsOn mid others new → some ++ others ≡ all → CountsOn old all new
-counts_on old mid new some others all first then is reads counted =
-    subst (λ rs. AreCounts rs new) (append_assoc reads some others ∙ ap (λ rs. reads ++ rs) is) (then (reads ++ some) (first reads counted))
+counts_on old mid new some others all first then is reads counted = grind (arith, append_assoc reads some others)
 
 -- nothing is read yet
 pub counts_none : (n : ℕ) → AreCounts [] (replicate n 0)
@@ -55,83 +43,39 @@ counts_none n net within = let inner : net < n = omega (arith, within, length-re
 
 -- the element read after a write
 pub read_same : {X : Type 0} (xs : List X) (i j : ℕ) (x : X) → i ≡ j → i < length xs → slice_get (set xs i x) j ≡ Some x
-read_same xs i j x is within =
-    let inner : j < length (set xs i x) = omega (arith, length-set xs i x) in
-    slice_get-get_or (set xs i x) j x inner ∙ ap Some (get_or-set_at xs i j x x (sym is) within)
+read_same xs i j x is within = grind (arith, slice_get-get_or, length-set xs i x, get_or-set_at xs i j x x (sym is) within)
 
 pub read_other : {X : Type 0} (xs : List X) (i j : ℕ) (x : X) → i ≢ j → j < length xs → slice_get (set xs i x) j ≡ slice_get xs j
-read_other xs i j x is within =
-    let inner : j < length (set xs i x) = omega (arith, length-set xs i x) in
-    slice_get-get_or (set xs i x) j x inner ∙ ap Some (get_or-set_other xs i j x x (λ h. is (sym h))) ∙ sym (slice_get-get_or xs j x within)
-
--- an option, or else nothing
-option_or-none : {X : Type 0} (o : Option X) → option_or o None ≡ o
-option_or-none None = refl
-option_or-none (Some x) = refl
+read_other xs i j x is within = grind (arith, slice_get-get_or, get_or-set_other, length-set xs i x, slice_get-get_or xs j x within)
 
 -- the latch is the first at its net, if there was none
 pub latches_more : (latches : List Latch) (behind : List (Option Latch)) (latch : Latch) → latch.input < length behind → slice_get behind latch.input ≡ Some None → AreLatches latches behind → AreLatches (latches ++ latch ∷ []) (set behind latch.input (Some latch))
-latches_more latches behind latch within free are net inside =
-    let inner : net < length behind = omega (arith, inside, length-set behind latch.input (Some latch)) in
-    by (eqb_tells latch.input net) inner (are net inner) (find-append (λ other. other.input == net) latches (latch ∷ []))
-  where
-    by : ((latch.input == net) ≡ true) × (latch.input ≡ net) ⊎ ((latch.input == net) ≡ false) × (latch.input ≢ net) → net < length behind → slice_get behind net ≡ Some (find (λ other. other.input == net) latches) → find (λ other. other.input == net) (latches ++ latch ∷ []) ≡ option_or (find (λ other. other.input == net) latches) (find (λ other. other.input == net) (latch ∷ [])) → slice_get (set behind latch.input (Some latch)) net ≡ Some (find (λ other. other.input == net) (latches ++ latch ∷ []))
-    by (inl e) inner old found =
-        let none : find (λ (other : Latch). other.input == net) latches ≡ None = let at = rw e.1 at free in cc in
-        read_same behind latch.input net (Some latch) e.1 within ∙ ap Some (sym (found ∙ rw (none, e.0) refl))
-    by (inr e) inner old found =
-        read_other behind latch.input net (Some latch) e.1 inner ∙ old ∙ ap Some (sym (found ∙ rw e.0 (option_or-none (find (λ (other : Latch). other.input == net) latches))))
+latches_more latches behind latch within free are net inside = grind (arith, length-set, find-append, read_same, read_other)
 
 -- the latch is not the first at its net, if there was one
 pub latches_same : (latches : List Latch) (behind : List (Option Latch)) (latch other : Latch) → slice_get behind latch.input ≡ Some (Some other) → AreLatches latches behind → AreLatches (latches ++ latch ∷ []) behind
-latches_same latches behind latch other taken are net inside =
-    by (eqb_tells latch.input net) (are net inside) (find-append (λ stored. stored.input == net) latches (latch ∷ []))
-  where
-    by : ((latch.input == net) ≡ true) × (latch.input ≡ net) ⊎ ((latch.input == net) ≡ false) × (latch.input ≢ net) → slice_get behind net ≡ Some (find (λ stored. stored.input == net) latches) → find (λ stored. stored.input == net) (latches ++ latch ∷ []) ≡ option_or (find (λ stored. stored.input == net) latches) (find (λ stored. stored.input == net) (latch ∷ [])) → slice_get behind net ≡ Some (find (λ stored. stored.input == net) (latches ++ latch ∷ []))
-    by (inl e) old found =
-        let some : find (λ (stored : Latch). stored.input == net) latches ≡ Some other = let at = rw e.1 at taken in cc in
-        old ∙ ap Some (some ∙ sym (found ∙ rw some refl))
-    by (inr e) old found =
-        old ∙ ap Some (sym (found ∙ rw e.0 (option_or-none (find (λ (stored : Latch). stored.input == net) latches))))
+latches_same latches behind latch other taken are net inside = grind (arith, find-append)
 
 or-false : (b : Bool) → (b || false) ≡ b
-or-false true = refl
-or-false false = refl
+or-false b = grind arith
 
 or-true : (b : Bool) → (b || true) ≡ true
-or-true true = refl
-or-true false = refl
+or-true b = grind arith
 
 -- one more table is marked
 pub driven_more : (tables : List LookupTable) (driven : List Bool) (table : LookupTable) (output : ℕ) → output ≡ table.output → output < length driven → AreDriven tables driven → AreDriven (tables ++ table ∷ []) (set driven output true)
-driven_more tables driven table output is within are net inside =
-    let inner : net < length driven = omega (arith, inside, length-set driven output true) in
-    by (eqb_tells table.output net) inner (are net inner) (list_any-append (λ other. other.output == net) tables (table ∷ []))
-  where
-    by : ((table.output == net) ≡ true) × (table.output ≡ net) ⊎ ((table.output == net) ≡ false) × (table.output ≢ net) → net < length driven → slice_get driven net ≡ Some (list_any (λ other. other.output == net) tables) → list_any (λ other. other.output == net) (tables ++ table ∷ []) ≡ (list_any (λ other. other.output == net) tables || list_any (λ other. other.output == net) (table ∷ [])) → slice_get (set driven output true) net ≡ Some (list_any (λ other. other.output == net) (tables ++ table ∷ []))
-    by (inl e) inner old found =
-        read_same driven output net true (is ∙ e.1) within ∙ ap Some (sym (found ∙ rw e.0 (or-true (list_any (λ (other : LookupTable). other.output == net) tables))))
-    by (inr e) inner old found =
-        read_other driven output net true (λ h. e.1 (sym is ∙ h)) inner ∙ old ∙ ap Some (sym (found ∙ rw e.0 (or-false (list_any (λ (other : LookupTable). other.output == net) tables))))
+driven_more tables driven table output is within are net inside = grind (arith, length-set, list_any-append, read_same, read_other)
 
 -- a control, if there is one
 pub control_here : (control : Option ℕ) (net : ℕ) → control ≡ Some net → net ∷ [] ≡ option_to_list control
 control_here control net is = sym (ap option_to_list is)
 
 pub control_none : (control : Option ℕ) → ((net : ℕ) → control ≡ Some net → ⊥) → [] ≡ option_to_list control
-control_none None h = refl
-control_none (Some net) h = absurd (h net refl)
+control_none control h = grind arith
 
 -- one more latch, at a net that doesn't have one yet
 pub latches_free : (latches : List Latch) (behind : List (Option Latch)) (i : ℕ) (d : Latch) (read : Option Latch) (none : Bool) → i < length latches → (get_or latches i d).input < length behind → read ≡ get_or behind (get_or latches i d).input read → is_some read ≡ not none → none ≡ true → AreLatches (take i latches) behind → AreLatches (take (i + 1) latches) (set behind (get_or latches i d).input (Some (get_or latches i d)))
-latches_free latches behind i d read none within inside is some h are =
-    let at : slice_get behind (get_or latches i d).input ≡ Some read = slice_get-get_or behind (get_or latches i d).input read inside ∙ ap Some (sym is) in
-    subst (λ ls. AreLatches ls (set behind (get_or latches i d).input (Some (get_or latches i d)))) (sym (take_more latches i d within))
-    (latches_more (take i latches) behind (get_or latches i d) inside (at ∙ ap Some (free read (some ∙ ap not h))) are)
-  where
-    free : (o : Option Latch) → is_some o ≡ false → o ≡ None
-    free None e = refl
-    free (Some latch) e = absurd cc
+latches_free latches behind i d read none within inside is some h are = grind (arith, latches_more, slice_get-get_or behind (get_or latches i d).input read inside, take_more latches i d within)
 
 -- one more latch, at a net that already has one
 pub latches_taken : (latches : List Latch) (behind : List (Option Latch)) (i : ℕ) (d : Latch) (read : Option Latch) (none : Bool) → i < length latches → (get_or latches i d).input < length behind → read ≡ get_or behind (get_or latches i d).input read → is_some read ≡ not none → none ≡ false → AreLatches (take i latches) behind → AreLatches (take (i + 1) latches) behind
@@ -145,6 +89,4 @@ latches_taken latches behind i d read none within inside is some h are =
 
 -- the reads of one more latch
 pub controls_more : (latches : List Latch) (i : ℕ) (d : Latch) (controls : List ℕ) → i < length latches → controls ≡ option_to_list (get_or latches i d).control → flat_map (λ (latch : Latch). option_to_list latch.control) (take i latches) ++ controls ≡ flat_map (λ (latch : Latch). option_to_list latch.control) (take (i + 1) latches)
-controls_more latches i d controls within is =
-    ap (λ more. flat_map (λ (latch : Latch). option_to_list latch.control) (take i latches) ++ more) is
-    ∙ sym (ap (flat_map (λ (latch : Latch). option_to_list latch.control)) (take_more latches i d within) ∙ flat_map_push (λ (latch : Latch). option_to_list latch.control) (take i latches) (get_or latches i d))
+controls_more latches i d controls within is = grind (arith, flat_map_push, take_more latches i d within)

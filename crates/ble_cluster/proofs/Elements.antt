@@ -1,23 +1,5 @@
 -- The BLEs of a circuit: their nets are the circuit's, and each input occurs once.
-use Rattle.std.proofs.Common.{◌≡◌, ℕ, ◌<◌, Bool, true, false, not, ◌&&◌, ◌==◌, nat_le, List, [], ◌∷◌, ◌++◌, Option, Some, None, All, IfSome, filter, length, map, take, drop, refl, ap, ◌∙◌, arith, if◌then◌else◌}
-use Rattle.std.specs.List.{find, flat_map, prefix_len}
-use Rattle.std.specs.Option.{option_to_list}
-use Rattle.std.proofs.lemmas.List.{append-nil}
-use Rattle.std.proofs.lemmas.Bool.Decides.{nat_tests}
-use Rattle.std.proofs.lemmas.List.Elements.{All-nil, All-cons, All-tail, All-append, All-filter, All-map, All-take, All-drop, filter_agree}
-use Rattle.arch_file.specs.declared.arch.Arch.{Arch}
-use Rattle.arch_file.specs.Arch.{IsArch, input_count}
-use Rattle.blif.specs.declared.circuit.Circuit.{Circuit}
-use Rattle.blif.specs.declared.latches.Latch.{Latch}
-use Rattle.blif.specs.LookupTables.{LookupTable}
-use Rattle.blif.specs.LawfulCircuits.{IsCircuit, IsLatchWithin, IsTableWithin}
-use Rattle.ble_cluster.specs.Nets.{has, distinct_nets, with_nets}
-use Rattle.ble_cluster.specs.NetSets.{with_net}
-use Rattle.ble_cluster.specs.Bles.{LogicElement, bles_of, element_of_latch, element_of_table, in_line_order, is_read_once, latch_after, stands_alone}
-use Rattle.ble_cluster.specs.LineOrder.{is_above}
-use Rattle.ble_cluster.specs.Clusters.{clocks_of, fits_in_cluster, outside_inputs}
-use Rattle.ble_cluster.specs.FreeBles.{IsElement}
-use Rattle.ble_cluster.specs.Nets.{IsOnce}
+use Rattle.ble_cluster.proofs.Prelude.{◌≡◌, ℕ, ◌<◌, Bool, true, false, not, ◌==◌, nat_le, List, [], ◌∷◌, ◌++◌, Option, Some, None, All, IfSome, filter, length, map, take, drop, refl, ap, ◌∙◌, arith, if◌then◌else◌, find, prefix_len, append-nil, nat_tests, All-nil, All-cons, All-tail, All-append, All-filter, All-map, All-take, All-drop, filter_agree, Arch, IsArch, input_count, Circuit, Latch, LookupTable, IsCircuit, IsLatchWithin, IsTableWithin, has, distinct_nets, with_nets, with_net, LogicElement, bles_of, element_of_latch, element_of_table, in_line_order, is_read_once, latch_after, stands_alone, is_above, fits_in_cluster, IsElement, IsOnce}
 use Rattle.ble_cluster.proofs.Outside.{once-distinct, with_nets-new}
 
 -- nets that occur once are unchanged
@@ -82,17 +64,4 @@ elements_lawful circuit lawful = order_lawful circuit lawful circuit.tables (fil
 
 -- a BLE fits alone if its outside inputs are at most the number of pins
 pub alone_fits : (arch : Arch) (count : ℕ) (element : LogicElement) → IsArch arch → IsElement count element → fits_in_cluster arch (element ∷ []) ≡ nat_le (length (filter (λ net. not (net == element.output)) element.inputs)) (input_count arch.pins)
-alone_fits arch count element profile is =
-    let room : nat_le 1 arch.cluster_size ≡ true = grind (arith, nat_tests, profile.cluster_size.0) in
-    let inputs : distinct_nets (flat_map (λ (e : LogicElement). e.inputs) (element ∷ [])) ≡ element.inputs = ap distinct_nets (append-nil element.inputs) ∙ is.once in
-    let outside : outside_inputs (element ∷ []) ≡ filter (λ net. not (net == element.output)) element.inputs = ap (filter (λ net. not (has (element.output ∷ []) net))) inputs ∙ filter_agree (λ net. not (has (element.output ∷ []) net)) (λ net. not (net == element.output)) (λ net. grind (arith, nat_tests)) element.inputs in
-    let clocks : nat_le (length (clocks_of (element ∷ []))) 1 ≡ true = ap (λ clocks. nat_le (length (distinct_nets clocks)) 1) (append-nil (option_to_list element.clock)) ∙ one element.clock in
-    rw (room, outside, clocks) (last (nat_le (length (filter (λ net. not (net == element.output)) element.inputs)) (input_count arch.pins)))
-  where
-    one : (clock : Option ℕ) → nat_le (length (distinct_nets (option_to_list clock))) 1 ≡ true
-    one None = refl
-    one (Some clock) = refl
-
-    last : (b : Bool) → (b && true) ≡ b
-    last true = refl
-    last false = refl
+alone_fits arch count element profile is = grind (arith, nat_tests, append-nil, filter_agree)

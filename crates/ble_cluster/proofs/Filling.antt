@@ -1,11 +1,5 @@
 -- A cluster that becomes full with its last member.
-use Rattle.std.proofs.Common.{◌≡◌, ℕ, suc, ◌+◌, ◌<◌, ◌≤◌, Bool, true, false, if◌then◌else◌, List, [], ◌∷◌, ◌++◌, All, None, Some, length, refl, sym, ap, ◌∙◌, arith, length-append}
-use Rattle.std.specs.Option.{option_to_list}
-use Rattle.std.proofs.lemmas.List.Elements.{All-nil, All-cons, All-append}
-use Rattle.arch_file.specs.declared.arch.Arch.{Arch}
-use Rattle.ble_cluster.specs.Bles.{LogicElement}
-use Rattle.ble_cluster.specs.Clusters.{cluster_of, first_most, members_after, input_count_at, next_member}
-use Rattle.ble_cluster.specs.FreeBles.{free_in}
+use Rattle.ble_cluster.proofs.Prelude.{◌≡◌, ℕ, suc, ◌+◌, ◌<◌, ◌≤◌, Bool, true, false, if◌then◌else◌, List, [], ◌∷◌, ◌++◌, All, None, Some, length, refl, sym, ap, ◌∙◌, arith, length-append, option_to_list, All-nil, All-cons, All-append, Arch, LogicElement, cluster_of, first_most, members_after, input_count_at, next_member, free_in}
 use Rattle.ble_cluster.proofs.Choosing.{grown_full}
 use Rattle.ble_cluster.proofs.ChoosingLemmas.{next_none}
 use Rattle.ble_cluster.proofs.Fitting.{cluster_is}

@@ -1,30 +1,8 @@
 -- A growing cluster with one more BLE.
-use Rattle.std.proofs.Common.{◌≡◌, ◌≢◌, ℕ, ◌+◌, ◌-◌, ◌<◌, ◌≤◌, ◌^◌, ◌⊎◌, inl, inr, Bool, true, false, not, ◌||◌, ◌&&◌, ◌==◌, eqb, List, [], ◌∷◌, ◌++◌, All, Option, Some, None, filter, length, take, nat_le, nat_lt, if◌then◌else◌, sym, refl, ap, ◌∙◌, arith, length-append}
-use Rattle.std.specs.List.{flat_map, slice_index_or}
-use Rattle.std.specs.Option.{option_or, option_to_list}
-use Rattle.std.proofs.lemmas.Bool.Decides.{eqb_tells, nat_tests}
-use Rattle.std.proofs.lemmas.Bool.{eqb-true}
-use Rattle.std.proofs.lemmas.List.{append-nil, length-map, map-append, take_more}
-use Rattle.std.specs.List.{AllByRecursion, IsDistinct}
-use Rattle.std.proofs.lemmas.Map.Steps.{length-le_from_distinct_below}
+use Rattle.ble_cluster.proofs.Prelude.{◌≡◌, ◌≢◌, ℕ, ◌+◌, ◌-◌, ◌<◌, ◌≤◌, ◌^◌, ◌⊎◌, inl, inr, Bool, true, false, not, ◌||◌, ◌&&◌, ◌==◌, eqb, List, [], ◌∷◌, ◌++◌, All, Option, Some, None, filter, length, take, nat_le, nat_lt, if◌then◌else◌, sym, refl, ap, ◌∙◌, arith, length-append, flat_map, option_or, option_to_list, eqb_tells, nat_tests, append-nil, length-map, map-append, take_more, AllByRecursion, IsDistinct, length-le_from_distinct_below, get_or_from_slice_get, length-filter, count_by-le-length, flat_map-append, Arch, input_count, GrowingCluster, IsOnce, distinct_nets, has, with_nets, LogicElement, element_at, clocks_of, elements_at, fits_in_cluster, nets_of, outputs_of, outside_inputs, All-append, All-cons, All-from_get_or, All-nil, NetsAmong, with_net, gained_inputs, loses, inputs_of, HaveRoom, ShareNothing, AreShared, EntersUnless, IsEntering, IsGrowingCluster, IsTold, MayFit, agree, later_clock, is_new_input, new_inputs_of, AreLawful, BlesOver, IsElement}
+use Rattle.std.specs.List.{slice_index_or}
 use Rattle.ble_cluster.proofs.Leading.{found}
 use Rattle.std.specs.Prelude.{slice_get}
-use Rattle.std.proofs.lemmas.Option.{get_or_from_slice_get}
-use Rattle.std.proofs.lemmas.List.Sums.{length-filter, count_by-le-length}
-use Rattle.std.proofs.lemmas.Grind.{flat_map-append}
-use Rattle.arch_file.specs.declared.arch.Arch.{Arch}
-use Rattle.arch_file.specs.Arch.{input_count}
-use Rattle.ble_cluster.specs.declared.growing_cluster.GrowingCluster.{GrowingCluster}
-use Rattle.ble_cluster.specs.Nets.{IsOnce, distinct_nets, has, with_nets}
-use Rattle.ble_cluster.specs.Bles.{LogicElement, element_at}
-use Rattle.ble_cluster.specs.Clusters.{clocks_of, elements_at, fits_in_cluster, nets_of, outputs_of, outside_inputs}
-use Rattle.std.proofs.lemmas.List.Elements.{All-append, All-cons, All-from_get_or, All-nil}
-use Rattle.ble_cluster.specs.NetSets.{NetsAmong, with_net}
-use Rattle.ble_cluster.specs.OutsideInputs.{gained_inputs, loses, inputs_of}
-use Rattle.ble_cluster.specs.SharedNets.{HaveRoom, ShareNothing}
-use Rattle.ble_cluster.specs.GrowingCluster.{AreShared, EntersUnless, IsEntering, IsGrowingCluster, IsTold, MayFit, agree, later_clock, is_new_input, new_inputs_of}
-use Rattle.ble_cluster.specs.BleIndex.{AreLawful, BlesOver}
-use Rattle.ble_cluster.specs.FreeBles.{IsElement}
 use Rattle.ble_cluster.proofs.ElementLemmas.{inputs_once, nets_within}
 use Rattle.ble_cluster.proofs.Outside.{has-append, has-distinct, has-member_nets, has-with_net, once-distinct, outside_more, shared_more, shared_same, with_nets-append}
 
@@ -135,28 +113,12 @@ none_shared (net ∷ list) = none_shared list
 -- a cluster without members
 pub growth_none : (elements : List LogicElement) (nets : ℕ) (growth : GrowingCluster) → growth.members.items ≡ [] → growth.reads ≡ record { count = nets; nets = [] } → growth.drives ≡ record { count = nets; nets = [] }
     → growth.outside ≡ 0 → growth.clock ≡ None → length growth.gains ≡ length elements → ShareNothing growth.gains → IsGrowingCluster elements nets growth
-growth_none elements nets growth m r d o c l n = record {
-  members = rw m (All-nil _);
-  reads_count = ap (λ set. set.count) r;
-  drives_count = ap (λ set. set.count) d;
-  gains_count = l;
-  reads = ap (λ set. set.nets) r ∙ rw m refl;
-  drives = ap (λ set. set.nets) d ∙ rw m refl;
-  outside = o ∙ rw m refl;
-  small = omega (arith, o);
-  clock = rw (m, c) refl;
-  gains = λ number small. n number (omega (arith, small, l)) ∙ rw m (sym (none_shared (nets_of (element_at elements number))));
-}
+growth_none elements nets growth m r d o c l n = grind (arith, none_shared)
 
 -- a net that occurs once is counted once
 counted_once : (nets : List ℕ) (net : ℕ) (list : List ℕ) → IsOnce list → has nets net ≡ false → length (filter (λ other. has (net ∷ []) other && not (has nets other)) list) ≡ (if has list net then 1 else 0)
 counted_once nets net [] once h = refl
-counted_once nets net (other ∷ list) once h = by (eqb_tells other net) (counted_once nets net list once.1 h)
-  where
-    by : ((eqb other net ≡ true) × (other ≡ net)) ⊎ ((eqb other net ≡ false) × (other ≢ net)) → length (filter (λ m. has (net ∷ []) m && not (has nets m)) list) ≡ (if has list net then 1 else 0)
-        → length (filter (λ m. has (net ∷ []) m && not (has nets m)) (other ∷ list)) ≡ (if has (other ∷ list) net then 1 else 0)
-    by (inl same) ih = let none : has list net ≡ false = rw same.1 at once.0 in let new : has nets other ≡ false = rw (sym same.1) at h in let turned : (net == other) ≡ true = grind (arith, nat_tests, same.1) in grind (arith, same.0, none, new, turned, ih)
-    by (inr differs) ih = let turned : (net == other) ≡ false = grind (arith, nat_tests, differs.0) in grind (arith, differs.0, turned, ih)
+counted_once nets net (other ∷ list) once h = grind (arith, counted_once nets net list once.1 h)
 
 -- a new net is shared by the BLEs that have it
 pub entered : (elements : List LogicElement) (nets : List ℕ) (net : ℕ) (old new : List ℕ) → length old ≡ length elements → AreShared elements nets old → has nets net ≡ false → IsEntering elements net old new → AreShared elements (nets ++ net ∷ []) new
@@ -215,23 +177,11 @@ pub reads_on : (old now new : GrowingCluster) (nets : List ℕ) (place : ℕ) �
     → new ≡ record now { gains = new.gains; reads = new.reads }
     → new.reads ≡ record { count = now.reads.count; nets = with_net now.reads.nets (slice_index_or nets place 0) }
     → new ≡ record old { gains = new.gains; reads = record { count = old.reads.count; nets = with_nets old.reads.nets (take (place + 1) nets) } }
-reads_on old now new nets place small before same read =
-    let here = slice_index_or nets place 0 in
-    let more : with_net (with_nets old.reads.nets (take place nets)) here ≡ with_nets old.reads.nets (take (place + 1) nets) =
-    sym (ap (with_nets old.reads.nets) (take_more nets place 0 small) ∙ with_nets-append old.reads.nets (take place nets) (here ∷ [])) in
-    let reads : new.reads ≡ record { count = old.reads.count; nets = with_nets old.reads.nets (take (place + 1) nets) } =
-    read ∙ ap (λ (growth : GrowingCluster). record { count = growth.reads.count; nets = with_net growth.reads.nets here }) before ∙ ap (λ nets. record { count = old.reads.count; nets = nets }) more in
-    same ∙ ap (λ (growth : GrowingCluster). record growth { gains = new.gains; reads = new.reads }) before ∙ ap (λ (set : NetsAmong). record old { gains = new.gains; reads = set }) reads
+reads_on old now new nets place small before same read = grind (arith, with_nets-append, take_more nets place 0 small)
 
 -- the clock with one more member
 pub clock_more : (clock other : Option ℕ) (clocks : List ℕ) → clocks ≡ with_nets (option_to_list clock) (option_to_list other) → length clocks ≤ 1 → clocks ≡ option_to_list (later_clock clock other)
-clock_more clock None clocks e few = e
-clock_more None (Some other) clocks e few = e
-clock_more (Some clock) (Some other) clocks e few = by (has (clock ∷ []) other) refl e
-  where
-    by : (test : Bool) → has (clock ∷ []) other ≡ test → clocks ≡ (if test then clock ∷ [] else clock ∷ other ∷ []) → clocks ≡ other ∷ []
-    by true s e = let same = eqb-true clock other (grind (arith, s)) in e ∙ ap (λ c. c ∷ []) same
-    by false s e = let long : length clocks ≡ 2 = ap length e in absurd (omega (arith, long, few))
+clock_more clock other clocks e few = grind arith
 
 -- BLEs that fit into a cluster are within its limits
 pub record HasRoom (arch : Arch) (elements : List LogicElement) : Type 0 where
@@ -239,14 +189,7 @@ pub record HasRoom (arch : Arch) (elements : List LogicElement) : Type 0 where
   pub few_clocks : length (clocks_of elements) ≤ 1
 
 pub has_room : (arch : Arch) (elements : List LogicElement) → fits_in_cluster arch elements ≡ true → HasRoom arch elements
-has_room arch elements fits =
-    by (nat_le (length elements) arch.cluster_size) (nat_le (length (outside_inputs elements)) (input_count arch.pins)) refl (nat_le (length (clocks_of elements)) 1) refl fits
-  where
-    by : (a b : Bool) → nat_le (length (outside_inputs elements)) (input_count arch.pins) ≡ b → (c : Bool) → nat_le (length (clocks_of elements)) 1 ≡ c → (a && (b && c)) ≡ true → HasRoom arch elements
-    by true true eb true ec h = record { few_inputs = grind (arith, nat_tests, eb); few_clocks = grind (arith, nat_tests, ec) }
-    by true true eb false ec h = absurd cc
-    by true false eb c ec h = absurd cc
-    by false b eb c ec h = absurd cc
+has_room arch elements fits = grind arith
 
 -- the effect of adding a BLE that fits
 pub record IsAdding (elements : List LogicElement) (nets : ℕ) (old new : GrowingCluster) (number outside : ℕ) : Type 0 where
@@ -317,5 +260,4 @@ old_told elements nets growth g = told_same elements (flat_map nets_of (elements
         grind (arith, a, b, r, d)
 
 pub clock_is : (clock other : Option ℕ) → option_or other clock ≡ later_clock clock other
-clock_is clock None = refl
-clock_is clock (Some other) = refl
+clock_is clock other = grind arith

@@ -1,11 +1,5 @@
 -- The keys of BLEs, one after another.
-use Rattle.std.proofs.Common.{◌≡◌, ℕ, ◌+◌, ◌<◌, ◌≤◌, Bool, not, ◌==◌, List, All, Some, length, slice_get, ap, arith}
-use Rattle.std.proofs.lemmas.List.Elements.{All-from_get_or}
-use Rattle.std.proofs.lemmas.List.Sums.{length-filter, count_by-le-length}
-use Rattle.ble_cluster.specs.Bles.{LogicElement, element_at}
-use Rattle.ble_cluster.specs.Clusters.{input_count_at}
-use Rattle.ble_cluster.specs.FirstFree.{AreLacks, HaveAtMost, key_at, own_outside}
-use Rattle.ble_cluster.specs.FreeBles.{IsElement}
+use Rattle.ble_cluster.proofs.Prelude.{◌≡◌, ℕ, ◌+◌, ◌<◌, ◌≤◌, List, All, Some, length, slice_get, ap, arith, All-from_get_or, length-filter, count_by-le-length, LogicElement, element_at, input_count_at, AreLacks, HaveAtMost, key_at, own_outside, IsElement}
 use Rattle.ble_cluster.proofs.ElementLemmas.{inputs_once}
 use Rattle.ble_cluster.proofs.GrowingLemmas.{once_few}
 use Rattle.ble_cluster.proofs.Choosing.{element_is}
@@ -24,9 +18,7 @@ outside_is elements number element at = ap (λ (e : LogicElement). length (own_o
 
 -- the nets read from outside are at most the nets that are read
 pub outside_few : (element : LogicElement) → length (own_outside element) ≤ length element.inputs
-outside_few element =
-    let test : ℕ → Bool = λ net. not (net == element.output) in
-    omega (arith, length-filter test element.inputs, count_by-le-length test element.inputs)
+outside_few element = grind (arith, length-filter, count_by-le-length)
 
 -- no key is above the greatest
 pub lacks_within : (elements : List LogicElement) (keys : List ℕ) (most : ℕ) → length keys ≡ length elements → ((number : ℕ) → number < length elements → key_at keys number + input_count_at elements number ≡ most) → All (λ key. key ≤ most) keys

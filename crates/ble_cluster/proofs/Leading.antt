@@ -1,10 +1,6 @@
 -- A property of all numbers holds for the one that leads them, and for one that is found among
 -- them.
-use Rattle.std.proofs.Common.{◌≡◌, ◌≢◌, ℕ, Bool, true, false, List, [], ◌∷◌, All, if◌then◌else◌, arith, nat_lt, eqb, ◌⊎◌, inl, inr}
-use Rattle.std.specs.List.{list_any}
-use Rattle.std.proofs.lemmas.Bool.Decides.{eqb_tells}
-use Rattle.std.proofs.lemmas.List.Elements.{All-tail}
-use Rattle.ble_cluster.specs.Clusters.{leader_of}
+use Rattle.ble_cluster.proofs.Prelude.{◌≡◌, ◌≢◌, ℕ, Bool, true, false, List, [], ◌∷◌, All, if◌then◌else◌, arith, nat_lt, eqb, ◌⊎◌, inl, inr, list_any, eqb_tells, All-tail, leader_of}
 
 -- the leading number has a property that all numbers have
 pub leading_lawful : (P : ℕ → Type 0) (score : ℕ → ℕ) (best : ℕ) (numbers : List ℕ) → P best → All P numbers → P (leader_of score best numbers)

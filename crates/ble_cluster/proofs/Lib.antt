@@ -1,3 +1,4 @@
+mod Prelude
 mod Counting
 mod FirstSights
 mod FlatElements

@@ -1,20 +1,5 @@
 -- A BLE that shares no net with the members adds all its outside inputs.
-use Rattle.std.proofs.Common.{◌≡◌, ◌≢◌, ◌⊎◌, inl, inr, ℕ, suc, zero, ◌+◌, ◌-◌, ◌<◌, ◌≤◌, Bool, true, false, not, ◌||◌, ◌&&◌, eqb, List, [], ◌∷◌, ◌++◌, None, filter, length, if◌then◌else◌, refl, sym, ap, ◌∙◌, arith}
-use Rattle.std.specs.List.{flat_map}
-use Rattle.std.proofs.lemmas.Bool.Decides.{eqb_tells, nat_tests}
-use Rattle.arch_file.specs.declared.arch.Arch.{Arch}
-use Rattle.arch_file.specs.Arch.{input_count}
-use Rattle.ble_cluster.specs.declared.growing_cluster.GrowingCluster.{GrowingCluster}
-use Rattle.ble_cluster.specs.Nets.{IsOnce, has}
-use Rattle.ble_cluster.specs.Bles.{LogicElement, element_at}
-use Rattle.ble_cluster.specs.Choosing.{IsBest, SharesNet, is_candidate, taken_at}
-use Rattle.ble_cluster.specs.Clusters.{elements_at, fits_in_cluster, may_join, nets_of, outputs_of, outside_inputs}
-use Rattle.ble_cluster.specs.SharedNets.{gain_at}
-use Rattle.ble_cluster.specs.BleIndex.{AreLawful, BlesOver}
-use Rattle.ble_cluster.specs.FirstFree.{AreAbove, AreOutsideCounts, own_outside}
-use Rattle.ble_cluster.specs.OutsideInputs.{gained_inputs, loses, inputs_of}
-use Rattle.ble_cluster.specs.FreeBles.{IsElement}
-use Rattle.ble_cluster.specs.GrowingCluster.{IsGrowingCluster}
+use Rattle.ble_cluster.proofs.Prelude.{◌≡◌, ℕ, suc, zero, ◌+◌, ◌-◌, ◌<◌, ◌≤◌, Bool, true, false, not, ◌||◌, ◌&&◌, List, [], ◌∷◌, ◌++◌, None, filter, length, refl, sym, ap, ◌∙◌, arith, flat_map, nat_tests, Arch, input_count, GrowingCluster, IsOnce, has, LogicElement, element_at, IsBest, SharesNet, is_candidate, taken_at, elements_at, fits_in_cluster, nets_of, outputs_of, outside_inputs, gain_at, AreLawful, BlesOver, AreAbove, AreOutsideCounts, own_outside, gained_inputs, loses, inputs_of, IsElement, IsGrowingCluster}
 use Rattle.ble_cluster.proofs.ElementLemmas.{inputs_once}
 use Rattle.ble_cluster.proofs.Fitting.{may_join_full}
 use Rattle.ble_cluster.proofs.GrowingLemmas.{has_room, members_more}
@@ -23,13 +8,7 @@ use Rattle.ble_cluster.proofs.Outside.{has-append, has-distinct, has-member_nets
 -- if no net is shared, none of the BLE's nets is among them
 none_shared : (nets list : List ℕ) → length (filter (has nets) list) ≡ 0 → (net : ℕ) → has list net ≡ true → has nets net ≡ false
 none_shared nets [] none net there = absurd cc
-none_shared nets (other ∷ list) none net there = by (has nets other) refl (eqb_tells other net) none (none_shared nets list)
-  where
-    by : (shared : Bool) → has nets other ≡ shared → ((eqb other net ≡ true) × (other ≡ net)) ⊎ ((eqb other net ≡ false) × (other ≢ net))
-        → length (if shared then other ∷ filter (has nets) list else filter (has nets) list) ≡ 0 → (length (filter (has nets) list) ≡ 0 → (n : ℕ) → has list n ≡ true → has nets n ≡ false) → has nets net ≡ false
-    by true e found none rest = absurd (omega (arith, none))
-    by false e (inl same) none rest = ap (has nets) (sym same.1) ∙ e
-    by false e (inr differs) none rest = rest none net (grind (arith, there, differs.0))
+none_shared nets (other ∷ list) none net there = grind (arith, none_shared nets list)
 
 -- tests that agree on a list keep the same of its elements
 same_kept : (test other : ℕ → Bool) (nets : List ℕ) → ((net : ℕ) → has nets net ≡ true → test net ≡ other net) → filter test nets ≡ filter other nets
@@ -102,8 +81,4 @@ passed_over arch over growth taken keys pins end pins_are g lawful counts alone 
 
 -- nothing may be added to a full cluster
 pub full_refuses : (arch : Arch) (elements : List LogicElement) (taken : List Bool) (members : List ℕ) (number : ℕ) → arch.cluster_size ≤ length members → is_candidate arch elements taken members number ≡ false
-full_refuses arch elements taken members number full = by (not (taken_at taken number)) (may_join_full arch elements members number full)
-  where
-    by : (free : Bool) → false ≡ may_join arch elements members number → (free && may_join arch elements members number) ≡ false
-    by true refuses = sym refuses
-    by false refuses = refl
+full_refuses arch elements taken members number full = grind (arith, may_join_full)

@@ -1,8 +1,5 @@
 -- Tables and latches whose nets are those of a circuit.
-use Rattle.std.proofs.Common.{◌≡◌, ℕ, ◌<◌, List, All, Some, length, slice_get, subst}
-use Rattle.std.proofs.lemmas.Option.{get_or_from_slice_get}
-use Rattle.blif.specs.LawfulCircuits.{IsTableWithin}
-use Rattle.blif.specs.LookupTables.{LookupTable}
+use Rattle.ble_cluster.proofs.Prelude.{◌≡◌, ℕ, ◌<◌, List, All, Some, length, slice_get, subst, get_or_from_slice_get, IsTableWithin, LookupTable}
 
 -- the table at this index
 pub table_at_place : (tables : List LookupTable) (place : ℕ) (table : LookupTable) (count : ℕ) → place < length tables → slice_get tables place ≡ Some table → All (IsTableWithin count) tables → IsTableWithin count table

@@ -1,8 +1,6 @@
 -- Private: the BLEs of a circuit, by number and by net.
 use Rattle.std.specs.Prelude.{ℕ, ◌+◌, ◌≡◌, ◌<◌, ◌≤◌, List, [], ◌∷◌, ◌++◌, All, length, slice_index_or}
-use Rattle.blif.specs.declared.circuit.TheConstants.{MAX_NETS}
-use Rattle.rows.specs.declared.by_key.Keyed.{Keyed}
-use Rattle.rows.specs.ByKey.{pairs_with}
+use Rattle.ble_cluster.specs.Prelude.{MAX_NETS, Keyed, pairs_with}
 use Rattle.ble_cluster.specs.Nets.{IsOnce, has}
 use Rattle.ble_cluster.specs.Bles.{LogicElement, element_at}
 use Rattle.ble_cluster.specs.Clusters.{nets_of}

@@ -2,9 +2,7 @@
 use Rattle.std.specs.Prelude.{ℕ, Bool, not, ◌&&◌, ◌==◌, nat_lt, List, [], ◌∷◌, ◌++◌, map, filter, find, drop, count_by, Option, Some, None, if◌then◌else◌}
 use Rattle.std.specs.List.{flat_map, list_any, take_while, prefix_len, slice_index_or}
 use Rattle.std.specs.Option.{option_to_list}
-use Rattle.blif.specs.declared.circuit.Circuit.{Circuit}
-use Rattle.blif.specs.declared.latches.Latch.{Latch}
-use Rattle.blif.specs.LookupTables.{LookupTable}
+use Rattle.ble_cluster.specs.Prelude.{Circuit, Latch, LookupTable}
 use Rattle.ble_cluster.specs.Nets.{distinct_nets}
 
 -- a BLE: the nets that it reads, each once, the net that it drives, which gives it its name, and

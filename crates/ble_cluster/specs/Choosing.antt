@@ -1,7 +1,7 @@
 -- Private: the choice of the next member of a cluster.
 use Rattle.std.specs.Prelude.{ℕ, ◌≡◌, ◌<◌, ◌≤◌, ◌⊎◌, Bool, true, false, not, ◌&&◌, ◌||◌, ◌==◌, nat_lt, List, Option, None, Some, length, slice_index_or}
 use Rattle.std.specs.Option.{ForSome}
-use Rattle.arch_file.specs.declared.arch.Arch.{Arch}
+use Rattle.ble_cluster.specs.Prelude.{Arch}
 use Rattle.ble_cluster.specs.Bles.{LogicElement}
 use Rattle.ble_cluster.specs.Clusters.{may_join}
 use Rattle.ble_cluster.specs.SharedNets.{gain_at}

@@ -1,7 +1,6 @@
 -- Private: the readers of the nets of a circuit, by net.
 use Rattle.std.specs.Prelude.{ℕ, ◌≡◌, ◌<◌, length}
-use Rattle.blif.specs.declared.circuit.Circuit.{Circuit}
-use Rattle.blif.specs.LawfulCircuits.{IsCircuit}
+use Rattle.ble_cluster.specs.Prelude.{Circuit, IsCircuit}
 use Rattle.ble_cluster.specs.declared.readers.Readers.{Readers}
 use Rattle.ble_cluster.specs.Bles.{reads_of}
 use Rattle.ble_cluster.specs.Reads.{AreCounts, AreDriven, AreLatches}

@@ -3,9 +3,7 @@
 use Rattle.std.specs.Prelude.{ℕ, suc, zero, Bool, not, ◌&&◌, nat_le, nat_lt, List, [], ◌∷◌, ◌++◌, map, filter, find, length, Option, Some, None, if◌then◌else◌}
 use Rattle.std.specs.List.{flat_map, list_any, range_with_len}
 use Rattle.std.specs.Option.{option_to_list}
-use Rattle.arch_file.specs.declared.arch.Arch.{Arch}
-use Rattle.arch_file.specs.Arch.{input_count}
-use Rattle.blif.specs.declared.circuit.Circuit.{Circuit}
+use Rattle.ble_cluster.specs.Prelude.{Arch, input_count, Circuit}
 use Rattle.ble_cluster.specs.Nets.{has, distinct_nets}
 use Rattle.ble_cluster.specs.Bles.{LogicElement, bles_of, element_at}
 

@@ -1,6 +1,6 @@
 -- Private: the least free number whose key is within a bound.
 use Rattle.std.specs.Prelude.{ℕ, ◌≡◌, ◌+◌, ◌<◌, ◌≤◌, ◌⊎◌, Bool, true, false, not, ◌==◌, List, All, Option, None, Some, length, filter, slice_index_or}
-use Rattle.blif.specs.declared.circuit.TheConstants.{MAX_NETS}
+use Rattle.ble_cluster.specs.Prelude.{MAX_NETS}
 use Rattle.ble_cluster.specs.declared.first_free.FirstFree.{FirstFree}
 use Rattle.ble_cluster.specs.Bles.{LogicElement, element_at}
 use Rattle.ble_cluster.specs.Choosing.{taken_at}

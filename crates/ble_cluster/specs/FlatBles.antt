@@ -3,7 +3,7 @@ use Rattle.std.specs.Prelude.{ℕ, ◌≤◌, List}
 use Rattle.std.specs.List.{AllByRecursion}
 use Rattle.ble_cluster.specs.declared.bles.BleSpan.{BleSpan}
 use Rattle.ble_cluster.specs.Bles.{LogicElement}
-use Rattle.rows.specs.Spans.{part_of}
+use Rattle.ble_cluster.specs.Prelude.{part_of}
 
 -- the BLE whose inputs are at its span of the inputs of all BLEs
 abbrev pub ble_at : List ℕ → BleSpan → LogicElement

@@ -1,9 +1,7 @@
 -- Free BLEs, and the members of a cluster made of them.
 use Rattle.std.specs.Prelude.{ℕ, ◌≡◌, ◌<◌, ◌≤◌, Bool, true, not, List, All, None, filter, length, slice_index_or}
 use Rattle.std.specs.List.{range_with_len}
-use Rattle.blif.specs.declared.circuit.TheConstants.{MAX_NETS}
-use Rattle.arch_file.specs.declared.arch.Arch.{Arch}
-use Rattle.arch_file.specs.Arch.{IsArch}
+use Rattle.ble_cluster.specs.Prelude.{MAX_NETS, Arch, IsArch}
 use Rattle.ble_cluster.specs.Nets.{distinct_nets}
 use Rattle.ble_cluster.specs.Bles.{LogicElement}
 use Rattle.ble_cluster.specs.Clusters.{unfit_among}

@@ -2,10 +2,7 @@
 use Rattle.std.specs.Prelude.{ℕ, ◌≡◌, ◌<◌, ◌≤◌, Bool, true, false, not, ◌||◌, ◌&&◌, ◌==◌, List, [], ◌∷◌, ◌++◌, All, filter, length, Option, Some, None}
 use Rattle.std.specs.List.{flat_map}
 use Rattle.std.specs.Option.{option_to_list}
-use Rattle.arch_file.specs.declared.arch.TheConstants.{MAX_INPUTS}
-use Rattle.blif.specs.declared.circuit.TheConstants.{MAX_NETS}
-use Rattle.arch_file.specs.declared.arch.Arch.{Arch}
-use Rattle.arch_file.specs.Arch.{IsArch}
+use Rattle.ble_cluster.specs.Prelude.{MAX_INPUTS, MAX_NETS, Arch, IsArch}
 use Rattle.ble_cluster.specs.declared.first_free.FirstFree.{FirstFree}
 use Rattle.ble_cluster.specs.declared.growing_cluster.GrowingCluster.{GrowingCluster}
 use Rattle.ble_cluster.specs.Nets.{distinct_nets, has}

@@ -1,3 +1,4 @@
+pub mod Prelude
 pub mod Nets
 pub mod Bles
 pub mod Clusters

@@ -1,6 +1,6 @@
 -- Private: the latches that come before a table.
 use Rattle.std.specs.Prelude.{ℕ, Bool, nat_lt}
-use Rattle.blif.specs.declared.latches.Latch.{Latch}
+use Rattle.ble_cluster.specs.Prelude.{Latch}
 
 -- the latch is above the line
 abbrev pub is_above : ℕ → Latch → Bool

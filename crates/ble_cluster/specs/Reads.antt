@@ -1,10 +1,7 @@
 -- Private: tables of a circuit's nets.
 use Rattle.std.specs.Prelude.{ℕ, ◌≡◌, ◌<◌, Bool, List, ◌++◌, min, count_by, find, length, slice_index, slice_get, Option, Some, ◌==◌}
 use Rattle.std.specs.List.{list_any}
-use Rattle.blif.specs.declared.circuit.Circuit.{Circuit}
-use Rattle.blif.specs.declared.latches.Latch.{Latch}
-use Rattle.blif.specs.LawfulCircuits.{IsCircuit}
-use Rattle.blif.specs.LookupTables.{LookupTable}
+use Rattle.ble_cluster.specs.Prelude.{Circuit, Latch, IsCircuit, LookupTable}
 
 -- the number of reads of each net, counted up to 255
 abbrev pub AreCounts : List ℕ → List ℕ → Type 0

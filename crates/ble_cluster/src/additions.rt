@@ -1,6 +1,6 @@
 //! Grows a cluster from its seed.
 ghost use Rattle.std.specs.Prelude.{◌≡◌, ◌<◌, All, length, IfOk};
-ghost use Rattle.arch_file.specs.Arch.{IsArch};
+ghost use Rattle.ble_cluster.specs.Prelude.{IsArch};
 ghost use Rattle.ble_cluster.specs.Clusters.{cluster_of, first_most, members_after, input_count_at};
 ghost use Rattle.ble_cluster.specs.FirstFree.{AreByOutside, IsFirstFree};
 ghost use Rattle.ble_cluster.specs.FreeBles.{AllFit, free_in};

@@ -1,9 +1,8 @@
 //! The BLEs of a circuit, by number and by net.
 ghost use Rattle.std.specs.Prelude.{◌≡◌, ◌<◌, ◌≤◌, ◌++◌, [], ◌∷◌, ℕ, length, IfOk, slice_get, Some};
-ghost use Rattle.blif.specs.declared.circuit.TheConstants.{MAX_NETS};
+ghost use Rattle.ble_cluster.specs.Prelude.{MAX_NETS, pairs_with};
 ghost use Rattle.ble_cluster.specs.Nets.{IsOnce, distinct_nets};
 ghost use Rattle.ble_cluster.specs.BleIndex.{AreHaving, AreLawful, pairs_from};
-ghost use Rattle.rows.specs.ByKey.{pairs_with};
 ghost use Rattle.ble_cluster.specs.FreeBles.{IsElement};
 
 use crate::bles::{Ble, Bles};

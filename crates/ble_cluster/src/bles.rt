@@ -1,7 +1,7 @@
 //! The basic logic elements of a circuit.
 ghost use Rattle.std.specs.Prelude.{◌≡◌, ◌<◌, ◌≤◌, ◌++◌, [], ◌∷◌, map, length, slice_get, Some, IfOk, OnErr};
 ghost use Rattle.std.specs.List.{take_while};
-ghost use Rattle.blif.specs.LawfulCircuits.{IsCircuit};
+ghost use Rattle.ble_cluster.specs.Prelude.{IsCircuit};
 ghost use Rattle.ble_cluster.specs.Nets.{distinct_nets};
 ghost use Rattle.ble_cluster.specs.Bles.{bles_of, element_of_latch, element_of_table, in_line_order};
 ghost use Rattle.ble_cluster.specs.LineOrder.{is_above};

@@ -1,6 +1,6 @@
 //! Chooses the BLE that a growing cluster takes next.
 ghost use Rattle.std.specs.Prelude.{◌≡◌, ◌<◌, ◌++◌, [], ◌∷◌, length, ◌&&◌, IfSome, IsTrue, None};
-ghost use Rattle.arch_file.specs.Arch.{input_count};
+ghost use Rattle.ble_cluster.specs.Prelude.{input_count};
 ghost use Rattle.ble_cluster.specs.Clusters.{elements_at, fits_in_cluster, may_join, next_member};
 ghost use Rattle.ble_cluster.specs.Choosing.{AreCompared, beats};
 ghost use Rattle.ble_cluster.specs.FirstFree.{AreByOutside, IsFirstFree};

@@ -1,6 +1,6 @@
 //! Finds BLEs that don't fit into a cluster alone.
 ghost use Rattle.std.specs.Prelude.{◌≡◌};
-ghost use Rattle.arch_file.specs.Arch.{IsArch};
+ghost use Rattle.ble_cluster.specs.Prelude.{IsArch};
 ghost use Rattle.ble_cluster.specs.Clusters.{unfit_among};
 ghost use Rattle.ble_cluster.specs.FreeBles.{AreBles};
 

@@ -1,6 +1,6 @@
 //! The pins of a cluster.
 ghost use Rattle.std.specs.Prelude.{◌≡◌};
-ghost use Rattle.arch_file.specs.Arch.{input_count};
+ghost use Rattle.ble_cluster.specs.Prelude.{input_count};
 
 use arch_file::{Arch, PinClass};
 

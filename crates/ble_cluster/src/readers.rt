@@ -2,7 +2,7 @@
 ghost use Rattle.std.specs.Prelude.{◌≡◌, ◌<◌, [], ◌∷◌, All, filter, map, length, IfOk};
 ghost use Rattle.std.specs.List.{flat_map};
 ghost use Rattle.std.specs.Option.{option_to_list};
-ghost use Rattle.blif.specs.LawfulCircuits.{IsCircuit, IsLatchWithin, IsTableWithin};
+ghost use Rattle.ble_cluster.specs.Prelude.{IsCircuit, IsLatchWithin, IsTableWithin};
 ghost use Rattle.ble_cluster.specs.Bles.{latch_after, reads_of, stands_alone};
 ghost use Rattle.ble_cluster.specs.Reads.{AreCounts, AreDriven, AreLatches, CountsOn, HasCounts};
 

@@ -1,24 +1,6 @@
 -- The parts of a circuit that one more line adds, and the nets that the line reads and that are not
 -- driven.
-use Rattle.std.proofs.Common.{◌≡◌, ℕ, ◌+◌, ◌<◌, ◌≤◌, true, false, not, cond, suc, arith, List, [], ◌∷◌, ◌++◌, Option, None, Some, Result, Ok, Err, MatchResult, length, take, drop, slice_get, map, refl, sym, ap, ◌∙◌, subst}
-use Rattle.std.specs.List.{flat_map, position_or_len}
-use Rattle.std.proofs.lemmas.List.{map-append, drop_all}
-use Rattle.line_text.specs.Lines.{JoinedLine}
-use Rattle.line_text.specs.LeastFault.{Found}
-use Rattle.line_text.specs.TextErrors.{Fails}
-use Rattle.line_text.specs.declared.text_error.TextError.{TextError}
-use Rattle.blif.specs.LineByLine.{Parts, circuit_with, lines_to_end, parts_after, parts_of}
-use Rattle.blif.specs.declared.circuit.Circuit.{Circuit}
-use Rattle.blif.specs.declared.fault.BlifFault.{BlifFault}
-use Rattle.blif.specs.declared.fault.BlifFaultKind.TheVariants.{Undriven}
-use Rattle.blif.specs.Names.{first_of, has_name, number_of, names_with_index, with_names}
-use Rattle.blif.specs.LineNets.{reads_in, inputs_in, outputs_in}
-use Rattle.blif.specs.Sights.{Sights, sights_of, kind_of, is_end, inputs_of}
-use Rattle.blif.specs.BlifFaults.{at_words, driven_nets}
-use Rattle.blif.specs.FirstFaults.{first_fault}
-use Rattle.blif.specs.Circuits.{circuit_from, tables_in, latches_in}
-use Rattle.blif.specs.CircuitOf.{final_faults, undriven_faults}
-use Rattle.blif.specs.Repeats.{undriven_names}
+use Rattle.blif.proofs.Prelude.{◌≡◌, ℕ, ◌+◌, ◌<◌, ◌≤◌, true, false, not, cond, suc, arith, List, [], ◌∷◌, ◌++◌, Option, None, Some, Result, Ok, Err, MatchResult, length, take, drop, slice_get, map, refl, sym, ap, ◌∙◌, subst, flat_map, position_or_len, map-append, drop_all, JoinedLine, Found, Fails, TextError, Parts, circuit_with, lines_to_end, parts_after, parts_of, Circuit, BlifFault, Undriven, first_of, has_name, names_with_index, with_names, reads_in, Sights, sights_of, kind_of, is_end, inputs_of, at_words, driven_nets, first_fault, circuit_from, final_faults, undriven_faults, undriven_names}
 use Rattle.blif.proofs.Places.{flat_map_push, first_found, first_none, take_place, drop_place}
 use Rattle.blif.proofs.PlacedNames.{first_placed}
 use Rattle.blif.proofs.Sightings.{with_names-append}
@@ -26,14 +8,7 @@ use Rattle.blif.proofs.Sightings.{with_names-append}
 -- the parts after one more line
 pub parts_push : (nets : List (List ℕ)) (lines : List JoinedLine) (line : JoinedLine) → parts_of nets (lines ++ line ∷ []) ≡ parts_after nets line.number (kind_of line) line.words (parts_of nets lines)
 unfolding parts_of
-parts_push nets lines line =
-    let named_inputs : JoinedLine → List (List ℕ) = λ l. inputs_in (kind_of l) l.words in
-    let named_outputs : JoinedLine → List (List ℕ) = λ l. outputs_in (kind_of l) l.words in
-    let inputs = ap (map (number_of nets)) (flat_map_push named_inputs lines line) ∙ map-append (number_of nets) (flat_map named_inputs lines) (named_inputs line) in
-    let outputs = ap (map (number_of nets)) (flat_map_push named_outputs lines line) ∙ map-append (number_of nets) (flat_map named_outputs lines) (named_outputs line) in
-    let tables = flat_map_push (λ (l : JoinedLine). tables_in nets l.number (kind_of l) l.words) lines line in
-    let latches = flat_map_push (λ (l : JoinedLine). latches_in nets l.number (kind_of l) l.words) lines line in
-    λ i. record { inputs = inputs i; outputs = outputs i; tables = tables i; latches = latches i }
+parts_push nets lines line = grind (arith, flat_map_push, map-append)
 
 -- the first fault of the lines is at their first line, if that reads this net undriven
 found_first : (drivers : List (List ℕ)) (line : JoinedLine) (rest : List JoinedLine) (net : List ℕ) → Some net ≡ first_of (undriven_names drivers (reads_in (kind_of line) line.words)) → first_fault (flat_map (undriven_faults drivers) (line ∷ rest)) ≡ Some (record { line = line.number; kind = Undriven net })
@@ -81,8 +56,7 @@ module _ (nets drivers : List (List ℕ)) (lines : List JoinedLine) (place : ℕ
 -- the faults found at the end, if there is a line
 final_faults_lines : (declared : List (List ℕ)) (lines : List JoinedLine) → 0 < length lines → final_faults declared lines ≡ flat_map (undriven_faults (driven_nets (sights_of declared lines))) lines
 unfolding final_faults
-final_faults_lines declared [] h = absurd (omega (arith, h))
-final_faults_lines declared (line ∷ lines) h = refl
+final_faults_lines declared lines h = grind arith
 
 module _ (checked : Sights) (lines : List JoinedLine) (nets clocks drivers : List (List ℕ)) (sights : checked ≡ sights_of checked.declared lines)
     (same_nets : nets ≡ checked.nets) (same_clocks : clocks ≡ checked.clocks) (same_drivers : drivers ≡ checked.drivers) where
@@ -137,5 +111,4 @@ module _ (lines : List JoinedLine) (place : ℕ) (line : JoinedLine) (within : p
       ∙ left
 
 pub declared_past : (lines : List JoinedLine) (place : ℕ) → length lines ≤ place → (old all : List (List ℕ)) → with_names old (flat_map inputs_of (lines_to_end (drop place lines))) ≡ all → old ≡ all
-declared_past lines place past old all left =
-    ap (λ ls. with_names old (flat_map inputs_of (lines_to_end ls))) (sym (drop_all place lines past)) ∙ left
+declared_past lines place past old all left = grind (arith, drop_all)

@@ -1,16 +1,5 @@
 -- The number of occurrences of a name or a number in a list.
-use Rattle.std.proofs.Common.{◌≡◌, ◌≢◌, ℕ, ◌+◌, ◌≤◌, Bool, true, false, ◌&&◌, ◌||◌, cond, nat_eq, List, [], ◌∷◌, ◌++◌, All, AllPairs, map, filter, get_or, if◌then◌else◌, refl, ap, ◌∙◌, append_assoc, arith}
-use Rattle.std.proofs.Common.{eq-eqb}
-use Rattle.std.specs.List.{count_by, flat_map, list_any, list_all}
-use Rattle.std.specs.Str.{bytes_eq}
-use Rattle.std.proofs.lemmas.List.{append-nil, map-append}
-use Rattle.std.proofs.lemmas.List.Elements.{All-nil, All-cons}
-use Rattle.std.proofs.lemmas.List.Kept.{AllPairs-cons}
-use Rattle.std.proofs.lemmas.List.Sums.{sum_by-append}
-use Rattle.std.proofs.lemmas.Bool.Decides.{Decides-eqb}
-use Rattle.std.proofs.lemmas.Slice.Eq.{bytes_eq-Decides}
-use Rattle.blif.specs.Names.{has_name, number_of, with_name, with_names}
-use Rattle.blif.specs.Repeats.{repeats}
+use Rattle.blif.proofs.Prelude.{◌≡◌, ◌≢◌, ℕ, ◌+◌, ◌≤◌, Bool, true, false, ◌&&◌, ◌||◌, cond, nat_eq, List, [], ◌∷◌, ◌++◌, All, AllPairs, map, filter, get_or, if◌then◌else◌, refl, ap, ◌∙◌, append_assoc, arith, eq-eqb, count_by, flat_map, list_any, list_all, bytes_eq, append-nil, map-append, All-nil, All-cons, AllPairs-cons, sum_by-append, Decides-eqb, bytes_eq-Decides, has_name, number_of, with_name, with_names, repeats}
 use Rattle.blif.proofs.Named.{and_left, and_right, name_at}
 use Rattle.blif.proofs.Faultless.{nil_left, nil_right}
 
@@ -71,8 +60,7 @@ once_with name before after added free_before free_after once = by (bytes_eq nam
         omega (arith, total, count_by-cons (bytes_eq name) added [] false e, count_by-append (bytes_eq name) before after)
 
 free_if : {X : Type 0} (b : Bool) (x : X) → (if b then x ∷ [] else []) ≡ [] → b ≡ false
-free_if true x h = absurd cc
-free_if false x h = refl
+free_if b x h = grind arith
 
 -- names without repeats occur at most once
 pub once_more : (name : List ℕ) (taken names : List (List ℕ)) → repeats taken names ≡ [] → times name taken ≤ 1 → times name (taken ++ names) ≤ 1

@@ -1,12 +1,8 @@
 -- Names that were added only if they were new are distinct.
-use Rattle.std.proofs.Common.{◌≡◌, ◌≢◌, ℕ, suc, zero, ◌<◌, Bool, true, false, ◌||◌, List, [], ◌∷◌, ◌++◌, AllPairs, length, get_or, if◌then◌else◌, refl, sym, ap, arith}
-use Rattle.std.proofs.lemmas.List.Quantifiers.{all_pairs_push}
-use Rattle.std.proofs.lemmas.Slice.Eq.{bytes_eq-Decides}
-use Rattle.blif.specs.Names.{has_name, with_name, with_names}
+use Rattle.blif.proofs.Prelude.{◌≡◌, ◌≢◌, ℕ, suc, zero, ◌<◌, Bool, true, false, ◌||◌, List, [], ◌∷◌, ◌++◌, AllPairs, length, get_or, if◌then◌else◌, refl, sym, ap, arith, all_pairs_push, bytes_eq-Decides, has_name, with_name, with_names}
 
 or_right : (a b : Bool) → (a || b) ≡ false → b ≡ false
-or_right true b h = absurd cc
-or_right false b h = h
+or_right a b h = grind arith
 
 -- a name that doesn't occur differs from those that do
 differs : (names : List (List ℕ)) (name : List ℕ) → has_name names name ≡ false → (k : ℕ) (d : List ℕ) → k < length names → get_or names k d ≢ name

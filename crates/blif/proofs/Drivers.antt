@@ -1,25 +1,6 @@
 -- The numbers of a circuit's drivers are those of its clocks and of the nets that its lines drive.
-use Rattle.std.proofs.Common.{◌≡◌, ℕ, ◌+◌, ◌≤◌, Bool, true, false, List, [], ◌∷◌, ◌++◌, Option, None, Some, All, map, get_or, nat_eq, if◌then◌else◌, refl, append_assoc, arith}
-use Rattle.std.specs.List.{AllPass, flat_map, list_all}
-use Rattle.std.specs.Option.{ForSome, option_map, option_to_list}
-use Rattle.std.specs.Str.{bytes_eq}
-use Rattle.std.proofs.lemmas.List.{append-nil}
-use Rattle.std.proofs.lemmas.List.Elements.{All-nil, All-cons, All-map}
-use Rattle.std.proofs.lemmas.List.Sums.{AllPass-from_list_all}
-use Rattle.line_text.specs.Lines.{JoinedLine}
-use Rattle.blif.specs.LineByLine.{drives_of, sights_after}
-use Rattle.blif.specs.declared.keyword.Keyword.{Keyword}
-use Rattle.blif.specs.declared.keyword.Keyword.TheVariants.{Inputs, Outputs, Clock, Names, Latch}
+use Rattle.blif.proofs.Prelude.{◌≡◌, ℕ, ◌+◌, ◌≤◌, Bool, true, false, List, [], ◌∷◌, ◌++◌, Option, None, Some, All, map, get_or, nat_eq, if◌then◌else◌, refl, append_assoc, arith, AllPass, flat_map, list_all, ForSome, option_map, option_to_list, bytes_eq, append-nil, All-nil, All-cons, All-map, AllPass-from_list_all, JoinedLine, drives_of, sights_after, Keyword, Inputs, Outputs, Clock, Names, Latch, LookupTable, has_name, number_of, args_of, last_of, is_latch, control_of, drives_in, front_of, inputs_in, names_in, output_of, outputs_in, reads_in, latch_nets, latch_output, Sights, kind_of, inputs_of, sights_of, kind_faults, circuit_from, latch_with, latches_in, table_with, tables_in, IsLatchDriven, drivers_of, has_net}
 use Rattle.blif.specs.declared.latches.Latch.{Latch as StoredLatch}
-use Rattle.blif.specs.LookupTables.{LookupTable}
-use Rattle.blif.specs.Names.{has_name, number_of}
-use Rattle.blif.specs.Keywords.{args_of, last_of}
-use Rattle.blif.specs.LatchLines.{is_latch, control_of}
-use Rattle.blif.specs.LineNets.{drives_in, front_of, inputs_in, names_in, output_of, outputs_in, reads_in, latch_nets, latch_output}
-use Rattle.blif.specs.Sights.{Sights, kind_of, inputs_of, sights_of}
-use Rattle.blif.specs.BlifFaults.{kind_faults}
-use Rattle.blif.specs.Circuits.{circuit_from, latch_with, latches_in, table_with, tables_in}
-use Rattle.blif.specs.LawfulCircuits.{IsLatchDriven, drivers_of, has_net}
 use Rattle.blif.proofs.Named.{and_left, and_right}
 use Rattle.blif.proofs.Counts.{count_by-append, count_of, counted_if_there, counted_more, names_counted, none_of_filtered, numbers_counted, once_in_set, once_more, there_if_counted, times}
 use Rattle.blif.proofs.Faultless.{latch_output_free, nil_from_map, table_output_free}

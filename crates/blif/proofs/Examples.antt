@@ -1,14 +1,5 @@
 -- The definition, computed on small netlists.
-use Rattle.std.proofs.Common.{◌≡◌, ℕ, List, [], ◌∷◌, Some, Ok, Err, codes, refl}
-use Rattle.std.specs.Fmt.{digits}
-use Rattle.std.proofs.Math.Utf8.{encode}
-use Rattle.line_text.specs.Lines.{JoinedLine}
-use Rattle.blif.specs.declared.fault.BlifFaultKind.TheVariants.{MixedCover, TooWide, TwoDrivers, Undriven, NoModel}
-use Rattle.blif.specs.Faults.{printed_fault}
-use Rattle.blif.specs.LawfulCircuits.{drivers_of}
-use Rattle.blif.specs.Sights.{sights_of}
-use Rattle.blif.specs.Circuits.{circuit_from}
-use Rattle.blif.specs.CircuitOf.{circuit_of_lines, declared_in, final_faults, line_faults, undriven_faults}
+use Rattle.blif.proofs.Prelude.{◌≡◌, ℕ, List, [], ◌∷◌, Some, Ok, Err, codes, refl, digits, encode, JoinedLine, MixedCover, TooWide, TwoDrivers, Undriven, NoModel, printed_fault, drivers_of, sights_of, circuit_from, circuit_of_lines, declared_in, final_faults, line_faults, undriven_faults}
 
 abbrev line : ℕ → List (List ℕ) → JoinedLine
 line number words = record { number = number; words = words }

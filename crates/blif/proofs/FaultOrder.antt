@@ -1,28 +1,8 @@
 -- The faults of a text are listed in order, so the first of them is the least.
-use Rattle.std.proofs.Common.{◌≡◌, ◌∙◌, ℕ, ◌+◌, ◌<◌, ◌≤◌, Bool, true, false, not, ◌||◌, if◌then◌else◌, nat_lt, nat_le, length, List, [], ◌∷◌, ◌++◌, Option, Some, None, option_map, refl, sym, ap, arith}
-use Rattle.std.proofs.lemmas.Bool.Decides.{nat_tests}
-use Rattle.std.specs.List.{flat_map}
-use Rattle.line_text.specs.LeastFault.{Found, by_number, least_fault}
-use Rattle.line_text.specs.LineOrder.{RisesFrom}
-use Rattle.line_text.specs.Lines.{JoinedLine}
-use Rattle.line_text.proofs.InOrder.{Each, Each-append, Each-weaker, InOrder, InOrder-append, InOrder-map, Precedes, by_number-less, by_number-same, first_of, least_in_order, precedes-end, precedes-line, turn_of}
-use Rattle.blif.specs.declared.circuit.TheConstants.{MAX_NETS}
-use Rattle.blif.specs.declared.cover.Cover.{Cover}
-use Rattle.blif.specs.declared.fault.BlifFault.{BlifFault}
-use Rattle.blif.specs.declared.fault.BlifFaultKind.{BlifFaultKind}
-use Rattle.blif.specs.declared.fault.BlifFaultKind.TheVariants.{Unknown, BadCover, MixedCover, TooWide, TwoDrivers, Undriven, RepeatedOutput, BadLatch, NoModel, OverLimit}
-use Rattle.blif.specs.declared.keyword.Keyword.{Keyword}
-use Rattle.blif.specs.declared.keyword.Keyword.TheVariants.{Model, Inputs, Outputs, Clock, Names, Latch, Other, Row}
-use Rattle.blif.specs.BlifFaults.{WordFault, at_words, driven_nets, driver_faults, fault_where, faults_in, is_model, kind_faults, of_line, row_faults, table_faults}
-use Rattle.blif.specs.CircuitOf.{all_faults, at_line, declared_in, final_faults, line_faults, undriven_faults}
-use Rattle.blif.specs.Covers.{is_row, is_mixed}
+use Rattle.blif.proofs.Prelude.{◌≡◌, ◌∙◌, ℕ, ◌+◌, ◌<◌, ◌≤◌, Bool, true, false, not, ◌||◌, if◌then◌else◌, nat_lt, nat_le, length, List, [], ◌∷◌, ◌++◌, Option, Some, None, refl, sym, ap, arith, nat_tests, flat_map, Found, by_number, least_fault, RisesFrom, JoinedLine, Each, Each-append, Each-weaker, InOrder, InOrder-append, InOrder-map, Precedes, by_number-less, by_number-same, least_in_order, precedes-end, precedes-line, turn_of, MAX_NETS, Cover, BlifFault, BlifFaultKind, Unknown, BadCover, MixedCover, TwoDrivers, Undriven, RepeatedOutput, BadLatch, NoModel, OverLimit, Keyword, Model, Inputs, Outputs, Clock, Names, Latch, Other, Row, WordFault, at_words, driven_nets, driver_faults, fault_where, faults_in, is_model, kind_faults, of_line, row_faults, table_faults, all_faults, at_line, declared_in, final_faults, line_faults, undriven_faults, is_row, is_mixed, first_fault, args_of, is_latch, latch_output, names_in, reads_in, has_name, names_with_index, repeats_from, with_names, Sights, kind_of, sights_of}
+use Rattle.std.proofs.Common.{option_map}
+use Rattle.line_text.proofs.InOrder.{first_of}
 use Rattle.blif.specs.Faults.{number_of}
-use Rattle.blif.specs.FirstFaults.{first_fault}
-use Rattle.blif.specs.Keywords.{args_of}
-use Rattle.blif.specs.LatchLines.{is_latch}
-use Rattle.blif.specs.LineNets.{latch_output, names_in, output_of, reads_in}
-use Rattle.blif.specs.Names.{has_name, names_with_index, repeats_from, with_names}
-use Rattle.blif.specs.Sights.{Sights, kind_of, sights_of}
 use Rattle.blif.proofs.PlacedNames.{Rise, all_placed_rise, repeats_rise}
 
 -- a fault comes before another one of its line
@@ -44,12 +24,10 @@ joined_order bound xs ys first second below from =
     (λ x low. Each-weaker (From bound) (Tells x) ys (λ y high. by_number-less (number_of x.kind) (number_of y.kind) _ (omega (arith, low, high))) from) below)
 
 where_order : (b : Bool) (kind : BlifFaultKind) → InOrder Tells (fault_where b kind)
-where_order true kind = (tt, tt)
-where_order false kind = tt
+where_order b kind = grind arith
 
 each_where : (P : WordFault → Type 0) (b : Bool) (kind : BlifFaultKind) → P (record { word = 0; kind = kind }) → Each P (fault_where b kind)
-each_where P true kind h = (h, tt)
-each_where P false kind h = tt
+each_where P b kind h = grind arith
 
 each_word : (P : WordFault → Type 0) (kind : List ℕ → BlifFaultKind) (names : List (ℕ × List ℕ)) → ((word : ℕ) (name : List ℕ) → P (record { word = word; kind = kind name })) → Each P (at_words kind names)
 each_word P kind [] h = tt
@@ -71,11 +49,7 @@ each_driver : (P : WordFault → Type 0) (taken names : List (List ℕ)) → ((w
 each_driver P taken names h = each_word P TwoDrivers (repeats_from 0 taken names) h
 
 table_order : (lut_size : ℕ) (taken names : List (List ℕ)) → InOrder Tells (table_faults lut_size taken names)
-table_order lut_size taken [] = (tt, tt)
-table_order lut_size taken (name ∷ names) =
-    joined_order 5 (fault_where (nat_lt lut_size (length names)) TooWide) (driver_faults taken (output_of (name ∷ names)))
-    (where_order (nat_lt lut_size (length names)) TooWide) (drivers_order taken (output_of (name ∷ names)))
-    (each_where (Below 5) (nat_lt lut_size (length names)) TooWide (omega arith)) (each_driver (From 5) taken (output_of (name ∷ names)) (λ word net. omega arith))
+table_order lut_size taken names = grind arith
 
 row_order : (cover : Option Cover) (words : List (List ℕ)) → InOrder Tells (row_faults cover words)
 row_order None words = (tt, tt)
@@ -85,11 +59,7 @@ row_order (Some cover) words =
     (each_where (Below 3) (not (is_row cover.inputs words)) BadCover (omega arith)) (each_where (From 3) (is_mixed cover.output words) MixedCover (omega arith))
 
 latch_order : (taken args : List (List ℕ)) → InOrder Tells (if is_latch args then driver_faults taken (latch_output args) else of_line BadLatch)
-latch_order taken args = by (is_latch args)
-  where
-    by : (b : Bool) → InOrder Tells (if b then driver_faults taken (latch_output args) else of_line BadLatch)
-    by true = drivers_order taken (latch_output args)
-    by false = (tt, tt)
+latch_order taken args = grind arith
 
 kind_order : (lut_size : ℕ) (above : Sights) (keyword : Keyword) (words : List (List ℕ)) → InOrder Tells (kind_faults lut_size above keyword words)
 kind_order lut_size above Model words = where_order above.begun Unknown
@@ -104,10 +74,7 @@ kind_order lut_size above keyword words = tt
 
 -- without NoModel and OverLimit a line's faults have lesser numbers
 table_below : (lut_size : ℕ) (taken names : List (List ℕ)) → Each (Below 9) (table_faults lut_size taken names)
-table_below lut_size taken [] = (omega arith, tt)
-table_below lut_size taken (name ∷ names) =
-    Each-append (Below 9) (fault_where (nat_lt lut_size (length names)) TooWide) (driver_faults taken (output_of (name ∷ names)))
-    (each_where (Below 9) (nat_lt lut_size (length names)) TooWide (omega arith)) (each_driver (Below 9) taken (output_of (name ∷ names)) (λ word net. omega arith))
+table_below lut_size taken names = grind arith
 
 row_below : (cover : Option Cover) (words : List (List ℕ)) → Each (Below 9) (row_faults cover words)
 row_below None words = (omega arith, tt)
@@ -116,11 +83,7 @@ row_below (Some cover) words =
     (each_where (Below 9) (not (is_row cover.inputs words)) BadCover (omega arith)) (each_where (Below 9) (is_mixed cover.output words) MixedCover (omega arith))
 
 latch_below : (taken args : List (List ℕ)) → Each (Below 9) (if is_latch args then driver_faults taken (latch_output args) else of_line BadLatch)
-latch_below taken args = by (is_latch args)
-  where
-    by : (b : Bool) → Each (Below 9) (if b then driver_faults taken (latch_output args) else of_line BadLatch)
-    by true = each_driver (Below 9) taken (latch_output args) (λ word net. omega arith)
-    by false = (omega arith, tt)
+latch_below taken args = grind arith
 
 kind_below : (lut_size : ℕ) (above : Sights) (keyword : Keyword) (words : List (List ℕ)) → Each (Below 9) (kind_faults lut_size above keyword words)
 kind_below lut_size above Model words = each_where (Below 9) above.begun Unknown (omega arith)
@@ -185,18 +148,12 @@ stand_with_line at_end low number faults rest fits stand =
 lines_stand : (lut_size : ℕ) (declared : List (List ℕ)) (above lines : List JoinedLine) (low : ℕ) → RisesFrom low lines → Each (Stands false low) (line_faults lut_size declared above lines)
 unfolding line_faults
 lines_stand lut_size declared above [] low rises = tt
-lines_stand lut_size declared above (line ∷ lines) low rises =
-    stand_with_line false low line.number (faults_in lut_size (sights_of declared above) (kind_of line) line.words) (line_faults lut_size declared (above ++ line ∷ []) lines) rises.0
-    (lines_stand lut_size declared (above ++ line ∷ []) lines (line.number + 1) rises.1)
+lines_stand lut_size declared above (line ∷ lines) low rises = grind (arith, stand_with_line, lines_stand lut_size declared (above ++ line ∷ []) lines (line.number + 1) rises.1)
 
 lines_order : (lut_size : ℕ) (declared : List (List ℕ)) (above lines : List JoinedLine) (low : ℕ) → RisesFrom low lines → InOrder Precedes (line_faults lut_size declared above lines)
 unfolding line_faults
 lines_order lut_size declared above [] low rises = tt
-lines_order lut_size declared above (line ∷ lines) low rises =
-    line_and_rest false line.number (faults_in lut_size (sights_of declared above) (kind_of line) line.words) (line_faults lut_size declared (above ++ line ∷ []) lines)
-    (faults_order lut_size (sights_of declared above) (kind_of line) line.words)
-    (lines_order lut_size declared (above ++ line ∷ []) lines (line.number + 1) rises.1)
-    (lines_stand lut_size declared (above ++ line ∷ []) lines (line.number + 1) rises.1)
+lines_order lut_size declared above (line ∷ lines) low rises = grind (arith, line_and_rest, faults_order, lines_stand, lines_order lut_size declared (above ++ line ∷ []) lines (line.number + 1) rises.1)
 
 -- the nets that a line reads and that are not driven
 abbrev undriven_at : List (List ℕ) → JoinedLine → List WordFault
@@ -237,8 +194,7 @@ all_order lut_size lines rises =
     (lines_stand lut_size (declared_in lines) [] lines 1 rises))
 
 same_first : (all : List (Found BlifFault)) → option_map (λ found. found.fault) (first_of all) ≡ first_fault all
-same_first [] = refl
-same_first (found ∷ rest) = refl
+same_first all = grind arith
 
 -- the first fault of all is the least
 pub least_is_first : (lut_size : ℕ) (lines : List JoinedLine) → RisesFrom 1 lines → least_fault (all_faults lut_size lines) ≡ first_fault (all_faults lut_size lines)

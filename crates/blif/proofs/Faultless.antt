@@ -1,29 +1,7 @@
 -- Properties of lines that have no fault.
-use Rattle.std.proofs.Common.{◌≡◌, ℕ, Bool, true, false, not, ◌&&◌, ◌||◌, cond, nat_lt, length, List, [], ◌∷◌, ◌++◌, None, map, if◌then◌else◌, refl, ◌∙◌, append_assoc}
-use Rattle.std.proofs.lemmas.List.{append-nil}
-use Rattle.std.proofs.lemmas.List.Folds.{list_all-append}
-use Rattle.std.specs.List.{flat_map, list_all}
-use Rattle.line_text.specs.Lines.{JoinedLine}
-use Rattle.blif.specs.LineByLine.{sights_after}
-use Rattle.blif.specs.declared.fault.BlifFaultKind.TheVariants.{BadLatch, NoModel, OverLimit, Unknown}
-use Rattle.blif.specs.declared.keyword.Keyword.{Keyword}
-use Rattle.blif.specs.Names.{has_name, repeats_from, with_names}
-use Rattle.blif.specs.Repeats.{repeats, undriven_names}
-use Rattle.blif.specs.LineNets.{latch_output, names_in, output_of, reads_in}
-use Rattle.blif.specs.LatchLines.{is_latch}
-use Rattle.blif.specs.Sights.{Sights, sights_of, kind_of}
-use Rattle.blif.specs.declared.circuit.TheConstants.{MAX_NETS}
-use Rattle.blif.specs.BlifFaults.{driven_nets, driver_faults, fault_where, faults_in, is_model, kind_faults, of_line, table_faults}
-use Rattle.line_text.specs.LeastFault.{Found}
-use Rattle.blif.specs.declared.fault.BlifFault.{BlifFault}
-use Rattle.blif.specs.FirstFaults.{first_fault}
-use Rattle.blif.specs.CircuitOf.{final_faults, line_faults, undriven_faults}
-use Rattle.blif.proofs.PlacedNames.{no_repeats, none_placed}
+use Rattle.blif.proofs.Prelude.{◌≡◌, ℕ, Bool, true, false, not, ◌&&◌, cond, List, [], ◌∷◌, ◌++◌, map, if◌then◌else◌, refl, ◌∙◌, append_assoc, arith, append-nil, list_all-append, flat_map, list_all, JoinedLine, sights_after, BadLatch, Keyword, has_name, repeats, undriven_names, latch_output, output_of, reads_in, is_latch, Sights, sights_of, kind_of, driven_nets, driver_faults, faults_in, kind_faults, of_line, table_faults, final_faults, line_faults, undriven_faults}
+use Rattle.blif.proofs.PlacedNames.{none_placed}
 use Rattle.blif.proofs.Sightings.{sights_push}
-
-pub nil_from_first : (xs : List (Found BlifFault)) → first_fault xs ≡ None → xs ≡ []
-nil_from_first [] h = refl
-nil_from_first (x ∷ xs) h = absurd cc
 
 pub nil_left : {X : Type 0} (xs ys : List X) → xs ++ ys ≡ [] → xs ≡ []
 nil_left [] ys h = refl
@@ -39,11 +17,7 @@ nil_from_map f (x ∷ xs) h = absurd cc
 
 -- a line without a fault has none by itself or with the lines above it
 kind_faultless : (lut_size : ℕ) (above : Sights) (keyword : Keyword) (words : List (List ℕ)) → faults_in lut_size above keyword words ≡ [] → kind_faults lut_size above keyword words ≡ []
-kind_faultless lut_size above keyword words h = by above.ended h
-  where
-    by : (b : Bool) → (if b then of_line Unknown else kind_faults lut_size above keyword words ++ (fault_where (not (above.begun || is_model keyword)) NoModel ++ fault_where (nat_lt MAX_NETS (length (with_names above.nets (names_in keyword words)))) OverLimit)) ≡ [] → kind_faults lut_size above keyword words ≡ []
-    by true none = absurd cc
-    by false none = nil_left _ _ none
+kind_faultless lut_size above keyword words h = grind (arith, nil_left)
 
 -- a property that each line without a fault preserves holds after lines without a fault
 module _ (lut_size : ℕ) (declared : List (List ℕ)) (Kept : List JoinedLine → Type 0)
@@ -66,16 +40,11 @@ kept_by_sights lut_size declared Kept step lines start h =
 
 -- a table without a fault drives a net that was not driven
 pub table_output_free : (lut_size : ℕ) (taken names : List (List ℕ)) → table_faults lut_size taken names ≡ [] → repeats taken (output_of names) ≡ []
-table_output_free lut_size taken [] h = absurd cc
-table_output_free lut_size taken (name ∷ names) h = no_repeats taken (output_of (name ∷ names)) (nil_from_map _ (repeats_from 0 taken (output_of (name ∷ names))) (nil_right _ _ h))
+table_output_free lut_size taken names h = grind arith
 
 -- a latch without a fault drives a net that was not driven
 pub latch_output_free : (taken args : List (List ℕ)) → (if is_latch args then driver_faults taken (latch_output args) else of_line BadLatch) ≡ [] → repeats taken (latch_output args) ≡ []
-latch_output_free taken args h = by (is_latch args) h
-  where
-    by : (b : Bool) → (if b then driver_faults taken (latch_output args) else of_line BadLatch) ≡ [] → repeats taken (latch_output args) ≡ []
-    by true none = no_repeats taken (latch_output args) (nil_from_map _ _ none)
-    by false none = absurd cc
+latch_output_free taken args h = grind arith
 
 -- if no undriven net is read, all nets that are read are driven
 all_driven : (drivers names : List (List ℕ)) → undriven_names drivers names ≡ [] → list_all (has_name drivers) names ≡ true
@@ -98,5 +67,4 @@ reads_driven drivers (line ∷ lines) h =
 -- if there is no fault at the end, no line reads an undriven net
 pub end_faultless : (declared : List (List ℕ)) (lines : List JoinedLine) → final_faults declared lines ≡ [] → flat_map (undriven_faults (driven_nets (sights_of declared lines))) lines ≡ []
 unfolding final_faults
-end_faultless declared [] h = absurd cc
-end_faultless declared (line ∷ lines) h = h
+end_faultless declared lines h = grind arith

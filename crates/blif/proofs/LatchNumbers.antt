@@ -1,13 +1,5 @@
 -- The numbers of a latch's nets, and the first net that it reads and that is not driven.
-use Rattle.std.proofs.Common.{◌≡◌, ℕ, ◌<◌, Bool, true, false, not, List, [], ◌∷◌, Option, Some, None, length, get_or, map, if◌then◌else◌, sym, ap, ◌∙◌, arith}
-use Rattle.std.specs.Borrow.{Bor}
-use Rattle.std.specs.List.{list_all}
-use Rattle.std.specs.Option.{option_to_list}
-use Rattle.blif.specs.Names.{first_of, texts, has_name, number_of}
-use Rattle.blif.specs.LatchLines.{is_latch, control_of}
-use Rattle.blif.specs.LineNets.{latch_nets}
-use Rattle.blif.specs.Repeats.{undriven_names}
-use Rattle.line_text.proofs.NameLemmas.{number_of-within}
+use Rattle.blif.proofs.Prelude.{◌≡◌, ℕ, ◌<◌, Bool, true, false, not, List, [], ◌∷◌, Option, Some, None, length, get_or, map, if◌then◌else◌, sym, ap, ◌∙◌, arith, Bor, list_all, option_to_list, first_of, texts, has_name, number_of, is_latch, control_of, latch_nets, undriven_names, number_of-within}
 use Rattle.blif.proofs.Named.{and_left, and_right, name_at}
 
 -- the number is that of a net with this name
@@ -16,10 +8,7 @@ pub record IsNumbered (nets : List (List ℕ)) (number : ℕ) (name : List ℕ) 
   pub name_is : get_or nets number [] ≡ name
 
 is_numbered : (nets : List (List ℕ)) (number : ℕ) (name : List ℕ) → number ≡ number_of nets name → has_name nets name ≡ true → IsNumbered nets number name
-is_numbered nets number name is there = record {
-  within = omega (arith, is, number_of-within nets name there);
-  name_is = ap (λ n. get_or nets n []) is ∙ name_at nets name there;
-}
+is_numbered nets number name is there = grind (arith, number_of-within, name_at)
 
 -- the input's number, and the control's
 pub record AreLatchNumbers (nets : List (List ℕ)) (input : List ℕ) (control : Option (List ℕ)) (numbers : List ℕ) : Type 0 where
@@ -46,9 +35,7 @@ module _ (nets : List (List ℕ)) (numbers : List ℕ) where
 
 -- the input of a latch, by the slices of its words
 pub latch_input : (slices : List (Bor (List ℕ))) (d : Bor (List ℕ)) (args : List (List ℕ)) → texts slices ≡ args → is_latch args ≡ true → (get_or slices 0 d).now ≡ get_or args 0 []
-latch_input [] d args are form =
-    let none : is_latch [] ≡ true = ap is_latch are ∙ form in
-    absurd cc
+latch_input [] d args are form = grind arith
 latch_input (slice ∷ slices) d args are form = ap (λ words. get_or words 0 []) are
 
 -- the first net that a latch reads and that is not driven

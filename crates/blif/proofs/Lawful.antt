@@ -1,21 +1,6 @@
 -- The circuit of lines without a fault is lawful.
-use Rattle.std.proofs.Common.{◌≡◌, ℕ, ◌+◌, ◌<◌, ◌≤◌, Bool, true, not, All, List, [], ◌++◌, length, map, get_or, arith}
-use Rattle.std.specs.List.{AllPass, flat_map, list_all}
-use Rattle.std.proofs.lemmas.List.Elements.{All-nil, All-append, All-filter}
-use Rattle.std.proofs.lemmas.List.Sums.{list_all-from_AllPass}
-use Rattle.line_text.specs.Lines.{JoinedLine}
-use Rattle.blif.specs.declared.circuit.Circuit.{Circuit}
+use Rattle.blif.proofs.Prelude.{◌≡◌, ℕ, ◌+◌, ◌<◌, ◌≤◌, Bool, true, not, All, List, [], ◌++◌, length, map, get_or, arith, AllPass, flat_map, list_all, All-nil, All-append, All-filter, list_all-from_AllPass, JoinedLine, Circuit, LookupTable, clocks_of, drives_of, undeclared_names, has_name, number_of, with_names, reads_in, RisesFrom, Sights, kind_of, names_of, inputs_of, outputs_of, sights_of, MAX_NETS, circuit_from, latches_in, tables_in, final_faults, line_faults, IsCircuit, IsLatchDriven, IsLatchWithin, IsNarrow, IsTableWithin, drivers_of, has_net}
 use Rattle.blif.specs.declared.latches.Latch.{Latch as StoredLatch}
-use Rattle.blif.specs.LookupTables.{LookupTable}
-use Rattle.blif.specs.LineByLine.{clocks_of, drives_of, undeclared_names}
-use Rattle.blif.specs.Names.{has_name, number_of, with_names}
-use Rattle.blif.specs.LineNets.{reads_in}
-use Rattle.line_text.specs.LineOrder.{RisesFrom}
-use Rattle.blif.specs.Sights.{Sights, kind_of, names_of, inputs_of, outputs_of, sights_of}
-use Rattle.blif.specs.declared.circuit.TheConstants.{MAX_NETS}
-use Rattle.blif.specs.Circuits.{circuit_from, latches_in, tables_in}
-use Rattle.blif.specs.CircuitOf.{final_faults, line_faults}
-use Rattle.blif.specs.LawfulCircuits.{IsCircuit, IsLatchDriven, IsLatchWithin, IsNarrow, IsTableWithin, drivers_of, has_net}
 use Rattle.blif.proofs.Named.{all_named}
 use Rattle.blif.proofs.Different.{names_differ}
 use Rattle.blif.proofs.Counts.{count_of, different, numbers_counted}

@@ -1,19 +1,5 @@
 -- Each number in a circuit is that of a net, since the lines name all nets that they use.
-use Rattle.std.proofs.Common.{◌≡◌, ℕ, ◌-◌, ◌<◌, Bool, true, false, List, [], ◌∷◌, ◌++◌, Option, None, Some, All, length, map, if◌then◌else◌, sym, ◌∙◌, arith}
-use Rattle.std.specs.List.{AllPass, flat_map, list_all}
-use Rattle.std.specs.Option.{ForSome, option_map, option_to_list}
-use Rattle.std.proofs.lemmas.List.Elements.{All-nil, All-cons, All-tail, All-append, All-map}
-use Rattle.std.proofs.lemmas.List.Folds.{list_all-append}
-use Rattle.std.proofs.lemmas.List.Sums.{AllPass-from_list_all}
-use Rattle.blif.specs.declared.keyword.Keyword.{Keyword}
-use Rattle.blif.specs.declared.keyword.Keyword.TheVariants.{Inputs, Outputs, Clock, Names, Latch}
-use Rattle.blif.specs.Names.{has_name, number_of, with_name, with_names}
-use Rattle.blif.specs.Keywords.{args_of, last_of}
-use Rattle.blif.specs.LatchLines.{is_latch, control_of}
-use Rattle.blif.specs.LineNets.{clocks_in, front_of, inputs_in, names_in, outputs_in, latch_nets}
-use Rattle.blif.specs.Circuits.{latch_with, latches_in, table_with, tables_in}
-use Rattle.blif.specs.LawfulCircuits.{IsLatchWithin, IsTableWithin}
-use Rattle.line_text.proofs.NameLemmas.{number_of-within}
+use Rattle.blif.proofs.Prelude.{◌≡◌, ℕ, ◌-◌, ◌<◌, Bool, true, false, List, [], ◌∷◌, ◌++◌, Option, None, Some, All, length, map, if◌then◌else◌, sym, ◌∙◌, arith, AllPass, flat_map, list_all, ForSome, option_map, option_to_list, All-nil, All-cons, All-tail, All-append, All-map, list_all-append, AllPass-from_list_all, Keyword, Inputs, Outputs, Clock, Names, Latch, has_name, number_of, with_name, with_names, args_of, last_of, is_latch, control_of, clocks_in, front_of, inputs_in, names_in, outputs_in, latch_nets, latch_with, latches_in, table_with, tables_in, IsLatchWithin, IsTableWithin, number_of-within}
 use Rattle.blif.proofs.Named.{and_left, and_right, list_all-take}
 
 -- a property of everything that each line adds holds for everything that all lines add

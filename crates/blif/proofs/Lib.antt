@@ -1,3 +1,4 @@
+mod Prelude
 pub mod AllTexts
 mod Answering
 mod Building

@@ -1,25 +1,6 @@
 -- Tables and latches are in the order of their lines, and no line has two of them.
-use Rattle.std.proofs.Common.{◌≡◌, ◌≢◌, ℕ, ◌+◌, ◌-◌, ◌<◌, ◌≤◌, Bool, true, false, List, [], ◌∷◌, ◌++◌, All, AllPairs, length, if◌then◌else◌, refl, arith}
-use Rattle.std.specs.List.{flat_map}
-use Rattle.std.proofs.lemmas.Bool.{ltb-false}
-use Rattle.std.proofs.lemmas.List.{length-map, length-take-le}
-use Rattle.std.proofs.lemmas.List.Elements.{All-nil, All-cons, All-append}
-use Rattle.std.proofs.lemmas.List.Kept.{AllPairs-cons}
-use Rattle.line_text.specs.Lines.{JoinedLine}
-use Rattle.blif.specs.declared.fault.BlifFaultKind.TheVariants.{TooWide}
-use Rattle.blif.specs.declared.keyword.Keyword.{Keyword}
-use Rattle.blif.specs.declared.keyword.Keyword.TheVariants.{Names, Latch}
+use Rattle.blif.proofs.Prelude.{◌≡◌, ◌≢◌, ℕ, ◌+◌, ◌-◌, ◌<◌, ◌≤◌, Bool, true, false, List, [], ◌∷◌, ◌++◌, All, AllPairs, length, if◌then◌else◌, refl, arith, flat_map, ltb-false, length-map, length-take-le, All-nil, All-cons, All-append, AllPairs-cons, JoinedLine, TooWide, Keyword, Names, Latch, LookupTable, number_of, args_of, is_latch, front_of, RisesFrom, Sights, kind_of, sights_of, fault_where, kind_faults, table_faults, latch_with, latches_in, table_with, tables_in, line_faults}
 use Rattle.blif.specs.declared.latches.Latch.{Latch as StoredLatch}
-use Rattle.blif.specs.LookupTables.{LookupTable}
-use Rattle.blif.specs.Names.{number_of}
-use Rattle.blif.specs.Keywords.{args_of}
-use Rattle.blif.specs.LatchLines.{is_latch}
-use Rattle.blif.specs.LineNets.{front_of}
-use Rattle.line_text.specs.LineOrder.{RisesFrom}
-use Rattle.blif.specs.Sights.{Sights, kind_of, sights_of}
-use Rattle.blif.specs.BlifFaults.{fault_where, kind_faults, table_faults}
-use Rattle.blif.specs.Circuits.{latch_with, latches_in, table_with, tables_in}
-use Rattle.blif.specs.CircuitOf.{line_faults}
 use Rattle.blif.proofs.Faultless.{kept_by_lines, nil_left}
 use Rattle.blif.proofs.Places.{flat_map_push}
 

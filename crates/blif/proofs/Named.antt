@@ -1,28 +1,15 @@
 -- A name that is among the names: its mark, and that it remains among them.
-use Rattle.std.proofs.Common.{◌≡◌, ℕ, zero, suc, ◌+◌, ◌<◌, Bool, true, false, ◌&&◌, ◌||◌, List, [], ◌∷◌, ◌++◌, Some, length, get_or, take, drop, map, slice_get, if◌then◌else◌, refl, sym, ap, ◌∙◌}
-use Rattle.std.specs.Borrow.{Bor}
-use Rattle.std.specs.List.{flat_map, list_all}
-use Rattle.std.specs.Str.{bytes_eq}
-use Rattle.std.proofs.Math.Numerals.{one-add}
-use Rattle.std.proofs.lemmas.List.{map_push, take-append-drop}
-use Rattle.std.proofs.lemmas.List.Folds.{list_all-append, list_any-append}
-use Rattle.std.proofs.lemmas.List.Recursion.{and_at}
-use Rattle.std.proofs.lemmas.Slice.Eq.{bytes_eq-Decides}
+use Rattle.blif.proofs.Prelude.{◌≡◌, ℕ, zero, suc, ◌+◌, ◌<◌, Bool, true, false, ◌&&◌, ◌||◌, List, [], ◌∷◌, ◌++◌, Some, length, get_or, take, drop, map, slice_get, refl, sym, ap, ◌∙◌, arith, Bor, flat_map, list_all, bytes_eq, one-add, map_push, take-append-drop, list_all-append, list_any-append, and_at, bytes_eq-Decides, has_name-rest, number_of-first, number_of-later, texts, has_name, number_of, with_name, with_names}
 use Rattle.blif.proofs.Places.{take_place}
-use Rattle.line_text.proofs.NameLemmas.{has_name-rest, number_of-first, number_of-later}
-use Rattle.blif.specs.Names.{texts, has_name, number_of, with_name, with_names}
 
 pub and_left : (a b : Bool) → (a && b) ≡ true → a ≡ true
-and_left true b h = refl
-and_left false b h = h
+and_left a b h = grind arith
 
 pub and_right : (a b : Bool) → (a && b) ≡ true → b ≡ true
-and_right true b h = h
-and_right false b h = absurd cc
+and_right a b h = grind arith
 
 or_true : (a : Bool) → (a || (true || false)) ≡ true
-or_true true = refl
-or_true false = refl
+or_true a = grind arith
 
 -- the value of a function at a name's number is its value for the name
 pub mark_at : (f : List ℕ → Bool) (names : List (List ℕ)) (name : List ℕ) (d : Bool) → has_name names name ≡ true → get_or (map f names) (number_of names name) d ≡ f name
@@ -50,11 +37,7 @@ name_at (first ∷ names) name h = by (bytes_eq name first) refl (λ there. name
 
 -- a name is still among the names after another is added
 pub has_name-with_name : (names : List (List ℕ)) (added name : List ℕ) → has_name names name ≡ true → has_name (with_name names added) name ≡ true
-has_name-with_name names added name h = by (has_name names added)
-  where
-    by : (b : Bool) → has_name (if b then names else names ++ added ∷ []) name ≡ true
-    by true = h
-    by false = list_any-append (bytes_eq name) names (added ∷ []) ∙ ap (λ c. c || (bytes_eq name added || false)) h
+has_name-with_name names added name h = grind (arith, list_any-append)
 
 has_name-with_names : (names others : List (List ℕ)) (name : List ℕ) → has_name names name ≡ true → has_name (with_names names others) name ≡ true
 has_name-with_names names [] name h = h
@@ -62,29 +45,17 @@ has_name-with_names names (added ∷ others) name h = has_name-with_names (with_
 
 -- the added name is among the names
 pub has_name-added : (names : List (List ℕ)) (name : List ℕ) → has_name (with_name names name) name ≡ true
-has_name-added names name = by (has_name names name) refl
-  where
-    by : (b : Bool) → has_name names name ≡ b → has_name (if b then names else names ++ name ∷ []) name ≡ true
-    by true e = e
-    by false e =
-        list_any-append (bytes_eq name) names (name ∷ [])
-        ∙ ap (λ c. has_name names name || (c || false)) ((bytes_eq-Decides name name).1 refl)
-        ∙ or_true (has_name names name)
+has_name-added names name = grind (arith, list_any-append, bytes_eq-Decides)
 
 -- all added names are among the names
 pub all_named : (names others : List (List ℕ)) → list_all (has_name (with_names names others)) others ≡ true
 all_named names [] = refl
-all_named names (added ∷ others) =
-    let head = has_name-with_names (with_name names added) others added (has_name-added names added) in
-    let tail = all_named (with_name names added) others in
-    λ i. head i && tail i
+all_named names (added ∷ others) = grind (arith, has_name-with_names, has_name-added, all_named (with_name names added) others)
 
 -- if all elements of the joined lists pass, so do those of each list
 pub list_all-part : {X : Type 0} (p : List ℕ → Bool) (f : X → List (List ℕ)) (xs : List X) (i : ℕ) (x : X) → list_all p (flat_map f xs) ≡ true → slice_get xs i ≡ Some x → list_all p (f x) ≡ true
 list_all-part p f [] i x h at = absurd cc
-list_all-part p f (y ∷ xs) zero x h at =
-    let same : y ≡ x = cc in
-    ap (λ z. list_all p (f z)) (sym same) ∙ and_left _ _ (sym (list_all-append p (f y) (flat_map f xs)) ∙ h)
+list_all-part p f (y ∷ xs) zero x h at = grind (arith, list_all-append)
 list_all-part p f (y ∷ xs) (suc i) x h at = list_all-part p f xs i x (and_right _ _ (sym (list_all-append p (f y) (flat_map f xs)) ∙ h)) at
 
 -- if all elements of a list pass, so do those of a front of it

@@ -1,18 +1,10 @@
 -- Numbers of nets, appended one after another.
-use Rattle.std.proofs.Common.{◌≡◌, ℕ, ◌+◌, ◌-◌, ◌<◌, List, [], ◌∷◌, ◌++◌, length, get_or, take, map, sym, ap, ◌∙◌, append_assoc, slice_get, Some, refl, arith}
-use Rattle.std.proofs.lemmas.List.{length-map, map_push, take-map}
+use Rattle.blif.proofs.Prelude.{◌≡◌, ℕ, ◌+◌, ◌-◌, ◌<◌, List, [], ◌∷◌, ◌++◌, length, get_or, take, map, sym, ap, ◌∙◌, append_assoc, slice_get, Some, refl, arith, length-map, map_push, take-map, number_of, last_of, front_of, table_with}
 use Rattle.blif.proofs.Places.{take_place}
-use Rattle.blif.specs.Names.{number_of}
-use Rattle.blif.specs.Keywords.{last_of}
-use Rattle.blif.specs.LineNets.{front_of}
-use Rattle.blif.specs.Circuits.{table_with}
 
 -- the numbers of the names before the last, and that of the last
 pub front_numbers : (f : List ℕ → ℕ) (names : List (List ℕ)) (numbers : List ℕ) → numbers ≡ map f names → take (length numbers - 1) numbers ≡ map f (front_of names)
-front_numbers f names numbers are =
-    ap (λ ns. take (length ns - 1) ns) are
-    ∙ ap (λ n. take (n - 1) (map f names)) (length-map names f)
-    ∙ take-map f (length names - 1) names
+front_numbers f names numbers are = grind (arith, length-map, take-map)
 
 last_map : (f : List ℕ → ℕ) (name : List ℕ) (names : List (List ℕ)) → get_or (map f (name ∷ names)) (length names) 0 ≡ f (last_of (name ∷ names))
 last_map f name [] = refl
@@ -26,8 +18,7 @@ last_number f (name ∷ names) numbers are some =
 
 -- the table with names is a single table
 pub table_with_names : (nets : List (List ℕ)) (line : ℕ) (names : List (List ℕ)) → 0 < length names → table_with nets line names ≡ record { line = line; inputs = map (number_of nets) (front_of names); output = number_of nets (last_of names) } ∷ []
-table_with_names nets line [] h = absurd (omega (arith, h))
-table_with_names nets line (name ∷ names) h = refl
+table_with_names nets line names h = grind arith
 
 pub numbers_at : (f : List ℕ → ℕ) (old now : List ℕ) (names : List (List ℕ)) (place n : ℕ) (name : List ℕ) → place < length names → slice_get names place ≡ Some name → now ≡ old ++ map f (take place names) → n ≡ f name → now ++ n ∷ [] ≡ old ++ map f (take (place + 1) names)
 numbers_at f old now names place n name within at so_far is =

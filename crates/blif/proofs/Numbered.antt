@@ -1,68 +1,24 @@
 -- The numbers of names that are added one after another.
-use Rattle.std.proofs.Common.{◌≡◌, ℕ, ◌+◌, ◌≤◌, ◌<◌, Bool, true, false, cond, eqb, not, List, [], ◌∷◌, ◌++◌, Some, length, get_or, take, drop, map, slice_get, if◌then◌else◌, refl, sym, ap, ◌∙◌, arith, length-append}
-use Rattle.std.specs.Borrow.{Bor}
-use Rattle.std.specs.List.{flat_map, list_all, position_or_len}
-use Rattle.std.specs.Str.{bytes_eq}
-use Rattle.std.proofs.lemmas.Bool.Decides.{nat_tests}
-use Rattle.std.proofs.lemmas.List.{length-map, map-append, get_or-map, take_at, drop_at, drop_more}
-use Rattle.std.proofs.lemmas.List.Folds.{position_or_len_push}
-use Rattle.std.proofs.lemmas.Slice.Eq.{bytes_eq-Decides}
-use Rattle.line_text.specs.Lines.{JoinedLine}
-use Rattle.blif.specs.Numbering.{numbers_of}
-use Rattle.blif.specs.Repeats.{undriven_names}
-use Rattle.blif.specs.Names.{first_of, texts, has_name, number_of, with_name, with_names}
-use Rattle.blif.specs.Sights.{names_of}
-use Rattle.line_text.proofs.NameLemmas.{number_of-within}
+use Rattle.blif.proofs.Prelude.{◌≡◌, ℕ, ◌+◌, ◌≤◌, ◌<◌, true, false, not, List, [], ◌∷◌, ◌++◌, Some, length, get_or, take, drop, map, slice_get, if◌then◌else◌, refl, sym, ap, ◌∙◌, arith, length-append, Bor, flat_map, list_all, length-map, map-append, get_or-map, take_at, drop_at, drop_more, position_or_len_push, bytes_eq-Decides, JoinedLine, numbers_of, undriven_names, first_of, texts, has_name, number_of, with_name, with_names, names_of, number_of-within}
 use Rattle.blif.proofs.Named.{has_name-with_name, has_name-added, name_at, named_at}
 use Rattle.blif.proofs.Places.{drop_place}
 
 -- a name that is among the names keeps its number
 number_of-with_name : (names : List (List ℕ)) (added name : List ℕ) → has_name names name ≡ true → number_of (with_name names added) name ≡ number_of names name
-number_of-with_name names added name h = by (has_name names added)
-  where
-    place : ℕ
-    place = position_or_len (bytes_eq name) names
-
-    unlike : eqb place (length names) ≡ false
-    unlike = grind (arith, nat_tests, number_of-within names name h)
-
-    by : (b : Bool) → number_of (if b then names else names ++ added ∷ []) name ≡ number_of names name
-    by true = refl
-    by false =
-        position_or_len_push (bytes_eq name) names added
-        ∙ ap (λ b. cond b (length names + cond (bytes_eq name added) 0 1) place) unlike
+number_of-with_name names added name h = grind (arith, number_of-within, position_or_len_push)
 
 -- a new name's number is the same before and after it is added
 number_of-added : (names : List (List ℕ)) (name : List ℕ) → number_of (with_name names name) name ≡ number_of names name
-number_of-added names name = by (has_name names name)
-  where
-    place : ℕ
-    place = position_or_len (bytes_eq name) names
-
-    either : (b : Bool) → eqb place (length names) ≡ b → cond b (length names + 0) place ≡ place
-    either true e = grind (arith, nat_tests, e)
-    either false e = refl
-
-    by : (b : Bool) → number_of (if b then names else names ++ name ∷ []) name ≡ number_of names name
-    by true = refl
-    by false =
-        position_or_len_push (bytes_eq name) names name
-        ∙ ap (λ b. cond (eqb place (length names)) (length names + cond b 0 1) place) ((bytes_eq-Decides name name).1 refl)
-        ∙ either (eqb place (length names)) refl
+number_of-added names name = grind (arith, position_or_len_push, bytes_eq-Decides)
 
 number_of-with_names : (names others : List (List ℕ)) (name : List ℕ) → has_name names name ≡ true → number_of (with_names names others) name ≡ number_of names name
 number_of-with_names names [] name h = refl
-number_of-with_names names (added ∷ others) name h =
-    number_of-with_names (with_name names added) others name (has_name-with_name names added name h)
-    ∙ number_of-with_name names added name h
+number_of-with_names names (added ∷ others) name h = grind (arith, number_of-with_name, number_of-with_names (with_name names added) others name (has_name-with_name names added name h))
 
 -- the numbers of names when they are added are their final numbers
 pub numbered_all : (names others : List (List ℕ)) → numbers_of names others ≡ map (number_of (with_names names others)) others
 numbered_all names [] = refl
-numbered_all names (added ∷ others) =
-    let head : number_of names added ≡ number_of (with_names (with_name names added) others) added = sym (number_of-with_names (with_name names added) others added (has_name-added names added) ∙ number_of-added names added) in
-    let tail = numbered_all (with_name names added) others in
-    λ i. head i ∷ tail i
+numbered_all names (added ∷ others) = grind (arith, number_of-with_names, has_name-added, number_of-added, numbered_all (with_name names added) others)
 
 pub numbered-append : (names xs ys : List (List ℕ)) → numbers_of names (xs ++ ys) ≡ numbers_of names xs ++ numbers_of (with_names names xs) ys
 numbered-append names [] ys = refl

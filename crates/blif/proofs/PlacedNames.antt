@@ -1,32 +1,16 @@
 -- Names with their indices, and the names alone.
-use Rattle.std.proofs.Common.{◌≡◌, ◌∙◌, ℕ, ◌+◌, ◌≤◌, Bool, true, false, not, ◌&&◌, cond, List, [], ◌∷◌, ◌++◌, map, filter, refl, sym, ap, arith}
-use Rattle.std.specs.List.{enumerate_from}
-use Rattle.line_text.proofs.InOrder.{Each, InOrder}
-use Rattle.blif.specs.declared.fault.BlifFaultKind.{BlifFaultKind}
-use Rattle.blif.specs.declared.fault.BlifFaultKind.TheVariants.{TwoDrivers, RepeatedOutput}
-use Rattle.blif.specs.BlifFaults.{at_words, driver_faults}
-use Rattle.blif.specs.FirstFaults.{first_kind}
-use Rattle.blif.specs.Names.{first_of, has_name, names_with_index, repeats_from}
-use Rattle.blif.specs.Repeats.{repeats}
+use Rattle.blif.proofs.Prelude.{◌≡◌, ◌∙◌, ℕ, ◌+◌, ◌≤◌, Bool, true, false, not, ◌&&◌, cond, List, [], ◌∷◌, ◌++◌, map, filter, refl, sym, ap, arith, enumerate_from, Each, InOrder, BlifFaultKind, TwoDrivers, RepeatedOutput, at_words, driver_faults, first_kind, first_of, has_name, names_with_index, repeats_from, repeats}
 
 abbrev names_of : List (ℕ × List ℕ) → List (List ℕ)
 names_of names_with_index = map (λ name. name.1) names_with_index
 
 repeats_alone : (place : ℕ) (taken names : List (List ℕ)) → names_of (repeats_from place taken names) ≡ repeats taken names
 repeats_alone place taken [] = refl
-repeats_alone place taken (name ∷ names) = by (has_name taken name) (repeats_alone (place + 1) (taken ++ name ∷ []) names)
-  where
-    by : (b : Bool) → names_of (repeats_from (place + 1) (taken ++ name ∷ []) names) ≡ repeats (taken ++ name ∷ []) names → names_of (cond b ((place, name) ∷ []) [] ++ repeats_from (place + 1) (taken ++ name ∷ []) names) ≡ cond b (name ∷ []) [] ++ repeats (taken ++ name ∷ []) names
-    by true rest = ap (λ ns. name ∷ ns) rest
-    by false rest = rest
+repeats_alone place taken (name ∷ names) = grind (arith, repeats_alone (place + 1) (taken ++ name ∷ []) names)
 
 placed_alone : (test : List ℕ → Bool) (place : ℕ) (names : List (List ℕ)) → names_of (filter (λ name. test name.1) (enumerate_from place names)) ≡ filter test names
 placed_alone test place [] = refl
-placed_alone test place (name ∷ names) = by (test name) (placed_alone test (place + 1) names)
-  where
-    by : (b : Bool) → names_of (filter (λ name. test name.1) (enumerate_from (place + 1) names)) ≡ filter test names → names_of (cond b ((place, name) ∷ filter (λ name. test name.1) (enumerate_from (place + 1) names)) (filter (λ name. test name.1) (enumerate_from (place + 1) names))) ≡ cond b (name ∷ filter test names) (filter test names)
-    by true rest = ap (λ ns. name ∷ ns) rest
-    by false rest = rest
+placed_alone test place (name ∷ names) = grind (arith, placed_alone test (place + 1) names)
 
 -- the first fault of names with indices is that of the names alone
 first_alone : (kind : List ℕ → BlifFaultKind) (names_with_index : List (ℕ × List ℕ)) → first_of (map kind (names_of names_with_index)) ≡ first_kind (at_words kind names_with_index)
@@ -38,8 +22,7 @@ first_repeat kind taken names =
     ap (λ ns. first_of (map kind ns)) (sym (repeats_alone 0 taken names)) ∙ first_alone kind (repeats_from 0 taken names)
 
 pub first_placed : (kind : List ℕ → BlifFaultKind) (test : List ℕ → Bool) (names : List (List ℕ)) → first_of (map kind (filter test names)) ≡ first_kind (at_words kind (names_with_index test names))
-first_placed kind test names =
-    ap (λ ns. first_of (map kind ns)) (sym (placed_alone test 0 names)) ∙ first_alone kind (names_with_index test names)
+first_placed kind test names = grind (arith, placed_alone, first_alone)
 
 pub first_driver : (taken names : List (List ℕ)) → first_of (map TwoDrivers (repeats taken names)) ≡ first_kind (driver_faults taken names)
 first_driver taken names = first_repeat TwoDrivers taken names
@@ -63,11 +46,7 @@ Rise first_of second = first_of.0 ≤ second.0
 
 repeats_behind : (low place : ℕ) (taken names : List (List ℕ)) → low ≤ place → Each (λ name. low ≤ name.0) (repeats_from place taken names)
 repeats_behind low place taken [] fits = tt
-repeats_behind low place taken (name ∷ names) fits = by (has_name taken name) (repeats_behind low (place + 1) (taken ++ name ∷ []) names (omega arith))
-  where
-    by : (b : Bool) → Each (λ name. low ≤ name.0) (repeats_from (place + 1) (taken ++ name ∷ []) names) → Each (λ name. low ≤ name.0) (cond b ((place, name) ∷ []) [] ++ repeats_from (place + 1) (taken ++ name ∷ []) names)
-    by true rest = (fits, rest)
-    by false rest = rest
+repeats_behind low place taken (name ∷ names) fits = grind (arith, repeats_behind low (place + 1) (taken ++ name ∷ []) names (omega arith))
 
 pub repeats_rise : (place : ℕ) (taken names : List (List ℕ)) → InOrder Rise (repeats_from place taken names)
 repeats_rise place taken [] = tt
@@ -79,11 +58,7 @@ repeats_rise place taken (name ∷ names) = by (has_name taken name) (repeats_ri
 
 placed_behind : (test : List ℕ → Bool) (low place : ℕ) (names : List (List ℕ)) → low ≤ place → Each (λ name. low ≤ name.0) (filter (λ name. test name.1) (enumerate_from place names))
 placed_behind test low place [] fits = tt
-placed_behind test low place (name ∷ names) fits = by (test name) (placed_behind test low (place + 1) names (omega arith))
-  where
-    by : (b : Bool) → Each (λ name. low ≤ name.0) (filter (λ name. test name.1) (enumerate_from (place + 1) names)) → Each (λ name. low ≤ name.0) (cond b ((place, name) ∷ filter (λ name. test name.1) (enumerate_from (place + 1) names)) (filter (λ name. test name.1) (enumerate_from (place + 1) names)))
-    by true rest = (fits, rest)
-    by false rest = rest
+placed_behind test low place (name ∷ names) fits = grind (arith, placed_behind test low (place + 1) names (omega arith))
 
 placed_rise : (test : List ℕ → Bool) (place : ℕ) (names : List (List ℕ)) → InOrder Rise (filter (λ name. test name.1) (enumerate_from place names))
 placed_rise test place [] = tt

@@ -1,10 +1,5 @@
 -- Facts about the words of a line.
-use Rattle.std.proofs.Common.{◌≡◌, ℕ, ◌-◌, ◌<◌, List, [], ◌∷◌, length, get_or, refl, arith, take}
-use Rattle.std.specs.Borrow.{Bor}
-use Rattle.blif.specs.Names.{texts}
-use Rattle.blif.specs.Keywords.{last_of}
-use Rattle.blif.specs.LineNets.{front_of}
-use Rattle.std.proofs.lemmas.List.{take-map, length-map}
+use Rattle.blif.proofs.Prelude.{◌≡◌, ℕ, ◌-◌, ◌<◌, List, [], ◌∷◌, length, get_or, refl, arith, take, Bor, texts, last_of, front_of, take-map, length-map}
 
 last_of-cons : (slices : List (Bor (List ℕ))) (slice d : Bor (List ℕ)) → last_of (texts (slice ∷ slices)) ≡ (get_or (slice ∷ slices) (length slices) d).now
 last_of-cons [] slice d = refl

@@ -196,15 +196,10 @@ impl From<LineFault> for BlifFault {
     ghost from_gives = { λ lines fault. fault ≡ fault_of_lines lines };
 
     fn from(fault: LineFault) -> Self {
-        match fault {
-            LineFault::NotAscii(line) => BlifFault {
-                line,
-                kind: BlifFaultKind::NotAscii,
-            },
-            LineFault::LineTooLong(line) => BlifFault {
-                line,
-                kind: BlifFaultKind::LineTooLong,
-            },
-        }
+        let (line, kind) = match fault {
+            LineFault::NotAscii(line) => (line, BlifFaultKind::NotAscii),
+            LineFault::LineTooLong(line) => (line, BlifFaultKind::LineTooLong),
+        };
+        BlifFault { line, kind }
     }
 }

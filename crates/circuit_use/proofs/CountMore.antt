@@ -1,9 +1,5 @@
 -- The count of one more table.
-use Rattle.std.proofs.Common.{ℕ, ◌≡◌, ◌+◌, ◌∙◌, Bool, true, false, List, count_by, take, sym, ap, Some}
-use Rattle.std.specs.List.{slice_get}
-use Rattle.std.proofs.lemmas.List.Sums.{count_by_more_no, count_by_more_yes}
-use Rattle.std.proofs.lemmas.Option.{get_or_from_slice_get, slice_get_within}
-use Rattle.blif.specs.LookupTables.{LookupTable}
+use Rattle.circuit_use.proofs.Prelude.{ℕ, ◌≡◌, ◌+◌, ◌∙◌, Bool, true, false, List, count_by, take, sym, ap, Some, slice_get, count_by_more_no, count_by_more_yes, get_or_from_slice_get, slice_get_within, LookupTable}
 
 pub count_yes : (p : LookupTable → Bool) (tables : List LookupTable) (place : ℕ) (table : LookupTable) (count : ℕ) → slice_get tables place ≡ Some table → p table ≡ true
     → count ≡ count_by p (take place tables) → count + 1 ≡ count_by p (take (place + 1) tables)

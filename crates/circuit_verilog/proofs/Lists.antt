@@ -1,12 +1,5 @@
 -- Texts that are written in parts.
-use Rattle.std.proofs.Common.{◌≡◌, ◌∙◌, ℕ, ◌+◌, ◌<◌, ◌≤◌, List, [], ◌∷◌, ◌++◌, Result, Ok, Err, Some, get_or, take, ap, sym, append_assoc, append-nil, arith}
-use Rattle.std.specs.Prelude.{OnOk}
-use Rattle.std.specs.List.{flat_map, range_with_len, slice_get}
-use Rattle.std.proofs.lemmas.Grind.{flat_map-append}
-use Rattle.std.proofs.lemmas.List.{take_all, take_more}
-use Rattle.std.proofs.lemmas.List.FromFn.{length-range_with_len}
-use Rattle.std.proofs.lemmas.Option.{get_or_from_slice_get, slice_get_within}
-use Rattle.line_text.proofs.WritingLemmas.{place_at}
+use Rattle.circuit_verilog.proofs.Prelude.{◌≡◌, ◌∙◌, ℕ, ◌+◌, ◌<◌, ◌≤◌, List, [], ◌∷◌, ◌++◌, Result, Ok, Err, Some, get_or, length, take, ap, sym, append_assoc, append-nil, arith, OnOk, flat_map, range_with_len, slice_get, flat_map-append, take_all, take_more, length-range_with_len, get_or_from_slice_get, slice_get_within, place_at}
 
 -- one text after another
 pub then : (a b c s t : List ℕ) → b ≡ a ++ s → c ≡ b ++ t → c ≡ a ++ (s ++ t)
@@ -26,9 +19,13 @@ one_more f xs i x a b c e p q =
     ∙ ap (λ y. flat_map f (take i xs) ++ y) (append-nil (f x))) in
     then a b c (flat_map f (take i xs)) (f x) p q ∙ ap (λ y. a ++ y) more
 
+-- the texts of all elements
+pub all_texts : {X : Type 0} (f : X → List ℕ) (xs : List X) (i : ℕ) (a b : List ℕ) → length xs ≤ i → b ≡ a ++ flat_map f (take i xs) → b ≡ a ++ flat_map f xs
+all_texts f xs i a b end p = p ∙ ap (λ ys. a ++ flat_map f ys) (take_all i xs end)
+
 -- the same of numbers from 0 on, and at their end
 pub number_more : (f : ℕ → List ℕ) (count i : ℕ) (a b c : List ℕ) → i < count → b ≡ a ++ flat_map f (take i (range_with_len 0 count)) → c ≡ b ++ f i → c ≡ a ++ flat_map f (take (i + 1) (range_with_len 0 count))
 number_more f count i a b c within p q = one_more f (range_with_len 0 count) i i a b c (place_at count i within) p q
 
 pub numbers_end : (f : ℕ → List ℕ) (count i : ℕ) (a b : List ℕ) → count ≤ i → b ≡ a ++ flat_map f (take i (range_with_len 0 count)) → b ≡ a ++ flat_map f (range_with_len 0 count)
-numbers_end f count i a b end p = p ∙ ap (λ xs. a ++ flat_map f xs) (take_all i (range_with_len 0 count) (let long = length-range_with_len 0 count in omega arith))
+numbers_end f count i a b end p = all_texts f (range_with_len 0 count) i a b (let long = length-range_with_len 0 count in omega arith) p

@@ -1,2 +1,3 @@
+pub mod NetTexts
 pub mod Parts
 pub mod Verilog

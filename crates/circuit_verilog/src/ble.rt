@@ -3,7 +3,6 @@ ghost use Rattle.std.specs.Prelude.{◌≡◌, ◌++◌, ◌^◌, ◌≤◌, OnO
 ghost use Rattle.std.specs.List.{flat_map};
 ghost use Rattle.arch_file.specs.declared.arch.TheConstants.{MAX_LUT_SIZE};
 ghost use Rattle.configuration.specs.Configuration.{latch_driving};
-ghost use Rattle.implements.specs.Layouts.{traced_ble};
 ghost use Rattle.circuit_verilog.specs.Parts.{input_text, inputs_text};
 ghost use Rattle.circuit_verilog.specs.Verilog.{ble_text, block_text, state_text, table_front, table_middle, table_text};
 
@@ -15,7 +14,7 @@ use layouts::{LaidBle, LaidBlock};
 use std::alloc::{AllocError, Global};
 use text_parts::Part;
 
-/// Appends the BLEs of a block.
+/// Appends the BLEs of a block: the table of each, and then its latch.
 pub(crate) fn push_block(
     alloc: Global,
     text: &mut Vec<u8>,
@@ -27,43 +26,11 @@ pub(crate) fn push_block(
         ++ block_text design.entry.netlist.now design.entry.circuit.now design.entry.arch.now
         laid.now) }
 {
-    push_bles(alloc, text, design, laid, laid.bles())
-}
-
-/// Appends these BLEs of a block.
-fn push_bles(
-    alloc: Global,
-    text: &mut Vec<u8>,
-    design: Design<'_>,
-    laid: &LaidBlock,
-    bles: &[LaidBle],
-) -> Result<(), AllocError>
-    requires { design.arch.now.lut_size ≤ MAX_LUT_SIZE }
-    ensures { OnOk result (text.new.items ≡ text.old.items
-        ++ flat_map (ble_text design.entry.netlist.now design.entry.circuit.now
-        design.entry.arch.now laid.now) bles.now) }
-{
-    for ble in bles {
-        push_ble(alloc, text, design, laid, ble)?;
+    for ble in laid.bles() {
+        push_table(alloc, text, design, laid, ble)?;
+        push_latch(text, design, laid, ble)?;
     }
     Ok(())
-}
-
-/// Appends a BLE: its table, and then its latch.
-fn push_ble(
-    alloc: Global,
-    text: &mut Vec<u8>,
-    design: Design<'_>,
-    laid: &LaidBlock,
-    ble: &LaidBle,
-) -> Result<(), AllocError>
-    requires { design.arch.now.lut_size ≤ MAX_LUT_SIZE }
-    ensures { OnOk result (text.new.items ≡ text.old.items
-        ++ ble_text design.entry.netlist.now design.entry.circuit.now design.entry.arch.now
-        laid.now ble.now) }
-{
-    push_table(alloc, text, design, laid, ble)?;
-    push_latch(text, design, laid, ble)
 }
 
 /// Appends the latch of a BLE, or that it has none.
@@ -94,26 +61,8 @@ fn push_table(
         ++ table_text design.entry.netlist.now design.entry.circuit.now design.entry.arch.now
         laid.now ble.now) }
 {
-    let nets = nets_in(alloc, design.arch, laid, ble)?;
-    let pushed = push_table_of(text, design, laid, ble, nets.as_slice());
-    drop(nets);
-    pushed
-}
-
-/// Appends the table of a BLE to whose inputs these nets come.
-fn push_table_of(
-    text: &mut Vec<u8>,
-    design: Design<'_>,
-    laid: &LaidBlock,
-    ble: &LaidBle,
-    nets: &[u32],
-) -> Result<(), AllocError>
-    requires width { design.arch.now.lut_size ≤ MAX_LUT_SIZE }
-    requires nets { nets.now ≡ (traced_ble design.arch.now laid.now ble.now).inputs }
-    ensures { OnOk result (text.new.items ≡ text.old.items
-        ++ table_text design.entry.netlist.now design.entry.circuit.now design.entry.arch.now
-        laid.now ble.now) }
-{
+    let inputs = nets_in(alloc, design.arch, laid, ble)?;
+    let nets = inputs.as_slice();
     push_front(text, ble, design.arch.lut_size)?;
     push_table_bits(text, design, laid, ble, nets)?;
     push_middle(text, ble)?;

@@ -133,8 +133,13 @@ fn push_stored(
         ++ stored_text netlist.now arch.now laid.now ble.now latch) }
 {
     push_declared(text, ble)?;
-    push_initial(text, netlist, ble, latch)?;
-    push_store(text, netlist, arch, laid, ble, latch)
+    push_initial(text, latch_words(netlist, latch.line).init, ble.name())?;
+    push_store(
+        text,
+        latch_edge(netlist, latch),
+        ble.name(),
+        clock_of(arch, laid, ble),
+    )
 }
 
 /// Declares the register of the latch of a BLE, whose value goes to the wire of its net.
@@ -156,21 +161,8 @@ fn push_declared(text: &mut Vec<u8>, ble: &LaidBle) -> Result<(), AllocError>
     )
 }
 
-/// Appends the initial value of the latch of a BLE, if it is known.
-fn push_initial(
-    text: &mut Vec<u8>,
-    netlist: &Lines<'_>,
-    ble: &LaidBle,
-    latch: Latch,
-) -> Result<(), AllocError>
-    ensures { OnOk result (text.new.items ≡ text.old.items
-        ++ initial_text (init_in (args_at netlist.now latch.line)) ble.now.name) }
-{
-    push_initial_of(text, latch_words(netlist, latch.line).init, ble.name())
-}
-
 /// Appends that initial value of the latch that drives a net, if it is known.
-fn push_initial_of(text: &mut Vec<u8>, init: &[u8], net: u32) -> Result<(), AllocError>
+fn push_initial(text: &mut Vec<u8>, init: &[u8], net: u32) -> Result<(), AllocError>
     ensures { OnOk result (text.new.items ≡ text.old.items ++ initial_text init.now net) }
 {
     if is_bit(init) {
@@ -203,25 +195,8 @@ fn is_bit(init: &[u8]) -> bool
     is_word(init, "0") || is_word(init, "1")
 }
 
-/// Appends the statement by which the latch of a BLE stores.
-fn push_store(
-    text: &mut Vec<u8>,
-    netlist: &Lines<'_>,
-    arch: &Arch,
-    laid: &LaidBlock,
-    ble: &LaidBle,
-    latch: Latch,
-) -> Result<(), AllocError>
-    ensures { OnOk result (text.new.items ≡ text.old.items
-        ++ store_text (latch_edge netlist.now latch) ble.now.name
-        (clock_name (traced_ble arch.now laid.now ble.now).clock)) }
-{
-    let edge = latch_edge(netlist, latch);
-    push_store_of(text, edge, ble.name(), clock_of(arch, laid, ble))
-}
-
 /// Appends the statement by which the latch that drives a net stores.
-fn push_store_of(
+fn push_store(
     text: &mut Vec<u8>,
     edge: StoreEdge,
     net: u32,

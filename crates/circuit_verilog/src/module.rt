@@ -6,11 +6,10 @@ ghost use Rattle.circuit_verilog.specs.Verilog.{block_text, verilog_of};
 
 use crate::ble::push_block;
 use crate::parts::push_parts;
-use crate::ports::{push_declarations, push_drives, push_module_head, push_shows};
+use crate::ports::{NetText, push_declarations, push_inputs, push_module_head, push_outputs};
 use crate::table::push_table_module;
 use arch_file::MAX_LUT_SIZE;
 use configuration_text::Design;
-use layouts::LaidBlock;
 use std::alloc::{AllocError, Global};
 use text_parts::Part;
 
@@ -24,13 +23,8 @@ pub fn verilog_text(alloc: Global, design: Design<'_>) -> Result<Vec<u8>, AllocE
         return Err(AllocError);
     }
     let mut text = Vec::new(alloc);
-    match push_all(alloc, &mut text, design) {
-        Ok(()) => Ok(text),
-        Err(error) => {
-            drop(text);
-            Err(error)
-        }
-    }
+    push_all(alloc, &mut text, design)?;
+    Ok(text)
 }
 
 /// Appends all of it.
@@ -42,9 +36,9 @@ fn push_all(alloc: Global, text: &mut Vec<u8>, design: Design<'_>) -> Result<(),
     push_table_module(text, design.arch.lut_size)?;
     push_module_head(alloc, text, design.netlist, design.circuit)?;
     push_declarations(text, design.netlist, design.circuit)?;
-    push_drives(text, design.circuit)?;
+    push_inputs(text, design.circuit, NetText::Drives)?;
     push_blocks(alloc, text, design)?;
-    push_shows(text, design.circuit)?;
+    push_outputs(text, design.circuit, NetText::Shows)?;
     push_parts(text, &[Part::Text("endmodule\n")])
 }
 
@@ -55,22 +49,7 @@ fn push_blocks(alloc: Global, text: &mut Vec<u8>, design: Design<'_>) -> Result<
         ++ flat_map (block_text design.entry.netlist.now design.entry.circuit.now
         design.entry.arch.now) design.entry.layout.now.blocks) }
 {
-    push_blocks_of(alloc, text, design, design.layout.blocks())
-}
-
-/// Appends the BLEs of these blocks.
-fn push_blocks_of(
-    alloc: Global,
-    text: &mut Vec<u8>,
-    design: Design<'_>,
-    blocks: &[LaidBlock],
-) -> Result<(), AllocError>
-    requires { design.arch.now.lut_size ≤ MAX_LUT_SIZE }
-    ensures { OnOk result (text.new.items ≡ text.old.items
-        ++ flat_map (block_text design.entry.netlist.now design.entry.circuit.now
-        design.entry.arch.now) blocks.now) }
-{
-    for laid in blocks {
+    for laid in design.layout.blocks() {
         push_block(alloc, text, design, laid)?;
     }
     Ok(())

@@ -1,7 +1,8 @@
 //! The ports and wires of a module.
 ghost use Rattle.std.specs.Prelude.{◌≡◌, ◌++◌, ◌∷◌, [], IfOk, OnOk, codes, drop, length};
 ghost use Rattle.std.specs.List.{concat, flat_map, range_with_len};
-ghost use Rattle.circuit_verilog.specs.Verilog.{clock_line, clock_ports, declarations, drives_line, head_around, head_front, head_text, input_line, is_input, next_input, next_output, output_line, output_port, ports_text, shows_line, wire_line};
+ghost use Rattle.circuit_verilog.specs.NetTexts.{net_text};
+ghost use Rattle.circuit_verilog.specs.Verilog.{clock_line, clock_ports, declarations, drives_line, head_around, head_front, head_text, input_line, is_input, next_input, output_line, output_port, ports_text, shows_line, wire_line};
 
 use crate::latch::needs_clock;
 use crate::parts::{net_name, push_parts};
@@ -76,32 +77,85 @@ fn push_ports(ports: &mut Vec<u8>, netlist: &Lines<'_>, circuit: &Circuit) -> Re
     ensures { OnOk result (ports.new.items
         ≡ ports.old.items ++ ports_text netlist.now circuit.now) }
 {
-    push_input_ports(ports, circuit)?;
-    push_output_ports(ports, circuit)?;
+    push_inputs(ports, circuit, NetText::InputPort)?;
+    push_outputs(ports, circuit, NetText::OutputPort)?;
     push_clock_port(ports, netlist, circuit)
 }
 
-/// Appends the ports of the inputs.
-fn push_input_ports(ports: &mut Vec<u8>, circuit: &Circuit) -> Result<(), AllocError>
-    ensures { OnOk result (ports.new.items
-        ≡ ports.old.items ++ flat_map (next_input circuit.now) circuit.now.inputs) }
-{
-    push_input_ports_of(ports, circuit, circuit.inputs.as_slice())
+/// What is written of a net.
+#[derive(Clone, Copy)]
+pub(crate) enum NetText {
+    /// The port of an input after a comma.
+    InputPort,
+    /// The port of an output after a comma.
+    OutputPort,
+    /// The declaration of an input.
+    Input,
+    /// The declaration of an output.
+    Output,
+    /// That an input drives the wire of its net.
+    Drives,
+    /// That the wire of an output's net drives the output.
+    Shows,
 }
 
-/// Appends the ports of these inputs.
-fn push_input_ports_of(
-    ports: &mut Vec<u8>,
+/// Appends that of each input.
+pub(crate) fn push_inputs(
+    text: &mut Vec<u8>,
+    circuit: &Circuit,
+    what: NetText,
+) -> Result<(), AllocError>
+    ensures { OnOk result (text.new.items
+        ≡ text.old.items ++ flat_map (net_text what circuit.now) circuit.now.inputs) }
+{
+    push_each(text, circuit, circuit.inputs.as_slice(), what)
+}
+
+/// Appends that of each output.
+pub(crate) fn push_outputs(
+    text: &mut Vec<u8>,
+    circuit: &Circuit,
+    what: NetText,
+) -> Result<(), AllocError>
+    ensures { OnOk result (text.new.items
+        ≡ text.old.items ++ flat_map (net_text what circuit.now) circuit.now.outputs) }
+{
+    push_each(text, circuit, circuit.outputs.as_slice(), what)
+}
+
+/// Appends that of each of these nets.
+fn push_each(
+    text: &mut Vec<u8>,
     circuit: &Circuit,
     nets: &[u32],
+    what: NetText,
 ) -> Result<(), AllocError>
-    ensures { OnOk result (ports.new.items ≡ ports.old.items
-        ++ flat_map (next_input circuit.now) nets.now) }
+    ensures { OnOk result (text.new.items
+        ≡ text.old.items ++ flat_map (net_text what circuit.now) nets.now) }
 {
     for net in nets {
-        push_input_port(ports, circuit, *net)?;
+        push_net(text, circuit, *net, what)?;
     }
     Ok(())
+}
+
+/// Appends that of a net.
+fn push_net(
+    text: &mut Vec<u8>,
+    circuit: &Circuit,
+    net: u32,
+    what: NetText,
+) -> Result<(), AllocError>
+    ensures { OnOk result (text.new.items ≡ text.old.items ++ net_text what circuit.now net) }
+{
+    match what {
+        NetText::InputPort => push_input_port(text, circuit, net),
+        NetText::OutputPort => push_output_port(text, circuit, net, ", "),
+        NetText::Input => push_input(text, circuit, net),
+        NetText::Output => push_output(text, circuit, net),
+        NetText::Drives => push_drive(text, circuit, net),
+        NetText::Shows => push_show(text, circuit, net),
+    }
 }
 
 /// Appends the port of an input after a comma.
@@ -117,29 +171,6 @@ fn push_input_port(ports: &mut Vec<u8>, circuit: &Circuit, net: u32) -> Result<(
             Part::Text(" "),
         ],
     )
-}
-
-/// Appends the ports of the outputs.
-fn push_output_ports(ports: &mut Vec<u8>, circuit: &Circuit) -> Result<(), AllocError>
-    ensures { OnOk result (ports.new.items
-        ≡ ports.old.items ++ flat_map (next_output circuit.now) circuit.now.outputs) }
-{
-    push_output_ports_of(ports, circuit, circuit.outputs.as_slice())
-}
-
-/// Appends the ports of these outputs.
-fn push_output_ports_of(
-    ports: &mut Vec<u8>,
-    circuit: &Circuit,
-    nets: &[u32],
-) -> Result<(), AllocError>
-    ensures { OnOk result (ports.new.items ≡ ports.old.items
-        ++ flat_map (next_output circuit.now) nets.now) }
-{
-    for net in nets {
-        push_output_port(ports, circuit, *net, ", ")?;
-    }
-    Ok(())
 }
 
 /// Appends a text and the port of an output.
@@ -212,29 +243,10 @@ pub(crate) fn push_declarations(
     ensures { OnOk result (text.new.items
         ≡ text.old.items ++ declarations netlist.now circuit.now) }
 {
-    push_inputs(text, circuit)?;
-    push_outputs(text, circuit)?;
+    push_inputs(text, circuit, NetText::Input)?;
+    push_outputs(text, circuit, NetText::Output)?;
     push_clock(text, netlist, circuit)?;
     push_wires(text, circuit)
-}
-
-/// Declares the inputs.
-fn push_inputs(text: &mut Vec<u8>, circuit: &Circuit) -> Result<(), AllocError>
-    ensures { OnOk result (text.new.items
-        ≡ text.old.items ++ flat_map (input_line circuit.now) circuit.now.inputs) }
-{
-    push_inputs_of(text, circuit, circuit.inputs.as_slice())
-}
-
-/// Declares these inputs.
-fn push_inputs_of(text: &mut Vec<u8>, circuit: &Circuit, nets: &[u32]) -> Result<(), AllocError>
-    ensures { OnOk result (text.new.items
-        ≡ text.old.items ++ flat_map (input_line circuit.now) nets.now) }
-{
-    for net in nets {
-        push_input(text, circuit, *net)?;
-    }
-    Ok(())
 }
 
 /// Declares an input.
@@ -249,25 +261,6 @@ fn push_input(text: &mut Vec<u8>, circuit: &Circuit, net: u32) -> Result<(), All
             Part::Text(" ;\n"),
         ],
     )
-}
-
-/// Declares the outputs.
-fn push_outputs(text: &mut Vec<u8>, circuit: &Circuit) -> Result<(), AllocError>
-    ensures { OnOk result (text.new.items
-        ≡ text.old.items ++ flat_map (output_line circuit.now) circuit.now.outputs) }
-{
-    push_outputs_of(text, circuit, circuit.outputs.as_slice())
-}
-
-/// Declares these outputs.
-fn push_outputs_of(text: &mut Vec<u8>, circuit: &Circuit, nets: &[u32]) -> Result<(), AllocError>
-    ensures { OnOk result (text.new.items
-        ≡ text.old.items ++ flat_map (output_line circuit.now) nets.now) }
-{
-    for net in nets {
-        push_output(text, circuit, *net)?;
-    }
-    Ok(())
 }
 
 /// Declares an output.
@@ -323,25 +316,6 @@ fn push_wire(text: &mut Vec<u8>, net: usize) -> Result<(), AllocError>
     )
 }
 
-/// Appends that each input drives the wire of its net.
-pub(crate) fn push_drives(text: &mut Vec<u8>, circuit: &Circuit) -> Result<(), AllocError>
-    ensures { OnOk result (text.new.items
-        ≡ text.old.items ++ flat_map (drives_line circuit.now) circuit.now.inputs) }
-{
-    push_drives_of(text, circuit, circuit.inputs.as_slice())
-}
-
-/// Appends that each of these inputs drives the wire of its net.
-fn push_drives_of(text: &mut Vec<u8>, circuit: &Circuit, nets: &[u32]) -> Result<(), AllocError>
-    ensures { OnOk result (text.new.items
-        ≡ text.old.items ++ flat_map (drives_line circuit.now) nets.now) }
-{
-    for net in nets {
-        push_drive(text, circuit, *net)?;
-    }
-    Ok(())
-}
-
 /// Appends that an input drives the wire of its net.
 fn push_drive(text: &mut Vec<u8>, circuit: &Circuit, net: u32) -> Result<(), AllocError>
     ensures { OnOk result (text.new.items ≡ text.old.items ++ drives_line circuit.now net) }
@@ -356,25 +330,6 @@ fn push_drive(text: &mut Vec<u8>, circuit: &Circuit, net: u32) -> Result<(), All
             Part::Text(" ;\n"),
         ],
     )
-}
-
-/// Appends that the wire of each output's net drives the output.
-pub(crate) fn push_shows(text: &mut Vec<u8>, circuit: &Circuit) -> Result<(), AllocError>
-    ensures { OnOk result (text.new.items
-        ≡ text.old.items ++ flat_map (shows_line circuit.now) circuit.now.outputs) }
-{
-    push_shows_of(text, circuit, circuit.outputs.as_slice())
-}
-
-/// Appends that the wire of each of these outputs' nets drives the output.
-fn push_shows_of(text: &mut Vec<u8>, circuit: &Circuit, nets: &[u32]) -> Result<(), AllocError>
-    ensures { OnOk result (text.new.items
-        ≡ text.old.items ++ flat_map (shows_line circuit.now) nets.now) }
-{
-    for net in nets {
-        push_show(text, circuit, *net)?;
-    }
-    Ok(())
 }
 
 /// Appends that the wire of an output's net drives the output.

@@ -1,33 +1,12 @@
 -- The blocks of a packed circuit, kind by kind, and the nets between them.
-use Rattle.std.proofs.Common.{◌≡◌, refl, sym, ap, subst, ◌∙◌, ℕ, suc, zero, ◌+◌, ◌<◌, Bool, true, false, not, nat_lt, ◌||◌, ◌&&◌, cond, eqb, List, [], ◌∷◌, ◌++◌, All, None, length, get_or, map, filter, slice_index, arith, length-append}
-use Rattle.std.specs.List.{flat_map, range_with_len, enumerate_from}
-use Rattle.std.proofs.lemmas.List.{append_assoc, length-map, get_or-map}
-use Rattle.std.proofs.lemmas.List.Concat.{flat_map-append}
-use Rattle.std.proofs.lemmas.List.Elements.{All-head, All-tail, All-map, All-weaker, filter-append}
-use Rattle.std.proofs.lemmas.List.FromFn.{fill_by_all, length-enumerate_from, get_or-enumerate_from, length-range_with_len, get_or-range_with_len, get_or-map-range_with_len}
-use Rattle.cluster.specs.declared.block.Block.{Block}
-use Rattle.cluster.specs.declared.block.Block.TheVariants.{InputPad, OutputPad, Cluster}
-use Rattle.cluster.specs.declared.net_uses.NetUses.{NetUses}
-use Rattle.ble_cluster.specs.Nets.{has, distinct_nets}
-use Rattle.ble_cluster.specs.NetSets.{NetsAmong}
-use Rattle.ble_cluster.specs.Bles.{LogicElement, bles_of, element_at}
-use Rattle.ble_cluster.specs.Clusters.{elements_at, outputs_of, outside_inputs, clocks_of}
-use Rattle.cluster.specs.Clusters.{PackedCircuit}
-use Rattle.cluster.specs.Blocks.{BlockNet, blocks_of, block_net, block_nets, is_global, leaves_block, nets_from, readers_of, reads_net}
-use Rattle.cluster.specs.ClusterPins.{IsElementWithin, clusters_with, members_of, nets_read, pads_with, readers_by_net}
-use Rattle.cluster.specs.NetUses.{cluster_nets, controls_of, driven_nets, input_nets, leaves_by, net_by, other_readers}
-use Rattle.cluster.specs.LawfulPackings.{IsPacked}
-use Rattle.ble_cluster.proofs.Outside.{has-distinct, has-with_nets}
+use Rattle.cluster.proofs.Prelude.{◌≡◌, refl, sym, ap, subst, ◌∙◌, ℕ, suc, zero, ◌+◌, ◌<◌, Bool, true, false, not, ◌&&◌, cond, eqb, List, [], ◌∷◌, ◌++◌, All, None, length, get_or, map, filter, slice_index, arith, length-append, flat_map, range_with_len, enumerate_from, append_assoc, length-map, get_or-map, flat_map-append, All-head, All-tail, All-map, All-weaker, filter-append, fill_by_all, length-enumerate_from, get_or-enumerate_from, length-range_with_len, get_or-range_with_len, get_or-map-range_with_len, Block, InputPad, OutputPad, Cluster, NetUses, has, distinct_nets, NetsAmong, LogicElement, bles_of, element_at, elements_at, outputs_of, outside_inputs, clocks_of, PackedCircuit, BlockNet, blocks_of, block_net, block_nets, is_global, leaves_block, nets_from, readers_of, reads_net, IsElementWithin, clusters_with, members_of, nets_read, pads_with, readers_by_net, cluster_nets, controls_of, driven_nets, input_nets, leaves_by, net_by, other_readers, IsPacked, has-distinct, has-with_nets}
 use Rattle.cluster.proofs.ReaderLists.{flat_map-range_more}
 use Rattle.cluster.proofs.FewBlocks.{elements_within}
 
 -- numbering a list that has two parts
 enumerate_from-append : {X : Type 0} (start : ℕ) (xs ys : List X) → enumerate_from start (xs ++ ys) ≡ enumerate_from start xs ++ enumerate_from (start + length xs) ys
 enumerate_from-append start [] ys = ap (λ (n : ℕ). enumerate_from n ys) (omega arith)
-enumerate_from-append {X} start (x ∷ xs) ys =
-    let head : ℕ × X = (start, x) in
-    let next : start + 1 + length xs ≡ start + length (x ∷ xs) = omega arith in
-    ap (λ (rest : List (ℕ × X)). head ∷ rest) (enumerate_from-append (start + 1) xs ys ∙ ap (λ (n : ℕ). enumerate_from (start + 1) xs ++ enumerate_from n ys) next)
+enumerate_from-append {X} start (x ∷ xs) ys = grind (arith, enumerate_from-append (start + 1) xs ys)
 
 flat_map-map : {X Y A : Type 0} (g : Y → List A) (f : X → Y) (xs : List X) → flat_map g (map f xs) ≡ flat_map (λ (x : X). g (f x)) xs
 flat_map-map g f [] = refl
@@ -83,11 +62,7 @@ by_kind {A} g packed =
 -- the numbers of the blocks that pass
 numbers_passing : (test : ℕ × Block → Bool) (blocks : List (ℕ × Block)) → map (λ (block : ℕ × Block). block.0) (filter test blocks) ≡ flat_map (λ (block : ℕ × Block). cond (test block) (block.0 ∷ []) []) blocks
 numbers_passing test [] = refl
-numbers_passing test (block ∷ blocks) = by (test block) (numbers_passing test blocks)
-  where
-    by : (b : Bool) → map (λ (block : ℕ × Block). block.0) (filter test blocks) ≡ flat_map (λ (block : ℕ × Block). cond (test block) (block.0 ∷ []) []) blocks → map (λ (block : ℕ × Block). block.0) (cond b (block ∷ filter test blocks) (filter test blocks)) ≡ cond b (block.0 ∷ []) [] ++ flat_map (λ (block : ℕ × Block). cond (test block) (block.0 ∷ []) []) blocks
-    by true rest = ap (λ (numbers : List ℕ). block.0 ∷ numbers) rest
-    by false rest = rest
+numbers_passing test (block ∷ blocks) = grind (arith, numbers_passing test blocks)
 
 -- a filter moves into a `flat_map`
 filter-flat_map : (test : ℕ → Bool) (f : ℕ → List ℕ) (xs : List ℕ) → filter test (flat_map f xs) ≡ flat_map (λ (x : ℕ). filter test (f x)) xs
@@ -96,14 +71,10 @@ filter-flat_map test f (x ∷ xs) = filter-append test (f x) (flat_map f xs) ∙
 
 -- a number that passes two tests
 both_tests : (test : ℕ → Bool) (a b : Bool) (number : ℕ) → test number ≡ a → cond (a && b) (number ∷ []) [] ≡ filter test (cond b (number ∷ []) [])
-both_tests test true true number is = ap (λ (t : Bool). cond t (number ∷ []) []) (sym is)
-both_tests test true false number is = refl
-both_tests test false true number is = ap (λ (t : Bool). cond t (number ∷ []) []) (sym is)
-both_tests test false false number is = refl
+both_tests test a b number is = grind arith
 
 and_false : (b : Bool) → (b && false) ≡ false
-and_false true = refl
-and_false false = refl
+and_false b = grind arith
 
 -- the readers of a net, gathered from the pads and the clusters
 pub readers_gathered : (packed : PackedCircuit) (driver net : ℕ) → readers_of packed driver net ≡ other_readers driver (pads_with packed.circuit net (length packed.circuit.outputs) ++ clusters_with packed.circuit (bles_of packed.circuit) packed.clusters net (length packed.clusters))
@@ -134,11 +105,7 @@ pub record AreUsesOf (packed : PackedCircuit) (uses : NetUses) : Type 0 where
 
 -- the readers, from the uses
 readers_by : (packed : PackedCircuit) (uses : NetUses) (driver net : ℕ) → AreUsesOf packed uses → net < length packed.circuit.nets → other_readers driver (get_or uses.readers net []) ≡ readers_of packed driver net
-readers_by packed uses driver net are within =
-    let f : ℕ → List ℕ = λ net. pads_with packed.circuit net (length packed.circuit.outputs) ++ clusters_with packed.circuit (bles_of packed.circuit) packed.clusters net (length packed.clusters) in
-    ap (λ (rows : List (List ℕ)). other_readers driver (get_or rows net [])) are.readers
-    ∙ ap (other_readers driver) (get_or-map-range_with_len f 0 (length packed.circuit.nets) net net [] within (omega arith))
-    ∙ sym (readers_gathered packed driver net)
+readers_by packed uses driver net are within = grind (arith, get_or-map-range_with_len, readers_gathered)
 
 -- whether a net is global, from the uses
 pub global_by : (packed : PackedCircuit) (uses : NetUses) (net : ℕ) → AreUsesOf packed uses → has uses.globals.nets net ≡ is_global packed.circuit net
@@ -146,15 +113,11 @@ global_by packed uses net are = ap (λ (set : NetsAmong). has set.nets net) are.
 
 -- a net, from the uses
 pub net_by_uses : (packed : PackedCircuit) (uses : NetUses) (driver net : ℕ) → AreUsesOf packed uses → net < length packed.circuit.nets → net_by uses driver net ≡ block_net packed driver net
-net_by_uses packed uses driver net are within =
-    ap (λ (readers : List ℕ). let n : BlockNet = record { net = net; driver = driver; readers = readers; global = has uses.globals.nets net } in n) (readers_by packed uses driver net are within)
-    ∙ ap (λ (global : Bool). let n : BlockNet = record { net = net; driver = driver; readers = readers_of packed driver net; global = global } in n) (global_by packed uses net are)
+net_by_uses packed uses driver net are within = grind (arith, readers_by, global_by)
 
 -- whether a net leaves its block, from the uses
 pub leaves_by_uses : (packed : PackedCircuit) (uses : NetUses) (driver net : ℕ) → AreUsesOf packed uses → net < length packed.circuit.nets → leaves_by uses driver net ≡ leaves_block packed driver net
-leaves_by_uses packed uses driver net are within =
-    ap (λ (readers : List ℕ). has uses.globals.nets net || nat_lt 0 (length readers)) (readers_by packed uses driver net are within)
-    ∙ ap (λ (global : Bool). global || nat_lt 0 (length (readers_of packed driver net))) (global_by packed uses net are)
+leaves_by_uses packed uses driver net are within = grind (arith, readers_by, global_by)
 
 -- the nets that a block drives, from the uses
 driven_by : (packed : PackedCircuit) (uses : NetUses) (driver : ℕ) (outputs : List ℕ) → AreUsesOf packed uses → All (λ net. net < length packed.circuit.nets) outputs → map (block_net packed driver) (filter (leaves_block packed driver) outputs) ≡ map (net_by uses driver) (filter (leaves_by uses driver) outputs)

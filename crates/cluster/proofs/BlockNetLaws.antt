@@ -1,23 +1,5 @@
 -- The nets between blocks: their drivers and readers, and their number.
-use Rattle.std.proofs.Common.{◌≡◌, ◌≢◌, ℕ, suc, zero, ◌+◌, ◌<◌, ◌≤◌, Bool, true, false, not, ◌&&◌, ◌==◌, cond, List, [], ◌∷◌, ◌++◌, All, filter, length, get_or, map, slice_index, refl, ap, arith, length-append}
-use Rattle.std.specs.Prelude.{AllPairs, Contains}
-use Rattle.std.specs.List.{concat, enumerate_from, flat_map, range_with_len}
-use Rattle.std.specs.Option.{option_to_list}
-use Rattle.std.proofs.lemmas.List.{length-map}
-use Rattle.std.proofs.lemmas.List.Elements.{All-nil, All-cons, All-head, All-tail, All-append, All-contains, All-filter, All-map, All-weaker}
-use Rattle.std.proofs.lemmas.List.Kept.{AllPairs-cons}
-use Rattle.std.proofs.lemmas.List.Sums.{length-filter, count_by-le-length}
-use Rattle.std.proofs.lemmas.Bool.{eqb-true}
-use Rattle.std.proofs.lemmas.Bool.Decides.{nat_tests}
-use Rattle.cluster.specs.declared.block.Block.{Block}
-use Rattle.cluster.specs.declared.block.Block.TheVariants.{InputPad, OutputPad, Cluster}
-use Rattle.ble_cluster.specs.Nets.{IsOnce, has}
-use Rattle.ble_cluster.specs.Bles.{LogicElement, bles_of, element_at}
-use Rattle.ble_cluster.specs.Clusters.{outputs_of}
-use Rattle.cluster.specs.Clusters.{PackedCircuit}
-use Rattle.cluster.specs.Blocks.{BlockNet, block_net, block_nets, blocks_of, elements_in, leaves_block, nets_from, reads_net}
-use Rattle.cluster.specs.LawfulPackings.{IsPacked}
-use Rattle.cluster.specs.PackingLaws.{IsBlockNet}
+use Rattle.cluster.proofs.Prelude.{◌≡◌, ◌≢◌, ℕ, suc, zero, ◌+◌, ◌<◌, ◌≤◌, Bool, true, false, not, ◌&&◌, ◌==◌, cond, List, [], ◌∷◌, ◌++◌, All, filter, length, get_or, map, refl, ap, arith, length-append, AllPairs, Contains, concat, enumerate_from, flat_map, range_with_len, option_to_list, length-map, All-nil, All-cons, All-head, All-tail, All-append, All-contains, All-filter, All-map, All-weaker, AllPairs-cons, length-filter, count_by-le-length, eqb-true, nat_tests, Block, InputPad, OutputPad, Cluster, IsOnce, has, bles_of, outputs_of, PackedCircuit, BlockNet, block_net, block_nets, blocks_of, elements_in, leaves_block, nets_from, reads_net, IsPacked, IsBlockNet}
 use Rattle.cluster.proofs.BlockLists.{by_kind, flat_map_none, outputs_within}
 use Rattle.cluster.proofs.FewBlocks.{elements_within}
 use Rattle.cluster.proofs.Members.{ranged}
@@ -142,22 +124,4 @@ one_each f start (suc count) one = omega (arith, one start, one_each f (start + 
 
 -- there are at most as many nets as input pads and members of clusters
 pub few_nets : (packed : PackedCircuit) → length (block_nets packed) ≤ length packed.circuit.inputs + length (concat packed.clusters)
-few_nets packed =
-    let circuit = packed.circuit in
-    let g : ℕ × Block → List BlockNet = λ block. map (block_net packed block.0) (nets_from packed block.0 block.1) in
-    let first = flat_map (λ k. g (k, InputPad (slice_index circuit.inputs k))) (range_with_len 0 (length circuit.inputs)) in
-    let second = flat_map (λ k. g (length circuit.inputs + k, OutputPad (slice_index circuit.outputs k))) (range_with_len 0 (length circuit.outputs)) in
-    let third = flat_map (λ k. g (length circuit.inputs + length circuit.outputs + k, Cluster k)) (range_with_len 0 (length packed.clusters)) in
-    let whole : length (block_nets packed) ≡ length (first ++ (second ++ third)) = ap length (by_kind g packed) in
-    let inputs : length first ≡ length circuit.inputs = one_each (λ k. g (k, InputPad (slice_index circuit.inputs k))) 0 (length circuit.inputs) (λ k. refl) in
-    let outputs : length second ≡ 0 = ap length (flat_map_none (λ k. g (length circuit.inputs + k, OutputPad (slice_index circuit.outputs k))) (length circuit.outputs) (λ k. refl)) in
-    let clusters : length third ≤ length (concat packed.clusters) = no_longer (λ k. g (length circuit.inputs + length circuit.outputs + k, Cluster k)) 0 packed.clusters (λ k small. of_cluster (length circuit.inputs + length circuit.outputs + (0 + k)) (0 + k) k (omega arith)) in
-    omega (arith, whole, inputs, outputs, clusters, length-append first (second ++ third), length-append second third)
-  where
-    of_cluster : (driver cluster k : ℕ) → cluster ≡ k → length (map (block_net packed driver) (filter (leaves_block packed driver) (outputs_of (elements_in packed cluster)))) ≤ length (get_or packed.clusters k [])
-    of_cluster driver cluster k same =
-        let members = get_or packed.clusters cluster [] in
-        let elements = elements_in packed cluster in
-        let leaving = filter (leaves_block packed driver) (outputs_of elements) in
-        let known : length members ≡ length (get_or packed.clusters k []) = ap (λ (n : ℕ). length (get_or packed.clusters n [])) same in
-        omega (arith, known, length-map leaving (block_net packed driver), length-filter (leaves_block packed driver) (outputs_of elements), count_by-le-length (leaves_block packed driver) (outputs_of elements), length-map elements (λ (element : LogicElement). element.output), length-map members (element_at (bles_of packed.circuit)))
+few_nets packed = grind (arith, by_kind, one_each, flat_map_none, no_longer, length-append, length-map, length-filter, count_by-le-length)

@@ -1,11 +1,5 @@
 -- The definitions, computed on small circuits.
-use Rattle.std.proofs.Common.{◌≡◌, ℕ, List, [], ◌∷◌, Option, Some, None, true, false, codes, refl}
-use Rattle.arch_file.specs.declared.arch.Arch.{Arch}
-use Rattle.arch_file.specs.declared.arch.PinClass.TheVariants.{Input, Output, Clock}
-use Rattle.blif.specs.declared.circuit.Circuit.{Circuit}
-use Rattle.ble_cluster.specs.Bles.{bles_of}
-use Rattle.ble_cluster.specs.Clusters.{clusters_after, cluster_of, unfit_of}
-use Rattle.cluster.specs.Clusters.{packed_of, packing_steps}
+use Rattle.cluster.proofs.Prelude.{◌≡◌, ℕ, List, [], ◌∷◌, Option, Some, None, true, false, codes, refl, Arch, Input, Output, Clock, Circuit, bles_of, clusters_after, cluster_of, unfit_of, packed_of, packing_steps}
 
 -- clusters of one table with two inputs
 abbrev small : Arch

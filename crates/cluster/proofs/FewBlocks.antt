@@ -1,25 +1,6 @@
 -- The number of blocks of a packed circuit is small, and its BLEs have nets of the circuit.
-use Rattle.std.proofs.Common.{◌≡◌, ◌≢◌, ℕ, suc, zero, ◌+◌, ◌^◌, ◌<◌, ◌≤◌, Bool, true, false, List, [], ◌∷◌, ◌++◌, Option, None, Some, All, filter, length, map, drop, if◌then◌else◌, refl, ap, subst, arith, length-append, eqb}
-use Rattle.std.specs.List.{AllPairs, take_while, prefix_len, find}
-use Rattle.std.specs.Option.{ForSome}
-use Rattle.std.proofs.lemmas.Bool.Decides.{Decides-eqb}
-use Rattle.std.proofs.lemmas.Map.Made.{IsDistinct-from_AllPairs}
-use Rattle.std.proofs.lemmas.Map.Steps.{length-le_from_distinct_below}
-use Rattle.std.proofs.lemmas.List.Elements.{All-nil, All-cons, All-head, All-tail, All-append, All-filter, All-map, All-drop, All-take, All-weaker}
-use Rattle.blif.specs.declared.circuit.Circuit.{Circuit}
-use Rattle.blif.specs.declared.latches.Latch.{Latch}
-use Rattle.blif.specs.LookupTables.{LookupTable}
-use Rattle.blif.specs.LawfulCircuits.{IsCircuit, IsLatchWithin, IsTableWithin, drivers_of}
-use Rattle.arch_file.specs.declared.arch.Arch.{Arch}
-use Rattle.ble_cluster.specs.Nets.{has, with_nets}
-use Rattle.ble_cluster.specs.NetSets.{with_net}
-use Rattle.ble_cluster.specs.Bles.{LogicElement, bles_of, element_of_latch, element_of_table, in_line_order, latch_after, stands_alone, is_read_once}
-use Rattle.ble_cluster.specs.LineOrder.{is_above}
-use Rattle.ble_cluster.specs.Clusters.{clusters_after, cluster_of, free_of, with_cluster}
-use Rattle.cluster.specs.Clusters.{PackedCircuit, packed_of}
-use Rattle.cluster.specs.ClusterPins.{IsElementWithin}
-use Rattle.cluster.specs.LawfulPackings.{IsPacked}
-use Rattle.ble_cluster.proofs.Leading.{found}
+use Rattle.cluster.proofs.Prelude.{◌≡◌, ◌≢◌, ℕ, suc, zero, ◌+◌, ◌^◌, ◌<◌, ◌≤◌, Bool, true, false, List, [], ◌∷◌, ◌++◌, Option, None, Some, All, filter, length, map, drop, if◌then◌else◌, refl, ap, arith, length-append, eqb, take_while, prefix_len, ForSome, Decides-eqb, IsDistinct-from_AllPairs, length-le_from_distinct_below, All-nil, All-cons, All-head, All-tail, All-append, All-filter, All-map, All-drop, All-take, All-weaker, Circuit, Latch, LookupTable, IsCircuit, IsLatchWithin, IsTableWithin, drivers_of, Arch, with_nets, with_net, LogicElement, bles_of, element_of_latch, element_of_table, in_line_order, latch_after, stands_alone, is_read_once, is_above, clusters_after, with_cluster, PackedCircuit, packed_of, IsElementWithin, IsPacked, found}
+use Rattle.std.specs.List.{AllPairs, find}
 use Rattle.cluster.proofs.Members.{within}
 
 -- numbers below a bound, each once, are at most as many as the bound
@@ -28,15 +9,12 @@ few_distinct numbers bound apart below = length-le_from_distinct_below numbers b
 
 -- each step makes at most one cluster
 one_more : (clusters : List (List ℕ)) (cluster : List ℕ) → length (with_cluster clusters cluster) ≤ length clusters + 1
-one_more clusters [] = omega arith
-one_more clusters (seed ∷ others) = omega (arith, length-append clusters ((seed ∷ others) ∷ []))
+one_more clusters cluster = grind (arith, length-append)
 
 pub few_clusters : (arch : Arch) (elements : List LogicElement) (steps : ℕ) → length (clusters_after arch elements steps) ≤ steps
 unfolding clusters_after
 few_clusters arch elements zero = omega arith
-few_clusters arch elements (suc steps) =
-    let before = few_clusters arch elements steps in
-    omega (arith, one_more (clusters_after arch elements steps) (cluster_of arch elements (free_of elements (clusters_after arch elements steps))))
+few_clusters arch elements (suc steps) = grind (arith, one_more, few_clusters arch elements steps)
 
 -- the number of blocks of a packed circuit fits into 32 bits
 pub few_blocks : (packed : PackedCircuit) → IsPacked packed → length packed.circuit.inputs + length packed.circuit.outputs + length packed.clusters < 2 ^ 32
@@ -53,33 +31,20 @@ few_blocks packed lawful =
 
 -- the number of pads of a circuit fits into 32 bits
 pub few_pads : (circuit : Circuit) → IsCircuit circuit → length circuit.inputs + length circuit.outputs < 2 ^ 32
-few_pads circuit c =
-    let drivers = few_distinct (drivers_of circuit) (length circuit.nets) c.driven_once (within circuit c) in
-    let outputs = few_distinct circuit.outputs (length circuit.nets) c.shown_once c.outputs in
-    let inputs = length-append circuit.inputs (map (λ (table : LookupTable). table.output) circuit.tables ++ map (λ (latch : Latch). latch.output) circuit.latches) in
-    omega (arith, drivers, outputs, inputs, c.few)
+few_pads circuit c = grind (arith, length-append, few_distinct (drivers_of circuit) (length circuit.nets) c.driven_once (within circuit c), few_distinct circuit.outputs (length circuit.nets) c.shown_once c.outputs)
 
 -- a property of all nets still holds with one more net
 All-with_net : (P : ℕ → Type 0) (nets : List ℕ) (net : ℕ) → All P nets → P net → All P (with_net nets net)
-All-with_net P nets net all one = by (has nets net)
-  where
-    by : (b : Bool) → All P (if b then nets else nets ++ net ∷ [])
-    by true = all
-    by false = All-append P nets (net ∷ []) all (All-cons P net [] one (All-nil P))
+All-with_net P nets net all one = grind (arith, All-append P nets (net ∷ []) all (All-cons P net [] one (All-nil P)))
 
 All-with_nets : (P : ℕ → Type 0) (nets others : List ℕ) → All P nets → All P others → All P (with_nets nets others)
 All-with_nets P nets [] all more = all
-All-with_nets P nets (other ∷ others) all more =
-    All-with_nets P (with_net nets other) others (All-with_net P nets other all (All-head P other others more)) (All-tail P other others more)
+All-with_nets P nets (other ∷ others) all more = grind (arith, All-with_nets P (with_net nets other) others (All-with_net P nets other all (All-head P other others more)) (All-tail P other others more))
 
 -- a latch that is found among lawful latches is lawful
 found_latch : (count : ℕ) (test : Latch → Bool) (latches : List Latch) → All (IsLatchWithin count) latches → ForSome (find test latches) (IsLatchWithin count)
 found_latch count test [] all = λ latch is. absurd cc
-found_latch count test (first ∷ latches) all = by (test first) (found_latch count test latches (All-tail (IsLatchWithin count) first latches all))
-  where
-    by : (b : Bool) → ForSome (find test latches) (IsLatchWithin count) → ForSome (if b then Some first else find test latches) (IsLatchWithin count)
-    by true rest = λ latch is. let same : first ≡ latch = cc in subst (IsLatchWithin count) same (All-head (IsLatchWithin count) first latches all)
-    by false rest = rest
+found_latch count test (first ∷ latches) all = grind (arith, All-head, found_latch count test latches (All-tail (IsLatchWithin count) first latches all))
 
 behind_lawful : (circuit : Circuit) (net : ℕ) → IsCircuit circuit → ForSome (latch_after circuit net) (IsLatchWithin (length circuit.nets))
 behind_lawful circuit net c = by (is_read_once circuit net)
@@ -101,11 +66,7 @@ table_element count table (Some latch) t b = record {
 }
 
 latch_element : (count : ℕ) (latch : Latch) → IsLatchWithin count latch → IsElementWithin count (element_of_latch latch)
-latch_element count latch l = record {
-  inputs = All-cons (λ net. net < count) latch.input [] l.input (All-nil (λ net. net < count));
-  output = l.output;
-  clock = l.control;
-}
+latch_element count latch l = grind arith
 
 latch_elements : (count : ℕ) (latches : List Latch) → All (IsLatchWithin count) latches → All (IsElementWithin count) (map element_of_latch latches)
 latch_elements count latches all = All-map (IsElementWithin count) element_of_latch latches (All-weaker (IsLatchWithin count) (λ latch. IsElementWithin count (element_of_latch latch)) (latch_element count) latches all)

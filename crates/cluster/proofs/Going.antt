@@ -1,40 +1,12 @@
 -- One more cluster of a packing in progress.
-use Rattle.std.proofs.Common.{◌≡◌, ℕ, suc, ◌+◌, ◌<◌, Bool, true, false, not, ◌||◌, ◌&&◌, List, Option, [], ◌∷◌, ◌++◌, ◌==◌, None, IsTrue, filter, length, max, refl, sym, ap, subst, ◌∙◌, arith}
-use Rattle.std.specs.List.{list_any, range_with_len}
-use Rattle.std.proofs.lemmas.List.Elements.{filter_agree}
-use Rattle.std.proofs.lemmas.List.Folds.{list_any-append}
-use Rattle.std.proofs.lemmas.Bool.Decides.{nat_tests}
-use Rattle.arch_file.specs.declared.arch.Arch.{Arch}
-use Rattle.arch_file.specs.Arch.{IsArch}
-use Rattle.blif.specs.declared.circuit.Circuit.{Circuit}
-use Rattle.blif.specs.LawfulCircuits.{IsCircuit}
-use Rattle.ble_cluster.specs.Nets.{has}
-use Rattle.ble_cluster.specs.Bles.{LogicElement, bles_of}
-use Rattle.ble_cluster.specs.Clusters.{cluster_of, clusters_after, free_of, unfit_among, unfit_of, with_cluster}
-use Rattle.cluster.specs.Clusters.{PackedCircuit, packed_of, packing_steps}
-use Rattle.ble_cluster.specs.FreeBles.{FreeBlesState}
+use Rattle.cluster.proofs.Prelude.{◌≡◌, ℕ, suc, ◌+◌, ◌<◌, Bool, true, false, not, List, Option, [], ◌∷◌, ◌==◌, None, IsTrue, filter, length, max, refl, sym, ap, subst, ◌∙◌, arith, range_with_len, list_any-append, nat_tests, Arch, IsArch, Circuit, IsCircuit, has, LogicElement, bles_of, cluster_of, clusters_after, free_of, unfit_among, unfit_of, with_cluster, PackedCircuit, packed_of, packing_steps, FreeBlesState, IsUnderWay, steps_reached, filter_filter, free_same, no_cluster}
 use Rattle.cluster.specs.Packing.{IsPacked}
-use Rattle.cluster.specs.UnderWay.{IsUnderWay, steps_reached}
-use Rattle.ble_cluster.proofs.Marking.{filter_filter, free_same}
 use Rattle.cluster.proofs.Members.{packed_lawful}
 use Rattle.cluster.proofs.Steps.{Going, going_first, last_step, one_of_more}
-use Rattle.ble_cluster.proofs.Fitting.{no_cluster}
 
 -- the BLEs that are free after one more cluster
 free_with : (elements : List LogicElement) (clusters : List (List ℕ)) (cluster : List ℕ) → filter (λ number. not (has cluster number)) (free_of elements clusters) ≡ free_of elements (with_cluster clusters cluster)
-free_with elements clusters [] = sym (free_same (free_of elements clusters))
-free_with elements clusters (seed ∷ others) =
-    let all = range_with_len 0 (length elements) in
-    let old : ℕ → Bool = λ number. not (list_any (λ cluster. has cluster number) clusters) in
-    let new : ℕ → Bool = λ number. not (has (seed ∷ others) number) in
-    let both : ℕ → Bool = λ number. not (list_any (λ cluster. has cluster number) (clusters ++ (seed ∷ others) ∷ [])) in
-    filter_filter old new all
-    ∙ filter_agree (λ number. old number && new number) both (λ number. by number (list_any (λ cluster. has cluster number) clusters) refl (has (seed ∷ others) number) refl (list_any-append (λ cluster. has cluster number) clusters ((seed ∷ others) ∷ []))) all
-  where
-    by : (number : ℕ) (a : Bool) → list_any (λ cluster. has cluster number) clusters ≡ a → (b : Bool) → has (seed ∷ others) number ≡ b → list_any (λ cluster. has cluster number) (clusters ++ (seed ∷ others) ∷ []) ≡ (list_any (λ cluster. has cluster number) clusters || list_any (λ cluster. has cluster number) ((seed ∷ others) ∷ [])) → (not a && not b) ≡ not (list_any (λ cluster. has cluster number) (clusters ++ (seed ∷ others) ∷ []))
-    by number true e b f more = grind (arith, e, more)
-    by number false e true f more = grind (arith, e, f, more)
-    by number false e false f more = grind (arith, e, f, more)
+free_with elements clusters cluster = grind (arith, filter_filter, list_any-append)
 
 -- a packing in progress whose next step has made its cluster
 pub record IsStepped (circuit : Circuit) (arch : Arch) (growth : FreeBlesState) (clusters : List (List ℕ)) (made : ℕ) : Type 0 where
@@ -48,19 +20,10 @@ pub record IsStepped (circuit : Circuit) (arch : Arch) (growth : FreeBlesState) 
 -- the clusters with one more are those after one more step
 exact_more : (arch : Arch) (elements : List LogicElement) (free : List ℕ) (clusters : List (List ℕ)) (made : ℕ) → free ≡ free_of elements clusters → clusters ≡ clusters_after arch elements (steps_reached free made) → with_cluster clusters (cluster_of arch elements free) ≡ clusters_after arch elements (suc made)
 unfolding clusters_after
-exact_more arch elements [] clusters made is exact = ap (with_cluster clusters) (no_cluster arch elements) ∙ exact
-exact_more arch elements (number ∷ free) clusters made is exact =
-    ap (λ ns. with_cluster clusters (cluster_of arch elements ns)) is ∙ ap (λ cs. with_cluster cs (cluster_of arch elements (free_of elements cs))) exact
+exact_more arch elements free clusters made is exact = grind (arith, no_cluster)
 
 pub stepped : (circuit : Circuit) (arch : Arch) (old new : FreeBlesState) (clusters later : List (List ℕ)) (made : ℕ) → IsUnderWay circuit arch old clusters made → new.elements ≡ old.elements → later ≡ with_cluster clusters (cluster_of arch old.elements old.free) → new.free ≡ filter (λ number. not (has (cluster_of arch old.elements old.free) number)) old.free → IsStepped circuit arch new later made
-stepped circuit arch old new clusters later made way same added left = record {
-  fit = way.fit;
-  elements = same ∙ way.elements;
-  free = left ∙ ap (filter (λ number. not (has (cluster_of arch old.elements old.free) number))) way.free ∙ free_with (bles_of circuit) clusters (cluster_of arch old.elements old.free) ∙ ap (free_of (bles_of circuit)) (sym added);
-  exact = added ∙ ap (λ es. with_cluster clusters (cluster_of arch es old.free)) way.elements ∙ exact_more arch (bles_of circuit) old.free clusters made way.free way.exact;
-  going = record { clusters = way.count; taken = way.taken };
-  begun = way.begun;
-}
+stepped circuit arch old new clusters later made way same added left = grind (arith, free_with, exact_more)
 
 -- the packed circuit that results from packing
 pub packed_is : (circuit : Circuit) (arch : Arch) (clusters : List (List ℕ)) → clusters ≡ clusters_after arch (bles_of circuit) (length (bles_of circuit)) → packed_of circuit arch ≡ record { circuit = circuit; arch = arch; clusters = clusters }
@@ -132,8 +95,7 @@ ends_lawful circuit arch clusters lawful profile fit is = subst IsPacked is (pac
 -- the state before the first step
 begins_exact : (arch : Arch) (elements : List LogicElement) (free : List ℕ) → free ≡ free_of elements [] → [] ≡ clusters_after arch elements (steps_reached free 0)
 unfolding clusters_after
-begins_exact arch elements [] is = sym (ap (with_cluster []) (ap (cluster_of arch elements) (sym is) ∙ no_cluster arch elements))
-begins_exact arch elements (number ∷ free) is = refl
+begins_exact arch elements free is = grind (arith, no_cluster)
 
 pub begins : (circuit : Circuit) (arch : Arch) (growth : FreeBlesState) (clusters : List (List ℕ)) → unfit_of circuit arch ≡ None → growth.elements ≡ bles_of circuit → growth.free ≡ range_with_len 0 (length (bles_of circuit)) → clusters ≡ [] → IsUnderWay circuit arch growth clusters 0
 begins circuit arch growth clusters fit same free none =

@@ -1,25 +1,6 @@
 -- No two blocks have the same key.
-use Rattle.std.proofs.Common.{◌≡◌, ◌≢◌, ℕ, ◌<◌, ◌⊎◌, inl, inr, List, [], ◌∷◌, ◌++◌, All, Option, Some, None, slice_get, length, get_or, map, refl, sym, ap, subst, ◌∙◌, arith}
-use Rattle.std.specs.Prelude.{AllPairs}
-use Rattle.std.specs.List.{concat, range_with_len}
-use Rattle.std.proofs.lemmas.Bool.{cases_order}
-use Rattle.std.proofs.lemmas.List.{get_or-map, map-append, length-map}
-use Rattle.std.proofs.lemmas.List.FromFn.{get_or-range_with_len, length-range_with_len}
-use Rattle.std.proofs.lemmas.List.Elements.{All-append, All-cons, All-head, All-map, All-nil, All-tail}
-use Rattle.std.proofs.lemmas.List.Kept.{AllPairs-cons}
-use Rattle.std.proofs.lemmas.Option.{get_or_from_slice_get, slice_get-get_or, slice_get_within}
-use Rattle.blif.specs.declared.circuit.Circuit.{Circuit}
-use Rattle.blif.specs.LawfulCircuits.{IsCircuit}
-use Rattle.cluster.specs.declared.block.Block.{Block}
-use Rattle.cluster.specs.declared.block.Block.TheVariants.{InputPad, OutputPad, Cluster}
-use Rattle.cluster.specs.declared.block.BlockKind.{BlockKind}
+use Rattle.cluster.proofs.Prelude.{◌≡◌, ◌≢◌, ℕ, ◌<◌, ◌⊎◌, inl, inr, List, [], ◌∷◌, ◌++◌, All, Option, Some, None, slice_get, length, get_or, map, refl, sym, ap, subst, ◌∙◌, arith, AllPairs, concat, range_with_len, cases_order, get_or-map, map-append, length-map, get_or-range_with_len, length-range_with_len, All-append, All-cons, All-head, All-map, All-nil, All-tail, AllPairs-cons, get_or_from_slice_get, slice_get-get_or, slice_get_within, Circuit, IsCircuit, Block, InputPad, OutputPad, Cluster, BlockKind, LogicElement, bles_of, element_at, PackedCircuit, block_name, blocks_of, net_name, seed_name, BlockKey, key_of, keys_of, IsPacked}
 use Rattle.cluster.specs.declared.block.BlockKind.TheVariants as kind
-use Rattle.ble_cluster.specs.Bles.{LogicElement, bles_of, element_at}
-use Rattle.cluster.specs.Clusters.{PackedCircuit}
-use Rattle.cluster.specs.Blocks.{block_name, blocks_of, net_name}
-use Rattle.cluster.specs.ClusterPins.{seed_name}
-use Rattle.cluster.specs.Keys.{BlockKey, key_of, keys_of}
-use Rattle.cluster.specs.LawfulPackings.{IsPacked}
 use Rattle.cluster.proofs.FewBlocks.{elements_within}
 use Rattle.cluster.proofs.Members.{ranged}
 use Rattle.cluster.proofs.Outputs.{outputs_apart}
@@ -45,12 +26,7 @@ seed_within packed lawful cluster lt = lawful.members cluster [] lt 0 0 (lawful.
 
 -- nets with equal names are equal
 pub named_apart : (circuit : Circuit) → IsCircuit circuit → (net other : ℕ) → net < length circuit.nets → other < length circuit.nets → net ≢ other → net_name circuit net ≢ net_name circuit other
-named_apart circuit lawful net other small also differs same = by (cases_order net other)
-  where
-    by : (net ≡ other) ⊎ ((net < other) ⊎ (other < net)) → ⊥
-    by (inl e) = differs e
-    by (inr (inl less)) = lawful.named_once net other [] less also same
-    by (inr (inr more)) = lawful.named_once other net [] more small (sym same)
+named_apart circuit lawful net other small also differs same = grind arith
 
 -- the first elements of lists that have no common member are different
 firsts_apart : (lists : List (List ℕ)) → All (λ list. 0 < length list) lists → AllPairs (λ number other. number ≢ other) (concat lists) → AllPairs (λ list other. get_or list 0 0 ≢ get_or other 0 0) lists
@@ -170,7 +146,4 @@ key_at packed number block is =
 
 -- the net that the seed of a cluster drives
 pub seed_drives : (packed : PackedCircuit) (elements : List LogicElement) (cluster : ℕ) (members : List ℕ) (element : LogicElement) → elements ≡ bles_of packed.circuit → slice_get packed.clusters cluster ≡ Some members → slice_get elements (get_or members 0 0) ≡ Some element → element.output ≡ seed_net packed cluster
-seed_drives packed elements cluster members element are found read =
-    let at : get_or packed.clusters cluster [] ≡ members = get_or_from_slice_get packed.clusters cluster members [] found in
-    let is : element_at (bles_of packed.circuit) (get_or members 0 0) ≡ element = ap (λ (elements : List LogicElement). element_at elements (get_or members 0 0)) (sym are) ∙ get_or_from_slice_get elements (get_or members 0 0) element (record { inputs = []; output = 0; clock = None }) read in
-    sym (ap (λ (members : List ℕ). (element_at (bles_of packed.circuit) (get_or members 0 0)).output) at ∙ ap (λ (e : LogicElement). e.output) is)
+seed_drives packed elements cluster members element are found read = grind (arith, get_or_from_slice_get)

@@ -1,23 +1,10 @@
 -- Each cluster fits, and no BLE occurs in it twice.
-use Rattle.std.proofs.Common.{◌≡◌, ℕ, suc, zero, ◌<◌, Bool, true, false, List, [], ◌∷◌, ◌++◌, All, Option, None, Some, filter, length, refl, subst, arith}
-use Rattle.std.specs.Option.{ForSome, option_to_list}
-use Rattle.std.proofs.lemmas.List.{append-nil}
-use Rattle.std.proofs.lemmas.List.Elements.{All-nil, All-cons, All-head, All-tail, All-append, All-filter, filter_passes}
-use Rattle.std.proofs.lemmas.Bool.Decides.{nat_tests}
-use Rattle.arch_file.specs.declared.arch.Arch.{Arch}
-use Rattle.ble_cluster.specs.Nets.{IsOnce, has}
-use Rattle.ble_cluster.specs.Bles.{LogicElement}
-use Rattle.ble_cluster.specs.Clusters.{cluster_of, elements_at, first_most, fits_in_cluster, members_after, input_count_at, leader_of, may_join, next_member, seed_of, shared_nets, unfit_among}
-use Rattle.ble_cluster.proofs.Fitting.{fits_alone}
-use Rattle.ble_cluster.proofs.Leading.{leading_lawful}
-use Rattle.ble_cluster.proofs.Outside.{once-push}
+use Rattle.cluster.proofs.Prelude.{◌≡◌, ℕ, suc, zero, ◌<◌, true, false, List, [], ◌∷◌, ◌++◌, All, Option, None, Some, filter, length, refl, arith, ForSome, option_to_list, append-nil, All-nil, All-cons, All-head, All-tail, All-append, All-filter, filter_passes, nat_tests, Arch, IsOnce, has, LogicElement, cluster_of, elements_at, first_most, fits_in_cluster, members_after, input_count_at, may_join, next_member, seed_of, shared_nets, unfit_among, fits_alone, leading_lawful, once-push}
 
 -- a chosen number has a property that all numbers have
 pub chosen : (P : ℕ → Type 0) (score : ℕ → ℕ) (numbers : List ℕ) → All P numbers → ForSome (first_most score numbers) P
 chosen P score [] all = λ number is. absurd cc
-chosen P score (number ∷ numbers) all = λ found is.
-    let same : leader_of score number numbers ≡ found = cc in
-    subst P same (leading_lawful P score number numbers (All-head P number numbers all) (All-tail P number numbers all))
+chosen P score (number ∷ numbers) all = grind (arith, leading_lawful P score number numbers (All-head P number numbers all) (All-tail P number numbers all))
 
 -- a cluster that fits, of different BLEs that have a property
 pub record IsLegal (arch : Arch) (elements : List LogicElement) (P : ℕ → Type 0) (members : List ℕ) : Type 0 where
@@ -27,12 +14,7 @@ pub record IsLegal (arch : Arch) (elements : List LogicElement) (P : ℕ → Typ
 
 -- the two tests of a BLE that may be added
 joins : (arch : Arch) (elements : List LogicElement) (members : List ℕ) (number : ℕ) → may_join arch elements members number ≡ true → (has members number ≡ false) × (fits_in_cluster arch (elements_at elements (members ++ number ∷ [])) ≡ true)
-joins arch elements members number may = by (has members number) refl (fits_in_cluster arch (elements_at elements (members ++ number ∷ []))) refl
-  where
-    by : (a : Bool) → has members number ≡ a → (b : Bool) → fits_in_cluster arch (elements_at elements (members ++ number ∷ [])) ≡ b → (has members number ≡ false) × (fits_in_cluster arch (elements_at elements (members ++ number ∷ [])) ≡ true)
-    by false e true f = (e, f)
-    by true e b f = absurd (grind (arith, may, e, f))
-    by false e false f = absurd (grind (arith, may, e, f))
+joins arch elements members number may = grind arith
 
 module _ (arch : Arch) (elements : List LogicElement) (P : ℕ → Type 0) (free : List ℕ) (all : All P free) where
   added : (members : List ℕ) → IsLegal arch elements P members → (found : Option ℕ) → next_member arch elements free members ≡ found → IsLegal arch elements P (members ++ option_to_list found)

@@ -1,26 +1,7 @@
 -- The invariant of every packing: clusters have members, these are BLEs, and the number of BLEs is
 -- small.
-use Rattle.std.proofs.Common.{◌≡◌, ℕ, suc, zero, ◌+◌, ◌<◌, ◌≤◌, List, [], ◌∷◌, ◌++◌, All, filter, length, map, drop, sym, refl, ◌∙◌, arith, None, length-append, ap}
-use Rattle.std.specs.Option.{option_to_list}
-use Rattle.std.proofs.lemmas.List.{append-nil, length-map, take-append-drop}
-use Rattle.std.specs.List.{range_with_len, take_while, prefix_len}
-use Rattle.std.proofs.lemmas.Bool.Decides.{Decides-eqb}
-use Rattle.std.proofs.lemmas.List.Sums.{length-filter, count_by-le-length}
-use Rattle.std.proofs.lemmas.Map.Made.{IsDistinct-from_AllPairs}
-use Rattle.std.proofs.lemmas.Map.Steps.{length-le_from_distinct_below}
-use Rattle.std.proofs.lemmas.List.Elements.{All-nil, All-cons, All-tail, All-append, All-filter, All-map}
-use Rattle.arch_file.specs.declared.arch.Arch.{Arch}
-use Rattle.arch_file.specs.Arch.{IsArch}
-use Rattle.blif.specs.declared.circuit.Circuit.{Circuit}
-use Rattle.blif.specs.declared.latches.Latch.{Latch}
-use Rattle.blif.specs.LookupTables.{LookupTable}
-use Rattle.blif.specs.LawfulCircuits.{IsCircuit, drivers_of}
-use Rattle.ble_cluster.specs.Bles.{LogicElement, bles_of, element_of_latch, element_of_table, in_line_order, latch_after, stands_alone}
-use Rattle.ble_cluster.specs.LineOrder.{is_above}
-use Rattle.ble_cluster.specs.Clusters.{cluster_of, clusters_after, first_most, free_of, members_after, input_count_at, may_join, seed_of, shared_nets, unfit_of, with_cluster}
-use Rattle.cluster.specs.Clusters.{packed_of}
+use Rattle.cluster.proofs.Prelude.{◌≡◌, ℕ, suc, zero, ◌+◌, ◌<◌, ◌≤◌, List, [], ◌∷◌, ◌++◌, All, filter, length, map, drop, sym, refl, ◌∙◌, arith, None, length-append, ap, option_to_list, append-nil, length-map, take-append-drop, range_with_len, take_while, prefix_len, Decides-eqb, length-filter, count_by-le-length, IsDistinct-from_AllPairs, length-le_from_distinct_below, All-nil, All-cons, All-tail, All-append, All-filter, All-map, Arch, IsArch, Circuit, Latch, LookupTable, IsCircuit, drivers_of, LogicElement, bles_of, element_of_latch, element_of_table, in_line_order, latch_after, stands_alone, is_above, cluster_of, clusters_after, first_most, free_of, members_after, input_count_at, may_join, seed_of, shared_nets, unfit_of, with_cluster, packed_of, found, leading_lawful}
 use Rattle.cluster.specs.Packing.{IsPacked}
-use Rattle.ble_cluster.proofs.Leading.{found, leading_lawful}
 
 with_lawful : (P : ℕ → Type 0) (score : ℕ → ℕ) (members numbers : List ℕ) → All P members → All P numbers → All P (members ++ option_to_list (first_most score numbers))
 with_lawful P score members [] h k = rw (append-nil members) h

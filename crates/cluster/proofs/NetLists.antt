@@ -1,31 +1,11 @@
 -- Nets, each once.
-use Rattle.std.proofs.Common.{◌≡◌, refl, sym, ap, ◌∙◌, ℕ, ◌+◌, ◌<◌, Bool, true, false, not, ◌||◌, cond, eqb, List, [], ◌∷◌, ◌++◌, length, take, get_or, Some, None}
+use Rattle.cluster.proofs.Prelude.{◌≡◌, refl, sym, ap, ◌∙◌, ℕ, ◌+◌, ◌<◌, Bool, true, not, ◌||◌, cond, eqb, List, [], ◌∷◌, ◌++◌, length, take, get_or, Some, arith, flat_map, option_to_list, append-nil, map_more, flat_map-append, filter-append, get_or_from_slice_get, has, with_nets, NetsAmong, with_net, LogicElement, element_at, elements_at, outputs_of, outside_inputs, inputs_of, all_clocks_of, has-with_net, has-with_nets, with_nets-append}
 use Rattle.std.specs.Prelude.{slice_get}
-use Rattle.std.specs.List.{filter, flat_map}
-use Rattle.std.specs.Option.{option_to_list}
-use Rattle.std.proofs.lemmas.List.{append-nil, map_more}
-use Rattle.std.proofs.lemmas.List.Concat.{flat_map-append}
-use Rattle.std.proofs.lemmas.List.Elements.{filter-append, filter_agree}
-use Rattle.std.proofs.lemmas.Option.{get_or_from_slice_get}
-use Rattle.std.proofs.lemmas.Bool.{eq-eqb, eqb-true, ne_eqb, false≢true}
-use Rattle.ble_cluster.specs.Nets.{has, with_nets, distinct_nets}
-use Rattle.ble_cluster.specs.NetSets.{NetsAmong, with_net}
-use Rattle.ble_cluster.specs.Bles.{LogicElement, element_at}
-use Rattle.ble_cluster.specs.Clusters.{elements_at, outputs_of, outside_inputs}
-use Rattle.ble_cluster.specs.OutsideInputs.{inputs_of}
-use Rattle.cluster.specs.ClusterPins.{all_clocks_of}
-use Rattle.ble_cluster.proofs.Outside.{has-with_net, has-with_nets, with_nets-append}
+use Rattle.std.specs.List.{filter}
 
 -- the nets of one more BLE
 gathered_more : (f : LogicElement → List ℕ) (elements : List LogicElement) (members : List ℕ) (i : ℕ) (start : List ℕ) (element : LogicElement) → i < length members → slice_get elements (get_or members i 0) ≡ Some element → with_nets (with_nets start (flat_map f (elements_at elements (take i members)))) (f element) ≡ with_nets start (flat_map f (elements_at elements (take (i + 1) members)))
-gathered_more f elements members i start element h read =
-    let none : LogicElement = record { inputs = []; output = 0; clock = None } in
-    let is : element_at elements (get_or members i 0) ≡ element = get_or_from_slice_get elements (get_or members i 0) element none read in
-    let more : elements_at elements (take (i + 1) members) ≡ elements_at elements (take i members) ++ element ∷ [] = map_more (element_at elements) members i 0 h ∙ ap (λ (last : LogicElement). elements_at elements (take i members) ++ last ∷ []) is in
-    sym (with_nets-append start (flat_map f (elements_at elements (take i members))) (f element))
-    ∙ ap (λ (nets : List ℕ). with_nets start (flat_map f (elements_at elements (take i members)) ++ nets)) (sym (append-nil (f element)))
-    ∙ ap (with_nets start) (sym (flat_map-append f (elements_at elements (take i members)) (element ∷ [])))
-    ∙ ap (λ (all : List LogicElement). with_nets start (flat_map f all)) (sym more)
+gathered_more f elements members i start element h read = grind (arith, get_or_from_slice_get, with_nets-append, append-nil, flat_map-append, map_more (element_at elements) members i 0 h, with_nets-append start (flat_map f (elements_at elements (take i members))) (f element), append-nil (f element), flat_map-append f (elements_at elements (take i members)) (element ∷ []))
 
 -- a `flat_map` with one net for each BLE
 outputs_flat : (elements : List LogicElement) → flat_map (λ (element : LogicElement). element.output ∷ []) elements ≡ outputs_of elements
@@ -72,10 +52,7 @@ clocks_more elements members i count start old new element h read before after =
     ∙ ap (λ (number : ℕ). let set : NetsAmong = record { count = number; nets = with_nets start (all_clocks_of (elements_at elements (take (i + 1) members))) } in set) count_is
 
 has_filter_by : (p : ℕ → Bool) (b : Bool) (nets : List ℕ) (other net : ℕ) → p other ≡ b → p net ≡ true → has (filter p nets) net ≡ has nets net → has (cond b (other ∷ filter p nets) (filter p nets)) net ≡ (eqb other net || has nets net)
-has_filter_by p true nets other net is pass rest = ap (λ (t : Bool). eqb other net || t) rest
-has_filter_by p false nets other net is pass rest =
-    let differs : eqb other net ≡ false = ne_eqb other net (λ e. false≢true (sym is ∙ ap p e ∙ pass)) in
-    rest ∙ ap (λ (t : Bool). t || has nets net) (sym differs)
+has_filter_by p b nets other net is pass rest = grind arith
 
 -- a filter doesn't change whether a net that passes is in the list
 has-filter : (p : ℕ → Bool) (nets : List ℕ) (net : ℕ) → p net ≡ true → has (filter p nets) net ≡ has nets net
@@ -83,37 +60,19 @@ has-filter p [] net pass = refl
 has-filter p (other ∷ nets) net pass = has_filter_by p (p other) nets other net refl pass (has-filter p nets net pass)
 
 filter_with_by : (p : ℕ → Bool) (b there : Bool) (nets : List ℕ) (net : ℕ) → p net ≡ b → has nets net ≡ there → filter p (cond there nets (nets ++ net ∷ [])) ≡ cond b (with_net (filter p nets) net) (filter p nets)
-filter_with_by p true true nets net pass is =
-    ap (λ (t : Bool). cond t (filter p nets) (filter p nets ++ net ∷ [])) (sym (has-filter p nets net pass ∙ is))
-filter_with_by p true false nets net pass is =
-    filter-append p nets (net ∷ [])
-    ∙ ap (λ (t : Bool). filter p nets ++ cond t (net ∷ []) []) pass
-    ∙ ap (λ (t : Bool). cond t (filter p nets) (filter p nets ++ net ∷ [])) (sym (has-filter p nets net pass ∙ is))
-filter_with_by p false true nets net pass is = refl
-filter_with_by p false false nets net pass is =
-    filter-append p nets (net ∷ []) ∙ ap (λ (t : Bool). filter p nets ++ cond t (net ∷ []) []) pass ∙ append-nil (filter p nets)
+filter_with_by p b there nets net pass is = grind (arith, has-filter, filter-append, append-nil)
 
 filter-with_net : (p : ℕ → Bool) (nets : List ℕ) (net : ℕ) → filter p (with_net nets net) ≡ cond (p net) (with_net (filter p nets) net) (filter p nets)
 filter-with_net p nets net = filter_with_by p (p net) (has nets net) nets net refl refl
 
-with_nets_by : (b : Bool) (nets : List ℕ) (net : ℕ) (others : List ℕ) → with_nets (cond b (with_net nets net) nets) others ≡ with_nets nets (cond b (net ∷ others) others)
-with_nets_by true nets net others = refl
-with_nets_by false nets net others = refl
-
 -- filtering a set of nets is building it from the filtered nets
 pub filter-with_nets : (p : ℕ → Bool) (nets others : List ℕ) → filter p (with_nets nets others) ≡ with_nets (filter p nets) (filter p others)
 filter-with_nets p nets [] = refl
-filter-with_nets p nets (other ∷ others) =
-    filter-with_nets p (with_net nets other) others
-    ∙ ap (λ (first : List ℕ). with_nets first (filter p others)) (filter-with_net p nets other)
-    ∙ with_nets_by (p other) (filter p nets) other (filter p others)
+filter-with_nets p nets (other ∷ others) = grind (arith, filter-with_net, filter-with_nets p (with_net nets other) others)
 
 -- the outside inputs, if driven nets are left out from the start
 pub outside_gathered : (elements : List LogicElement) (outputs : List ℕ) → outputs ≡ with_nets [] (outputs_of elements) → with_nets [] (filter (λ net. not (has outputs net)) (inputs_of elements)) ≡ outside_inputs elements
-outside_gathered elements outputs are =
-    sym (filter-with_nets (λ net. not (has outputs net)) [] (inputs_of elements))
-    ∙ filter_agree (λ net. not (has outputs net)) (λ net. not (has (outputs_of elements) net))
-    (λ net. ap not (ap (λ (nets : List ℕ). has nets net) are ∙ has-with_nets [] (outputs_of elements) net)) (distinct_nets (inputs_of elements))
+outside_gathered elements outputs are = grind (arith, filter-with_nets, has-with_nets)
 
 -- the outside inputs as a set
 pub inputs_gathered : (elements : List LogicElement) (count : ℕ) (no_outputs outputs no_inputs inputs : NetsAmong) → no_outputs.nets ≡ [] → outputs ≡ record { count = no_outputs.count; nets = with_nets no_outputs.nets (outputs_of elements) } → no_inputs ≡ record { count = count; nets = [] } → inputs ≡ record { count = no_inputs.count; nets = with_nets no_inputs.nets (filter (λ net. not (has outputs.nets net)) (inputs_of elements)) } → inputs ≡ record { count = count; nets = outside_inputs elements }
@@ -128,17 +87,10 @@ abbrev pub StandsOnce : List ℕ → ℕ → Type 0
 StandsOnce nets net = filter (λ other. eqb other net) nets ≡ cond (has nets net) (net ∷ []) []
 
 once_by : (b there : Bool) (net other : ℕ) → eqb other net ≡ b → cond b (with_net (cond there (net ∷ []) []) other) (cond there (net ∷ []) []) ≡ cond (there || b) (net ∷ []) []
-once_by true true net other is = ap (λ (t : Bool). cond (t || false) (net ∷ []) (net ∷ other ∷ [])) (eq-eqb net other (sym (eqb-true other net is)))
-once_by true false net other is = ap (λ (x : ℕ). x ∷ []) (eqb-true other net is)
-once_by false true net other is = refl
-once_by false false net other is = refl
+once_by b there net other is = grind arith
 
 once_with_net : (nets : List ℕ) (net other : ℕ) → StandsOnce nets net → StandsOnce (with_net nets other) net
-once_with_net nets net other once =
-    filter-with_net (λ x. eqb x net) nets other
-    ∙ ap (λ (front : List ℕ). cond (eqb other net) (with_net front other) front) once
-    ∙ once_by (eqb other net) (has nets net) net other refl
-    ∙ ap (λ (t : Bool). cond t (net ∷ []) []) (sym (has-with_net nets other net))
+once_with_net nets net other once = grind (arith, filter-with_net, has-with_net)
 
 -- a net still occurs at most once after others are added
 pub once_with_nets : (nets others : List ℕ) (net : ℕ) → StandsOnce nets net → StandsOnce (with_nets nets others) net

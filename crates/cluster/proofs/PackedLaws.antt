@@ -1,29 +1,9 @@
 -- The blocks and pins of a packed circuit.
-use Rattle.std.proofs.Common.{◌≡◌, refl, sym, ap, ◌∙◌, ℕ, ◌+◌, ◌-◌, ◌<◌, ◌≤◌, Bool, true, false, Option, Some, None, List, [], ◌++◌, if◌then◌else◌, length, get_or, map, option_and_then, slice_get, slice_index, arith, length-append}
-use Rattle.std.specs.List.{range_with_len, enumerate_from}
-use Rattle.std.proofs.lemmas.List.{length-map, get_or-map, get_or_append_left, get_or-append_right}
-use Rattle.std.proofs.lemmas.List.FromFn.{length-enumerate_from, get_or-enumerate_from, length-range_with_len, get_or-range_with_len}
-use Rattle.std.proofs.lemmas.Option.{slice_get-get_or, get_or_from_slice_get}
-use Rattle.arch_file.specs.declared.arch.Pin.{Pin}
-use Rattle.arch_file.specs.declared.arch.PinClass.{PinClass}
-use Rattle.arch_file.specs.declared.arch.PinClass.TheVariants.{Input, Output, Clock}
-use Rattle.cluster.specs.declared.packed_tables.PackedTables.{PackedTables}
-use Rattle.cluster.specs.declared.block.Block.{Block}
-use Rattle.cluster.specs.declared.block.Block.TheVariants.{InputPad, OutputPad, Cluster}
-use Rattle.ble_cluster.specs.Bles.{LogicElement, bles_of, element_at}
-use Rattle.ble_cluster.specs.Clusters.{elements_at, outputs_of, outside_inputs, clocks_of}
-use Rattle.cluster.specs.Clusters.{PackedCircuit}
-use Rattle.cluster.specs.PackedTables.{AreTablesOf}
-use Rattle.cluster.specs.Blocks.{blocks_of, net_on_pin, leaves_block, pins_of}
-use Rattle.cluster.specs.ClusterPins.{cluster_block, if_leaving, pin_ranks, rank_of}
+use Rattle.cluster.proofs.Prelude.{◌≡◌, sym, ap, ◌∙◌, ℕ, ◌+◌, ◌-◌, ◌<◌, ◌≤◌, true, false, Option, Some, None, List, [], ◌++◌, length, get_or, map, option_and_then, slice_get, slice_index, arith, length-append, range_with_len, enumerate_from, length-map, get_or-map, get_or_append_left, get_or-append_right, length-enumerate_from, get_or-enumerate_from, length-range_with_len, get_or-range_with_len, slice_get-get_or, get_or_from_slice_get, Pin, PinClass, Input, Output, Clock, PackedTables, Block, InputPad, OutputPad, Cluster, LogicElement, bles_of, element_at, elements_at, outputs_of, PackedCircuit, AreTablesOf, blocks_of, net_on_pin, leaves_block, pins_of, cluster_block, if_leaving, pin_ranks, rank_of}
 
 -- the number of blocks
 pub length-blocks_of : (packed : PackedCircuit) → length (blocks_of packed) ≡ length packed.circuit.inputs + length packed.circuit.outputs + length packed.clusters
-length-blocks_of packed =
-    let inputs = map InputPad packed.circuit.inputs in
-    let outputs = map OutputPad packed.circuit.outputs in
-    let numbers = range_with_len 0 (length packed.clusters) in
-    omega (arith, length-append (inputs ++ outputs) (map Cluster numbers), length-append inputs outputs, length-map packed.circuit.inputs InputPad, length-map packed.circuit.outputs OutputPad, length-map numbers Cluster, length-range_with_len 0 (length packed.clusters))
+length-blocks_of packed = grind (arith, length-append, length-map, length-range_with_len)
 
 -- the blocks of each kind
 pub input_pad_at : (packed : PackedCircuit) (number : ℕ) → number < length packed.circuit.inputs → slice_get (blocks_of packed) number ≡ Some (InputPad (slice_index packed.circuit.inputs number))
@@ -80,8 +60,7 @@ length-pin_ranks pins = length-map (enumerate_from 0 pins) (λ (pin : ℕ × Pin
 
 -- the row of a cluster
 pub row_at : (f : List ℕ → List ℕ) (clusters rows : List (List ℕ)) (cluster : ℕ) (row : List ℕ) → cluster < length clusters → rows ≡ map f clusters → slice_get rows cluster ≡ Some row → row ≡ f (get_or clusters cluster [])
-row_at f clusters rows cluster row h are found =
-    sym (get_or_from_slice_get rows cluster row [] found) ∙ ap (λ (rows : List (List ℕ)). get_or rows cluster []) are ∙ get_or-map f clusters cluster [] [] h
+row_at f clusters rows cluster row h are found = grind (arith, get_or-map, get_or_from_slice_get rows cluster row [] found, get_or-map f clusters cluster [] [] h)
 
 -- the net on an output pin
 output_at : (packed : PackedCircuit) (cluster place : ℕ) → place < length (get_or packed.clusters cluster []) → net_on_pin packed cluster Output place ≡ if_leaving packed (cluster_block packed cluster) (element_at (bles_of packed.circuit) (get_or (get_or packed.clusters cluster []) place 0)).output
@@ -96,43 +75,24 @@ output_at packed cluster place h =
     ∙ ap f (get_or-map (λ (element : LogicElement). element.output) elements place none 0 among ∙ ap (λ (element : LogicElement). element.output) (get_or-map (element_at (bles_of packed.circuit)) members place 0 none h))
 
 if_leaves : (packed : PackedCircuit) (block net : ℕ) → leaves_block packed block net ≡ true → if_leaving packed block net ≡ Some net
-if_leaves packed block net is = by (leaves_block packed block net) is
-  where
-    by : (b : Bool) → b ≡ true → (if b then Some net else None) ≡ Some net
-    by true e = refl
-    by false e = absurd cc
+if_leaves packed block net is = grind arith
 
 if_stays : (packed : PackedCircuit) (block net : ℕ) → leaves_block packed block net ≡ false → if_leaving packed block net ≡ None
-if_stays packed block net is = by (leaves_block packed block net) is
-  where
-    by : (b : Bool) → b ≡ false → (if b then Some net else None) ≡ None
-    by true e = absurd cc
-    by false e = refl
+if_stays packed block net is = grind arith
 
 -- the output of the BLE at an index
 pub output_of_member : (packed : PackedCircuit) (elements : List LogicElement) (cluster place : ℕ) (members : List ℕ) (element : LogicElement) → elements ≡ bles_of packed.circuit → slice_get packed.clusters cluster ≡ Some members → place < length members → slice_get elements (get_or members place 0) ≡ Some element → net_on_pin packed cluster Output place ≡ if_leaving packed (cluster_block packed cluster) element.output
-output_of_member packed elements cluster place members element elements_are found h read =
-    let none : LogicElement = record { inputs = []; output = 0; clock = None } in
-    let at : get_or packed.clusters cluster [] ≡ members = get_or_from_slice_get packed.clusters cluster members [] found in
-    let within : place < length (get_or packed.clusters cluster []) = omega (arith, ap (λ (members : List ℕ). length members) at) in
-    let is : element_at (bles_of packed.circuit) (get_or members place 0) ≡ element = ap (λ (elements : List LogicElement). element_at elements (get_or members place 0)) (sym elements_are) ∙ get_or_from_slice_get elements (get_or members place 0) element none read in
-    output_at packed cluster place within
-    ∙ ap (λ (members : List ℕ). if_leaving packed (cluster_block packed cluster) (element_at (bles_of packed.circuit) (get_or members place 0)).output) at
-    ∙ ap (λ (element : LogicElement). if_leaving packed (cluster_block packed cluster) element.output) is
+output_of_member packed elements cluster place members element elements_are found h read = search (get_or_from_slice_get, output_at, arith)
 
 pub output_leaves : (packed : PackedCircuit) (elements : List LogicElement) (cluster place : ℕ) (members : List ℕ) (element : LogicElement) → elements ≡ bles_of packed.circuit → slice_get packed.clusters cluster ≡ Some members → place < length members → slice_get elements (get_or members place 0) ≡ Some element → leaves_block packed (cluster_block packed cluster) element.output ≡ true → Some element.output ≡ net_on_pin packed cluster Output place
-output_leaves packed elements cluster place members element elements_are found h read leaves =
-    sym (output_of_member packed elements cluster place members element elements_are found h read ∙ if_leaves packed (cluster_block packed cluster) element.output leaves)
+output_leaves packed elements cluster place members element elements_are found h read leaves = grind (arith, if_leaves, output_of_member packed elements cluster place members element elements_are found h read, if_leaves packed (cluster_block packed cluster) element.output leaves)
 
 pub output_stays : (packed : PackedCircuit) (elements : List LogicElement) (cluster place : ℕ) (members : List ℕ) (element : LogicElement) → elements ≡ bles_of packed.circuit → slice_get packed.clusters cluster ≡ Some members → place < length members → slice_get elements (get_or members place 0) ≡ Some element → leaves_block packed (cluster_block packed cluster) element.output ≡ false → None ≡ net_on_pin packed cluster Output place
-output_stays packed elements cluster place members element elements_are found h read stays =
-    sym (output_of_member packed elements cluster place members element elements_are found h read ∙ if_stays packed (cluster_block packed cluster) element.output stays)
+output_stays packed elements cluster place members element elements_are found h read stays = grind (arith, if_stays, output_of_member packed elements cluster place members element elements_are found h read, if_stays packed (cluster_block packed cluster) element.output stays)
 
 -- the nets on an input pin and on the clock pin
 pub input_entry : (packed : PackedCircuit) (tables : PackedTables) (cluster rank : ℕ) (row : List ℕ) → cluster < length packed.clusters → AreTablesOf packed tables → slice_get tables.inputs cluster ≡ Some row → slice_get row rank ≡ net_on_pin packed cluster Input rank
-input_entry packed tables cluster rank row h kept found =
-    ap (λ (row : List ℕ). slice_get row rank) (row_at (λ members. outside_inputs (elements_at (bles_of packed.circuit) members)) packed.clusters tables.inputs cluster row h kept.inputs found)
+input_entry packed tables cluster rank row h kept found = grind (arith, row_at)
 
 pub clock_entry : (packed : PackedCircuit) (tables : PackedTables) (cluster rank : ℕ) (row : List ℕ) → cluster < length packed.clusters → AreTablesOf packed tables → slice_get tables.clocks cluster ≡ Some row → slice_get row rank ≡ net_on_pin packed cluster Clock rank
-clock_entry packed tables cluster rank row h kept found =
-    ap (λ (row : List ℕ). slice_get row rank) (row_at (λ members. clocks_of (elements_at (bles_of packed.circuit) members)) packed.clusters tables.clocks cluster row h kept.clocks found)
+clock_entry packed tables cluster rank row h kept found = grind (arith, row_at)

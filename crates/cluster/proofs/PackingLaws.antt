@@ -1,14 +1,5 @@
 -- The laws of each packing.
-use Rattle.std.proofs.Common.{◌≡◌, ◌≢◌, ℕ, ◌≤◌, List, ◌++◌, length, map, refl, sym, ap, subst, arith}
-use Rattle.std.specs.List.{concat}
-use Rattle.arch_file.proofs.FewPins.{few_pins}
-use Rattle.blif.specs.declared.latches.Latch.{Latch}
-use Rattle.blif.specs.LookupTables.{LookupTable}
-use Rattle.ble_cluster.specs.Bles.{bles_of}
-use Rattle.ble_cluster.specs.Clusters.{clusters_after}
-use Rattle.cluster.specs.Clusters.{PackedCircuit, packed_of}
-use Rattle.cluster.specs.LawfulPackings.{IsPacked}
-use Rattle.cluster.specs.PackingLaws.{IsLawfulPacking}
+use Rattle.cluster.proofs.Prelude.{◌≡◌, ◌≢◌, ℕ, ◌≤◌, List, ◌++◌, length, map, refl, sym, ap, subst, arith, concat, few_pins, Latch, LookupTable, bles_of, clusters_after, PackedCircuit, packed_of, IsPacked, IsLawfulPacking}
 use Rattle.cluster.proofs.BlockNetLaws.{apart, contained, few_nets, nets_lawful}
 use Rattle.cluster.proofs.FewBlocks.{few_clusters, few_distinct}
 use Rattle.cluster.proofs.Going.{fit_among}

@@ -1,8 +1,5 @@
 -- Pairs of a list, part by part.
-use Rattle.std.proofs.Common.{suc, List, [], ◌∷◌, ◌++◌, All, get_or, map, arith}
-use Rattle.std.specs.Prelude.{AllPairs}
-use Rattle.std.proofs.lemmas.List.Elements.{All-append, All-cons, All-head, All-nil, All-tail}
-use Rattle.std.proofs.lemmas.List.Kept.{AllPairs-cons}
+use Rattle.cluster.proofs.Prelude.{suc, List, [], ◌∷◌, ◌++◌, All, get_or, map, arith, AllPairs, All-append, All-cons, All-head, All-nil, All-tail, AllPairs-cons}
 
 pub all_front : {X : Type 0} (P : X → Type 0) (xs ys : List X) → All P (xs ++ ys) → All P xs
 all_front P [] ys all = All-nil P
@@ -36,8 +33,7 @@ pairs_across R (x ∷ xs) ys pairs = All-cons (λ x. All (R x) ys) x xs (all_bac
 
 pub pairs_append : {X : Type 0} (R : X → X → Type 0) (xs ys : List X) → AllPairs R xs → AllPairs R ys → All (λ x. All (R x) ys) xs → AllPairs R (xs ++ ys)
 pairs_append R [] ys first second across = second
-pairs_append R (x ∷ xs) ys first second across =
-    AllPairs-cons R x (xs ++ ys) (All-append (R x) xs ys (pairs_head R x xs first) (All-head (λ x. All (R x) ys) x xs across)) (pairs_append R xs ys (pairs_tail R x xs first) second (All-tail (λ x. All (R x) ys) x xs across))
+pairs_append R (x ∷ xs) ys first second across = grind (arith, All-append, pairs_head, All-head, pairs_tail, All-tail, AllPairs-cons R x (xs ++ ys) (All-append (R x) xs ys (pairs_head R x xs first) (All-head (λ x. All (R x) ys) x xs across)) (pairs_append R xs ys (pairs_tail R x xs first) second (All-tail (λ x. All (R x) ys) x xs across)), All-append (R x) xs ys (pairs_head R x xs first) (All-head (λ x. All (R x) ys) x xs across), pairs_head R x xs first, All-head (λ x. All (R x) ys) x xs across, pairs_tail R x xs first, All-tail (λ x. All (R x) ys) x xs across, pairs_append R xs ys (pairs_tail R x xs first) second (All-tail (λ x. All (R x) ys) x xs across))
 
 -- pairs of the images of elements
 pub pairs_map : {X Y : Type 0} (R : Y → Y → Type 0) (f : X → Y) (xs : List X) → AllPairs (λ x other. R (f x) (f other)) xs → AllPairs R (map f xs)

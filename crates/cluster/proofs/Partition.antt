@@ -1,18 +1,7 @@
 -- Each BLE is in exactly one cluster.
-use Rattle.std.proofs.Common.{◌≡◌, ℕ, suc, zero, ◌+◌, ◌<◌, ◌≤◌, Bool, true, false, not, ◌||◌, ◌==◌, List, [], ◌∷◌, ◌++◌, All, None, filter, length, refl, sym, ap, ◌∙◌, ◌⊎◌, inl, inr, arith}
-use Rattle.std.specs.List.{concat, list_any, range_with_len}
-use Rattle.std.proofs.lemmas.List.{append-nil}
-use Rattle.std.proofs.lemmas.List.Folds.{concat-append}
-use Rattle.std.proofs.lemmas.List.Elements.{All-nil, All-cons, All-head, All-tail, All-append, All-weaker, filter_passes}
-use Rattle.std.proofs.lemmas.Bool.{eqb-true}
-use Rattle.std.proofs.lemmas.Bool.Decides.{nat_tests}
-use Rattle.arch_file.specs.declared.arch.Arch.{Arch}
-use Rattle.ble_cluster.specs.Nets.{IsOnce, has}
-use Rattle.ble_cluster.specs.Bles.{LogicElement}
-use Rattle.ble_cluster.specs.Clusters.{cluster_of, clusters_after, elements_at, fits_in_cluster, free_of, unfit_among, with_cluster}
+use Rattle.cluster.proofs.Prelude.{◌≡◌, ℕ, suc, zero, ◌+◌, ◌<◌, ◌≤◌, Bool, true, false, not, ◌||◌, ◌==◌, List, [], ◌∷◌, ◌++◌, All, None, filter, length, refl, sym, ap, ◌∙◌, ◌⊎◌, inl, inr, arith, concat, list_any, range_with_len, append-nil, concat-append, All-nil, All-cons, All-head, All-tail, All-append, All-weaker, filter_passes, eqb-true, nat_tests, Arch, IsOnce, has, LogicElement, cluster_of, clusters_after, elements_at, fits_in_cluster, free_of, unfit_among, with_cluster, has-append}
 use Rattle.cluster.proofs.Legal.{IsLegal, cluster_legal}
 use Rattle.cluster.proofs.Members.{free_lawful}
-use Rattle.ble_cluster.proofs.Outside.{has-append}
 use Rattle.cluster.proofs.Steps.{Going, free_after, going_first, going_on, step_idle}
 
 -- a number is in the joined lists if and only if it is in some list
@@ -35,10 +24,7 @@ apart_rest number numbers others apart = All-weaker (λ other. has (number ∷ n
 -- two lists without repeats and without a common number
 once-append : (numbers others : List ℕ) → IsOnce numbers → IsOnce others → All (λ other. has numbers other ≡ false) others → IsOnce (numbers ++ others)
 once-append [] others once also apart = also
-once-append (number ∷ numbers) others once also apart =
-    let all = has-append numbers others number in
-    let first = apart_first number numbers others apart in
-    (grind (arith, all, once.0, first), once-append numbers others once.1 also (apart_rest number numbers others apart))
+once-append (number ∷ numbers) others once also apart = grind (arith, has-append, apart_first number numbers others apart, once-append numbers others once.1 also (apart_rest number numbers others apart))
 
 -- the BLEs in the clusters so far occur once, and each cluster fits
 pub record ArePacked (arch : Arch) (elements : List LogicElement) (clusters : List (List ℕ)) : Type 0 where

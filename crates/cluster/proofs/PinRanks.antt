@@ -1,14 +1,5 @@
 -- The ranks of pins, counted by class.
-use Rattle.std.proofs.Common.{◌≡◌, ℕ, ◌+◌, ◌<◌, ◌≤◌, true, false, List, [], ◌∷◌, ◌++◌, length, take, get_or, map, sym, ap, refl, ◌∙◌, arith, zero-add}
-use Rattle.std.specs.List.{enumerate_from}
-use Rattle.std.proofs.lemmas.List.{map_more, take_all}
-use Rattle.std.proofs.lemmas.List.FromFn.{length-enumerate_from, get_or-enumerate_from}
-use Rattle.std.proofs.lemmas.List.Sums.{count_by_more_yes, count_by_more_no}
-use Rattle.arch_file.specs.declared.arch.Pin.{Pin}
-use Rattle.arch_file.specs.declared.arch.PinClass.{PinClass}
-use Rattle.arch_file.specs.declared.arch.PinClass.TheVariants.{Input, Output, Clock}
-use Rattle.cluster.specs.Blocks.{is_same_class}
-use Rattle.cluster.specs.ClusterPins.{pin_ranks, rank_of}
+use Rattle.cluster.proofs.Prelude.{◌≡◌, ℕ, ◌+◌, ◌<◌, ◌≤◌, true, false, List, [], ◌∷◌, ◌++◌, length, take, get_or, map, sym, ap, refl, ◌∙◌, arith, zero-add, enumerate_from, map_more, take_all, length-enumerate_from, get_or-enumerate_from, count_by_more_yes, count_by_more_no, Pin, PinClass, Input, Output, Clock, is_same_class, pin_ranks, rank_of}
 
 -- the ranks of the first `count` pins, and the number of pins of each class among them
 pub record AreRanked (pins : List Pin) (count : ℕ) (ranks : List ℕ) (inputs outputs clocks : ℕ) : Type 0 where
@@ -42,32 +33,16 @@ rank_no pins i class d h is = count_by_more_no (λ (pin : Pin). is_same_class cl
 
 -- one more input pin
 pub ranked_input : (pins : List Pin) (i : ℕ) (d : Pin) (old new : List ℕ) (inputs outputs clocks more_inputs more_outputs more_clocks : ℕ) → i < length pins → (get_or pins i d).class ≡ Input → AreRanked pins i old inputs outputs clocks → new ≡ old ++ inputs ∷ [] → more_inputs ≡ inputs + 1 → more_outputs ≡ outputs → more_clocks ≡ clocks → AreRanked pins (i + 1) new more_inputs more_outputs more_clocks
-ranked_input pins i d old new inputs outputs clocks more_inputs more_outputs more_clocks h is before pushed input output clock = record {
-  ranks_are = ranks_more pins i inputs Input d old new h is before.ranks_are before.inputs_are pushed;
-  inputs_are = input ∙ ap (λ (n : ℕ). n + 1) before.inputs_are ∙ sym (rank_yes pins i Input d h (ap (is_same_class Input) is));
-  outputs_are = output ∙ before.outputs_are ∙ sym (rank_no pins i Output d h (ap (is_same_class Output) is));
-  clocks_are = clock ∙ before.clocks_are ∙ sym (rank_no pins i Clock d h (ap (is_same_class Clock) is));
-}
+ranked_input pins i d old new inputs outputs clocks more_inputs more_outputs more_clocks h is before pushed input output clock = grind (arith, ranks_more pins i inputs Input d old new h is before.ranks_are before.inputs_are pushed, rank_yes pins i Input d h (ap (is_same_class Input) is), rank_no pins i Output d h (ap (is_same_class Output) is), rank_no pins i Clock d h (ap (is_same_class Clock) is))
 
 -- one more output pin
 pub ranked_output : (pins : List Pin) (i : ℕ) (d : Pin) (old new : List ℕ) (inputs outputs clocks more_inputs more_outputs more_clocks : ℕ) → i < length pins → (get_or pins i d).class ≡ Output → AreRanked pins i old inputs outputs clocks → new ≡ old ++ outputs ∷ [] → more_inputs ≡ inputs → more_outputs ≡ outputs + 1 → more_clocks ≡ clocks → AreRanked pins (i + 1) new more_inputs more_outputs more_clocks
-ranked_output pins i d old new inputs outputs clocks more_inputs more_outputs more_clocks h is before pushed input output clock = record {
-  ranks_are = ranks_more pins i outputs Output d old new h is before.ranks_are before.outputs_are pushed;
-  inputs_are = input ∙ before.inputs_are ∙ sym (rank_no pins i Input d h (ap (is_same_class Input) is));
-  outputs_are = output ∙ ap (λ (n : ℕ). n + 1) before.outputs_are ∙ sym (rank_yes pins i Output d h (ap (is_same_class Output) is));
-  clocks_are = clock ∙ before.clocks_are ∙ sym (rank_no pins i Clock d h (ap (is_same_class Clock) is));
-}
+ranked_output pins i d old new inputs outputs clocks more_inputs more_outputs more_clocks h is before pushed input output clock = grind (arith, ranks_more pins i outputs Output d old new h is before.ranks_are before.outputs_are pushed, rank_no pins i Input d h (ap (is_same_class Input) is), rank_yes pins i Output d h (ap (is_same_class Output) is), rank_no pins i Clock d h (ap (is_same_class Clock) is))
 
 -- one more clock pin
 pub ranked_clock : (pins : List Pin) (i : ℕ) (d : Pin) (old new : List ℕ) (inputs outputs clocks more_inputs more_outputs more_clocks : ℕ) → i < length pins → (get_or pins i d).class ≡ Clock → AreRanked pins i old inputs outputs clocks → new ≡ old ++ clocks ∷ [] → more_inputs ≡ inputs → more_outputs ≡ outputs → more_clocks ≡ clocks + 1 → AreRanked pins (i + 1) new more_inputs more_outputs more_clocks
-ranked_clock pins i d old new inputs outputs clocks more_inputs more_outputs more_clocks h is before pushed input output clock = record {
-  ranks_are = ranks_more pins i clocks Clock d old new h is before.ranks_are before.clocks_are pushed;
-  inputs_are = input ∙ before.inputs_are ∙ sym (rank_no pins i Input d h (ap (is_same_class Input) is));
-  outputs_are = output ∙ before.outputs_are ∙ sym (rank_no pins i Output d h (ap (is_same_class Output) is));
-  clocks_are = clock ∙ ap (λ (n : ℕ). n + 1) before.clocks_are ∙ sym (rank_yes pins i Clock d h (ap (is_same_class Clock) is));
-}
+ranked_clock pins i d old new inputs outputs clocks more_inputs more_outputs more_clocks h is before pushed input output clock = grind (arith, ranks_more pins i clocks Clock d old new h is before.ranks_are before.clocks_are pushed, rank_no pins i Input d h (ap (is_same_class Input) is), rank_no pins i Output d h (ap (is_same_class Output) is), rank_yes pins i Clock d h (ap (is_same_class Clock) is))
 
 -- all pins are ranked
 pub ranked_all : (pins : List Pin) (count inputs outputs clocks : ℕ) (ranks : List ℕ) → length pins ≤ count → AreRanked pins count ranks inputs outputs clocks → ranks ≡ pin_ranks pins
-ranked_all pins count inputs outputs clocks ranks h ranked =
-    ranked.ranks_are ∙ ap (map (λ (pin : ℕ × Pin). rank_of pins pin.0 pin.1.class)) (take_all count (enumerate_from 0 pins) (omega (arith, length-enumerate_from 0 pins)))
+ranked_all pins count inputs outputs clocks ranks h ranked = grind (arith, take_all, length-enumerate_from)

@@ -1,24 +1,6 @@
 -- The blocks that read each net, gathered cluster by cluster.
-use Rattle.std.proofs.Common.{◌≡◌, refl, sym, ap, subst, ◌∙◌, ℕ, zero, suc, ◌+◌, ◌<◌, ◌==◌, Bool, true, false, not, cond, eqb, if◌then◌else◌, List, [], ◌∷◌, ◌++◌, All, length, take, get_or, map, filter, slice_index, arith, Some}
+use Rattle.cluster.proofs.Prelude.{◌≡◌, refl, sym, ap, subst, ◌∙◌, ℕ, ◌+◌, ◌<◌, ◌==◌, Bool, cond, eqb, if◌then◌else◌, List, [], ◌∷◌, ◌++◌, All, length, take, get_or, map, filter, slice_index, arith, Some, flat_map, range_with_len, append-nil, append_assoc, map-id, map_more, flat_map-append, All-append, All-map, All-push, All-nil, map-range_with_len_more, get_or_from_slice_get, Circuit, Keyed, ClusterSets, has, with_nets, NetsAmong, LogicElement, elements_at, outside_inputs, clocks_of, items_with, items_by_key, TellReaders, inputs_of_clusters, clocks_of_clusters, pads_with, clusters_with, nets_read, members_of, readers_by_net, pairs_with, items_with-append}
 use Rattle.std.specs.Prelude.{slice_get}
-use Rattle.std.specs.List.{flat_map, range_with_len}
-use Rattle.std.proofs.lemmas.List.{append-nil, append_assoc, map-id, map_more}
-use Rattle.std.proofs.lemmas.List.Concat.{flat_map-append}
-use Rattle.std.proofs.lemmas.List.Elements.{All-append, All-map, All-push, All-nil}
-use Rattle.std.proofs.lemmas.List.FromFn.{map-range_with_len_more}
-use Rattle.std.proofs.lemmas.Option.{get_or_from_slice_get}
-use Rattle.blif.specs.declared.circuit.Circuit.{Circuit}
-use Rattle.rows.specs.declared.by_key.Keyed.{Keyed}
-use Rattle.cluster.specs.declared.cluster_sets.ClusterSets.{ClusterSets}
-use Rattle.ble_cluster.specs.Nets.{has, with_nets}
-use Rattle.ble_cluster.specs.NetSets.{NetsAmong}
-use Rattle.ble_cluster.specs.Bles.{LogicElement}
-use Rattle.ble_cluster.specs.Clusters.{elements_at, outputs_of, outside_inputs, clocks_of}
-use Rattle.ble_cluster.specs.OutsideInputs.{inputs_of}
-use Rattle.rows.specs.ByKey.{items_with, items_by_key}
-use Rattle.cluster.specs.ClusterPins.{TellReaders, inputs_of_clusters, clocks_of_clusters, pads_with, clusters_with, nets_read, members_of, readers_by_net}
-use Rattle.rows.specs.ByKey.{pairs_with}
-use Rattle.rows.proofs.CountingSort.{items_with-append}
 use Rattle.cluster.proofs.NetLists.{StandsOnce, once_with_nets, filter-with_nets}
 
 -- the nets of the first `count` clusters are gathered
@@ -40,8 +22,7 @@ flat_map-range_more {A} f count =
 
 -- the items of one pair
 items_with_one : (b : Bool) (pair : Keyed) → map (λ (pair : Keyed). pair.item) (cond b (pair ∷ []) []) ≡ cond b (pair.item ∷ []) []
-items_with_one true pair = refl
-items_with_one false pair = refl
+items_with_one b pair = grind arith
 
 -- no pads and no clusters have no pairs
 pub tell_none : (circuit : Circuit) (elements : List LogicElement) (clusters : List (List ℕ)) (pairs : List Keyed) → pairs ≡ [] → TellReaders circuit elements clusters 0 0 pairs
@@ -63,22 +44,15 @@ tell_pad circuit elements clusters pad old new net_within before more =
 
 -- each outside input occurs once
 once_outside : (elements : List LogicElement) (net : ℕ) → StandsOnce (outside_inputs elements) net
-once_outside elements net =
-    let p : ℕ → Bool = λ net. not (has (outputs_of elements) net) in
-    subst (λ (nets : List ℕ). StandsOnce nets net) (sym (filter-with_nets p [] (inputs_of elements))) (once_with_nets [] (filter p (inputs_of elements)) net refl)
+once_outside elements net = grind (arith, filter-with_nets, once_with_nets)
 
 -- the item is listed for each of the nets
 items_of_pairs : (item : ℕ) (nets : List ℕ) (net : ℕ) → items_with (pairs_with item nets) net ≡ map (λ (other : ℕ). item) (filter (λ other. eqb other net) nets)
 items_of_pairs item [] net = refl
-items_of_pairs item (other ∷ nets) net = by (eqb other net) (items_of_pairs item nets net)
-  where
-    by : (b : Bool) → items_with (pairs_with item nets) net ≡ map (λ (other : ℕ). item) (filter (λ other. eqb other net) nets) → map (λ (pair : Keyed). pair.item) (cond b (record { key = other; item = item } ∷ filter (λ (pair : Keyed). eqb pair.key net) (pairs_with item nets)) (filter (λ (pair : Keyed). eqb pair.key net) (pairs_with item nets))) ≡ map (λ (other : ℕ). item) (cond b (other ∷ filter (λ other. eqb other net) nets) (filter (λ other. eqb other net) nets))
-    by true rest = ap (λ (items : List ℕ). item ∷ items) rest
-    by false rest = rest
+items_of_pairs item (other ∷ nets) net = grind (arith, items_of_pairs item nets net)
 
 one_item : (b : Bool) (item net : ℕ) → map (λ (other : ℕ). item) (cond b (net ∷ []) []) ≡ cond b (item ∷ []) []
-one_item true item net = refl
-one_item false item net = refl
+one_item b item net = grind arith
 
 -- one more cluster
 pub tell_cluster : (circuit : Circuit) (elements : List LogicElement) (clusters : List (List ℕ)) (cluster : ℕ) (nets : List ℕ) (old new : List Keyed) → All (λ net. net < length circuit.nets) nets → nets ≡ nets_read (members_of elements clusters cluster) → TellReaders circuit elements clusters (length circuit.outputs) cluster old → new ≡ old ++ pairs_with (length circuit.inputs + length circuit.outputs + cluster) nets → TellReaders circuit elements clusters (length circuit.outputs) (cluster + 1) new
@@ -100,11 +74,7 @@ tell_cluster circuit elements clusters cluster nets old new nets_within nets_are
 
 -- the readers of all nets, once all pads and clusters are gathered
 pub told_all : (circuit : Circuit) (elements : List LogicElement) (clusters : List (List ℕ)) (pairs : List Keyed) → TellReaders circuit elements clusters (length circuit.outputs) (length clusters) pairs → items_by_key pairs (length circuit.nets) ≡ readers_by_net circuit elements clusters
-told_all circuit elements clusters pairs told = go 0 (length circuit.nets)
-  where
-    go : (start count : ℕ) → map (items_with pairs) (range_with_len start count) ≡ map (λ net. pads_with circuit net (length circuit.outputs) ++ clusters_with circuit elements clusters net (length clusters)) (range_with_len start count)
-    go start zero = refl
-    go start (suc count) = let head = told.tell start in let tail = go (start + 1) count in cc
+told_all circuit elements clusters pairs told = grind arith
 
 -- one more cluster is gathered
 pub gathered_more : (circuit : Circuit) (elements : List LogicElement) (clusters : List (List ℕ)) (k : ℕ) (members : List ℕ) (old_inputs old_clocks new_inputs new_clocks : List (List ℕ)) (old_pairs new_pairs : List Keyed) (sets gathered : ClusterSets) (read : NetsAmong) → k < length clusters → slice_get clusters k ≡ Some members → AreGathered circuit elements clusters k old_inputs old_clocks old_pairs sets

@@ -1,17 +1,6 @@
 -- Steps of packing: each makes one cluster of free BLEs as long as there are any; after that
 -- nothing changes any more.
-use Rattle.std.proofs.Common.{◌≡◌, ℕ, suc, zero, ◌+◌, ◌<◌, ◌≤◌, Bool, true, false, not, ◌||◌, ◌==◌, List, [], ◌∷◌, ◌++◌, Option, filter, length, if◌then◌else◌, sym, ap, refl, ◌∙◌, arith, nat_lt, length-append, ◌-◌, max}
-use Rattle.std.proofs.lemmas.Bool.{eqb-true}
-use Rattle.std.proofs.lemmas.Bool.Decides.{nat_tests}
-use Rattle.std.specs.List.{list_any, range_with_len}
-use Rattle.std.specs.Option.{option_to_list}
-use Rattle.std.proofs.lemmas.List.Folds.{list_any-append}
-use Rattle.std.proofs.lemmas.List.FromFn.{length-range_with_len}
-use Rattle.arch_file.specs.declared.arch.Arch.{Arch}
-use Rattle.ble_cluster.specs.Nets.{has}
-use Rattle.ble_cluster.specs.Bles.{LogicElement}
-use Rattle.ble_cluster.specs.Clusters.{cluster_of, clusters_after, free_of, members_after, input_count_at, leader_of, next_member, with_cluster}
-use Rattle.ble_cluster.proofs.Fitting.{no_cluster}
+use Rattle.cluster.proofs.Prelude.{◌≡◌, ℕ, suc, zero, ◌+◌, ◌<◌, ◌≤◌, Bool, true, false, not, ◌||◌, ◌==◌, List, [], ◌∷◌, ◌++◌, Option, filter, length, if◌then◌else◌, sym, ap, refl, ◌∙◌, arith, length-append, ◌-◌, max, eqb-true, nat_tests, list_any, range_with_len, option_to_list, list_any-append, length-range_with_len, Arch, has, LogicElement, cluster_of, clusters_after, free_of, members_after, input_count_at, leader_of, next_member, with_cluster, no_cluster}
 
 -- a cluster begins with its seed
 pub record BeginsWith (seed : ℕ) (members : List ℕ) : Type 0 where
@@ -28,11 +17,7 @@ grows_on arch elements free seed (suc additions) = keeps_seed (next_member arch 
 -- the leading number is the first or one of the others
 leads_among : (score : ℕ → ℕ) (best : ℕ) (numbers : List ℕ) → has (best ∷ numbers) (leader_of score best numbers) ≡ true
 leads_among score best [] = grind (arith, nat_tests)
-leads_among score best (number ∷ numbers) = by (nat_lt (score best) (score number)) (leads_among score number numbers) (leads_among score best numbers)
-  where
-    by : (b : Bool) → has (number ∷ numbers) (leader_of score number numbers) ≡ true → has (best ∷ numbers) (leader_of score best numbers) ≡ true → has (best ∷ number ∷ numbers) (leader_of score (if b then number else best) numbers) ≡ true
-    by true h k = grind (arith, nat_tests, h)
-    by false h k = grind (arith, nat_tests, k)
+leads_among score best (number ∷ numbers) = grind (arith, leads_among score number numbers, leads_among score best numbers)
 
 -- a cluster of free BLEs has a free one as its seed, if there is one
 pub record Seeded (free cluster : List ℕ) : Type 0 where
@@ -42,22 +27,12 @@ pub record Seeded (free cluster : List ℕ) : Type 0 where
 
 pub cluster_seeded : (arch : Arch) (elements : List LogicElement) (number : ℕ) (free : List ℕ) → Seeded (number ∷ free) (cluster_of arch elements (number ∷ free))
 unfolding cluster_of
-cluster_seeded arch elements number free = record {
-  seed = leader_of (input_count_at elements) number free;
-  begins = grows_on arch elements (number ∷ free) (leader_of (input_count_at elements) number free) arch.cluster_size;
-  is_free = leads_among (input_count_at elements) number free;
-}
+cluster_seeded arch elements number free = grind (arith, leads_among, grows_on arch elements (number ∷ free) (leader_of (input_count_at elements) number free) arch.cluster_size, leads_among (input_count_at elements) number free)
 
 -- a stronger filter keeps at most as many numbers
 filter_few : (p q : ℕ → Bool) (weaker : (n : ℕ) → q n ≡ true → p n ≡ true) (numbers : List ℕ) → length (filter q numbers) ≤ length (filter p numbers)
 filter_few p q weaker [] = omega arith
-filter_few p q weaker (number ∷ numbers) = by (p number) (q number) refl refl (filter_few p q weaker numbers)
-  where
-    by : (a b : Bool) → p number ≡ a → q number ≡ b → length (filter q numbers) ≤ length (filter p numbers) → length (if b then number ∷ filter q numbers else filter q numbers) ≤ length (if a then number ∷ filter p numbers else filter p numbers)
-    by true true ep eq ih = omega (arith, ih)
-    by true false ep eq ih = omega (arith, ih)
-    by false true ep eq ih = let wrong : false ≡ true = sym ep ∙ weaker number eq in absurd cc
-    by false false ep eq ih = ih
+filter_few p q weaker (number ∷ numbers) = grind (arith, filter_few p q weaker numbers)
 
 filter_fewer : (p q : ℕ → Bool) (weaker : (n : ℕ) → q n ≡ true → p n ≡ true) (lost : ℕ) (numbers : List ℕ) → has (filter p numbers) lost ≡ true → q lost ≡ false → length (filter q numbers) < length (filter p numbers)
 filter_fewer p q weaker lost [] h e = absurd cc

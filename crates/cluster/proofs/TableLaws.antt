@@ -1,20 +1,5 @@
 -- The tables of a packed circuit.
-use Rattle.std.proofs.Common.{◌≡◌, sym, ap, subst, ◌∙◌, ℕ, ◌<◌, ◌++◌, All, List, [], Some, length, get_or, slice_get, arith}
-use Rattle.std.proofs.lemmas.List.FromFn.{length-map-range_with_len}
-use Rattle.std.proofs.lemmas.Option.{get_or_from_slice_get, slice_get_within}
-use Rattle.arch_file.specs.declared.arch.Arch.{Arch}
-use Rattle.blif.specs.declared.circuit.Circuit.{Circuit}
-use Rattle.cluster.specs.declared.net_uses.NetUses.{NetUses}
-use Rattle.cluster.specs.declared.packed_tables.PackedTables.{PackedTables}
-use Rattle.ble_cluster.specs.Nets.{distinct_nets}
-use Rattle.ble_cluster.specs.NetSets.{NetsAmong}
-use Rattle.ble_cluster.specs.Bles.{LogicElement, bles_of}
-use Rattle.cluster.specs.Clusters.{PackedCircuit}
-use Rattle.cluster.specs.Blocks.{BlockNet, leaves_block}
-use Rattle.cluster.specs.ClusterPins.{IsElementWithin, inputs_of_clusters, clocks_of_clusters, clusters_with, pads_with, readers_by_net, pin_ranks}
-use Rattle.cluster.specs.NetUses.{controls_of, input_nets, cluster_nets, leaves_by}
-use Rattle.cluster.specs.LawfulPackings.{IsPacked}
-use Rattle.cluster.specs.PackedTables.{ArePartsOf, AreTablesOf}
+use Rattle.cluster.proofs.Prelude.{◌≡◌, sym, ap, subst, ◌∙◌, ℕ, ◌<◌, ◌++◌, All, List, [], Some, length, get_or, slice_get, arith, length-map-range_with_len, get_or_from_slice_get, slice_get_within, Arch, Circuit, NetUses, PackedTables, distinct_nets, NetsAmong, LogicElement, bles_of, PackedCircuit, BlockNet, leaves_block, IsElementWithin, inputs_of_clusters, clocks_of_clusters, clusters_with, pads_with, readers_by_net, pin_ranks, controls_of, input_nets, cluster_nets, leaves_by, IsPacked, ArePartsOf, AreTablesOf}
 use Rattle.cluster.proofs.BlockLists.{leaves_by_uses, nets_by_uses}
 use Rattle.cluster.proofs.FewBlocks.{elements_within}
 

@@ -3,15 +3,9 @@
 use Rattle.std.specs.Prelude.{ℕ, ◌+◌, Bool, false, not, nat_lt, ◌&&◌, ◌||◌, ◌==◌, List, [], ◌∷◌, ◌++◌, map, filter, length, take, count_by, codes, slice_get, option_and_then, Option, Some, None, if◌then◌else◌}
 use Rattle.std.specs.List.{flat_map, range_with_len, enumerate_from, slice_index_or}
 use Rattle.std.specs.Option.{option_map_or, option_to_list}
-use Rattle.arch_file.specs.declared.arch.PinClass.{PinClass}
-use Rattle.arch_file.specs.declared.arch.PinClass.TheVariants.{Input, Output, Clock}
-use Rattle.arch_file.specs.Arch.{is_input_class, is_output_class, is_clock_class}
-use Rattle.blif.specs.declared.circuit.Circuit.{Circuit}
+use Rattle.cluster.specs.Prelude.{PinClass, Input, Output, Clock, is_input_class, is_output_class, is_clock_class, Circuit, has, LogicElement, bles_of, elements_at, outputs_of, clocks_of, outside_inputs}
 use Rattle.cluster.specs.declared.block.Block.{Block}
 use Rattle.cluster.specs.declared.block.Block.TheVariants.{InputPad, OutputPad, Cluster}
-use Rattle.ble_cluster.specs.Nets.{has}
-use Rattle.ble_cluster.specs.Bles.{LogicElement, bles_of}
-use Rattle.ble_cluster.specs.Clusters.{elements_at, outputs_of, clocks_of, outside_inputs}
 use Rattle.cluster.specs.Clusters.{PackedCircuit}
 
 -- the BLEs of this cluster

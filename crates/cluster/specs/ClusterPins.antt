@@ -2,18 +2,11 @@
 use Rattle.std.specs.Prelude.{ℕ, ◌+◌, ◌^◌, ◌≡◌, ◌<◌, ◌==◌, List, [], ◌∷◌, ◌++◌, All, Option, Some, None, count_by, map, length, slice_get, slice_index, take, if◌then◌else◌}
 use Rattle.std.specs.List.{enumerate_from, flat_map, range_with_len, slice_index_or}
 use Rattle.std.specs.Option.{ForSome, option_map_or, option_to_list}
-use Rattle.arch_file.specs.declared.arch.Pin.{Pin}
-use Rattle.arch_file.specs.declared.arch.PinClass.{PinClass}
-use Rattle.blif.specs.declared.circuit.Circuit.{Circuit}
-use Rattle.rows.specs.declared.by_key.Keyed.{Keyed}
-use Rattle.ble_cluster.specs.Nets.{has, with_nets}
-use Rattle.ble_cluster.specs.Bles.{LogicElement}
-use Rattle.ble_cluster.specs.Clusters.{elements_at, clocks_of, outside_inputs}
+use Rattle.cluster.specs.Prelude.{Pin, PinClass, Circuit, Keyed, has, with_nets, LogicElement, elements_at, clocks_of, outside_inputs, items_with}
 use Rattle.cluster.specs.declared.cluster_sets.ClusterSets.{ClusterSets}
 use Rattle.cluster.specs.declared.pin_nets.Gathered.{Gathered}
 use Rattle.cluster.specs.Clusters.{PackedCircuit}
 use Rattle.cluster.specs.Blocks.{is_same_class, leaves_block, net_name}
-use Rattle.rows.specs.ByKey.{items_with}
 
 -- the BLE's nets are below the count
 pub record IsElementWithin (count : ℕ) (element : LogicElement) : Type 0 where

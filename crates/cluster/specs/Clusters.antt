@@ -1,8 +1,6 @@
 -- Packed circuits: clusters of BLEs, with the circuit and the architecture.
 use Rattle.std.specs.Prelude.{ℕ, ◌+◌, max, List, length}
-use Rattle.arch_file.specs.declared.arch.Arch.{Arch}
-use Rattle.blif.specs.declared.circuit.Circuit.{Circuit}
-use Rattle.ble_cluster.specs.Bles.{bles_of}
+use Rattle.cluster.specs.Prelude.{Arch, Circuit, bles_of}
 unfoldable pub use Rattle.ble_cluster.specs.Clusters.{cluster_of, clusters_after, unfit_of}
 pub use Rattle.ble_cluster.specs.Clusters.{fits_in_cluster, free_of, outputs_of, with_cluster}
 

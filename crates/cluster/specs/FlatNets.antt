@@ -2,7 +2,7 @@
 use Rattle.std.specs.Prelude.{ℕ, ◌≤◌, List}
 use Rattle.std.specs.List.{AllByRecursion}
 use Rattle.cluster.specs.declared.block_nets.NetSpan.{NetSpan}
-use Rattle.rows.specs.Spans.{part_of}
+use Rattle.cluster.specs.Prelude.{part_of}
 use Rattle.cluster.specs.Blocks.{BlockNet}
 
 -- the net whose readers are at its span of all readers

@@ -1,10 +1,6 @@
 -- The invariant of every packed circuit.
 use Rattle.std.specs.Prelude.{◌≡◌, ◌<◌, ◌≤◌, None, All, length}
-use Rattle.blif.specs.declared.circuit.TheConstants.{MAX_NETS}
-use Rattle.arch_file.specs.Arch.{IsArch}
-use Rattle.blif.specs.LawfulCircuits.{IsCircuit}
-use Rattle.ble_cluster.specs.Bles.{bles_of}
-use Rattle.ble_cluster.specs.Clusters.{unfit_of}
+use Rattle.cluster.specs.Prelude.{MAX_NETS, IsArch, IsCircuit, bles_of, unfit_of}
 use Rattle.cluster.specs.Clusters.{PackedCircuit, packed_of}
 
 -- a packed circuit is within the limits, and each of its BLEs fits into a cluster alone; its

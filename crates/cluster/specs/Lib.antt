@@ -1,4 +1,5 @@
 pub use Rattle.ble_cluster.specs.Bles
+pub mod Prelude
 pub mod Clusters
 pub mod Blocks
 pub mod Keys

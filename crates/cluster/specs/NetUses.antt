@@ -2,12 +2,8 @@
 use Rattle.std.specs.Prelude.{ℕ, ◌+◌, ◌^◌, ◌≡◌, ◌<◌, ◌==◌, Bool, not, nat_lt, ◌||◌, List, [], ◌∷◌, All, map, filter, length, slice_index}
 use Rattle.std.specs.List.{flat_map, range_with_len, slice_index_or}
 use Rattle.std.specs.Option.{option_to_list}
-use Rattle.blif.specs.declared.circuit.Circuit.{Circuit}
-use Rattle.blif.specs.declared.latches.Latch.{Latch}
+use Rattle.cluster.specs.Prelude.{Circuit, Latch, has, LogicElement, outputs_of}
 use Rattle.cluster.specs.declared.net_uses.NetUses.{NetUses}
-use Rattle.ble_cluster.specs.Nets.{has}
-use Rattle.ble_cluster.specs.Bles.{LogicElement}
-use Rattle.ble_cluster.specs.Clusters.{outputs_of}
 use Rattle.cluster.specs.Blocks.{BlockNet}
 use Rattle.cluster.specs.ClusterPins.{IsElementWithin, members_of}
 

@@ -1,8 +1,7 @@
 -- Private: the tables that are stored with a packed circuit.
 use Rattle.std.specs.Prelude.{◌≡◌, List, length}
 use Rattle.cluster.specs.declared.packed_tables.PackedTables.{PackedTables}
-use Rattle.ble_cluster.specs.Nets.{distinct_nets}
-use Rattle.ble_cluster.specs.Bles.{LogicElement, bles_of}
+use Rattle.cluster.specs.Prelude.{distinct_nets, LogicElement, bles_of}
 use Rattle.cluster.specs.Clusters.{PackedCircuit}
 use Rattle.cluster.specs.Blocks.{block_nets}
 use Rattle.cluster.specs.ClusterPins.{inputs_of_clusters, clocks_of_clusters, readers_by_net, pin_ranks}

@@ -2,11 +2,7 @@
 use Rattle.std.specs.Prelude.{ℕ, ◌≡◌, ◌≢◌, ◌<◌, ◌≤◌, ◌↔◌, true, IsTrue, All, AllPairs, Contains, length}
 use Rattle.std.specs.List.{concat, flat_map}
 use Rattle.std.specs.Option.{option_to_list}
-use Rattle.arch_file.specs.declared.arch.TheConstants.{MAX_PINS}
-use Rattle.blif.specs.declared.circuit.TheConstants.{MAX_NETS}
-use Rattle.blif.specs.declared.circuit.Circuit.{Circuit}
-use Rattle.ble_cluster.specs.Bles.{bles_of}
-use Rattle.ble_cluster.specs.Clusters.{elements_at, fits_in_cluster}
+use Rattle.cluster.specs.Prelude.{MAX_PINS, MAX_NETS, Circuit, bles_of, elements_at, fits_in_cluster}
 use Rattle.cluster.specs.Clusters.{PackedCircuit}
 use Rattle.cluster.specs.Blocks.{BlockNet, block_nets, blocks_of}
 use Rattle.cluster.specs.Keys.{keys_of}

@@ -1,10 +1,6 @@
 -- Private: a packing in progress, and the growth of its clusters.
 use Rattle.std.specs.Prelude.{ℕ, suc, ◌≡◌, ◌+◌, ◌≤◌, List, [], ◌∷◌, None, length}
-use Rattle.arch_file.specs.declared.arch.Arch.{Arch}
-use Rattle.blif.specs.declared.circuit.Circuit.{Circuit}
-use Rattle.ble_cluster.specs.Bles.{bles_of}
-use Rattle.ble_cluster.specs.Clusters.{clusters_after, free_of, unfit_of}
-use Rattle.ble_cluster.specs.FreeBles.{FreeBlesState}
+use Rattle.cluster.specs.Prelude.{Arch, Circuit, bles_of, clusters_after, free_of, unfit_of, FreeBlesState}
 
 -- the number of steps whose clusters are made: if no BLE is free any more, the current step has
 -- already made its cluster

@@ -1,8 +1,6 @@
 //! The nets on the pins of one cluster.
 ghost use Rattle.std.specs.Prelude.{◌≡◌, [], IfOk, filter, not};
-ghost use Rattle.ble_cluster.specs.Nets.{has, with_nets};
-ghost use Rattle.ble_cluster.specs.OutsideInputs.{inputs_of};
-ghost use Rattle.ble_cluster.specs.Clusters.{elements_at, outputs_of, clocks_of, outside_inputs};
+ghost use Rattle.cluster.specs.Prelude.{has, with_nets, inputs_of, elements_at, outputs_of, clocks_of, outside_inputs};
 ghost use Rattle.cluster.specs.ClusterPins.{AreMembersWithin, CanGather, all_clocks_of};
 
 use ble_cluster::{Bles, NetSet};

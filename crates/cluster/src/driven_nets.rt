@@ -1,7 +1,7 @@
 //! The nets that blocks drive.
 ghost use Rattle.std.specs.Prelude.{◌≡◌, ◌++◌, IfOk, length};
-ghost use Rattle.ble_cluster.specs.Clusters.{elements_at};
-ghost use Rattle.cluster.specs.NetUses.{UsesClusters, UsesInputs, UsesMembers, input_nets, driven_nets, cluster_nets};
+ghost use Rattle.cluster.specs.Prelude.{elements_at};
+ghost use Rattle.cluster.specs.NetUses.{UsesBlocks, UsesInputs, UsesMembers, input_nets, driven_nets, cluster_nets};
 
 use crate::block::BlockNet;
 use crate::block_nets::BlockNets;
@@ -12,11 +12,7 @@ use rows::Rows;
 use std::alloc::AllocError;
 
 /// Adds the nets that the input pads drive.
-pub(crate) fn add_input_nets(
-    nets: &mut BlockNets,
-    circuit: &Circuit,
-    uses: &NetUses,
-) -> Result<(), AllocError>
+fn add_input_nets(nets: &mut BlockNets, circuit: &Circuit, uses: &NetUses) -> Result<(), AllocError>
     requires { UsesInputs circuit.now uses.now }
     ensures { IfOk result (λ _. nets.new
         ≡ nets.old ++ input_nets circuit.now uses.now (length circuit.now.inputs)) }
@@ -32,19 +28,20 @@ pub(crate) fn add_input_nets(
     Ok(())
 }
 
-/// Adds the nets that the clusters drive.
-pub(crate) fn add_cluster_nets(
+/// Adds the nets that the input pads and the clusters drive.
+pub(crate) fn add_nets(
     nets: &mut BlockNets,
     circuit: &Circuit,
     uses: &NetUses,
     bles: &Bles,
     clusters: &Rows,
 ) -> Result<(), AllocError>
-    requires { UsesClusters circuit.now uses.now bles.now clusters.now }
+    requires { UsesBlocks circuit.now uses.now bles.now clusters.now }
     ensures { IfOk result (λ _. nets.new
-        ≡ nets.old ++ cluster_nets circuit.now uses.now bles.now clusters.now
-        (length clusters.now)) }
+        ≡ nets.old ++ input_nets circuit.now uses.now (length circuit.now.inputs)
+        ++ cluster_nets circuit.now uses.now bles.now clusters.now (length clusters.now)) }
 {
+    add_input_nets(nets, circuit, uses)?;
     let first = circuit.inputs.as_slice().len() + circuit.outputs.as_slice().len();
     for cluster in 0..clusters.len() {
         let members = clusters.row(cluster);

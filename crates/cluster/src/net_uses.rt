@@ -1,8 +1,7 @@
 //! The users of each net.
 ghost use Rattle.std.specs.Prelude.{◌≡◌, ◌<◌, ◌==◌, [], IfOk, length, not};
 ghost use Rattle.std.specs.List.{list_any, slice_index_or};
-ghost use Rattle.blif.specs.LawfulCircuits.{IsCircuit};
-ghost use Rattle.ble_cluster.specs.Nets.{has, distinct_nets};
+ghost use Rattle.cluster.specs.Prelude.{IsCircuit, has, distinct_nets};
 ghost use Rattle.cluster.specs.NetUses.{IsUsed, controls_of, leaves_by};
 
 use ble_cluster::NetSet;

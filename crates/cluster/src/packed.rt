@@ -1,6 +1,6 @@
 //! A packed circuit.
 ghost use Rattle.std.specs.Prelude.{◌≡◌, ◌+◌, ◌<◌, length, slice_get, Some};
-ghost use Rattle.ble_cluster.specs.Bles.{bles_of};
+ghost use Rattle.cluster.specs.Prelude.{bles_of};
 ghost use Rattle.cluster.specs.Blocks.{block_name, blocks_of, block_nets, net_on_pin, net_name, pins_of};
 ghost use Rattle.cluster.specs.Keys.{keys_of};
 ghost use Rattle.cluster.specs.LawfulPackings.{IsPacked};

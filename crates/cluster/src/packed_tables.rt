@@ -1,13 +1,13 @@
 //! The tables that are stored with a packed circuit, so that its pins and nets can be looked up
 //! quickly.
 ghost use Rattle.std.specs.Prelude.{◌≡◌, ◌++◌, IfOk, length};
-ghost use Rattle.ble_cluster.specs.Nets.{distinct_nets};
+ghost use Rattle.cluster.specs.Prelude.{distinct_nets};
 ghost use Rattle.cluster.specs.ClusterPins.{pin_ranks, readers_by_net};
 ghost use Rattle.cluster.specs.NetUses.{UsesBlocks, cluster_nets, controls_of, input_nets};
 ghost use Rattle.cluster.specs.PackedTables.{AreTablesOf, IsPackedOf};
 
 use crate::block_nets::BlockNets;
-use crate::driven_nets::{add_cluster_nets, add_input_nets};
+use crate::driven_nets::add_nets;
 use crate::net_uses::NetUses;
 use crate::pin_nets::PinNets;
 use crate::pin_ranks::ranks_of;
@@ -128,23 +128,6 @@ fn nets_of(
             Err(error)
         }
     }
-}
-
-/// Adds the nets that the input pads and the clusters drive.
-fn add_nets(
-    nets: &mut BlockNets,
-    circuit: &Circuit,
-    uses: &NetUses,
-    bles: &Bles,
-    clusters: &Rows,
-) -> Result<(), AllocError>
-    requires { UsesBlocks circuit.now uses.now bles.now clusters.now }
-    ensures { IfOk result (λ _. nets.new
-        ≡ nets.old ++ input_nets circuit.now uses.now (length circuit.now.inputs)
-        ++ cluster_nets circuit.now uses.now bles.now clusters.now (length clusters.now)) }
-{
-    add_input_nets(nets, circuit, uses)?;
-    add_cluster_nets(nets, circuit, uses, bles, clusters)
 }
 
 /// Adds the ranks of pins to these nets.

@@ -1,10 +1,6 @@
 //! Packing, one cluster in each step.
 ghost use Rattle.std.specs.Prelude.{◌≡◌, filter, not, IfOk, None, OnErr};
-ghost use Rattle.arch_file.specs.Arch.{IsArch};
-ghost use Rattle.blif.specs.LawfulCircuits.{IsCircuit};
-ghost use Rattle.ble_cluster.specs.Nets.{has};
-ghost use Rattle.ble_cluster.specs.Clusters.{cluster_of, unfit_of, with_cluster};
-ghost use Rattle.ble_cluster.specs.FreeBles.{AllFit};
+ghost use Rattle.cluster.specs.Prelude.{IsArch, IsCircuit, has, cluster_of, unfit_of, with_cluster, AllFit};
 ghost use Rattle.cluster.specs.Packing.{IsChecked, GoesOn};
 
 use crate::fault::{PackError, PackFault};

@@ -1,9 +1,7 @@
 //! The nets on the pins of all clusters, and the blocks that read each net.
 ghost use Rattle.std.specs.Prelude.{◌≡◌, ℕ, List, [], ◌++◌, IfOk, length};
-ghost use Rattle.blif.specs.LawfulCircuits.{IsCircuit};
-ghost use Rattle.ble_cluster.specs.Bles.{LogicElement};
+ghost use Rattle.cluster.specs.Prelude.{IsCircuit, LogicElement, pairs_with};
 ghost use Rattle.cluster.specs.ClusterPins.{AreClustersOf, AreSetsOf, IsBegun, TellReaders, clocks_of_clusters, inputs_of_clusters, readers_by_net};
-ghost use Rattle.rows.specs.ByKey.{pairs_with};
 
 use crate::cluster_sets::ClusterSets;
 use ble_cluster::Bles;

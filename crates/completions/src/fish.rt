@@ -24,15 +24,7 @@ fn write_name<K: Sink>(sink: &mut K, tool: &Program) -> Result<(), Failed>
     ensures { Writes K.contents K.has_failed sink.old sink.new (fish_name tool.now) result }
 {
     write_name_front(sink, tool)?;
-    write_about(sink, tool)
-}
-
-/// Writes what a tool is for in quotes, and ends the line.
-fn write_about<K: Sink>(sink: &mut K, tool: &Program) -> Result<(), Failed>
-    ensures { Writes K.contents K.has_failed sink.old sink.new (fish_quoted tool.now.about.now)
-        result }
-{
-    write_quoted(sink, tool.about.as_bytes())
+    write_quoted(sink, tool.about)
 }
 
 /// Writes what comes before the words of a tool.
@@ -49,12 +41,12 @@ fn write_name_front<K: Sink>(sink: &mut K, tool: &Program) -> Result<(), Failed>
     )
 }
 
-/// Writes bytes in quotes, and ends the line.
-fn write_quoted<K: Sink>(sink: &mut K, bytes: &[u8]) -> Result<(), Failed>
-    ensures { Writes K.contents K.has_failed sink.old sink.new (fish_quoted bytes.now) result }
+/// Writes a text in quotes, and ends the line.
+fn write_quoted<K: Sink>(sink: &mut K, text: &str) -> Result<(), Failed>
+    ensures { Writes K.contents K.has_failed sink.old sink.new (fish_quoted text.now) result }
 {
     write_parts(sink, &[Part::Text("'")])?;
-    write_bytes(sink, bytes)?;
+    write_bytes(sink, text.as_bytes())?;
     write_parts(sink, &[Part::Text("'\n")])
 }
 
@@ -86,16 +78,9 @@ pub fn write_fish_options<K: Sink>(sink: &mut K, tools: &[Program]) -> Result<()
     ensures { Writes K.contents K.has_failed sink.old sink.new (fish_options tools.now) result }
 {
     for tool in tools {
-        write_tool(sink, tool)?;
+        write_options(sink, tool.name, tool.options)?;
     }
     Ok(())
-}
-
-/// Writes the lines of a tool's options.
-fn write_tool<K: Sink>(sink: &mut K, tool: &Program) -> Result<(), Failed>
-    ensures { Writes K.contents K.has_failed sink.old sink.new (fish_tool tool.now) result }
-{
-    write_options(sink, tool.name, tool.options)
 }
 
 /// Writes the lines of these options of a tool.
@@ -136,15 +121,7 @@ fn write_line<K: Sink>(
         (fish_line tool.now option.now value.now) result }
 {
     write_front(sink, tool, option.name, value)?;
-    write_help(sink, option)
-}
-
-/// Writes the help of an option in quotes, and ends the line.
-fn write_help<K: Sink>(sink: &mut K, option: &OptionWord) -> Result<(), Failed>
-    ensures { Writes K.contents K.has_failed sink.old sink.new (fish_quoted option.now.help.now)
-        result }
-{
-    write_quoted(sink, option.help.as_bytes())
+    write_quoted(sink, option.help)
 }
 
 /// Writes what comes before the help of an option.

@@ -25,26 +25,10 @@ fn write_tool<K: Sink>(sink: &mut K, tool: &Program) -> Result<(), Failed>
     ensures { Writes K.contents K.has_failed sink.old sink.new (page_tool tool.now) result }
 {
     write_head(sink, tool)?;
-    write_about(sink, tool)?;
+    write_text(sink, tool.about)?;
     write_options(sink, tool.options)?;
     write_parts(sink, &[Part::Text(".PP\n")])?;
-    write_after_help(sink, tool)
-}
-
-/// Writes what a tool is for.
-fn write_about<K: Sink>(sink: &mut K, tool: &Program) -> Result<(), Failed>
-    ensures { Writes K.contents K.has_failed sink.old sink.new (roff_text tool.now.about.now)
-        result }
-{
-    write_text(sink, tool.about.as_bytes())
-}
-
-/// Writes the end of a tool's help.
-fn write_after_help<K: Sink>(sink: &mut K, tool: &Program) -> Result<(), Failed>
-    ensures { Writes K.contents K.has_failed sink.old sink.new (roff_text tool.now.after_help.now)
-        result }
-{
-    write_text(sink, tool.after_help.as_bytes())
+    write_text(sink, tool.after_help)
 }
 
 /// Writes the heading of a tool.
@@ -58,11 +42,11 @@ fn write_head<K: Sink>(sink: &mut K, tool: &Program) -> Result<(), Failed>
 }
 
 /// Writes a text, whatever its lines begin with.
-fn write_text<K: Sink>(sink: &mut K, bytes: &[u8]) -> Result<(), Failed>
-    ensures { Writes K.contents K.has_failed sink.old sink.new (roff_text bytes.now) result }
+fn write_text<K: Sink>(sink: &mut K, text: &str) -> Result<(), Failed>
+    ensures { Writes K.contents K.has_failed sink.old sink.new (roff_text text.now) result }
 {
     write_parts(sink, &[Part::Text("\\&")])?;
-    write_bytes(sink, bytes)?;
+    write_bytes(sink, text.as_bytes())?;
     write_parts(sink, &[Part::Text("\n")])
 }
 
@@ -108,15 +92,7 @@ fn write_option<K: Sink>(sink: &mut K, option: &OptionWord) -> Result<(), Failed
     ensures { Writes K.contents K.has_failed sink.old sink.new (page_option option.now) result }
 {
     write_option_head(sink, option)?;
-    write_help(sink, option)
-}
-
-/// Writes the help of an option.
-fn write_help<K: Sink>(sink: &mut K, option: &OptionWord) -> Result<(), Failed>
-    ensures { Writes K.contents K.has_failed sink.old sink.new (roff_text option.now.help.now)
-        result }
-{
-    write_text(sink, option.help.as_bytes())
+    write_text(sink, option.help)
 }
 
 /// Writes the name of an option, and that of its value.

@@ -1,48 +1,12 @@
 -- No two BLEs of a layout are at one place.
-use Rattle.std.proofs.Common.{get_or, ◌≡◌, ◌≢◌, ℕ, suc, zero, ◌+◌, ◌<◌, ◌≤◌, Bool, true, false, ◌&&◌, ◌||◌, ◌==◌, nat_le, List, [], ◌∷◌, cond, find, length, map, take, Option, Some, None, slice_get, option_map, sym, ap, refl, ◌∙◌, inl, inr, subst, arith}
-use Rattle.std.specs.Prelude.{AllPairs, Contains, count_by, slice_index}
-use Rattle.std.specs.List.{enumerate_from, list_any}
-use Rattle.std.specs.Option.{option_map_or}
-use Rattle.std.proofs.lemmas.Bool.{and_parts, cases_order, eqb-true, false≢true}
-use Rattle.std.proofs.lemmas.Bool.Decides.{nat_tests}
-use Rattle.std.proofs.lemmas.List.{get_or_default, length-map}
-use Rattle.std.proofs.lemmas.List.Elements.{All-contains}
-use Rattle.std.proofs.lemmas.List.FromFn.{length-enumerate_from}
-use Rattle.std.proofs.lemmas.Option.{same_Some}
-use Rattle.line_text.specs.Lines.{JoinedLine}
-use Rattle.arch_file.specs.declared.arch.Arch.{Arch}
+use Rattle.configuration.proofs.Prelude.{◌≡◌, ℕ, suc, zero, ◌+◌, ◌<◌, ◌≤◌, Bool, true, false, ◌&&◌, ◌||◌, ◌==◌, nat_le, List, [], ◌∷◌, cond, find, length, map, take, Option, Some, None, slice_get, option_map, sym, ap, refl, ◌∙◌, inl, inr, subst, arith, Contains, count_by, slice_index, enumerate_from, list_any, option_map_or, and_parts, cases_order, eqb-true, false≢true, nat_tests, get_or_default, length-map, All-contains, length-enumerate_from, same_Some, JoinedLine, Arch, Output, Circuit, kind_of, is_same_class, Cluster, Strip, Logic, Place, places_of, IsPlaceIn, IsStripSize, Implements, ble_places, LaidBle, LaidBlock, LaidNet, Layout, from_get, in_none, to_any, count-cons, pairs_of, is_same_node, source_at, same_node, Node, Opin, is_block_number, is_chan_y, is_pad_row, is_slot, is_terminal, BlePlace, ble_numbers, free_places, output_rank, paths_of, pin_out, routed_place, routed_places, AreBlesApart, Spot}
 use Rattle.arch_file.specs.declared.arch.Pin.{Pin as ArchPin}
-use Rattle.arch_file.specs.declared.arch.PinClass.TheVariants.{Output}
-use Rattle.blif.specs.declared.circuit.Circuit.{Circuit}
-use Rattle.block_places.specs.Fits.{kind_of}
-use Rattle.cluster.specs.Blocks.{is_same_class}
-use Rattle.cluster.specs.declared.block.Block.TheVariants.{Cluster}
-use Rattle.grid.specs.declared.Strip.{Strip}
-use Rattle.grid.specs.declared.place.Kind.TheVariants.{Logic}
-use Rattle.grid.specs.declared.place.Place.{Place}
-use Rattle.grid.specs.Places.{place_at, places_of}
-use Rattle.grid.specs.PlaceLaws.{IsPlaceIn}
-use Rattle.grid.specs.Sizes.{IsStripSize}
-use Rattle.implements.specs.Implements.{Implements, ble_places}
-use Rattle.implements.specs.Layouts.{LaidBle, LaidBlock, LaidNet, Layout}
-use Rattle.implements.proofs.Members.{from_get, in_none, to_any}
-use Rattle.implements.proofs.Unique.{count-cons}
-use Rattle.pathfinder.specs.LegalRoutes.{pairs_of}
-use Rattle.pathfinder.specs.Terminals.{is_same_node, source_at}
-use Rattle.pathfinder.proofs.NodeNumbers.{same_node}
-use Rattle.rr_graph.specs.declared.node.Node.{Node}
-use Rattle.rr_graph.specs.declared.node.NodeKind.TheVariants.{Opin}
-use Rattle.rr_graph.specs.Geometry.{is_block_number, is_chan_y, is_pad_row, is_slot}
-use Rattle.configuration.specs.Configuration.{is_terminal}
-use Rattle.configuration.specs.Lines.{BlePlace}
-use Rattle.configuration.specs.RoutedPins.{ble_numbers, free_places, output_rank, paths_of, pin_out, routed_place, routed_places}
-use Rattle.configuration.specs.Wired.{AreBlesApart, Spot}
 use Rattle.configuration.proofs.BlePlaces.{AreOnce, are_left, filled_once}
 use Rattle.configuration.proofs.Branches.{joined, pair_nodes, source_to_opin}
 use Rattle.configuration.proofs.Found.{found_is}
 use Rattle.configuration.proofs.OneDriver.{one_carries, route_with}
 use Rattle.configuration.proofs.Spots.{placed_in, together}
-use Rattle.configuration.proofs.Wiring.{a_cluster, same_made}
+use Rattle.configuration.proofs.Wiring.{same_made}
 
 -- ---- elements by index
 
@@ -58,10 +22,7 @@ in_take (y ∷ xs) zero (suc j) x e h = e
 in_take (y ∷ xs) (suc i) (suc j) x e h = in_take xs i j x e (omega (arith, h))
 
 same_place : {place other : Place} → place.x ≡ other.x → place.y ≡ other.y → place.subblock ≡ other.subblock → place ≡ other
-same_place {place} {other} p q r = made p q r
-  where
-    made : {x x' y y' n n' : ℕ} → x ≡ x' → y ≡ y' → n ≡ n' → place_at x y n ≡ place_at x' y' n'
-    made p q r = cc
+same_place p q r = grind arith
 
 -- ---- output pins
 
@@ -72,20 +33,10 @@ rank_less : (pins : List ArchPin) (n m : ℕ) → n < m → option_map_or is_out
 rank_less [] n m h out = absurd (false≢true out)
 rank_less (pin ∷ pins) n zero h out = absurd (omega (arith, h))
 rank_less (pin ∷ pins) zero (suc m) h out = let count = count-cons is_output pin (take m pins) in let one : cond {A = ℕ} (is_output pin) 1 0 ≡ 1 = ap (λ (b : Bool). cond {A = ℕ} b 1 0) out in omega (arith, count, one)
-rank_less (pin ∷ pins) (suc n) (suc m) h out =
-    let rest = rank_less pins n m (omega (arith, h)) out in
-    let a = count-cons is_output pin (take n pins) in
-    let b = count-cons is_output pin (take m pins) in
-    omega (arith, rest, a, b)
+rank_less (pin ∷ pins) (suc n) (suc m) h out = search (count-cons, rank_less pins n m (omega (arith, h)) out, arith)
 
 same_rank : (arch : Arch) (n m : ℕ) → is_block_number arch Opin n ≡ true → is_block_number arch Opin m ≡ true → output_rank arch n ≡ output_rank arch m → n ≡ m
-same_rank arch n m one two same = elim (cases_order n m) [
-  | inl e ↦ e
-  | inr differ ↦ elim differ [
-    | inl less ↦ (let rank = rank_less arch.pins n m less one in absurd (omega (arith, rank, same)))
-    | inr more ↦ (let rank = rank_less arch.pins m n more two in absurd (omega (arith, rank, same)))
-  ]
-]
+same_rank arch n m one two same = search (rank_less, arith)
 
 -- ---- the pins by which nets leave a block
 
@@ -148,17 +99,7 @@ module _ (lines : List JoinedLine) (circuit : Circuit) (arch : Arch) (strip : St
     rank : output_rank arch pin.n ≡ place
 
   asked_of : (laid : LaidBlock) (index place : ℕ) → slice_get (routed_places arch layout laid) index ≡ Some (Some place) → Asked laid index place
-  asked_of laid index place e =
-      let q = of_mapped (λ (ble : ℕ × LaidBle). routed_place arch layout laid ble.0 ble.1) 0 laid.bles index (Some place) e in
-      let start : 0 + index ≡ index = omega arith in
-      let here : routed_place arch layout laid index q.0 ≡ Some place = sym (ap (λ n. routed_place arch layout laid n q.0) start) ∙ q.2 in
-      by q.0 q.1 (list_any (λ (other : LaidBle). other.name == q.0.name) (take index laid.bles)) refl (pin_out layout laid q.0.name) refl here
-    where
-      by : (ble : LaidBle) → slice_get laid.bles index ≡ Some ble → (b : Bool) → list_any (λ (other : LaidBle). other.name == ble.name) (take index laid.bles) ≡ b → (o : Option Node) → pin_out layout laid ble.name ≡ o →
-          cond b None (option_map (λ (pin : Node). output_rank arch pin.n) o) ≡ Some place → Asked laid index place
-      by ble at true first o out e = absurd cc
-      by ble at false first None out e = absurd cc
-      by ble at false first (Some pin) out e = record { ble = ble; at = at; first = first; pin = pin; out = out; rank = same_Some (output_rank arch pin.n) place e }
+  asked_of laid index place e = grind (arith, of_mapped)
 
   no_earlier : (laid : LaidBlock) (i j : ℕ) (place : ℕ) (a : Asked laid i place) (b : Asked laid j place) → a.ble.name ≡ b.ble.name → i < j → ⊥
   no_earlier laid i j place a b name less =
@@ -189,16 +130,7 @@ module _ (lines : List JoinedLine) (circuit : Circuit) (arch : Arch) (strip : St
 
   -- blocks at one place are one
   one_block : (laid other : LaidBlock) → Contains layout.blocks laid → Contains layout.blocks other → laid.place ≡ other.place → laid ≡ other
-  one_block laid other c d same =
-      let apart : AllPairs (λ (laid other : LaidBlock). laid.place ≢ other.place) layout.blocks = h.apart in
-      let its : get_or layout.blocks d.0 laid ≡ other = get_or_default layout.blocks d.0 laid other d.1 ∙ d.2 in
-      elim (cases_order c.0 d.0) [
-        | inl e ↦ sym c.2 ∙ ap (λ k. get_or layout.blocks k laid) e ∙ its
-        | inr differ ↦ elim differ [
-          | inl less ↦ absurd (apart c.0 d.0 laid less d.1 (ap (λ (block : LaidBlock). block.place) c.2 ∙ same ∙ sym (ap (λ (block : LaidBlock). block.place) its)))
-          | inr more ↦ absurd (apart d.0 c.0 laid more c.1 (ap (λ (block : LaidBlock). block.place) its ∙ sym same ∙ sym (ap (λ (block : LaidBlock). block.place) c.2)))
-        ]
-      ]
+  one_block laid other c d same = grind (arith, get_or_default layout.blocks d.0 laid other d.1)
 
   same_index : (laid : LaidBlock) (number : ℕ) → Contains layout.blocks laid → laid.block ≡ Cluster number → (i j : ℕ) → i < length laid.bles → j < length laid.bles →
       slice_index (ble_numbers arch layout laid) i ≡ slice_index (ble_numbers arch layout laid) j → i ≡ j
@@ -212,10 +144,7 @@ module _ (lines : List JoinedLine) (circuit : Circuit) (arch : Arch) (strip : St
       filled_once routed (free_places arch.cluster_size routed) (asked_once laid number there is) (are_left arch.cluster_size routed (omega (arith, long, few, places))) i j (omega (arith, long, within)) (omega (arith, long, small)) same
 
   cluster_at : (spot : Spot layout) → (number : ℕ) × (spot.laid.block ≡ Cluster number)
-  cluster_at spot =
-      let few = All-contains (λ (laid : LaidBlock). length laid.bles ≤ ble_places arch laid.block) layout.blocks spot.laid h.few_bles spot.there in
-      let some = (from_get spot.laid.bles spot.index spot.ble spot.is).0 in
-      a_cluster arch spot.laid.block (omega (arith, few, some))
+  cluster_at spot = grind (arith, from_get)
 
   pub bles_apart : AreBlesApart arch layout
   bles_apart spot other same =

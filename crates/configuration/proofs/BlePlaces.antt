@@ -1,15 +1,5 @@
 -- The places of a block's BLEs differ.
-use Rattle.std.proofs.Common.{get_or, ◌≡◌, ◌≢◌, ℕ, suc, zero, ◌+◌, ◌<◌, ◌≤◌, Bool, true, false, ◌||◌, ◌==◌, not, List, [], ◌∷◌, cond, filter, length, Option, Some, None, slice_get, sym, ap, refl, ◌∙◌, inl, inr, ◌⊎◌, subst, arith}
-use Rattle.std.specs.Prelude.{All, AllPairs, Contains, count_by, slice_index}
-use Rattle.std.specs.List.{list_any, range_with_len}
-use Rattle.std.proofs.lemmas.Bool.{cases_order, eqb-true, false≢true}
-use Rattle.std.proofs.lemmas.Bool.Decides.{nat_tests}
-use Rattle.std.proofs.lemmas.List.FromFn.{length-range_with_len}
-use Rattle.std.proofs.lemmas.List.Kept.{AllPairs-filter}
-use Rattle.cluster.proofs.Pairs.{pairs_head, pairs_tail}
-use Rattle.implements.proofs.Members.{from_filter, in_first, in_later}
-use Rattle.implements.proofs.Unique.{count-cons}
-use Rattle.configuration.specs.RoutedPins.{filled_places, free_places, is_place}
+use Rattle.configuration.proofs.Prelude.{get_or, ◌≡◌, ◌≢◌, ℕ, suc, zero, ◌+◌, ◌<◌, ◌≤◌, Bool, true, false, ◌||◌, ◌==◌, not, List, [], ◌∷◌, cond, filter, length, Option, Some, None, slice_get, sym, ap, refl, ◌∙◌, inl, inr, ◌⊎◌, subst, arith, All, AllPairs, Contains, count_by, slice_index, list_any, range_with_len, cases_order, eqb-true, false≢true, length-range_with_len, AllPairs-filter, pairs_head, pairs_tail, from_filter, in_first, in_later, count-cons, filled_places, free_places, is_place}
 
 -- no place is asked for twice
 abbrev pub AreOnce : List (Option ℕ) → Type 0
@@ -26,16 +16,9 @@ is_asked (Some place) = true
 -- what is asked for is found
 asked : (routed : List (Option ℕ)) (i place : ℕ) → slice_get routed i ≡ Some (Some place) → list_any (is_place place) routed ≡ true
 asked [] i place e = absurd cc
-asked (Some other ∷ routed) zero place e =
-    let same : other ≡ place = cc in
-    let test : (other == place) ≡ true = grind (arith, nat_tests, same) in
-    ap (λ (b : Bool). b || list_any (is_place place) routed) test
+asked (Some other ∷ routed) zero place e = grind arith
 asked (None ∷ routed) zero place e = absurd cc
-asked (Some other ∷ routed) (suc i) place e = let rest = asked routed i place e in either (other == place) (list_any (is_place place) routed) rest
-  where
-    either : (a b : Bool) → b ≡ true → (a || b) ≡ true
-    either true b h = refl
-    either false b h = h
+asked (Some other ∷ routed) (suc i) place e = grind (arith, asked routed i place e)
 asked (None ∷ routed) (suc i) place e = asked routed i place e
 
 -- the places that are left: none is asked for, each is there once, and there are enough
@@ -117,11 +100,7 @@ get_range start (suc count) zero d h = omega arith
 get_range start (suc count) (suc k) d h = let rest = get_range (start + 1) count k d (omega (arith, h)) in omega (arith, rest)
 
 range_apart : (start count : ℕ) → AllPairs (λ place other. place ≢ other) (range_with_len start count)
-range_apart start count i j d before small same =
-    let long = length-range_with_len start count in
-    let a = get_range start count i d (omega (arith, before, small, long)) in
-    let b = get_range start count j d (omega (arith, small, long)) in
-    omega (arith, a, b, same, before)
+range_apart start count i j d before small same = grind (arith, length-range_with_len, get_range)
 
 -- a place more that is asked for takes one away at most
 kept_same : (test : ℕ → Bool) (place : ℕ) (xs : List ℕ) → All (λ other. place ≢ other) xs → length (filter (λ p. not ((place == p) || test p)) xs) ≡ length (filter (λ p. not (test p)) xs)

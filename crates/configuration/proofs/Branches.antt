@@ -1,54 +1,23 @@
 -- The branch of a tree that leads from its source to a sink, as switches.
-use Rattle.std.proofs.Common.{◌≡◌, true, false, ◌&&◌, not, List, [], ◌∷◌, Some, option_map, sym, ap, refl, ◌∙◌, subst, inl, inr, arith}
-use Rattle.std.specs.Prelude.{Contains}
-use Rattle.std.proofs.lemmas.Bool.{and_parts, false≢true}
-use Rattle.std.proofs.lemmas.Bool.Decides.{nat_tests}
-use Rattle.arch_file.specs.declared.arch.Arch.{Arch}
-use Rattle.grid.specs.declared.Strip.{Strip}
-use Rattle.rr_graph.specs.declared.node.NodeKind.{NodeKind}
-use Rattle.rr_graph.specs.declared.node.NodeKind.TheVariants.{Source, Sink, Opin, Ipin, ChanX, ChanY}
-use Rattle.rr_graph.specs.declared.node.Node.{Node}
-use Rattle.rr_graph.specs.Geometry.{is_edge, is_node, is_together, joins}
-use Rattle.pathfinder.specs.LegalRoutes.{HasOneOpin, IsRoute, LeadsOver, pairs_of, path_nodes, steps_of}
-use Rattle.pathfinder.specs.Terminals.{is_same_node}
-use Rattle.pathfinder.proofs.NodeNumbers.{same_node}
-use Rattle.implements.proofs.Members.{from_flat_map, in_cases, in_first, in_later, in_none, to_any, to_flat_map}
-use Rattle.configuration.specs.Configuration.{is_switch, is_terminal}
-use Rattle.configuration.specs.RoutedPins.{node_after, node_before}
+use Rattle.configuration.proofs.Prelude.{◌≡◌, true, false, ◌&&◌, not, List, [], ◌∷◌, Some, option_map, sym, ap, refl, ◌∙◌, subst, inl, inr, arith, Contains, and_parts, nat_tests, Arch, Strip, NodeKind, Source, Sink, Opin, Ipin, Node, is_edge, is_node, is_together, joins, HasOneOpin, IsRoute, LeadsOver, pairs_of, path_nodes, steps_of, is_same_node, same_node, from_flat_map, in_cases, in_first, in_later, in_none, to_any, to_flat_map, is_switch, is_terminal, node_after, node_before}
 use Rattle.configuration.proofs.Found.{find_one, found_is}
 
 -- ---- kinds of an edge's ends
 
 from_source : (arch : Arch) (strip : Strip) (from to : NodeKind) (a b : Node) → joins arch strip from to a b ≡ true → from ≡ Source → (to ≡ Opin) × (is_together strip a b ≡ true)
-from_source arch strip Source Opin a b h e = (refl, h)
-from_source arch strip from to a b h e = absurd cc
+from_source arch strip from to a b h e = grind arith
 
 to_sink : (arch : Arch) (strip : Strip) (from to : NodeKind) (a b : Node) → joins arch strip from to a b ≡ true → to ≡ Sink → (from ≡ Ipin) × (is_together strip a b ≡ true)
-to_sink arch strip Ipin Sink a b h e = (refl, h)
-to_sink arch strip from to a b h e = absurd cc
+to_sink arch strip from to a b h e = grind arith
 
 to_opin : (arch : Arch) (strip : Strip) (from to : NodeKind) (a b : Node) → joins arch strip from to a b ≡ true → to ≡ Opin → from ≡ Source
-to_opin arch strip Source Opin a b h e = refl
-to_opin arch strip from to a b h e = absurd cc
+to_opin arch strip from to a b h e = grind arith
 
 from_sink : (arch : Arch) (strip : Strip) (to : NodeKind) (a b : Node) → joins arch strip Sink to a b ≡ true → ⊥
-from_sink arch strip Source a b h = false≢true h
-from_sink arch strip Sink a b h = false≢true h
-from_sink arch strip Opin a b h = false≢true h
-from_sink arch strip Ipin a b h = false≢true h
-from_sink arch strip ChanX a b h = false≢true h
-from_sink arch strip ChanY a b h = false≢true h
+from_sink arch strip to a b h = grind arith
 
 to_source : (arch : Arch) (strip : Strip) (from : NodeKind) (a b : Node) → joins arch strip from Source a b ≡ true → ⊥
-to_source arch strip Source a b h = false≢true h
-to_source arch strip Sink a b h = false≢true h
-to_source arch strip Opin a b h = false≢true h
-to_source arch strip Ipin a b h = false≢true h
-to_source arch strip ChanX a b h = false≢true h
-to_source arch strip ChanY a b h = false≢true h
-
-no_sink : (arch : Arch) (strip : Strip) (from to : NodeKind) (a b : Node) → joins arch strip from to a b ≡ true → from ≡ Sink → ⊥
-no_sink arch strip from to a b h e = from_sink arch strip to a b (sym (ap (λ kind. joins arch strip kind to a b) e) ∙ h)
+to_source arch strip from a b h = grind arith
 
 no_source : (arch : Arch) (strip : Strip) (from to : NodeKind) (a b : Node) → joins arch strip from to a b ≡ true → to ≡ Source → ⊥
 no_source arch strip from to a b h e = to_source arch strip from a b (sym (ap (λ kind. joins arch strip from kind a b) e) ∙ h)
@@ -60,10 +29,7 @@ pub record Joined (arch : Arch) (strip : Strip) (a b : Node) : Type 0 where
   pub join : joins arch strip a.kind b.kind a b ≡ true
 
 pub joined : (arch : Arch) (strip : Strip) (a b : Node) → is_edge arch strip a b ≡ true → Joined arch strip a b
-joined arch strip a b edge =
-    let outer = and_parts (is_node arch strip a) (is_node arch strip b && joins arch strip a.kind b.kind a b) edge in
-    let inner = and_parts (is_node arch strip b) (joins arch strip a.kind b.kind a b) outer.1 in
-    record { from = outer.0; to = inner.0; join = inner.1 }
+joined arch strip a b edge = grind (arith, and_parts)
 
 pub source_to_opin : (arch : Arch) (strip : Strip) (a b : Node) → is_edge arch strip a b ≡ true → a.kind ≡ Source → (b.kind ≡ Opin) × (is_together strip a b ≡ true)
 source_to_opin arch strip a b edge e = from_source arch strip a.kind b.kind a b (joined arch strip a b edge).join e
@@ -74,18 +40,9 @@ ipin_to_sink arch strip a b edge e = to_sink arch strip a.kind b.kind a b (joine
 pub opin_from_source : (arch : Arch) (strip : Strip) (a b : Node) → is_edge arch strip a b ≡ true → b.kind ≡ Opin → a.kind ≡ Source
 opin_from_source arch strip a b edge e = to_opin arch strip a.kind b.kind a b (joined arch strip a b edge).join e
 
-not_terminal : (kind : NodeKind) → (kind ≡ Source → ⊥) → (kind ≡ Sink → ⊥) → is_terminal kind ≡ false
-not_terminal Source source sink = absurd (source refl)
-not_terminal Sink source sink = absurd (sink refl)
-not_terminal Opin source sink = refl
-not_terminal Ipin source sink = refl
-not_terminal ChanX source sink = refl
-not_terminal ChanY source sink = refl
-
 -- a node between two edges
 pub between_edges : (arch : Arch) (strip : Strip) (a b c : Node) → is_edge arch strip a b ≡ true → is_edge arch strip b c ≡ true → is_terminal b.kind ≡ false
-between_edges arch strip a b c one two =
-    not_terminal b.kind (no_source arch strip a.kind b.kind a b (joined arch strip a b one).join) (no_sink arch strip b.kind c.kind b c (joined arch strip b c two).join)
+between_edges arch strip a b c one two = grind (arith, joined)
 
 pub both_inner : (a b : Node) → is_terminal a.kind ≡ false → is_terminal b.kind ≡ false → is_switch (a, b) ≡ true
 both_inner a b one two = ap (λ x. not x && not (is_terminal b.kind)) one ∙ ap (λ x. not x) two

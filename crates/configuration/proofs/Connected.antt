@@ -1,28 +1,5 @@
 -- The tables, latches and outputs of the netlist in the configuration of its layout.
-use Rattle.std.proofs.Common.{◌≡◌, ℕ, suc, zero, Bool, true, false, ◌||◌, ◌==◌, List, [], ◌∷◌, Option, Some, None, slice_get, sym, ap, refl, ◌∙◌, inl, inr, ◌⊎◌, subst, map, arith}
-use Rattle.std.specs.Prelude.{Contains, count_by}
-use Rattle.std.specs.List.{list_all, list_any}
-use Rattle.std.proofs.lemmas.Bool.{eqb-true}
-use Rattle.std.proofs.lemmas.Bool.Decides.{nat_tests}
-use Rattle.std.proofs.lemmas.List.Elements.{All-contains}
-use Rattle.line_text.specs.Lines.{JoinedLine}
-use Rattle.arch_file.specs.declared.arch.Arch.{Arch}
-use Rattle.blif.specs.declared.circuit.Circuit.{Circuit}
-use Rattle.blif.specs.declared.latches.Latch.{Latch}
-use Rattle.blif.specs.LookupTables.{LookupTable}
-use Rattle.ble_cluster.specs.Nets.{has}
-use Rattle.ble_cluster.specs.Bles.{LogicElement}
-use Rattle.cluster.specs.declared.block.Block.{Block}
-use Rattle.cluster.specs.declared.block.Block.TheVariants.{InputPad, OutputPad, Cluster}
-use Rattle.grid.specs.declared.Strip.{Strip}
-use Rattle.grid.specs.declared.place.Place.{Place}
-use Rattle.grid.specs.Sizes.{IsStripSize}
-use Rattle.implements.specs.Holding.{holds_latch, holds_table, is_latch, is_pair, is_same_net, is_table, receives}
-use Rattle.implements.specs.Implements.{Implements, output_at}
-use Rattle.implements.specs.Layouts.{LaidBlock, Layout, traced_ble, traced_bles}
-use Rattle.implements.proofs.Members.{counted, from_all, from_any, from_flat_map, from_has, from_map, in_cases, in_none, to_any}
-use Rattle.configuration.specs.Configuration.{configuration_of}
-use Rattle.configuration.specs.Wired.{Configures, IsClockedBy, Shows, Spot, TakesAt}
+use Rattle.configuration.proofs.Prelude.{◌≡◌, ℕ, suc, zero, Bool, true, false, ◌||◌, ◌==◌, List, [], ◌∷◌, Option, Some, slice_get, sym, ap, refl, ◌∙◌, inl, inr, ◌⊎◌, subst, map, arith, Contains, count_by, list_all, list_any, eqb-true, nat_tests, All-contains, JoinedLine, Arch, Circuit, Latch, LookupTable, has, LogicElement, Block, OutputPad, Strip, Place, IsStripSize, holds_latch, holds_table, is_latch, is_pair, is_same_net, receives, Implements, output_at, LaidBlock, Layout, traced_ble, traced_bles, counted, from_all, from_any, from_flat_map, from_has, from_map, in_cases, in_none, to_any, configuration_of, Configures, IsClockedBy, Shows, Spot, TakesAt}
 use Rattle.configuration.proofs.Wiring.{clocked, is_used, shown, taken}
 
 -- the place of a member
@@ -34,15 +11,10 @@ get_at (y ∷ xs) x c = elim (in_cases y x xs c) [
 ]
 
 is_output : (block : Block) (net : ℕ) → Contains (output_at block) net → block ≡ OutputPad net
-is_output (InputPad input) net c = absurd (in_none net c)
-is_output (OutputPad output) net c = elim (in_cases output net [] c) [ inl e ↦ ap OutputPad e | inr d ↦ absurd (in_none net d) ]
-is_output (Cluster number) net c = absurd (in_none net c)
+is_output block net c = grind arith
 
 same_net : (a b : Option ℕ) → is_same_net a b ≡ true → a ≡ b
-same_net None None h = refl
-same_net None (Some y) h = absurd cc
-same_net (Some x) None h = absurd cc
-same_net (Some x) (Some y) h = ap Some (eqb-true x y h)
+same_net a b h = grind arith
 
 receives_all : (element : LogicElement) (nets : List ℕ) (net : ℕ) → receives element nets ≡ true → has nets net ≡ true → Contains element.inputs net
 receives_all element nets net r is =
@@ -51,13 +23,7 @@ receives_all element nets net r is =
 
 module _ (circuit : Circuit) where
   pub reads_table : (element : LogicElement) (table : LookupTable) → holds_table circuit element table ≡ true → receives element table.inputs ≡ true
-  reads_table element table holds = by (is_table element table) refl
-    where
-      by : (b : Bool) → is_table element table ≡ b → receives element table.inputs ≡ true
-      by true is = grind (arith, is)
-      by false is =
-          let pair = from_any (is_pair circuit element table) circuit.latches (sym (ap (λ (b : Bool). b || list_any (is_pair circuit element table) circuit.latches) is) ∙ holds) in
-          let both = pair.2 in grind (arith, both)
+  reads_table element table holds = search (from_any, arith)
 
   -- what a BLE that holds a latch is
   pub record LatchParts (element : LogicElement) (latch : Latch) : Type 0 where
@@ -122,10 +88,4 @@ module _ (lines : List JoinedLine) (circuit : Circuit) (arch : Arch) (strip : St
       (found.0.place, shown lines circuit arch strip layout size h found.0 net found.1 (is_output found.0.block net found.2))
 
   pub configures : Configures circuit arch strip layout (configuration_of lines circuit arch strip layout)
-  configures = record {
-    used = is_used lines circuit arch strip layout size h;
-    inputs = taken lines circuit arch strip layout size h;
-    tables = tables_there;
-    latches = latches_there;
-    outputs = outputs_there;
-  }
+  configures = grind (arith, is_used, taken, tables_there, latches_there, outputs_there)

@@ -1,37 +1,10 @@
 -- What holds of each kind of line holds of each line of a configuration.
-use Rattle.std.proofs.Common.{◌≡◌, ℕ, List, [], ◌∷◌, ◌++◌, Bool, true, false, cond, filter, map, Some, slice_get, refl, inl, inr, subst}
-use Rattle.std.specs.Prelude.{Contains, codes, is_some}
-use Rattle.std.specs.List.{enumerate_from, flat_map, list_any}
-use Rattle.std.specs.Option.{option_to_list}
-use Rattle.line_text.specs.Lines.{JoinedLine}
-use Rattle.arch_file.specs.declared.arch.Arch.{Arch}
-use Rattle.blif.specs.declared.circuit.Circuit.{Circuit}
-use Rattle.blif.specs.declared.latches.Latch.{Latch}
-use Rattle.cluster.specs.declared.block.Block.{Block}
-use Rattle.cluster.specs.declared.block.Block.TheVariants.{InputPad, OutputPad, Cluster}
-use Rattle.grid.specs.declared.Strip.{Strip}
-use Rattle.implements.specs.declared.feed.Feed.{Feed}
-use Rattle.implements.specs.Layouts.{LaidBle, LaidBlock, LaidNet, Layout}
-use Rattle.implements.proofs.Members.{from_append, from_filter, from_flat_map, from_map, in_cases, in_first, in_later, in_none, only_one}
-use Rattle.pathfinder.specs.LegalRoutes.{pairs_of}
-use Rattle.rr_graph.specs.declared.node.Node.{Node}
-use Rattle.table_rows.specs.CellLines.{args_at, init_in, type_in}
-use Rattle.configuration.specs.Lines.{BlePlace, ConfigurationLine, Device, Driver, Feeds, PadIn, PadOut, Signal, Stores, Switch, Takes, Used, Values}
-use Rattle.configuration.specs.RoutedPins.{ble_at}
-use Rattle.configuration.specs.Configuration.{ble_lines, block_lines, block_lines_as, configuration_of, control_in, driver_of_net, each_once, global_lines, global_number, input_lines, is_same_edge, is_switch, latch_driving, latch_lines, signal_for, switch_lines, values_in}
+use Rattle.configuration.proofs.Prelude.{◌≡◌, ℕ, List, [], ◌∷◌, ◌++◌, true, cond, filter, map, Some, slice_get, refl, inl, inr, subst, arith, Contains, codes, is_some, enumerate_from, flat_map, option_to_list, JoinedLine, Arch, Circuit, Latch, Block, InputPad, OutputPad, Cluster, Strip, Feed, LaidBle, LaidBlock, LaidNet, Layout, from_append, from_filter, from_flat_map, from_map, in_cases, in_later, in_none, only_one, pairs_of, Node, args_at, init_in, type_in, BlePlace, ConfigurationLine, Device, Driver, Feeds, PadIn, PadOut, Signal, Stores, Switch, Takes, Used, Values, ble_at, ble_lines, block_lines, block_lines_as, configuration_of, control_in, driver_of_net, each_once, global_lines, global_number, input_lines, is_switch, latch_driving, latch_lines, signal_for, switch_lines, values_in}
 use Rattle.configuration.proofs.Found.{index_of}
 
 once_back : (seen edges : List (Node × Node)) (edge : Node × Node) → Contains (each_once seen edges) edge → Contains edges edge
 once_back seen [] edge c = c
-once_back seen (first ∷ edges) edge c = by (list_any (is_same_edge first) seen) (once_back seen edges edge) (once_back (seen ++ first ∷ []) edges edge) c
-  where
-    by : (b : Bool) → (Contains (each_once seen edges) edge → Contains edges edge) → (Contains (each_once (seen ++ first ∷ []) edges) edge → Contains edges edge) →
-        Contains (cond b (each_once seen edges) (first ∷ each_once (seen ++ first ∷ []) edges)) edge → Contains (first ∷ edges) edge
-    by true rest more c = in_later first edge edges (rest c)
-    by false rest more c = elim (in_cases first edge (each_once (seen ++ first ∷ []) edges) c) [
-      | inl e ↦ subst (λ x. Contains (first ∷ edges) x) e (in_first first edges)
-      | inr d ↦ in_later first edge edges (more d)
-    ]
+once_back seen (first ∷ edges) edge c = search (in_later, once_back seen edges edge, once_back (seen ++ first ∷ []) edges edge, arith)
 
 -- a BLE of a layout, with its block's number and its index
 pub record Element (layout : Layout) : Type 0 where

@@ -1,20 +1,7 @@
 -- The configurations of small layouts, and the text of lines.
-use Rattle.std.proofs.Common.{◌≡◌, ℕ, true, false, List, [], ◌∷◌, Some, None, refl, codes}
-use Rattle.line_text.specs.Lines.{JoinedLine}
-use Rattle.arch_file.specs.declared.arch.Arch.{Arch}
+use Rattle.configuration.proofs.Prelude.{◌≡◌, ℕ, true, false, List, [], ◌∷◌, Some, None, refl, JoinedLine, Arch, PinClass, Input, Output, Clock, Circuit, InputPad, OutputPad, Cluster, place_at, Strip, Pin, Ble, Layout, make_node, Source, Sink, Opin, Ipin, ChanX, ChanY, configuration_of, BlePlace, Device, Feeds, FromBle, FromPin, PadAt, PadIn, PadOut, Stores, Switch, Takes, Used, Values}
+use Rattle.std.proofs.Common.{codes}
 use Rattle.arch_file.specs.declared.arch.Pin.{Pin as ArchPin}
-use Rattle.arch_file.specs.declared.arch.PinClass.{PinClass}
-use Rattle.arch_file.specs.declared.arch.PinClass.TheVariants.{Input, Output, Clock}
-use Rattle.blif.specs.declared.circuit.Circuit.{Circuit}
-use Rattle.cluster.specs.declared.block.Block.TheVariants.{InputPad, OutputPad, Cluster}
-use Rattle.grid.specs.Places.{place_at}
-use Rattle.grid.specs.declared.Strip.{Strip}
-use Rattle.implements.specs.declared.feed.Feed.TheVariants.{Pin, Ble}
-use Rattle.implements.specs.Layouts.{Layout}
-use Rattle.rr_graph.specs.Graph.{make_node}
-use Rattle.rr_graph.specs.declared.node.NodeKind.TheVariants.{Source, Sink, Opin, Ipin, ChanX, ChanY}
-use Rattle.configuration.specs.Configuration.{configuration_of}
-use Rattle.configuration.specs.Lines.{BlePlace, Device, Feeds, FromBle, FromPin, PadAt, PadIn, PadOut, Stores, Switch, Takes, Used, Values}
 
 abbrev pin : PinClass → ArchPin
 pin class = record { class = class; sides = record { top = true; bottom = true; left = true; right = true } }

@@ -1,17 +1,10 @@
 -- What `find` finds, and members with their index.
-use Rattle.std.proofs.Common.{◌≡◌, ℕ, suc, zero, ◌+◌, Bool, true, false, ◌||◌, List, [], ◌∷◌, cond, Some, slice_get, sym, ap, refl, ◌∙◌, inl, inr, subst, arith}
-use Rattle.std.specs.Prelude.{Contains, find}
-use Rattle.std.specs.List.{enumerate_from, list_any}
-use Rattle.std.proofs.lemmas.Option.{same_Some}
-use Rattle.implements.proofs.Members.{in_cases, in_first, in_later, in_none}
+use Rattle.configuration.proofs.Prelude.{◌≡◌, ℕ, suc, zero, ◌+◌, Bool, true, false, ◌||◌, List, [], ◌∷◌, cond, Some, slice_get, ap, refl, inl, inr, subst, arith, Contains, enumerate_from, list_any, in_cases, in_later, in_none}
+use Rattle.std.specs.Prelude.{find}
 
 pub found_is : {X : Type 0} (test : X → Bool) (xs : List X) (x : X) → find test xs ≡ Some x → Contains xs x × (test x ≡ true)
 found_is test [] x e = absurd cc
-found_is {X} test (y ∷ xs) x e = by (test y) refl (found_is test xs x) e
-  where
-    by : (b : Bool) → test y ≡ b → (find test xs ≡ Some x → Contains xs x × (test x ≡ true)) → cond b (Some y) (find test xs) ≡ Some x → Contains (y ∷ xs) x × (test x ≡ true)
-    by true is rest same = let e : y ≡ x = same_Some y x same in (subst (λ z. Contains (y ∷ xs) z) e (in_first y xs), sym (ap test e) ∙ is)
-    by false is rest more = let q = rest more in (in_later y x xs q.0, q.1)
+found_is {X} test (y ∷ xs) x e = grind (arith, in_later, found_is test xs x)
 
 pub find_one : {X : Type 0} (test : X → Bool) (xs : List X) → list_any test xs ≡ true → (x : X) × (find test xs ≡ Some x)
 find_one test [] h = absurd cc
@@ -23,14 +16,8 @@ find_one {X} test (y ∷ xs) h = by (test y) (find_one test xs) h
 
 from_count : {X : Type 0} (start : ℕ) (xs : List X) (k : ℕ) (x : X) → slice_get xs k ≡ Some x → Contains (enumerate_from start xs) (start + k, x)
 from_count start [] k x e = absurd cc
-from_count {X} start (y ∷ xs) zero x e =
-    subst (λ (p : ℕ × X). Contains ((start, y) ∷ enumerate_from (start + 1) xs) p) (both (omega arith) (same_Some y x e)) (in_first (start, y) (enumerate_from (start + 1) xs))
-  where
-    both : {n m : ℕ} → n ≡ m → y ≡ x → ◌≡◌ {A = ℕ × X} (n, y) (m, x)
-    both p q = cc
-from_count {X} start (y ∷ xs) (suc k) x e =
-    in_later (start, y) (start + suc k, x) (enumerate_from (start + 1) xs)
-    (subst (λ (n : ℕ). Contains (enumerate_from (start + 1) xs) (n, x)) (omega arith) (from_count (start + 1) xs k x e))
+from_count {X} start (y ∷ xs) zero x e = grind arith
+from_count {X} start (y ∷ xs) (suc k) x e = grind (arith, in_later, from_count (start + 1) xs k x e)
 
 pub indexed : {X : Type 0} (xs : List X) (k : ℕ) (x : X) → slice_get xs k ≡ Some x → Contains (enumerate_from 0 xs) (k, x)
 indexed {X} xs k x e = subst (λ (n : ℕ). Contains (enumerate_from 0 xs) (n, x)) (omega arith) (from_count 0 xs k x e)

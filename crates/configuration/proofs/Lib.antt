@@ -1,3 +1,4 @@
+mod Prelude
 pub mod Found
 pub mod Branches
 pub mod Spots

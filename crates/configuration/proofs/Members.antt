@@ -1,37 +1,11 @@
 -- Lines that a configuration has.
-use Rattle.std.proofs.Common.{◌≡◌, ℕ, Bool, true, false, List, [], ◌∷◌, ◌++◌, cond, filter, map, Some, slice_get, sym, refl, ◌∙◌, inl, inr, ◌⊎◌, subst}
-use Rattle.std.specs.Prelude.{Contains, codes, is_some}
-use Rattle.std.specs.List.{enumerate_from, flat_map, list_any}
-use Rattle.std.specs.Option.{option_to_list}
-use Rattle.std.proofs.lemmas.Bool.{and_parts}
-use Rattle.line_text.specs.Lines.{JoinedLine}
-use Rattle.arch_file.specs.declared.arch.Arch.{Arch}
-use Rattle.blif.specs.declared.circuit.Circuit.{Circuit}
-use Rattle.blif.specs.declared.latches.Latch.{Latch}
-use Rattle.cluster.specs.declared.block.Block.TheVariants.{Cluster}
-use Rattle.grid.specs.declared.Strip.{Strip}
-use Rattle.implements.specs.declared.feed.Feed.{Feed}
-use Rattle.implements.specs.Layouts.{LaidBle, LaidBlock, LaidNet, Layout}
-use Rattle.pathfinder.specs.LegalRoutes.{pairs_of}
-use Rattle.pathfinder.proofs.NodeNumbers.{same_node}
-use Rattle.pathfinder.specs.Terminals.{is_same_node}
-use Rattle.rr_graph.specs.declared.node.Node.{Node}
-use Rattle.implements.proofs.Members.{from_any, from_append, in_cases, in_first, in_later, in_none, one_only, to_append_left, to_append_right, to_filter, to_flat_map, to_map}
-use Rattle.table_rows.specs.CellLines.{args_at, init_in, type_in}
-use Rattle.configuration.specs.Lines.{BlePlace, ConfigurationLine, Device, Driver, Feeds, Signal, Stores, Switch, Takes, Used, Values, switch_in, switches_of}
-use Rattle.configuration.specs.RoutedPins.{ble_at}
-use Rattle.configuration.specs.Configuration.{ble_lines, block_lines, block_lines_as, configuration_of, control_in, driver_of_net, each_once, global_lines, input_lines, is_same_edge, is_switch, latch_driving, latch_lines, signal_for, switch_lines, values_in}
+use Rattle.configuration.proofs.Prelude.{◌≡◌, ℕ, Bool, true, false, List, [], ◌∷◌, ◌++◌, cond, filter, map, Some, slice_get, sym, refl, ◌∙◌, inl, inr, ◌⊎◌, subst, arith, Contains, codes, is_some, enumerate_from, flat_map, list_any, option_to_list, and_parts, JoinedLine, Arch, Circuit, Latch, Cluster, Strip, Feed, LaidBle, LaidBlock, LaidNet, Layout, pairs_of, Node, from_any, from_append, in_cases, in_first, in_later, in_none, one_only, to_append_left, to_append_right, to_filter, to_flat_map, to_map, args_at, init_in, type_in, BlePlace, ConfigurationLine, Device, Driver, Feeds, Signal, Stores, Switch, Takes, Used, Values, switch_in, switches_of, ble_at, ble_lines, block_lines, block_lines_as, configuration_of, control_in, driver_of_net, each_once, global_lines, input_lines, is_same_edge, is_switch, latch_driving, latch_lines, signal_for, switch_lines, values_in}
 use Rattle.configuration.proofs.Found.{indexed}
 
 -- ---- edges, each once
 
 same_edge : (edge other : Node × Node) → is_same_edge edge other ≡ true → edge ≡ other
-same_edge edge other h =
-    let parts = and_parts (is_same_node edge.0 other.0) (is_same_node edge.1 other.1) h in
-    both (same_node edge.0 other.0 parts.0) (same_node edge.1 other.1 parts.1)
-  where
-    both : {a b c d : Node} → a ≡ c → b ≡ d → ◌≡◌ {A = Node × Node} (a, b) (c, d)
-    both p q = cc
+same_edge edge other h = search (and_parts, arith)
 
 once_kept : (seen edges : List (Node × Node)) (edge : Node × Node) → Contains edges edge → Contains (each_once seen edges) edge ⊎ Contains seen edge
 once_kept seen [] edge c = absurd (in_none edge c)
@@ -74,8 +48,7 @@ module _ (lines : List JoinedLine) (circuit : Circuit) (arch : Arch) (strip : St
 
   pub has_block_line : (laid : LaidBlock) (line : ConfigurationLine) → Contains layout.blocks laid → Contains (block_lines lines circuit arch layout laid) line → Contains (configuration_of lines circuit arch strip layout) line
   unfolding configuration_of
-  has_block_line laid line there c =
-      in_later head line (blocks_part ++ last_parts) (to_append_left blocks_part last_parts line (to_flat_map (block_lines lines circuit arch layout) layout.blocks laid line there c))
+  has_block_line laid line there c = search (in_later, to_append_left, to_flat_map, arith)
 
   pub has_global_line : (k net : ℕ) (driver : Driver) → slice_get layout.globals k ≡ Some net → driver_of_net arch layout net ≡ Some driver → Contains (configuration_of lines circuit arch strip layout) (Feeds k driver)
   unfolding configuration_of
@@ -116,15 +89,7 @@ module _ (lines : List JoinedLine) (circuit : Circuit) (arch : Arch) (strip : St
 
   pub has_latch : (laid : LaidBlock) (place : BlePlace) (ble : LaidBle) (latch : Latch) → latch_driving circuit ble.name ≡ Some latch →
       Contains (ble_lines lines circuit arch layout laid place ble) (Stores place (cond (is_some latch.control) (type_in (args_at lines latch.line)) (codes "none")) (init_in (args_at lines latch.line)) (control_in arch layout laid ble))
-  has_latch laid place ble latch is =
-      let make = λ (latch : Latch). Stores place (cond (is_some latch.control) (type_in (args_at lines latch.line)) (codes "none")) (init_in (args_at lines latch.line)) (control_in arch layout laid ble) in
-      let values = Values place (values_in lines circuit arch laid ble) in
-      let latches = latch_lines lines circuit arch layout laid place ble in
-      in_later (Used place) (make latch) (input_lines arch layout laid place ble ++ values ∷ latches) (to_append_right (input_lines arch layout laid place ble) (values ∷ latches) (make latch)
-      (in_later values (make latch) latches (to_map make (option_to_list (latch_driving circuit ble.name)) latch (one_only (latch_driving circuit ble.name) latch is))))
+  has_latch laid place ble latch is = grind (arith, in_later, to_append_right)
 
   pub has_values : (laid : LaidBlock) (place : BlePlace) (ble : LaidBle) → Contains (ble_lines lines circuit arch layout laid place ble) (Values place (values_in lines circuit arch laid ble))
-  has_values laid place ble =
-      let values = Values place (values_in lines circuit arch laid ble) in
-      let latches = latch_lines lines circuit arch layout laid place ble in
-      in_later (Used place) values (input_lines arch layout laid place ble ++ values ∷ latches) (to_append_right (input_lines arch layout laid place ble) (values ∷ latches) values (in_first values latches))
+  has_values laid place ble = grind (arith, in_later, to_append_right)

@@ -1,27 +1,5 @@
 -- What drives a net: the pad or BLE to which one comes from its tree, or from a global net.
-use Rattle.std.proofs.Common.{◌≡◌, ℕ, Bool, true, false, ◌&&◌, ◌==◌, List, [], ◌∷◌, cond, filter, take, Some, slice_get, sym, ap, refl, ◌∙◌, inl, inr, subst, arith}
-use Rattle.std.specs.Prelude.{Contains, slice_index, is_some}
-use Rattle.std.specs.List.{enumerate_from, flat_map, list_any}
-use Rattle.std.proofs.lemmas.Bool.{and_parts, eqb-true, false≢true}
-use Rattle.std.proofs.lemmas.Bool.Decides.{nat_tests}
-use Rattle.arch_file.specs.declared.arch.Arch.{Arch}
-use Rattle.block_places.specs.Fits.{kind_of}
-use Rattle.cluster.specs.declared.block.Block.{Block}
-use Rattle.cluster.specs.declared.block.Block.TheVariants.{InputPad, OutputPad, Cluster}
-use Rattle.grid.specs.declared.Strip.{Strip}
-use Rattle.grid.specs.Places.{place_at}
-use Rattle.grid.specs.PlaceLaws.{IsPlaceIn}
-use Rattle.pathfinder.specs.Terminals.{source_at}
-use Rattle.rr_graph.specs.declared.node.Node.{Node}
-use Rattle.rr_graph.specs.Geometry.{is_block_row, is_pad_row, is_together}
-use Rattle.implements.specs.Implements.{drives, drives_as, leaves_as}
-use Rattle.implements.specs.Layouts.{LaidBle, LaidBlock, Layout}
-use Rattle.implements.proofs.Members.{from_any, from_filter, from_flat_map, from_get, from_map, in_cases, in_first, in_none, to_any, to_filter, to_flat_map, to_map}
-use Rattle.configuration.specs.Lines.{Driver, PadAt, BleAt}
-use Rattle.configuration.specs.RoutedPins.{ble_at, ble_numbers, output_rank, pin_out}
-use Rattle.configuration.specs.Configuration.{driver_of_net, drivers_as}
-use Rattle.configuration.specs.Drivers.{driver_at}
-use Rattle.configuration.specs.Wired.{HoldsDriver}
+use Rattle.configuration.proofs.Prelude.{◌≡◌, ℕ, Bool, true, false, ◌&&◌, ◌==◌, List, [], ◌∷◌, cond, filter, take, Some, slice_get, sym, ap, refl, ◌∙◌, inl, inr, subst, arith, Contains, slice_index, is_some, enumerate_from, flat_map, list_any, and_parts, eqb-true, false≢true, nat_tests, Arch, kind_of, Block, InputPad, OutputPad, Cluster, Strip, place_at, IsPlaceIn, source_at, Node, is_pad_row, is_together, drives, drives_as, leaves_as, LaidBle, LaidBlock, Layout, from_any, from_filter, from_flat_map, from_get, from_map, in_cases, in_first, in_none, to_any, to_filter, to_flat_map, to_map, Driver, PadAt, BleAt, ble_at, ble_numbers, output_rank, pin_out, driver_of_net, drivers_as, driver_at, HoldsDriver}
 use Rattle.configuration.proofs.Found.{index_of, indexed}
 use Rattle.configuration.proofs.Spots.{first_index, routed_number, together}
 
@@ -36,19 +14,7 @@ same_spot p q r = cc
 module _ (arch : Arch) (strip : Strip) (layout : Layout) (net : ℕ) (laid : LaidBlock) (there : Contains layout.blocks laid) (opin : Node) where
   by_block : (block : Block) → laid.block ≡ block → IsPlaceIn strip (kind_of block) laid.place → drives_as net laid block ≡ true → is_together strip (source_at block laid.place) opin ≡ true →
       pin_out layout laid net ≡ Some opin → HoldsDriver arch layout net (driver_at arch strip opin)
-  by_block (InputPad input) is at driven h out =
-      let t = together strip (source_at (InputPad input) laid.place) opin h in
-      let row = at.row in
-      let tx = t.x in
-      let ty = t.y in
-      let tn = t.n in
-      let outside : is_block_row strip laid.place.y ≡ false = grind (arith, nat_tests, row) in
-      let same : (laid.place.subblock == opin.n) ≡ true = grind (arith, tn, outside) in
-      let pad : is_pad_row strip opin.y ≡ true = grind (arith, nat_tests, row, ty) in
-      let whole : driver_at arch strip opin ≡ PadAt laid.place =
-      ap (λ (b : Bool). cond b (PadAt (place_at opin.x opin.y opin.n)) (BleAt (record { x = opin.x; y = opin.y; n = output_rank arch opin.n }))) pad
-      ∙ same_place (sym tx) (sym ty) (sym (eqb-true laid.place.subblock opin.n same)) in
-      subst (HoldsDriver arch layout net) (sym whole) (laid, there, is ∙ ap InputPad (eqb-true input net driven), refl)
+  by_block (InputPad input) is at driven h out = search (together, nat_tests, same_place, eqb-true, arith)
   by_block (OutputPad output) is at driven h out = absurd (false≢true driven)
   by_block (Cluster number) is at driven h out =
       let t = together strip (source_at (Cluster number) laid.place) opin h in
@@ -79,11 +45,7 @@ in_one x y c = elim (in_cases x y [] c) [ inl e ↦ e | inr d ↦ absurd (in_non
 module _ (arch : Arch) (layout : Layout) (net : ℕ) where
   -- each driver of a block drives the net
   held_as : (laid : LaidBlock) → Contains layout.blocks laid → (driver : Driver) (block : Block) → laid.block ≡ block → Contains (drivers_as arch layout laid net block) driver → HoldsDriver arch layout net driver
-  held_as laid there driver (InputPad input) is c = by (input == net) refl c
-    where
-      by : (b : Bool) → (input == net) ≡ b → Contains (cond b (PadAt laid.place ∷ []) []) driver → HoldsDriver arch layout net driver
-      by true same c = subst (HoldsDriver arch layout net) (in_one (PadAt laid.place) driver c) (laid, there, is ∙ ap InputPad (eqb-true input net same), refl)
-      by false same c = absurd (in_none driver c)
+  held_as laid there driver (InputPad input) is c = grind (arith, in_one, eqb-true, in_none)
   held_as laid there driver (OutputPad output) is c = absurd (in_none driver c)
   held_as laid there driver (Cluster number) is c =
       let test = λ (ble : ℕ × LaidBle). (ble.1.name == net) && is_some ble.1.output in

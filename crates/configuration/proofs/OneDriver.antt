@@ -1,29 +1,5 @@
 -- Walking back leads to one driver.
-use Rattle.std.proofs.Common.{◌≡◌, ℕ, ◌≤◌, Bool, true, false, not, List, [], ◌∷◌, cond, Some, slice_get, sym, ap, refl, ◌∙◌, inl, inr, subst, arith}
-use Rattle.std.specs.Prelude.{Contains}
-use Rattle.std.specs.List.{list_any}
-use Rattle.std.proofs.lemmas.Bool.{and_parts, false≢true}
-use Rattle.std.proofs.lemmas.List.Elements.{All-contains}
-use Rattle.std.proofs.lemmas.Option.{same_Some}
-use Rattle.line_text.specs.Lines.{JoinedLine}
-use Rattle.arch_file.specs.declared.arch.Arch.{Arch}
-use Rattle.blif.specs.declared.circuit.Circuit.{Circuit}
-use Rattle.grid.specs.declared.Strip.{Strip}
-use Rattle.implements.specs.Implements.{Implements, IsLaid, sinks_of}
-use Rattle.implements.specs.Layouts.{LaidNet, Layout}
-use Rattle.implements.proofs.Members.{from_flat_map, in_cases, in_none, to_any}
-use Rattle.implements.proofs.Unique.{same_counted}
-use Rattle.pathfinder.specs.LegalRoutes.{IsRoute, IsRouted, LeadsOver, pairs_of, path_nodes}
-use Rattle.pathfinder.specs.Terminals.{is_same_node, source_at}
-use Rattle.rr_graph.specs.declared.node.Node.{Node}
-use Rattle.rr_graph.specs.declared.node.NodeKind.{NodeKind}
-use Rattle.rr_graph.specs.declared.node.NodeKind.TheVariants.{Source, Sink, Opin, Ipin, ChanX, ChanY}
-use Rattle.rr_graph.specs.Geometry.{capacity_of, is_block_row}
-use Rattle.rr_graph.specs.Graph.{make_node}
-use Rattle.configuration.specs.Lines.{ConfigurationLine, Driver, Feeds, switch_in, switches_of}
-use Rattle.configuration.specs.Configuration.{configuration_of, driver_of_net, is_switch, is_terminal}
-use Rattle.configuration.specs.Drivers.{LeadsBack, driver_at}
-use Rattle.configuration.specs.Wired.{HasOneDriver}
+use Rattle.configuration.proofs.Prelude.{◌≡◌, ℕ, ◌≤◌, Bool, true, false, not, List, [], ◌∷◌, Some, slice_get, sym, ap, refl, ◌∙◌, subst, arith, Contains, list_any, and_parts, false≢true, same_Some, JoinedLine, Arch, Circuit, Strip, Implements, LaidNet, Layout, from_flat_map, to_any, same_counted, IsRoute, LeadsOver, pairs_of, path_nodes, is_same_node, Node, NodeKind, Opin, capacity_of, make_node, ConfigurationLine, Driver, Feeds, switch_in, switches_of, configuration_of, driver_of_net, is_switch, is_terminal, LeadsBack, driver_at, HasOneDriver}
 use Rattle.configuration.proofs.Branches.{opin_from_source, pair_nodes, same_self}
 use Rattle.configuration.proofs.EachLine.{EachKind, of_each}
 
@@ -53,32 +29,10 @@ one_end switches one first {node} (back {before = before} c walk) other (back {b
 -- ---- capacities
 
 one_net : (arch : Arch) (strip : Strip) (x y n : ℕ) (kind : NodeKind) → is_terminal kind ≡ false → capacity_of arch strip (make_node x kind y n) ≤ 1
-one_net arch strip x y n Source h = absurd (false≢true (sym h))
-one_net arch strip x y n Sink h = absurd (false≢true (sym h))
-one_net arch strip x y n Opin h = by (is_block_row strip y)
-  where
-    by : (b : Bool) → cond {A = ℕ} b 1 1 ≤ 1
-    by true = omega arith
-    by false = omega arith
-one_net arch strip x y n Ipin h = by (is_block_row strip y)
-  where
-    by : (b : Bool) → cond {A = ℕ} b 1 1 ≤ 1
-    by true = omega arith
-    by false = omega arith
-one_net arch strip x y n ChanX h = by (is_block_row strip y)
-  where
-    by : (b : Bool) → cond {A = ℕ} b 1 1 ≤ 1
-    by true = omega arith
-    by false = omega arith
-one_net arch strip x y n ChanY h = by (is_block_row strip y)
-  where
-    by : (b : Bool) → cond {A = ℕ} b 1 1 ≤ 1
-    by true = omega arith
-    by false = omega arith
+one_net arch strip x y n kind h = grind arith
 
 not_true : (b : Bool) → not b ≡ true → b ≡ false
-not_true true h = absurd (false≢true h)
-not_true false h = refl
+not_true b h = grind arith
 
 -- the ends of a switch are no sources and sinks
 pub record Inner (a b : Node) : Type 0 where
@@ -102,25 +56,7 @@ module _ (lines : List JoinedLine) (circuit : Circuit) (arch : Arch) (strip : St
   IsOfTree line = (a b : Node) → Contains (switch_in line) (a, b) → OfTree layout a b
 
   each_of_tree : EachKind lines circuit arch strip layout (IsOfTree)
-  each_of_tree = record {
-    device = λ a b c. absurd (in_none (a, b) c);
-    pad_in = λ laid net there is a b c. absurd (in_none (a, b) c);
-    pad_out = λ laid net there is a b c. absurd (in_none (a, b) c);
-    used = λ e a b c. absurd (in_none (a, b) c);
-    takes = λ e j feed signal at is a b c. absurd (in_none (a, b) c);
-    values = λ e a b c. absurd (in_none (a, b) c);
-    stores = λ e type init a b c. absurd (in_none (a, b) c);
-    feeds = λ k net driver at is a b c. absurd (in_none (a, b) c);
-    switch = λ between from to there pair is a b c. elim (in_cases (from, to) (a, b) [] c) [
-      | inl e ↦ record {
-        between = between;
-        there = there;
-        pair = subst (λ (edge : Node × Node). Contains (pairs_of between.paths) edge) e pair;
-        is = sym (ap is_switch e) ∙ is;
-      }
-      | inr d ↦ absurd (in_none (a, b) d)
-    ];
-  }
+  each_of_tree = grind arith
 
   pub of_tree : (a b : Node) → Contains (switches_of (configuration_of lines circuit arch strip layout)) (a, b) → OfTree layout a b
   of_tree a b c =
@@ -133,15 +69,9 @@ pub record Route (arch : Arch) (strip : Strip) (paths : List (List Node)) : Type
   pub sinks : List Node
   pub route : IsRoute arch strip source sinks paths
 
-route_of : (arch : Arch) (strip : Strip) (source node : Node) (sinks : List Node) (paths : List (List Node)) → IsRouted arch strip source sinks paths → Contains (path_nodes paths) node → Route arch strip paths
-route_of arch strip source node [] paths routed c = absurd (in_none node (subst (λ nodes. Contains nodes node) routed c))
-route_of arch strip source node (sink ∷ sinks) paths routed c = record { source = source; sinks = sink ∷ sinks; route = routed }
-
 module _ (lines : List JoinedLine) (circuit : Circuit) (arch : Arch) (strip : Strip) (layout : Layout) (h : Implements circuit arch strip layout) where
   pub route_with : (between : LaidNet) (node : Node) → Contains layout.nets between → Contains (path_nodes between.paths) node → Route arch strip between.paths
-  route_with between node there c =
-      let is : IsLaid circuit arch strip layout between = All-contains (IsLaid circuit arch strip layout) layout.nets between h.laid there in
-      route_of arch strip (source_at is.block.block is.block.place) node (sinks_of circuit arch layout between.net) between.paths is.tree c
+  route_with between node there c = grind arith
 
   -- two nets whose trees have a pin or a wire in common are one
   pub one_carries : (node : Node) (between other : LaidNet) → is_terminal node.kind ≡ false → Contains layout.nets between → Contains layout.nets other → Contains (path_nodes between.paths) node → Contains (path_nodes other.paths) node → between ≡ other
@@ -185,17 +115,7 @@ module _ (lines : List JoinedLine) (circuit : Circuit) (arch : Arch) (strip : St
   SaysDriver line = Unit {0}
 
   each_says : EachKind lines circuit arch strip layout SaysDriver
-  each_says = record {
-    device = tt;
-    pad_in = λ laid net there is. tt;
-    pad_out = λ laid net there is. tt;
-    used = λ e. tt;
-    takes = λ e j feed signal at is. tt;
-    values = λ e. tt;
-    stores = λ e type init. tt;
-    feeds = λ k net driver at is. (net, at, is);
-    switch = λ between from to there pair is. tt;
-  }
+  each_says = grind arith
 
   pub fed_once : (number : ℕ) (driver other : Driver) → Contains (configuration_of lines circuit arch strip layout) (Feeds number driver) → Contains (configuration_of lines circuit arch strip layout) (Feeds number other) → driver ≡ other
   fed_once number driver other c d =

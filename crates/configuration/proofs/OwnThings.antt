@@ -1,41 +1,5 @@
 -- A configuration names only what is of its strip.
-use Rattle.std.proofs.Common.{◌≡◌, ℕ, ◌+◌, ◌≤◌, Bool, true, ◌&&◌, ◌||◌, ◌==◌, nat_le, List, [], ◌∷◌, find, length, map, Option, Some, None, option_and_then, option_map, sym, ap, refl, ◌∙◌, inl, inr, subst, arith}
-use Rattle.std.specs.Prelude.{Contains}
-use Rattle.std.specs.Option.{option_map_or}
-use Rattle.std.proofs.lemmas.Bool.{and_parts, leb-true}
-use Rattle.std.proofs.lemmas.List.Elements.{All-contains}
-use Rattle.std.proofs.lemmas.Option.{same_Some}
-use Rattle.line_text.specs.Lines.{JoinedLine}
-use Rattle.arch_file.specs.Arch.{IsWithin}
-use Rattle.arch_file.specs.declared.arch.Arch.{Arch}
-use Rattle.arch_file.specs.declared.arch.PinClass.TheVariants.{Input}
-use Rattle.blif.specs.declared.circuit.Circuit.{Circuit}
-use Rattle.block_places.specs.Fits.{kind_of}
-use Rattle.cluster.specs.declared.block.Block.{Block}
-use Rattle.cluster.specs.declared.block.Block.TheVariants.{InputPad, OutputPad, Cluster}
-use Rattle.grid.specs.declared.Strip.{Strip}
-use Rattle.grid.specs.declared.place.Kind.TheVariants.{Logic, Pad}
-use Rattle.grid.specs.Places.{places_of}
-use Rattle.grid.specs.PlaceLaws.{IsPlaceIn}
-use Rattle.grid.specs.Sizes.{IsStripSize}
-use Rattle.grid.proofs.Numbers.{all_within}
-use Rattle.implements.specs.declared.feed.Feed.{Feed}
-use Rattle.implements.specs.declared.feed.Feed.TheVariants.{Pin, Ble}
-use Rattle.implements.specs.Implements.{Implements, ble_places}
-use Rattle.implements.specs.Layouts.{LaidBlock, LaidNet, Layout, on_pin}
-use Rattle.implements.proofs.Members.{from_get, from_map, in_cases, in_none}
-use Rattle.pathfinder.specs.LegalRoutes.{pairs_of}
-use Rattle.pathfinder.specs.Terminals.{is_same_node, sink_at}
-use Rattle.pathfinder.proofs.NodeNumbers.{same_node}
-use Rattle.rr_graph.specs.declared.node.Node.{Node}
-use Rattle.rr_graph.specs.declared.node.NodeKind.TheVariants.{Ipin}
-use Rattle.rr_graph.specs.Geometry.{is_chan_y, is_node, is_slot, node_at_offset}
-use Rattle.rr_graph.specs.Graph.{make_node}
-use Rattle.configuration.specs.Lines.{BlePlace, ConfigurationLine, Device, Driver, Feeds, FromBle, FromGlobal, FromPin, PadAt, BleAt, PadIn, PadOut, Signal, Stores, Switch, Takes, Used, Values}
-use Rattle.configuration.specs.RoutedPins.{ble_at, paths_of, pin_in}
-use Rattle.configuration.specs.Configuration.{configuration_of, global_number, signal_for, signal_of}
-use Rattle.configuration.specs.Things.{BleNamed, IsThingOf, NameOnly, NodeNamed, PadNamed, ShareNothing, Thing, driver_thing, moved_ble, moved_line, moved_pad, signal_things, things_of}
-use Rattle.configuration.specs.Wired.{HoldsDriver}
+use Rattle.configuration.proofs.Prelude.{◌≡◌, ℕ, ◌+◌, ◌≤◌, Bool, true, ◌==◌, List, [], ◌∷◌, find, length, map, Option, Some, None, option_and_then, option_map, sym, ap, refl, ◌∙◌, inl, inr, subst, arith, Contains, option_map_or, All-contains, same_Some, JoinedLine, IsWithin, Arch, Input, Circuit, kind_of, Block, InputPad, OutputPad, Cluster, Strip, Pad, places_of, IsStripSize, all_within, Feed, Pin, Ble, Implements, ble_places, LaidBlock, LaidNet, Layout, on_pin, from_get, from_map, in_cases, in_none, pairs_of, is_same_node, sink_at, same_node, Node, Ipin, is_node, node_at_offset, make_node, BlePlace, ConfigurationLine, Driver, FromBle, FromGlobal, FromPin, PadAt, BleAt, Signal, ble_at, paths_of, pin_in, configuration_of, global_number, signal_for, signal_of, BleNamed, IsThingOf, NameOnly, NodeNamed, PadNamed, ShareNothing, Thing, driver_thing, moved_ble, moved_line, moved_pad, signal_things, things_of, HoldsDriver}
 use Rattle.configuration.proofs.Branches.{ipin_to_sink, joined, pair_nodes}
 use Rattle.configuration.proofs.EachLine.{EachKind, Element, of_each}
 use Rattle.configuration.proofs.Found.{found_is}
@@ -52,10 +16,7 @@ module _ (lines : List JoinedLine) (circuit : Circuit) (arch : Arch) (strip : St
   placed_of laid there = All-contains (λ (laid : LaidBlock). Contains (places_of strip (kind_of laid.block)) laid.place) layout.blocks laid h.placed there
 
   in_rows : (laid : LaidBlock) (number : ℕ) → Contains layout.blocks laid → laid.block ≡ Cluster number → IsWithin 1 laid.place.x strip.width × IsWithin 1 laid.place.y strip.rows
-  in_rows laid number there is =
-      let at = placed_in strip laid size (placed_of laid there) in
-      let logic : IsPlaceIn strip Logic laid.place = subst (λ block. IsPlaceIn strip (kind_of block) laid.place) is at in
-      (logic.column, logic.row.0)
+  in_rows laid number there is = grind (arith, placed_in strip laid size (placed_of laid there))
 
   -- the pin by which a net's tree comes to a block
   pin_there : (laid : LaidBlock) (net : ℕ) (pin : Node) → pin_in layout laid net ≡ Some pin → is_node arch strip (make_node laid.place.x Ipin laid.place.y pin.n) ≡ true
@@ -109,9 +70,7 @@ module _ (lines : List JoinedLine) (circuit : Circuit) (arch : Arch) (strip : St
       by_pin (Some net) is = by_net net (global_number layout net) is
 
   driver_there : (net : ℕ) (driver : Driver) → HoldsDriver arch layout net driver → IsThingOf arch strip (driver_thing driver)
-  driver_there net (PadAt place) (laid, there, is, at) =
-      let pad : Contains (places_of strip Pad) laid.place = subst (λ block. Contains (places_of strip (kind_of block)) laid.place) is (placed_of laid there) in
-      subst (λ place. Contains (places_of strip Pad) place) at pad
+  driver_there net (PadAt place) (laid, there, is, at) = grind (arith, placed_of, placed_of laid there)
   driver_there net (BleAt place) (spot, name, at) =
       let few = All-contains (λ (laid : LaidBlock). length laid.bles ≤ ble_places arch laid.block) layout.blocks spot.laid h.few_bles spot.there in
       let some = (from_get spot.laid.bles spot.index spot.ble spot.is).0 in
@@ -125,8 +84,7 @@ module _ (lines : List JoinedLine) (circuit : Circuit) (arch : Arch) (strip : St
   own_ble e thing same = subst (IsThingOf arch strip) same (in_rows e.laid e.number e.there e.is)
 
   own_pad : (laid : LaidBlock) (block : Block) → kind_of block ≡ Pad → Contains layout.blocks laid → laid.block ≡ block → (thing : Thing) → PadNamed laid.place ≡ thing → IsThingOf arch strip thing
-  own_pad laid block pad there is thing same =
-      subst (IsThingOf arch strip) same (subst (λ kind. Contains (places_of strip kind) laid.place) (ap kind_of is ∙ pad) (placed_of laid there))
+  own_pad laid block pad there is thing same = grind (arith, placed_of laid there)
 
   each_own : EachKind lines circuit arch strip layout IsOwn
   each_own = record {
@@ -167,31 +125,15 @@ moved_thing columns (BleNamed place) = BleNamed (moved_ble columns place)
 
 moved_column : (columns : ℕ) (thing : Thing) → column_of (moved_thing columns thing) ≡ column_of thing + columns
 unfolding column_of moved_thing
-moved_column columns (NodeNamed node) = refl
-moved_column columns (PadNamed place) = refl
-moved_column columns (BleNamed place) = refl
+moved_column columns thing = grind arith
 
 few_columns : (arch : Arch) (strip : Strip) → IsStripSize strip → (thing : Thing) → IsThingOf arch strip thing → column_of thing ≤ strip.width
 unfolding column_of
-few_columns arch strip size (NodeNamed node) is =
-    leb-true node.x strip.width (and_parts (nat_le node.x strip.width) ((nat_le 1 node.x || is_chan_y node.kind) && is_slot arch strip node.kind node.y node.n) is).0
-few_columns arch strip size (PadNamed place) is = (All-contains (IsPlaceIn strip Pad) (places_of strip Pad) place (all_within strip Pad size) is).column.1
-few_columns arch strip size (BleNamed place) is = is.0.1
+few_columns arch strip size thing is = grind (arith, all_within)
 
 moved_things : (columns : ℕ) (line : ConfigurationLine) → things_of (moved_line columns line) ≡ map (moved_thing columns) (things_of line)
 unfolding moved_thing
-moved_things columns (Device width rows tracks inputs) = refl
-moved_things columns (PadIn place) = refl
-moved_things columns (PadOut place shown) = refl
-moved_things columns (Used place) = refl
-moved_things columns (Takes place j (FromPin pin)) = refl
-moved_things columns (Takes place j (FromBle number)) = refl
-moved_things columns (Takes place j (FromGlobal number)) = refl
-moved_things columns (Values place bits) = refl
-moved_things columns (Stores place type init control) = refl
-moved_things columns (Feeds number (PadAt place)) = refl
-moved_things columns (Feeds number (BleAt place)) = refl
-moved_things columns (Switch a b) = refl
+moved_things columns line = grind arith
 
 -- where a line's things are on the device
 on_device : (arch : Arch) (strip : Strip) (lines : List ConfigurationLine) (offset : ℕ) → IsStripSize strip → NameOnly arch strip lines → (line : ConfigurationLine) → Contains lines line → (thing : Thing) →

@@ -1,20 +1,5 @@
 -- Where the BLE is whose output a routed pin carries.
-use Rattle.std.proofs.Common.{◌≡◌, ℕ, suc, zero, ◌+◌, Bool, true, false, ◌&&◌, ◌||◌, ◌==◌, List, [], ◌∷◌, cond, map, take, Option, Some, None, slice_get, option_map, ap, refl, ◌∙◌, arith}
-use Rattle.std.specs.Prelude.{Contains, slice_index}
-use Rattle.std.specs.List.{enumerate_from, list_any}
-use Rattle.std.proofs.lemmas.Bool.{and_parts, eqb-true}
-use Rattle.std.proofs.lemmas.List.Elements.{All-contains}
-use Rattle.arch_file.specs.declared.arch.Arch.{Arch}
-use Rattle.block_places.specs.Fits.{kind_of}
-use Rattle.grid.specs.declared.Strip.{Strip}
-use Rattle.grid.specs.Places.{places_of}
-use Rattle.grid.specs.PlaceLaws.{IsPlaceIn}
-use Rattle.grid.specs.Sizes.{IsStripSize}
-use Rattle.grid.proofs.Numbers.{all_within}
-use Rattle.rr_graph.specs.declared.node.Node.{Node}
-use Rattle.rr_graph.specs.Geometry.{is_block_row, is_together}
-use Rattle.implements.specs.Layouts.{LaidBle, LaidBlock, Layout}
-use Rattle.configuration.specs.RoutedPins.{ble_numbers, filled_places, free_places, output_rank, pin_out, routed_place, routed_places}
+use Rattle.configuration.proofs.Prelude.{◌≡◌, ℕ, suc, zero, ◌+◌, Bool, true, false, ◌||◌, ◌==◌, List, [], ◌∷◌, cond, map, take, Option, Some, None, slice_get, option_map, ap, refl, ◌∙◌, arith, Contains, slice_index, enumerate_from, list_any, All-contains, Arch, kind_of, Strip, places_of, IsPlaceIn, IsStripSize, all_within, Node, is_block_row, is_together, LaidBle, LaidBlock, Layout, ble_numbers, filled_places, free_places, output_rank, pin_out, routed_place, routed_places}
 
 -- ---- elements by index
 
@@ -34,13 +19,7 @@ get_map f (y ∷ xs) (suc i) x e = get_map f xs i x e
 
 get_count : {X : Type 0} (start : ℕ) (xs : List X) (i : ℕ) (x : X) → slice_get xs i ≡ Some x → slice_get (enumerate_from start xs) i ≡ Some (start + i, x)
 get_count start [] i x e = absurd cc
-get_count {X} start (y ∷ xs) zero x e = ap (λ (p : ℕ × X). Some p) (both (omega arith) (same y x e))
-  where
-    same : (y x : X) → Some y ≡ Some x → y ≡ x
-    same y x e = cc
-
-    both : {n m : ℕ} → n ≡ m → y ≡ x → ◌≡◌ {A = ℕ × X} (n, y) (m, x)
-    both p q = cc
+get_count {X} start (y ∷ xs) zero x e = grind arith
 get_count {X} start (y ∷ xs) (suc i) x e = get_count (start + 1) xs i x e ∙ ap (λ (n : ℕ). Some (n, x)) (omega arith)
 
 pub get_indexed : {X : Type 0} (xs : List X) (i : ℕ) (x : X) → slice_get xs i ≡ Some x → slice_get (enumerate_from 0 xs) i ≡ Some (i, x)
@@ -78,7 +57,4 @@ pub record Together (strip : Strip) (a b : Node) : Type 0 where
   pub n : (is_block_row strip a.y || (a.n == b.n)) ≡ true
 
 pub together : (strip : Strip) (a b : Node) → is_together strip a b ≡ true → Together strip a b
-together strip a b h =
-    let outer = and_parts (a.x == b.x) ((a.y == b.y) && (is_block_row strip a.y || (a.n == b.n))) h in
-    let inner = and_parts (a.y == b.y) (is_block_row strip a.y || (a.n == b.n)) outer.1 in
-    record { x = eqb-true a.x b.x outer.0; y = eqb-true a.y b.y inner.0; n = inner.1 }
+together strip a b h = grind arith

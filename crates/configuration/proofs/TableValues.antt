@@ -1,32 +1,5 @@
 -- The table of a BLE is the one that it holds.
-use Rattle.std.proofs.Common.{◌≡◌, ◌≢◌, ℕ, ◌≤◌, ◌==◌, Bool, true, false, ◌&&◌, ◌||◌, List, [], ◌∷◌, ◌++◌, cond, length, map, Option, Some, None, sym, ap, refl, ◌∙◌, subst, arith}
-use Rattle.std.specs.Prelude.{Contains, count_by}
-use Rattle.std.specs.List.{flat_map, list_all, list_any}
-use Rattle.std.specs.Option.{option_map_or, option_to_list}
-use Rattle.std.proofs.lemmas.Bool.{and_parts, eqb-true}
-use Rattle.std.proofs.lemmas.Bool.Decides.{nat_tests}
-use Rattle.std.proofs.lemmas.List.Elements.{All-contains}
-use Rattle.line_text.specs.Lines.{JoinedLine}
-use Rattle.arch_file.specs.declared.arch.Arch.{Arch}
-use Rattle.blif.specs.LawfulCircuits.{IsCircuit}
-use Rattle.blif.specs.declared.circuit.Circuit.{Circuit}
-use Rattle.blif.specs.declared.latches.Latch.{Latch}
-use Rattle.blif.specs.LookupTables.{LookupTable}
-use Rattle.ble_cluster.specs.Nets.{has}
-use Rattle.ble_cluster.specs.Bles.{is_read_once, reads_of}
-use Rattle.cluster.proofs.Pairs.{pairs_back, pairs_front}
-use Rattle.grid.specs.declared.Strip.{Strip}
-use Rattle.implements.specs.Holding.{holds_table, is_pair, is_same_net, is_table, receives}
-use Rattle.implements.specs.Implements.{Implements, ble_places}
-use Rattle.implements.specs.Layouts.{LaidBle, LaidBlock, Layout, traced_ble}
-use Rattle.implements.proofs.Members.{all_members, from_all, from_any, from_get, from_has, to_any, to_flat_map, to_map}
-use Rattle.implements.proofs.Unique.{AreApart, count-append, never_both, same_by, some_counted}
-use Rattle.table_rows.specs.CellLines.{rows_at}
-use Rattle.table_rows.specs.TableBits.{bits_of, wire_bits}
-use Rattle.table_rows.proofs.Bits.{bits_same}
-use Rattle.configuration.specs.Configuration.{configuration_of, latch_driving, table_driving, table_within, values_in}
-use Rattle.configuration.specs.Lines.{Values}
-use Rattle.configuration.specs.Wired.{HasValues, Spot, place_of_spot}
+use Rattle.configuration.proofs.Prelude.{◌≡◌, ◌≢◌, ℕ, ◌≤◌, ◌==◌, Bool, true, false, ◌&&◌, ◌||◌, List, [], ◌∷◌, ◌++◌, cond, length, map, Option, Some, None, sym, ap, refl, ◌∙◌, subst, arith, Contains, count_by, flat_map, list_all, list_any, option_map_or, option_to_list, and_parts, eqb-true, nat_tests, All-contains, JoinedLine, Arch, IsCircuit, Circuit, Latch, LookupTable, has, is_read_once, reads_of, pairs_back, pairs_front, Strip, holds_table, is_pair, is_same_net, is_table, receives, Implements, ble_places, LaidBle, LaidBlock, Layout, traced_ble, all_members, from_all, from_any, from_get, from_has, to_any, to_flat_map, to_map, AreApart, count-append, never_both, same_by, some_counted, rows_at, bits_of, wire_bits, bits_same, configuration_of, latch_driving, table_driving, table_within, values_in, Values, HasValues, Spot, place_of_spot}
 use Rattle.configuration.proofs.Connected.{reads_table}
 use Rattle.configuration.proofs.Found.{find_one, found_is}
 use Rattle.configuration.proofs.Members.{has_ble_line, has_values}

@@ -1,45 +1,6 @@
 -- Walked back, the configuration of a layout that implements a circuit connects it.
-use Rattle.std.proofs.Common.{◌≡◌, ℕ, suc, zero, ◌+◌, ◌<◌, ◌≤◌, Bool, true, false, ◌||◌, ◌==◌, not, List, [], ◌∷◌, ◌++◌, cond, filter, length, map, Option, Some, None, slice_get, option_and_then, option_map, sym, ap, refl, ◌∙◌, subst, arith}
-use Rattle.std.specs.Prelude.{All, Contains, codes, find, is_some}
-use Rattle.std.specs.List.{flat_map, prefix_len}
-use Rattle.std.specs.Option.{option_map_or, option_to_list}
-use Rattle.std.proofs.lemmas.Bool.{eqb-true, false≢true}
-use Rattle.std.proofs.lemmas.Bool.Decides.{nat_tests}
-use Rattle.std.proofs.lemmas.List.Elements.{All-contains}
-use Rattle.std.proofs.lemmas.Option.{same_Some}
-use Rattle.line_text.specs.Lines.{JoinedLine}
-use Rattle.arch_file.specs.declared.arch.Arch.{Arch}
-use Rattle.arch_file.specs.declared.arch.PinClass.TheVariants.{Input, Clock}
-use Rattle.blif.specs.declared.circuit.Circuit.{Circuit}
-use Rattle.blif.specs.declared.latches.Latch.{Latch}
-use Rattle.ble_cluster.specs.Nets.{has}
-use Rattle.block_places.specs.Fits.{kind_of}
-use Rattle.cluster.specs.declared.block.Block.{Block}
-use Rattle.cluster.specs.declared.block.Block.TheVariants.{InputPad, OutputPad, Cluster}
-use Rattle.cluster.specs.Blocks.{is_global}
-use Rattle.grid.specs.declared.Strip.{Strip}
-use Rattle.grid.specs.Places.{places_of}
-use Rattle.grid.specs.PlaceLaws.{IsPlaceIn}
-use Rattle.grid.specs.Sizes.{IsStripSize}
-use Rattle.pathfinder.specs.LegalRoutes.{IsRoute, IsRouted, pairs_of}
-use Rattle.pathfinder.specs.Terminals.{sink_at, source_at}
-use Rattle.rr_graph.specs.declared.node.Node.{Node}
-use Rattle.rr_graph.specs.declared.node.NodeKind.{NodeKind}
-use Rattle.rr_graph.specs.declared.node.NodeKind.TheVariants.{Ipin}
-use Rattle.rr_graph.specs.Geometry.{is_block_row, is_together}
-use Rattle.rr_graph.specs.Graph.{make_node}
-use Rattle.implements.specs.declared.feed.Feed.{Feed}
-use Rattle.implements.specs.declared.feed.Feed.TheVariants.{Pin, Ble}
-use Rattle.implements.specs.Implements.{Implements, IsLaid, ble_places, drives, has_on, sinks_of, wants, wants_as}
-use Rattle.implements.specs.Layouts.{IsFed, LaidBle, LaidBlock, LaidNet, Layout, input_net, on_pin, traced_ble}
-use Rattle.implements.proofs.Coming.{has_pin}
-use Rattle.implements.proofs.Members.{from_get, from_has, from_map, in_first, in_later, in_none, one_only, to_any, to_filter, to_flat_map, to_has, to_map}
-use Rattle.table_rows.specs.CellLines.{args_at, init_in, type_in}
-use Rattle.configuration.specs.Lines.{BlePlace, ConfigurationLine, Driver, Feeds, FromBle, FromGlobal, FromPin, BleAt, PadOut, Stores, Takes, Used, switches_of}
-use Rattle.configuration.specs.RoutedPins.{ble_at, node_after, node_before, paths_of, pin_in, pin_out}
-use Rattle.configuration.specs.Configuration.{ble_lines, block_lines_as, configuration_of, control_in, global_number, signal_for, signal_of}
-use Rattle.configuration.specs.Drivers.{LeadsBack, driver_at}
-use Rattle.configuration.specs.Wired.{HoldsDriver, IsClockedBy, Shows, Spot, TakesAt, place_of_spot}
+use Rattle.configuration.proofs.Prelude.{◌≡◌, ℕ, suc, zero, ◌<◌, Bool, true, false, ◌||◌, ◌==◌, not, List, [], ◌∷◌, ◌++◌, cond, filter, map, Option, Some, None, slice_get, option_and_then, option_map, sym, ap, refl, ◌∙◌, subst, arith, All, Contains, codes, is_some, flat_map, prefix_len, option_map_or, option_to_list, eqb-true, false≢true, nat_tests, All-contains, same_Some, JoinedLine, Arch, Input, Clock, Circuit, Latch, has, kind_of, Block, OutputPad, Cluster, is_global, Strip, places_of, IsPlaceIn, IsStripSize, IsRoute, IsRouted, pairs_of, sink_at, source_at, Node, NodeKind, Ipin, is_block_row, is_together, make_node, Feed, Pin, Ble, Implements, IsLaid, ble_places, drives, has_on, sinks_of, wants, wants_as, IsFed, LaidBle, LaidBlock, LaidNet, Layout, input_net, on_pin, traced_ble, has_pin, from_get, from_has, from_map, in_first, in_later, one_only, to_any, to_filter, to_flat_map, to_has, to_map, args_at, init_in, type_in, BlePlace, ConfigurationLine, Driver, Feeds, FromBle, FromGlobal, FromPin, BleAt, PadOut, Stores, Takes, Used, switches_of, ble_at, node_after, node_before, paths_of, pin_in, pin_out, ble_lines, block_lines_as, configuration_of, control_in, global_number, signal_for, signal_of, LeadsBack, driver_at, HoldsDriver, IsClockedBy, Shows, Spot, TakesAt, place_of_spot}
+use Rattle.std.specs.Prelude.{find}
 use Rattle.configuration.proofs.Found.{find_one, found_is}
 use Rattle.configuration.proofs.Branches.{branch, ipin_to_sink, source_to_opin}
 use Rattle.configuration.proofs.Spots.{placed_in, together}
@@ -57,35 +18,19 @@ record Entry (circuit : Circuit) (arch : Arch) (strip : Strip) (layout : Layout)
 -- a number's place among others
 number_there : (nets : List ℕ) (net : ℕ) → has nets net ≡ true → slice_get nets (prefix_len (λ other. not (other == net)) nets) ≡ Some net
 number_there [] net h = absurd (false≢true h)
-number_there (first ∷ nets) net h = by (first == net) refl (number_there nets net) h
-  where
-    by : (b : Bool) → (first == net) ≡ b → (has nets net ≡ true → slice_get nets (prefix_len (λ other. not (other == net)) nets) ≡ Some net) → (b || has nets net) ≡ true →
-        slice_get (first ∷ nets) (cond (not b) (1 + prefix_len (λ other. not (other == net)) nets) 0) ≡ Some net
-    by true same rest h = ap (λ (n : ℕ). Some n) (eqb-true first net same)
-    by false same rest h = later (prefix_len (λ other. not (other == net)) nets) (rest h)
-      where
-        later : (k : ℕ) → slice_get nets k ≡ Some net → slice_get (first ∷ nets) (1 + k) ≡ Some net
-        later k e = let more : 1 + k ≡ suc k = omega arith in subst (λ n. slice_get (first ∷ nets) n ≡ Some net) (sym more) e
+number_there (first ∷ nets) net h = grind (arith, number_there nets net)
 
 is_route : (arch : Arch) (strip : Strip) (source sink : Node) (sinks : List Node) (paths : List (List Node)) → Contains sinks sink → IsRouted arch strip source sinks paths → IsRoute arch strip source sinks paths
-is_route arch strip source sink [] paths c routed = absurd (in_none sink c)
-is_route arch strip source sink (first ∷ sinks) paths c routed = routed
+is_route arch strip source sink sinks paths c routed = search arith
 
 pub same_made : {node : Node} {x y n : ℕ} {kind : NodeKind} → node.x ≡ x → node.kind ≡ kind → node.y ≡ y → node.n ≡ n → node ≡ make_node x kind y n
-same_made {node} {x} {y} {n} {kind} p q r s = made p q r s
-  where
-    made : {x x' y y' n n' : ℕ} {k k' : NodeKind} → x ≡ x' → k ≡ k' → y ≡ y' → n ≡ n' → make_node x k y n ≡ make_node x' k' y' n'
-    made p q r s = cc
+same_made p q r s = grind arith
 
 wanted_in : (arch : Arch) (laid : LaidBlock) (net : ℕ) (block : Block) → 0 < ble_places arch block → (has_on arch laid Input net || has_on arch laid Clock net) ≡ true → wants_as arch net laid block ≡ true
-wanted_in arch laid net (InputPad input) places h = absurd (omega (arith, places))
-wanted_in arch laid net (OutputPad output) places h = absurd (omega (arith, places))
-wanted_in arch laid net (Cluster number) places h = h
+wanted_in arch laid net block places h = grind arith
 
 pub a_cluster : (arch : Arch) (block : Block) → 0 < ble_places arch block → (number : ℕ) × (block ≡ Cluster number)
-a_cluster arch (InputPad input) places = absurd (omega (arith, places))
-a_cluster arch (OutputPad output) places = absurd (omega (arith, places))
-a_cluster arch (Cluster number) places = (number, refl)
+a_cluster arch block places = grind arith
 
 module _ (lines : List JoinedLine) (circuit : Circuit) (arch : Arch) (strip : Strip) (layout : Layout) (size : IsStripSize strip) (h : Implements circuit arch strip layout) where
   abbrev whole : List ConfigurationLine
@@ -172,10 +117,7 @@ module _ (lines : List JoinedLine) (circuit : Circuit) (arch : Arch) (strip : St
   -- ---- inputs
 
   cluster_of : (spot : Spot layout) → (number : ℕ) × (spot.laid.block ≡ Cluster number)
-  cluster_of spot =
-      let few = All-contains (λ (laid : LaidBlock). length laid.bles ≤ ble_places arch laid.block) layout.blocks spot.laid h.few_bles spot.there in
-      let some = (from_get spot.laid.bles spot.index spot.ble spot.is).0 in
-      a_cluster arch spot.laid.block (omega (arith, few, some))
+  cluster_of spot = grind (arith, from_get)
 
   wanted_at : (spot : Spot layout) (net : ℕ) → (has_on arch spot.laid Input net || has_on arch spot.laid Clock net) ≡ true → wants arch net spot.laid ≡ true
   wanted_at spot net on = let q = cluster_of spot in subst (λ block. wants_as arch net spot.laid block ≡ true) (sym q.1) on

@@ -2,27 +2,7 @@
 use Rattle.std.specs.Prelude.{ℕ, ◌==◌, Bool, true, false, not, ◌&&◌, List, [], ◌∷◌, ◌++◌, Option, Some, None, codes, filter, find, is_some, map, option_and_then, option_map, slice_get, if◌then◌else◌}
 use Rattle.std.specs.List.{enumerate_from, flat_map, list_any, prefix_len}
 use Rattle.std.specs.Option.{option_map_or, option_to_list}
-use Rattle.line_text.specs.Lines.{JoinedLine}
-use Rattle.arch_file.specs.declared.arch.Arch.{Arch}
-use Rattle.arch_file.specs.declared.arch.PinClass.TheVariants.{Input}
-use Rattle.blif.specs.declared.circuit.Circuit.{Circuit}
-use Rattle.blif.specs.declared.latches.Latch.{Latch}
-use Rattle.blif.specs.LookupTables.{LookupTable}
-use Rattle.ble_cluster.specs.Nets.{has}
-use Rattle.cluster.specs.declared.block.Block.{Block}
-use Rattle.cluster.specs.declared.block.Block.TheVariants.{InputPad, OutputPad, Cluster}
-use Rattle.grid.specs.declared.Strip.{Strip}
-use Rattle.pathfinder.specs.LegalRoutes.{pairs_of}
-use Rattle.pathfinder.specs.Terminals.{is_same_node}
-use Rattle.rr_graph.specs.declared.node.NodeKind.{NodeKind}
-use Rattle.rr_graph.specs.declared.node.NodeKind.TheVariants.{Source, Sink}
-use Rattle.rr_graph.specs.declared.node.Node.{Node}
-use Rattle.implements.specs.Holding.{receives}
-use Rattle.implements.specs.declared.feed.Feed.{Feed}
-use Rattle.implements.specs.declared.feed.Feed.TheVariants.{Pin, Ble}
-use Rattle.implements.specs.Layouts.{LaidBle, LaidBlock, LaidNet, Layout, on_pin, traced_ble}
-use Rattle.table_rows.specs.CellLines.{args_at, init_in, rows_at, type_in}
-use Rattle.table_rows.specs.TableBits.{bits_of, wire_bits}
+use Rattle.configuration.specs.Prelude.{JoinedLine, Arch, Input, Circuit, Latch, LookupTable, has, Block, InputPad, OutputPad, Cluster, Strip, pairs_of, is_same_node, NodeKind, Source, Sink, Node, receives, Feed, Pin, Ble, LaidBle, LaidBlock, LaidNet, Layout, on_pin, traced_ble, args_at, init_in, rows_at, type_in, bits_of, wire_bits}
 use Rattle.configuration.specs.Lines.{BlePlace, ConfigurationLine, Device, Driver, Feeds, FromBle, FromGlobal, FromPin, PadAt, BleAt, PadIn, PadOut, Signal, Stores, Switch, Takes, Used, Values}
 use Rattle.configuration.specs.RoutedPins.{ble_at, pin_in}
 

@@ -1,15 +1,7 @@
 -- The text of a configuration.
 use Rattle.std.specs.Prelude.{ℕ, Bool, List, [], ◌∷◌, ◌++◌, Option, codes, decimal, map, if◌then◌else◌}
 use Rattle.std.specs.Option.{option_map_or}
-use Rattle.line_text.specs.Lines.{JoinedLine}
-use Rattle.arch_file.specs.declared.arch.Arch.{Arch}
-use Rattle.blif.specs.declared.circuit.Circuit.{Circuit}
-use Rattle.grid.specs.declared.Strip.{Strip}
-use Rattle.grid.specs.declared.place.Place.{Place}
-use Rattle.implements.specs.Layouts.{Layout}
-use Rattle.rr_graph.specs.declared.node.Node.{Node}
-use Rattle.vpr_files.specs.NodeText.{kind_word}
-use Rattle.vpr_files.specs.TextLines.{text_of}
+use Rattle.configuration.specs.Prelude.{JoinedLine, Arch, Circuit, Strip, Place, Layout, Node, kind_word, text_of}
 use Rattle.configuration.specs.Lines.{BlePlace, ConfigurationLine, Device, Driver, Feeds, FromBle, FromGlobal, FromPin, PadAt, BleAt, PadIn, PadOut, Signal, Stores, Switch, Takes, Used, Values}
 use Rattle.configuration.specs.Configuration.{configuration_of}
 

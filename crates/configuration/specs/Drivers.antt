@@ -1,14 +1,6 @@
 -- Walking back over the lines of a configuration.
 use Rattle.std.specs.Prelude.{ℕ, ◌≡◌, List, Contains, Option, Some, None, if◌then◌else◌}
-use Rattle.arch_file.specs.declared.arch.Arch.{Arch}
-use Rattle.grid.specs.Places.{place_at}
-use Rattle.grid.specs.declared.Strip.{Strip}
-use Rattle.grid.specs.declared.place.Place.{Place}
-use Rattle.pathfinder.specs.LegalRoutes.{LeadsOver}
-use Rattle.rr_graph.specs.declared.node.NodeKind.TheVariants.{Opin, Ipin}
-use Rattle.rr_graph.specs.declared.node.Node.{Node}
-use Rattle.rr_graph.specs.Geometry.{is_pad_row}
-use Rattle.rr_graph.specs.Graph.{make_node}
+use Rattle.configuration.specs.Prelude.{Arch, place_at, Strip, Place, LeadsOver, Opin, Ipin, Node, is_pad_row, make_node}
 use Rattle.configuration.specs.Lines.{BlePlace, ConfigurationLine, Driver, Feeds, FromBle, FromGlobal, FromPin, PadAt, BleAt, Signal, switches_of}
 use Rattle.configuration.specs.RoutedPins.{output_rank}
 

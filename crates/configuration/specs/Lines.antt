@@ -1,8 +1,7 @@
 -- The lines of a configuration: what a device is loaded with. No net's name is in them.
 use Rattle.std.specs.Prelude.{ℕ, Bool, List, [], ◌∷◌, Option}
 use Rattle.std.specs.List.{flat_map}
-use Rattle.grid.specs.declared.place.Place.{Place}
-use Rattle.rr_graph.specs.declared.node.Node.{Node}
+use Rattle.configuration.specs.Prelude.{Place, Node}
 pub use Rattle.configuration.specs.declared.line.BlePlace.{BlePlace}
 pub use Rattle.configuration.specs.declared.line.Driver.{Driver}
 pub use Rattle.configuration.specs.declared.line.Driver.TheVariants.{PadAt, BleAt}

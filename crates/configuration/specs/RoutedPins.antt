@@ -2,13 +2,7 @@
 use Rattle.std.specs.Prelude.{ℕ, ◌==◌, Bool, false, not, List, [], ◌∷◌, Option, Some, None, count_by, filter, find, map, option_map, slice_index, take, if◌then◌else◌}
 use Rattle.std.specs.List.{enumerate_from, list_any, range_with_len}
 use Rattle.std.specs.Option.{option_map_or}
-use Rattle.arch_file.specs.declared.arch.Arch.{Arch}
-use Rattle.arch_file.specs.declared.arch.PinClass.TheVariants.{Output}
-use Rattle.cluster.specs.Blocks.{is_same_class}
-use Rattle.pathfinder.specs.LegalRoutes.{pairs_of}
-use Rattle.pathfinder.specs.Terminals.{is_same_node, sink_at, source_at}
-use Rattle.rr_graph.specs.declared.node.Node.{Node}
-use Rattle.implements.specs.Layouts.{LaidBle, LaidBlock, Layout}
+use Rattle.configuration.specs.Prelude.{Arch, Output, is_same_class, pairs_of, is_same_node, sink_at, source_at, Node, LaidBle, LaidBlock, Layout}
 use Rattle.configuration.specs.Lines.{BlePlace}
 
 -- the paths of the net's tree

@@ -1,15 +1,6 @@
 -- What the lines of a configuration name of the device, and where it is on the device.
 use Rattle.std.specs.Prelude.{ℕ, ◌≡◌, ◌+◌, true, List, [], ◌∷◌, Contains}
-use Rattle.arch_file.specs.Arch.{IsWithin}
-use Rattle.arch_file.specs.declared.arch.Arch.{Arch}
-use Rattle.grid.specs.declared.Strip.{Strip}
-use Rattle.grid.specs.declared.place.Kind.TheVariants.{Pad}
-use Rattle.grid.specs.declared.place.Place.{Place}
-use Rattle.grid.specs.Places.{places_of}
-use Rattle.rr_graph.specs.declared.node.Node.{Node}
-use Rattle.rr_graph.specs.declared.node.NodeKind.TheVariants.{Ipin}
-use Rattle.rr_graph.specs.Geometry.{is_node, node_at_offset}
-use Rattle.rr_graph.specs.Graph.{make_node}
+use Rattle.configuration.specs.Prelude.{IsWithin, Arch, Strip, Pad, Place, places_of, Node, Ipin, is_node, node_at_offset, make_node}
 use Rattle.configuration.specs.Lines.{BlePlace, ConfigurationLine, Device, Driver, Feeds, FromBle, FromGlobal, FromPin, PadAt, BleAt, PadIn, PadOut, Signal, Stores, Switch, Takes, Used, Values}
 
 -- what a line names: a pin or a wire, a pad, or the place of a BLE

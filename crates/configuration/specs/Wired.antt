@@ -1,21 +1,8 @@
 -- What is proved of a configuration: walked back, it connects what the netlist connects.
 use Rattle.std.specs.Prelude.{ℕ, ◌≡◌, ◌⊎◌, ◌<◌, ◌^◌, Bool, true, List, Contains, Option, Some, map, slice_get}
-use Rattle.line_text.specs.Lines.{JoinedLine}
-use Rattle.table_rows.specs.CellLines.{rows_at}
-use Rattle.table_rows.specs.TableBits.{bit_of, value_of}
-use Rattle.arch_file.specs.declared.arch.Arch.{Arch}
-use Rattle.blif.specs.declared.circuit.Circuit.{Circuit}
-use Rattle.blif.specs.declared.latches.Latch.{Latch}
-use Rattle.blif.specs.LookupTables.{LookupTable}
-use Rattle.ble_cluster.specs.Nets.{has}
-use Rattle.cluster.specs.declared.block.Block.TheVariants.{InputPad}
-use Rattle.grid.specs.declared.Strip.{Strip}
-use Rattle.grid.specs.declared.place.Place.{Place}
-use Rattle.implements.specs.Holding.{holds_latch, holds_table}
-use Rattle.implements.specs.Layouts.{LaidBle, LaidBlock, Layout, traced_ble}
+use Rattle.configuration.specs.Prelude.{JoinedLine, rows_at, bit_of, value_of, Arch, Circuit, Latch, LookupTable, has, InputPad, Strip, Place, holds_latch, holds_table, LaidBle, LaidBlock, Layout, traced_ble, Node}
 use Rattle.configuration.specs.Lines.{BlePlace, ConfigurationLine, Driver, Feeds, PadAt, BleAt, PadOut, Signal, Stores, Takes, Used, Values}
 use Rattle.configuration.specs.RoutedPins.{ble_at}
-use Rattle.rr_graph.specs.declared.node.Node.{Node}
 use Rattle.configuration.specs.Drivers.{IsShownFrom, IsTakenFrom, LeadsBack}
 
 -- a BLE of a layout, with its index in its block

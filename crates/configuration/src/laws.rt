@@ -1,17 +1,8 @@
 //! What configurations keep.
-ghost use Rattle.arch_file.specs.declared.arch.Arch.{Arch};
-ghost use Rattle.blif.specs.LawfulCircuits.{IsCircuit};
-ghost use Rattle.blif.specs.LookupTables.{LookupTable};
-ghost use Rattle.blif.specs.declared.circuit.Circuit.{Circuit};
+ghost use Rattle.configuration.specs.Prelude.{Arch, IsCircuit, LookupTable, Circuit, IsStripSize, Strip, holds_table, Implements, Layout, traced_ble, JoinedLine};
 ghost use Rattle.configuration.specs.Configuration.{configuration_of};
 ghost use Rattle.configuration.specs.Things.{NameOnly, ShareNothing};
 ghost use Rattle.configuration.specs.Wired.{AreBlesApart, Configures, HasOneDriver, HasValues, Spot};
-ghost use Rattle.grid.specs.Sizes.{IsStripSize};
-ghost use Rattle.grid.specs.declared.Strip.{Strip};
-ghost use Rattle.implements.specs.Holding.{holds_table};
-ghost use Rattle.implements.specs.Implements.{Implements};
-ghost use Rattle.implements.specs.Layouts.{Layout, traced_ble};
-ghost use Rattle.line_text.specs.Lines.{JoinedLine};
 ghost use Rattle.std.specs.Prelude.{◌≡◌, ◌+◌, ◌≤◌, ℕ, true, Contains, List};
 
 /// Walked back, the configuration of a layout that implements a circuit connects what the circuit

@@ -1,14 +1,5 @@
 -- What drives a net in a cluster.
-use Rattle.std.proofs.Common.{◌≡◌, ◌∙◌, ℕ, ◌==◌, ◌&&◌, List, filter, Option, option_map, slice_get, sym, ap}
-use Rattle.std.specs.Prelude.{is_some}
-use Rattle.std.specs.List.{enumerate_from}
-use Rattle.arch_file.specs.declared.arch.Arch.{Arch}
-use Rattle.cluster.specs.declared.block.Block.{Block}
-use Rattle.cluster.specs.declared.block.Block.TheVariants.{Cluster}
-use Rattle.configuration.specs.Configuration.{drivers_as}
-use Rattle.configuration.specs.RoutedPins.{ble_at}
-use Rattle.configuration.specs.declared.line.Driver.TheVariants.{BleAt}
-use Rattle.implements.specs.Layouts.{LaidBle, LaidBlock, Layout}
+use Rattle.configuration_text.proofs.Prelude.{◌≡◌, ◌∙◌, ℕ, ◌==◌, ◌&&◌, List, filter, Option, option_map, slice_get, sym, ap, is_some, enumerate_from, Arch, Block, Cluster, drivers_as, ble_at, BleAt, LaidBle, LaidBlock, Layout}
 use Rattle.configuration_text.proofs.Found.{made_of_first}
 
 abbrev pub index_in : ℕ → List LaidBle → Option ℕ

@@ -1,8 +1,5 @@
 -- The first element of a list that passes a test.
-use Rattle.std.proofs.Common.{◌≡◌, ℕ, ◌+◌, ◌≤◌, Bool, true, false, List, [], ◌∷◌, ◌++◌, cond, drop, filter, length, map, Option, Some, None, option_map, sym, ap, refl, ◌∙◌, slice_get}
-use Rattle.std.specs.Prelude.{find}
-use Rattle.std.specs.List.{enumerate_from, flat_map}
-use Rattle.std.proofs.lemmas.List.{at_drop_all}
+use Rattle.configuration_text.proofs.Prelude.{◌≡◌, ℕ, ◌+◌, ◌≤◌, Bool, true, false, List, [], ◌∷◌, ◌++◌, cond, drop, filter, length, map, Option, Some, None, option_map, sym, ap, refl, ◌∙◌, slice_get, find, enumerate_from, flat_map, at_drop_all}
 use Rattle.configuration_text.proofs.Rest.{rest_more}
 
 module _ {X : Type 0} (p : X → Bool) (xs : List X) (i : ℕ) (r : Option X) (h : find p (drop i xs) ≡ r) where
@@ -55,8 +52,3 @@ module _ {X : Type 0} (p : ℕ × X → Bool) (xs : List X) (i : ℕ) (r : Optio
 pub made_of_first : {X Y : Type 0} (g : ℕ → Y) (xs : List (ℕ × X)) (o : Option ℕ) → o ≡ option_map (λ at. at.0) (slice_get xs 0) → option_map g o ≡ slice_get (map (λ at. g at.0) xs) 0
 made_of_first g [] o e = ap (option_map g) e
 made_of_first g (x ∷ xs) o e = ap (option_map g) e
-
--- an element that is there if the test is true
-pub first_if : {X : Type 0} (b : Bool) (x : X) → slice_get (cond b (x ∷ []) []) 0 ≡ cond b (Some x) None
-first_if true x = refl
-first_if false x = refl

@@ -1,8 +1,5 @@
 -- The last word of a line.
-use Rattle.std.proofs.Common.{◌≡◌, ℕ, ◌-◌, ◌<◌, List, [], ◌∷◌, length, get_or, refl, arith}
-use Rattle.std.specs.Borrow.{Bor}
-use Rattle.blif.specs.Keywords.{last_of}
-use Rattle.line_text.specs.Words.{texts}
+use Rattle.configuration_text.proofs.Prelude.{◌≡◌, ℕ, ◌-◌, ◌<◌, List, [], ◌∷◌, length, get_or, refl, arith, Bor, last_of, texts}
 
 last_of-cons : (slices : List (Bor (List ℕ))) (slice d : Bor (List ℕ)) → last_of (texts (slice ∷ slices)) ≡ (get_or (slice ∷ slices) (length slices) d).now
 last_of-cons [] slice d = refl

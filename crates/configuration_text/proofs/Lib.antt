@@ -1,3 +1,4 @@
+mod Prelude
 pub mod Switches
 pub mod Searches
 pub mod Rest

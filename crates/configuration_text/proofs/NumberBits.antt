@@ -1,8 +1,5 @@
 -- Bits of numbers.
-use Rattle.std.proofs.Common.{◌≡◌, ℕ, ◌+◌, ◌*◌, ◌/◌, ◌%◌, ◌^◌, ◌==◌, sym, ap, ◌∙◌}
-use Rattle.std.proofs.Math.Nat.{div-div-eq-div-mul, div-one}
-use Rattle.std.proofs.lemmas.Nat.{pow-add}
-use Rattle.table_rows.specs.TableBits.{bit_of}
+use Rattle.configuration_text.proofs.Prelude.{◌≡◌, ℕ, ◌+◌, ◌*◌, ◌/◌, ◌%◌, ◌^◌, ◌==◌, sym, ap, ◌∙◌, div-div-eq-div-mul, div-one, pow-add, bit_of}
 
 pub bit_more : (number j : ℕ) → bit_of number (1 + j) ≡ bit_of (number / 2) j
 bit_more number j =

@@ -1,8 +1,5 @@
 -- The index of a net.
-use Rattle.std.proofs.Common.{◌≡◌, ℕ, ◌+◌, ◌==◌, ◌≤◌, Bool, true, false, ◌||◌, not, List, cond, drop, length, Option, Some, None, sym, ap, ◌∙◌, slice_get}
-use Rattle.std.specs.List.{prefix_len}
-use Rattle.std.proofs.lemmas.List.{at_drop_all}
-use Rattle.ble_cluster.specs.Nets.{has}
+use Rattle.configuration_text.proofs.Prelude.{◌≡◌, ℕ, ◌+◌, ◌==◌, ◌≤◌, Bool, true, false, ◌||◌, not, List, cond, drop, length, Option, Some, None, sym, ap, ◌∙◌, slice_get, prefix_len, at_drop_all, has}
 use Rattle.configuration_text.proofs.Rest.{prefix_more, prefix_stop, rest_more}
 
 abbrev is_other : ℕ → ℕ → Bool

@@ -1,9 +1,5 @@
 -- Free places, one after another.
-use Rattle.std.proofs.Common.{◌≡◌, ℕ, suc, ◌+◌, ◌-◌, ◌<◌, ◌≤◌, Bool, true, false, not, List, [], ◌∷◌, ◌++◌, cond, drop, filter, length, Option, Some, sym, ap, ◌∙◌, arith, append_assoc, append-nil, slice_get}
-use Rattle.std.specs.List.{list_any, range_with_len}
-use Rattle.std.proofs.lemmas.List.{at_drop_all}
-use Rattle.configuration.specs.RoutedPins.{filled_places, free_places, is_place}
-use Rattle.configuration_text.specs.Parts.{free_from}
+use Rattle.configuration_text.proofs.Prelude.{◌≡◌, ℕ, suc, ◌+◌, ◌-◌, ◌<◌, ◌≤◌, Bool, true, false, not, List, [], ◌∷◌, ◌++◌, cond, drop, filter, length, Option, Some, sym, ap, ◌∙◌, arith, append_assoc, append-nil, slice_get, list_any, range_with_len, at_drop_all, filled_places, free_places, is_place, free_from}
 use Rattle.configuration_text.proofs.Rest.{rest_more}
 
 abbrev is_free : List (Option ℕ) → ℕ → Bool

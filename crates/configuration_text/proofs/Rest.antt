@@ -1,9 +1,5 @@
 -- What is left of a list, step by step.
-use Rattle.std.proofs.Common.{◌≡◌, ℕ, suc, ◌+◌, ◌-◌, ◌<◌, ◌≤◌, Bool, true, false, List, [], ◌∷◌, ◌++◌, cond, drop, length, map, Some, sym, ap, ◌∙◌, arith, append_assoc, append-nil, get_or, slice_get}
-use Rattle.std.specs.List.{prefix_len, range_with_len}
-use Rattle.configuration.specs.ConfigurationText.{bit_digit}
-use Rattle.std.proofs.lemmas.List.{at_drop_more, at_drop_all}
-use Rattle.std.proofs.lemmas.Option.{slice_get-get_or, slice_get_within, get_or_from_slice_get}
+use Rattle.configuration_text.proofs.Prelude.{◌≡◌, ℕ, suc, ◌+◌, ◌-◌, ◌<◌, ◌≤◌, Bool, true, false, List, [], ◌∷◌, ◌++◌, cond, drop, length, map, Some, sym, ap, ◌∙◌, arith, append_assoc, append-nil, get_or, slice_get, prefix_len, range_with_len, bit_digit, at_drop_more, at_drop_all, slice_get-get_or, slice_get_within, get_or_from_slice_get}
 
 -- an element that is read
 pub read_get : {X : Type 0} (xs : List X) (i : ℕ) (x : X) → i < length xs → x ≡ get_or xs i x → slice_get xs i ≡ Some x
@@ -64,6 +60,3 @@ pub prefix_stop : {X : Type 0} (p : X → Bool) (xs : List X) (i : ℕ) (x : X) 
 prefix_stop p xs i x r get fails h =
     let here : prefix_len p (drop i xs) ≡ 0 = rest_more (prefix_len p) xs i x get ∙ ap (λ (b : Bool). cond b (1 + prefix_len p (drop (i + 1) xs)) 0) fails in
     omega (arith, h, here)
-
-pub prefix_end : {X : Type 0} (p : X → Bool) (xs : List X) (i r : ℕ) → length xs ≤ i → i + prefix_len p (drop i xs) ≡ r → i ≡ r
-prefix_end p xs i r long h = let here : prefix_len p (drop i xs) ≡ 0 = at_drop_all (prefix_len p) xs i long in omega (arith, h, here)

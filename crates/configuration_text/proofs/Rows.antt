@@ -1,14 +1,5 @@
 -- The rows of a table, and its values.
-use Rattle.std.proofs.Common.{◌≡◌, ℕ, ◌+◌, ◌/◌, ◌==◌, ◌≤◌, Bool, true, false, ◌||◌, not, List, [], ◌∷◌, cond, drop, length, map, min, Some, sym, ap, refl, ◌∙◌, arith, slice_get}
-use Rattle.std.specs.List.{list_any, prefix_len, take_while}
-use Rattle.std.proofs.lemmas.List.{length-drop}
-use Rattle.std.proofs.lemmas.List.Sums.{take_while-cons}
-use Rattle.line_text.specs.Lines.{JoinedLine}
-use Rattle.blif.specs.Covers.{gives_one}
-use Rattle.blif.specs.Sights.{kind_of}
-use Rattle.table_rows.specs.CellLines.{is_row_kind}
-use Rattle.table_rows.specs.TableBits.{all_agree, applies, bit_of, value_in, value_of}
-use Rattle.configuration_text.specs.Parts.{row_words}
+use Rattle.configuration_text.proofs.Prelude.{◌≡◌, ℕ, ◌+◌, ◌/◌, ◌==◌, ◌≤◌, Bool, true, false, ◌||◌, not, List, [], ◌∷◌, cond, drop, length, map, min, Some, sym, ap, refl, ◌∙◌, arith, slice_get, list_any, prefix_len, take_while, length-drop, take_while-cons, JoinedLine, gives_one, kind_of, is_row_kind, all_agree, applies, bit_of, value_in, value_of, row_words}
 use Rattle.configuration_text.proofs.NumberBits.{bit_more}
 use Rattle.configuration_text.proofs.Rest.{rest_more}
 

@@ -1,13 +1,5 @@
 -- Switches, each once, path by path.
-use Rattle.std.proofs.Common.{get_or, ◌≡◌, ℕ, suc, zero, ◌+◌, ◌<◌, ◌≤◌, Bool, true, false, ◌&&◌, not, List, [], ◌∷◌, ◌++◌, cond, drop, filter, length, map, sym, ap, refl, ◌∙◌, subst, arith, append_assoc, append-nil, Some, slice_get}
-use Rattle.std.specs.List.{list_any}
-use Rattle.std.proofs.lemmas.Option.{same_Some}
-use Rattle.configuration.specs.Configuration.{each_once, is_same_edge, is_switch}
-use Rattle.configuration.specs.ConfigurationText.{line_words, lines_text}
-use Rattle.configuration.specs.Lines.{Switch}
-use Rattle.pathfinder.specs.LegalRoutes.{pairs_of, steps_of}
-use Rattle.rr_graph.specs.declared.node.Node.{Node}
-use Rattle.vpr_files.specs.TextLines.{line_of}
+use Rattle.configuration_text.proofs.Prelude.{get_or, ◌≡◌, ℕ, suc, zero, ◌+◌, ◌<◌, ◌≤◌, Bool, true, false, ◌&&◌, not, List, [], ◌∷◌, ◌++◌, cond, drop, filter, length, map, sym, ap, refl, ◌∙◌, subst, arith, append_assoc, append-nil, Some, slice_get, list_any, same_Some, each_once, is_same_edge, is_switch, line_words, lines_text, Switch, pairs_of, steps_of, Node, line_of}
 
 -- the lines of edges
 abbrev pub edges_text : List (Node × Node) → List ℕ

@@ -1,11 +1,5 @@
 -- Texts of lines.
-use Rattle.std.proofs.Common.{◌≡◌, ℕ, ◌+◌, ◌≤◌, List, [], ◌∷◌, ◌++◌, drop, length, map, Some, sym, ap, refl, ◌∙◌, append_assoc, append-nil, slice_get}
-use Rattle.std.specs.List.{enumerate_from, flat_map}
-use Rattle.std.proofs.lemmas.Grind.{flat_map-append}
-use Rattle.std.proofs.lemmas.List.{map-append}
-use Rattle.vpr_files.specs.TextLines.{line_of, text_of}
-use Rattle.configuration.specs.ConfigurationText.{line_words, lines_text}
-use Rattle.configuration.specs.Lines.{ConfigurationLine}
+use Rattle.configuration_text.proofs.Prelude.{◌≡◌, ℕ, ◌+◌, ◌≤◌, List, [], ◌∷◌, ◌++◌, drop, length, map, Some, sym, ap, refl, ◌∙◌, append_assoc, append-nil, slice_get, enumerate_from, flat_map, flat_map-append, map-append, line_of, text_of, line_words, lines_text, ConfigurationLine}
 use Rattle.configuration_text.proofs.Rest.{written_more, written_end}
 
 pub lines_append : (lines more : List ConfigurationLine) → lines_text (lines ++ more) ≡ lines_text lines ++ lines_text more

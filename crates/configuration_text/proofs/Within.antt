@@ -1,13 +1,5 @@
 -- The table in a BLE that has a latch.
-use Rattle.std.proofs.Common.{◌≡◌, ◌∙◌, ℕ, Bool, [], ◌∷◌, cond, Option, Some, None, ap}
-use Rattle.std.specs.Option.{option_map_or}
-use Rattle.arch_file.specs.declared.arch.Arch.{Arch}
-use Rattle.blif.specs.LookupTables.{LookupTable}
-use Rattle.blif.specs.declared.circuit.Circuit.{Circuit}
-use Rattle.blif.specs.declared.latches.Latch.{Latch}
-use Rattle.configuration.specs.Configuration.{latch_driving, table_driving, table_within}
-use Rattle.implements.specs.Holding.{receives}
-use Rattle.implements.specs.Layouts.{LaidBle, LaidBlock, traced_ble}
+use Rattle.configuration_text.proofs.Prelude.{◌≡◌, ◌∙◌, ℕ, Bool, [], ◌∷◌, cond, Option, Some, None, ap, option_map_or, Arch, LookupTable, Circuit, Latch, latch_driving, table_driving, table_within, receives, LaidBle, LaidBlock, traced_ble}
 
 pub with_latch : (circuit : Circuit) (arch : Arch) (laid : LaidBlock) (ble : LaidBle) (name : ℕ) (latch : Latch) (alone : Bool) → ble.name ≡ name → latch_driving circuit name ≡ Some latch → receives (traced_ble arch laid ble) (latch.input ∷ []) ≡ alone →
     table_within circuit arch laid ble ≡ cond alone None (table_driving circuit latch.input)

@@ -1,2 +1,4 @@
+pub mod Prelude
 pub mod Parts
 pub mod Written
+pub mod Sides

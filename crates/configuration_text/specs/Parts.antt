@@ -2,20 +2,7 @@
 use Rattle.std.specs.Prelude.{ℕ, ◌-◌, ◌^◌, Bool, not, List, Option, codes, filter, is_some, map, if◌then◌else◌}
 use Rattle.std.specs.List.{enumerate_from, flat_map, list_any, range_with_len, take_while}
 use Rattle.std.specs.Option.{option_map_or}
-use Rattle.arch_file.specs.declared.arch.Arch.{Arch}
-use Rattle.line_text.specs.Lines.{JoinedLine}
-use Rattle.blif.specs.LookupTables.{LookupTable}
-use Rattle.blif.specs.Sights.{kind_of}
-use Rattle.blif.specs.declared.circuit.Circuit.{Circuit}
-use Rattle.blif.specs.declared.latches.Latch.{Latch}
-use Rattle.blif.specs.declared.tables.Table.{Table}
-use Rattle.configuration.specs.Configuration.{ble_lines, control_in}
-use Rattle.configuration.specs.Lines.{ConfigurationLine, Stores}
-use Rattle.configuration.specs.declared.line.BlePlace.{BlePlace}
-use Rattle.configuration.specs.RoutedPins.{ble_at, is_place}
-use Rattle.implements.specs.Layouts.{LaidBle, LaidBlock, Layout}
-use Rattle.table_rows.specs.CellLines.{args_at, init_in, is_row_kind, rows_at, type_in}
-use Rattle.table_rows.specs.TableBits.{bit_of, value_in, value_of}
+use Rattle.configuration_text.specs.Prelude.{Arch, JoinedLine, LookupTable, kind_of, Circuit, Latch, Table, ble_lines, control_in, ConfigurationLine, Stores, BlePlace, ble_at, is_place, LaidBle, LaidBlock, Layout, args_at, init_in, is_row_kind, rows_at, type_in, bit_of, value_in, value_of}
 
 -- the value of a table that is lent
 abbrev pub table_read : Table → LookupTable

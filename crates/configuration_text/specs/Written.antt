@@ -1,6 +1,6 @@
 -- What writing a configuration to a sink can result in.
 use Rattle.std.specs.Prelude.{ℕ, ◌≡◌, Bool, List, Option, Result, Ok, Err}
-use Rattle.line_text.specs.Writing.{TakesAll, TakesPart}
+use Rattle.configuration_text.specs.Prelude.{TakesAll, TakesPart}
 use Rattle.configuration_text.specs.declared.written.Unwritten.{Unwritten}
 use Rattle.configuration_text.specs.declared.written.Unwritten.TheVariants.{NoMemory, SinkFailed}
 

@@ -1,8 +1,7 @@
 //! The bits of tables.
 ghost use Rattle.std.specs.Prelude.{◌≡◌, ◌++◌, ◌∷◌, [], ◌^◌, IfOk, drop, map, option_map};
-ghost use Rattle.configuration.specs.ConfigurationText.{bit_digit};
+ghost use Rattle.configuration_text.specs.Prelude.{bit_digit, lines_from, rows_at};
 ghost use Rattle.configuration_text.specs.Parts.{bits_within, row_words, table_read, values_below, wire_below};
-ghost use Rattle.table_rows.specs.CellLines.{lines_from, rows_at};
 
 use crate::row_values::{line_index, value_of};
 use blif::Table;

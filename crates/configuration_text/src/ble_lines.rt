@@ -1,13 +1,8 @@
 //! The lines of a BLE.
 ghost use Rattle.std.specs.Prelude.{◌≡◌, ◌++◌, IfOk, map};
 ghost use Rattle.std.specs.Option.{option_to_list};
-ghost use Rattle.configuration.specs.Configuration.{ble_lines, input_lines, latch_lines, values_in};
-ghost use Rattle.configuration.specs.ConfigurationText.{bit_digit, line_words, lines_text};
-ghost use Rattle.configuration.specs.Lines.{Takes, Values};
-ghost use Rattle.configuration.specs.RoutedPins.{ble_numbers};
+ghost use Rattle.configuration_text.specs.Prelude.{ble_lines, latch_lines, values_in, bit_digit, line_words, lines_text, Takes, Values, ble_numbers, traced_ble, line_of};
 ghost use Rattle.configuration_text.specs.Parts.{latch_line};
-ghost use Rattle.implements.specs.Layouts.{traced_ble};
-ghost use Rattle.vpr_files.specs.TextLines.{line_of};
 
 use crate::bits::push_bits;
 use crate::cells::{latch_driving, table_within};
@@ -44,28 +39,12 @@ pub(crate) fn push_ble(
         seat.entry.ble.now)) }
 {
     push_used(text, seat.place)?;
-    push_inputs(text, design, seat, numbers)?;
-    push_values(alloc, text, design, seat)?;
-    push_latch(text, design, seat)
-}
-
-/// Appends the lines of the BLE's inputs.
-fn push_inputs(
-    text: &mut Vec<u8>,
-    design: Design<'_>,
-    seat: Seat<'_>,
-    numbers: &[usize],
-) -> Result<(), AllocError>
-    requires { numbers.now ≡ ble_numbers design.arch.now design.layout.now seat.laid.now }
-    ensures { IfOk result (λ _. text.new.items ≡ text.old.items
-        ++ lines_text (input_lines design.entry.arch.now design.entry.layout.now
-        seat.entry.laid.now seat.entry.place seat.entry.ble.now)) }
-{
     for (input, feed) in seat.ble.inputs().iter().enumerate() {
         let signal = signal_for(design.arch, design.layout, seat.laid, numbers, *feed);
         push_input(text, seat.place, input, signal)?;
     }
-    Ok(())
+    push_values(alloc, text, design, seat)?;
+    push_latch(text, design, seat)
 }
 
 /// Appends the line of an input, if it takes a signal.
@@ -96,27 +75,10 @@ fn push_values(
         design.entry.circuit.now design.entry.arch.now seat.entry.laid.now seat.entry.ble.now)))) }
 {
     let nets = nets_in(alloc, design.arch, seat.laid, seat.ble)?;
-    let pushed = push_values_of(text, design, seat, nets.as_slice());
-    drop(nets);
-    pushed
-}
-
-/// Appends the line of the BLE's table. `nets` are the nets that come to the BLE's inputs.
-fn push_values_of(
-    text: &mut Vec<u8>,
-    design: Design<'_>,
-    seat: Seat<'_>,
-    nets: &[u32],
-) -> Result<(), AllocError>
-    requires { nets.now ≡ (traced_ble design.arch.now seat.laid.now seat.ble.now).inputs }
-    ensures { IfOk result (λ _. text.new.items ≡ text.old.items
-        ++ line_of (line_words (Values seat.entry.place (values_in design.entry.netlist.now
-        design.entry.circuit.now design.entry.arch.now seat.entry.laid.now seat.entry.ble.now)))) }
-{
     text.extend_from_slice(b"table")?;
     push_place(text, seat.place)?;
     text.push(b' ')?;
-    push_table_bits(text, design, seat.laid, seat.ble, nets)?;
+    push_table_bits(text, design, seat.laid, seat.ble, nets.as_slice())?;
     end_line(text)
 }
 

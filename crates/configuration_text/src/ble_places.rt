@@ -1,7 +1,7 @@
 //! The places of BLEs.
 ghost use Rattle.std.specs.Prelude.{◌≡◌, ◌++◌, ◌∷◌, ◌<◌, ◌≤◌, ◌+◌, ◌==◌, ℕ, List, Option, IfOk, not, [], length};
 ghost use Rattle.std.specs.List.{list_any};
-ghost use Rattle.configuration.specs.RoutedPins.{ble_numbers, filled_places, free_places, is_place, routed_place, routed_places};
+ghost use Rattle.configuration_text.specs.Prelude.{ble_numbers, filled_places, free_places, is_place, routed_place, routed_places};
 ghost use Rattle.configuration_text.specs.Parts.{free_from};
 
 use crate::pins::{output_rank, pin_out};

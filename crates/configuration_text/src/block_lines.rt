@@ -1,9 +1,6 @@
 //! The lines of blocks.
 ghost use Rattle.std.specs.Prelude.{◌≡◌, ◌++◌, IfOk};
-ghost use Rattle.configuration.specs.Configuration.{block_lines};
-ghost use Rattle.configuration.specs.ConfigurationText.{lines_text};
-ghost use Rattle.configuration.specs.RoutedPins.{ble_numbers};
-ghost use Rattle.configuration_text.specs.Parts.{cluster_lines};
+ghost use Rattle.configuration_text.specs.Prelude.{block_lines, lines_text};
 
 use crate::ble_lines::{Seat, push_ble};
 use crate::ble_places::ble_numbers;
@@ -31,43 +28,14 @@ pub(crate) fn push_block(
         Block::OutputPad(net) => {
             push_pad_out(text, laid.place(), global_number(design.layout, net))
         }
-        Block::Cluster(_) => push_cluster(alloc, text, design, laid),
+        Block::Cluster(_) => {
+            let places = ble_numbers(alloc, design.arch, design.layout, laid)?;
+            let numbers = places.as_slice();
+            for (index, ble) in laid.bles().iter().enumerate() {
+                let place = place_at(laid, numbers, index);
+                push_ble(alloc, text, design, Seat { laid, ble, place }, numbers)?;
+            }
+            Ok(())
+        }
     }
-}
-
-/// Appends the lines of a cluster.
-fn push_cluster(
-    alloc: Global,
-    text: &mut Vec<u8>,
-    design: Design<'_>,
-    laid: &LaidBlock,
-) -> Result<(), AllocError>
-    ensures { IfOk result (λ _. text.new.items ≡ text.old.items
-        ++ lines_text (cluster_lines design.entry.netlist.now design.entry.circuit.now
-        design.entry.arch.now design.entry.layout.now laid.now)) }
-{
-    let numbers = ble_numbers(alloc, design.arch, design.layout, laid)?;
-    let pushed = push_bles(alloc, text, design, laid, numbers.as_slice());
-    drop(numbers);
-    pushed
-}
-
-/// Appends the lines of the block's BLEs. `numbers` are the places of the block's BLEs.
-fn push_bles(
-    alloc: Global,
-    text: &mut Vec<u8>,
-    design: Design<'_>,
-    laid: &LaidBlock,
-    numbers: &[usize],
-) -> Result<(), AllocError>
-    requires { numbers.now ≡ ble_numbers design.arch.now design.layout.now laid.now }
-    ensures { IfOk result (λ _. text.new.items ≡ text.old.items
-        ++ lines_text (cluster_lines design.entry.netlist.now design.entry.circuit.now
-        design.entry.arch.now design.entry.layout.now laid.now)) }
-{
-    for (index, ble) in laid.bles().iter().enumerate() {
-        let place = place_at(laid, numbers, index);
-        push_ble(alloc, text, design, Seat { laid, ble, place }, numbers)?;
-    }
-    Ok(())
 }

@@ -1,12 +1,7 @@
 //! The table and the latch in a BLE.
 ghost use Rattle.std.specs.Prelude.{◌≡◌, ◌∷◌, [], option_map};
-ghost use Rattle.arch_file.specs.declared.arch.Arch.{Arch};
-ghost use Rattle.ble_cluster.specs.Bles.{LogicElement};
-ghost use Rattle.blif.specs.LookupTables.{LookupTable};
-ghost use Rattle.configuration.specs.Configuration.{latch_driving, table_driving, table_within};
+ghost use Rattle.configuration_text.specs.Prelude.{Arch, LogicElement, LookupTable, latch_driving, table_driving, table_within, receives, LaidBle, LaidBlock, traced_ble};
 ghost use Rattle.configuration_text.specs.Parts.{table_read};
-ghost use Rattle.implements.specs.Holding.{receives};
-ghost use Rattle.implements.specs.Layouts.{LaidBle, LaidBlock, traced_ble};
 
 use blif::{Circuit, Latch, Table};
 

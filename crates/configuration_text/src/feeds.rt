@@ -2,9 +2,7 @@
 ghost use Rattle.std.specs.Prelude.{◌≡◌, ◌++◌, IfOk, slice_index};
 ghost use Rattle.std.specs.List.{flat_map};
 ghost use Rattle.std.specs.Option.{option_to_list};
-ghost use Rattle.configuration.specs.Configuration.{control_in, signal_for};
-ghost use Rattle.configuration.specs.RoutedPins.{ble_numbers};
-ghost use Rattle.implements.specs.Layouts.{input_net, traced_ble};
+ghost use Rattle.configuration_text.specs.Prelude.{control_in, signal_for, ble_numbers, input_net, traced_ble};
 
 use crate::pins::{global_number, on_pin, signal_of};
 use arch_file::{Arch, PinClass};

@@ -2,10 +2,7 @@
 ghost use Rattle.std.specs.Prelude.{◌≡◌, ◌++◌, ◌==◌, ◌&&◌, IfOk, filter, is_some, map, option_map, slice_get, if◌then◌else◌};
 ghost use Rattle.std.specs.List.{enumerate_from};
 ghost use Rattle.std.specs.Option.{option_to_list};
-ghost use Rattle.configuration.specs.Configuration.{driver_of_net, drivers_as, global_lines};
-ghost use Rattle.configuration.specs.ConfigurationText.{lines_text};
-ghost use Rattle.configuration.specs.Lines.{Feeds};
-ghost use Rattle.configuration.specs.RoutedPins.{ble_at};
+ghost use Rattle.configuration_text.specs.Prelude.{driver_of_net, drivers_as, global_lines, lines_text, Feeds, ble_at};
 
 use crate::ble_places::ble_numbers;
 use crate::design::Design;

@@ -1,8 +1,6 @@
 //! A latch's type and initial value, as its line of the netlist says.
 ghost use Rattle.std.specs.Prelude.{◌≡◌};
-ghost use Rattle.blif.specs.Keywords.{args_of};
-ghost use Rattle.line_text.specs.Words.{texts};
-ghost use Rattle.table_rows.specs.CellLines.{args_at, init_in, type_in};
+ghost use Rattle.configuration_text.specs.Prelude.{args_of, texts, args_at, init_in, type_in};
 
 use crate::row_values::line_index;
 use line_text::Lines;

@@ -1,8 +1,6 @@
 //! Lines, appended to a text.
 ghost use Rattle.std.specs.Prelude.{◌≡◌, ◌++◌, ◌∷◌, [], IfOk};
-ghost use Rattle.configuration.specs.ConfigurationText.{line_words};
-ghost use Rattle.configuration.specs.Lines.{Device, Feeds, PadIn, PadOut, Stores, Switch, Takes, Used};
-ghost use Rattle.vpr_files.specs.TextLines.{line_of};
+ghost use Rattle.configuration_text.specs.Prelude.{line_words, Device, Feeds, PadIn, PadOut, Stores, Switch, Takes, Used, line_of};
 
 use crate::words::{
     push_global, push_node, push_number, push_place, push_signal, push_three, push_word,

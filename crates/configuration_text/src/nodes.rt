@@ -1,9 +1,7 @@
 //! Nodes and edges.
 ghost use Rattle.std.specs.Prelude.{◌≡◌, ◌&&◌, ◌==◌, not};
 ghost use Rattle.std.specs.List.{list_any};
-ghost use Rattle.configuration.specs.Configuration.{is_same_edge, is_switch, is_terminal};
-ghost use Rattle.pathfinder.specs.Terminals.{is_same_node};
-ghost use Rattle.rr_graph.specs.Node.{rank_of};
+ghost use Rattle.configuration_text.specs.Prelude.{is_same_edge, is_switch, is_terminal, is_same_node, rank_of};
 
 use rr_graph::{Node, NodeKind};
 

@@ -1,20 +1,14 @@
 //! The pins that the routes take.
 ghost use Rattle.std.specs.Prelude.{◌≡◌, ◌==◌, not, if◌then◌else◌};
 ghost use Rattle.std.specs.List.{prefix_len};
-ghost use Rattle.ble_cluster.specs.Nets.{has};
-ghost use Rattle.configuration.specs.Configuration.{global_number, signal_of};
-ghost use Rattle.configuration.specs.RoutedPins.{node_after, node_before, output_rank, paths_of, pin_in, pin_out};
-ghost use Rattle.implements.specs.Layouts.{on_pin};
-ghost use Rattle.pathfinder.specs.LegalRoutes.{pairs_of, steps_of};
-ghost use Rattle.pathfinder.specs.Terminals.{terminal_number};
+ghost use Rattle.configuration_text.specs.Prelude.{has, global_number, signal_of, output_rank, paths_of, pin_in, pin_out, on_pin, pairs_of, steps_of};
+ghost use Rattle.configuration_text.specs.Sides.{anchor, neighbor, node_beside};
 
 use crate::nodes::is_same_node;
 use arch_file::{Arch, PinClass};
-use cluster::Block;
 use configuration::Signal;
-use grid::Place;
 use layouts::{LaidBlock, LaidPath, Layout};
-use rr_graph::{Node, NodeKind};
+use rr_graph::Node;
 
 /// The paths of the net's tree.
 pub(crate) fn paths_of(layout: &Layout, net: u32) -> &[LaidPath]
@@ -26,62 +20,60 @@ pub(crate) fn paths_of(layout: &Layout, net: u32) -> &[LaidPath]
     }
 }
 
-/// The node after this one, on the first of the paths that goes on from it.
-fn node_after(paths: &[LaidPath], node: Node) -> Option<Node>
-    ensures { result ≡ node_after (pairs_of paths.now) node }
+/// Which node of a step is wanted beside the other one.
+#[derive(Clone, Copy)]
+pub(crate) enum Side {
+    /// The node after it.
+    After,
+    /// The node before it.
+    Before,
+}
+
+impl Side {
+    /// The node of the step beside which one is wanted.
+    fn anchor(self, step: (Node, Node)) -> Node
+        ensures { result ≡ anchor self step }
+    {
+        match self {
+            Side::After => step.0,
+            Side::Before => step.1,
+        }
+    }
+
+    /// The node of the step that is wanted.
+    fn neighbor(self, step: (Node, Node)) -> Node
+        ensures { result ≡ neighbor self step }
+    {
+        match self {
+            Side::After => step.1,
+            Side::Before => step.0,
+        }
+    }
+}
+
+/// The node on that side of this one, on the first of the paths that has one.
+fn node_beside(paths: &[LaidPath], node: Node, side: Side) -> Option<Node>
+    ensures { result ≡ node_beside side (pairs_of paths.now) node }
 {
     for path in paths {
-        if let Some(next) = step_after(path.nodes(), node) {
-            return Some(next);
+        if let Some(found) = step_beside(path.nodes(), node, side) {
+            return Some(found);
         }
     }
     None
 }
 
-/// The node after this one on the path.
-fn step_after(path: &[Node], node: Node) -> Option<Node>
-    ensures { result ≡ node_after (steps_of path.now) node }
+/// The node on that side of this one on the path.
+fn step_beside(path: &[Node], node: Node, side: Side) -> Option<Node>
+    ensures { result ≡ node_beside side (steps_of path.now) node }
 {
     for place in 0..path.len().saturating_sub(1) {
-        if is_same_node(path[place], node) {
-            return Some(path[place + 1]);
+        let step = (path[place], path[place + 1]);
+        if is_same_node(side.anchor(step), node) {
+            return Some(side.neighbor(step));
         }
     }
     None
-}
-
-/// The node before this one, on the first of the paths that leads to it.
-fn node_before(paths: &[LaidPath], node: Node) -> Option<Node>
-    ensures { result ≡ node_before (pairs_of paths.now) node }
-{
-    for path in paths {
-        if let Some(before) = step_before(path.nodes(), node) {
-            return Some(before);
-        }
-    }
-    None
-}
-
-/// The node before this one on the path.
-fn step_before(path: &[Node], node: Node) -> Option<Node>
-    ensures { result ≡ node_before (steps_of path.now) node }
-{
-    for place in 0..path.len().saturating_sub(1) {
-        if is_same_node(path[place + 1], node) {
-            return Some(path[place]);
-        }
-    }
-    None
-}
-
-/// The number of a block's source or sink.
-fn terminal_number(block: Block, place: Place, class: u32) -> u32
-    ensures { result ≡ terminal_number block place class }
-{
-    match block {
-        Block::Cluster(_) => class,
-        _ => place.subblock,
-    }
 }
 
 /// The pin by which the net's tree leaves the block: the node after the block's source. `None` if
@@ -89,14 +81,7 @@ fn terminal_number(block: Block, place: Place, class: u32) -> u32
 pub fn pin_out(layout: &Layout, laid: &LaidBlock, net: u32) -> Option<Node>
     ensures { result ≡ pin_out layout.now laid.now net }
 {
-    let place = laid.place();
-    let source = Node {
-        x: place.x,
-        kind: NodeKind::Source,
-        y: place.y,
-        n: terminal_number(laid.block(), place, 1),
-    };
-    node_after(paths_of(layout, net), source)
+    node_beside(paths_of(layout, net), laid.source(), Side::After)
 }
 
 /// The pin by which the net's tree comes to the block: the node before the block's sink. `None` if
@@ -104,14 +89,7 @@ pub fn pin_out(layout: &Layout, laid: &LaidBlock, net: u32) -> Option<Node>
 pub fn pin_in(layout: &Layout, laid: &LaidBlock, net: u32) -> Option<Node>
     ensures { result ≡ pin_in layout.now laid.now net }
 {
-    let place = laid.place();
-    let sink = Node {
-        x: place.x,
-        kind: NodeKind::Sink,
-        y: place.y,
-        n: terminal_number(laid.block(), place, 0),
-    };
-    node_before(paths_of(layout, net), sink)
+    node_beside(paths_of(layout, net), laid.sink(), Side::Before)
 }
 
 /// The number of output pins before this pin.

@@ -1,12 +1,8 @@
 //! The values of a table, by the rows of the netlist.
 ghost use Rattle.std.specs.Prelude.{◌≡◌, ◌==◌, not, drop, map};
 ghost use Rattle.std.specs.List.{list_any, prefix_len};
-ghost use Rattle.blif.specs.Covers.{gives_one};
-ghost use Rattle.blif.specs.Keywords.{last_of};
-ghost use Rattle.blif.specs.Sights.{kind_of};
+ghost use Rattle.configuration_text.specs.Prelude.{gives_one, last_of, kind_of, is_row_kind, agrees, all_agree, applies, value_in, value_of};
 ghost use Rattle.configuration_text.specs.Parts.{row_words};
-ghost use Rattle.table_rows.specs.CellLines.{is_row_kind};
-ghost use Rattle.table_rows.specs.TableBits.{agrees, all_agree, applies, value_in, value_of};
 
 use line_text::{Line, Lines, is_word};
 

@@ -1,10 +1,7 @@
 //! The lines of switches.
 ghost use Rattle.std.specs.Prelude.{◌≡◌, ◌++◌, [], IfOk, map};
 ghost use Rattle.std.specs.List.{filter};
-ghost use Rattle.configuration.specs.Configuration.{each_once, is_switch, switch_lines};
-ghost use Rattle.configuration.specs.ConfigurationText.{lines_text};
-ghost use Rattle.configuration.specs.Lines.{Switch};
-ghost use Rattle.pathfinder.specs.LegalRoutes.{pairs_of, steps_of};
+ghost use Rattle.configuration_text.specs.Prelude.{each_once, is_switch, switch_lines, lines_text, Switch, pairs_of, steps_of};
 
 use crate::line_bytes::push_switch;
 use crate::nodes::is_new_switch;

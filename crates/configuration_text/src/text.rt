@@ -1,8 +1,7 @@
 //! The whole text.
 ghost use Rattle.std.specs.Prelude.{◌≡◌, ◌++◌, IfOk};
 ghost use Rattle.std.specs.List.{flat_map};
-ghost use Rattle.configuration.specs.Configuration.{block_lines, switch_lines};
-ghost use Rattle.configuration.specs.ConfigurationText.{configuration_text, lines_text};
+ghost use Rattle.configuration_text.specs.Prelude.{block_lines, switch_lines, configuration_text, lines_text};
 
 use crate::block_lines::push_block;
 use crate::design::Design;
@@ -19,13 +18,8 @@ pub fn configuration_text(alloc: Global, design: Design<'_>) -> Result<Vec<u8>, 
         design.entry.arch.now design.entry.strip design.entry.layout.now) }
 {
     let mut text = Vec::new(alloc);
-    match push_all(alloc, &mut text, design) {
-        Ok(()) => Ok(text),
-        Err(error) => {
-            drop(text);
-            Err(error)
-        }
-    }
+    push_all(alloc, &mut text, design)?;
+    Ok(text)
 }
 
 /// Appends all lines.

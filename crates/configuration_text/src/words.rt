@@ -1,9 +1,7 @@
 //! Words, appended to a text.
 ghost use Rattle.std.specs.Prelude.{◌≡◌, ◌++◌, decimal, IfOk};
 ghost use Rattle.std.specs.List.{flat_map};
-ghost use Rattle.configuration.specs.ConfigurationText.{global_words, node_words, place_words, signal_words};
-ghost use Rattle.vpr_files.specs.NodeText.{kind_word};
-ghost use Rattle.vpr_files.specs.TextLines.{word_after_space};
+ghost use Rattle.configuration_text.specs.Prelude.{global_words, node_words, place_words, signal_words, kind_word, word_after_space};
 
 use configuration::{BlePlace, Signal};
 use itoa::Buffer;

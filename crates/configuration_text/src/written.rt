@@ -1,6 +1,6 @@
 //! The text, written to a sink.
 ghost use Rattle.std.specs.Prelude.{◌≡◌};
-ghost use Rattle.configuration.specs.ConfigurationText.{configuration_text};
+ghost use Rattle.configuration_text.specs.Prelude.{configuration_text};
 ghost use Rattle.configuration_text.specs.Written.{IsWritten};
 
 use crate::design::Design;

@@ -24,6 +24,17 @@ Status: 0 done; 1 a file could not be read or written, `files` found a refused l
 
 Example: fpgad_desk script --name T --width 2 < t.blif | fpgad --arch my.arch --tracks 8 --columns 10 --rows 10";
 
+/// A tool without its options, for the program's help.
+macro_rules! named {
+    ($tool:expr) => {
+        Program {
+            after_help: "",
+            options: &[],
+            ..$tool
+        }
+    };
+}
+
 /// All tools, for the program's help; those that another toolbox has have no options here.
 pub(crate) const TOOLBOX: Toolbox = Toolbox {
     name: "fpgad_desk",
@@ -32,13 +43,13 @@ pub(crate) const TOOLBOX: Toolbox = Toolbox {
     tools: &[
         script::TOOL,
         files::TOOL,
-        route_wishes::NAMED,
-        check::NAMED,
-        configure::NAMED,
-        strip::NAMED,
-        picture::NAMED,
-        report::NAMED,
-        page_tool::NAMED,
+        named!(route_wishes::TOOL),
+        named!(check::TOOL),
+        named!(configure::TOOL),
+        named!(strip::TOOL),
+        named!(picture::TOOL),
+        named!(report::TOOL),
+        named!(page_tool::TOOL),
         random::TOOL,
         desk_log::TOOL,
         COMPLETION,
@@ -153,12 +164,9 @@ fn errand_by<'a, S: AsStr>(
     words: &'a [S],
 ) -> Result<Errand<'a>, Error> {
     let call = read_call(alloc, toolbox, words)?;
-    let errand = errand_of(&call);
-    let tool = call.tool;
-    drop(call);
-    match errand {
+    match errand_of(&call) {
         Ok(errand) => Ok(errand),
-        Err(why) => Err(call_refusal(alloc, toolbox, &tool, why)),
+        Err(why) => Err(call_refusal(alloc, toolbox, &call.tool, why)),
     }
 }
 

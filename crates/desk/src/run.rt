@@ -56,11 +56,7 @@ fn run_on_device<H: Files + AllocGlobal, S: AsStr, R: Source, W: Sink, E: Sink>(
     streams: Streams<'_, R, W, E>,
 ) -> Result<Outcome, Error> {
     match read_file(rt, FileRole::Device, path, MAX_DEVICE_READ, streams.teller) {
-        Ok(text) => {
-            let done = run_with_text(rt, words, path, text.as_slice(), streams);
-            drop(text);
-            done
-        }
+        Ok(text) => { run_with_text(rt, words, path, text.as_slice(), streams) }
         Err(outcome) => Ok(outcome),
     }
 }
@@ -74,11 +70,7 @@ fn run_with_text<H: Files + AllocGlobal, S: AsStr, R: Source, W: Sink, E: Sink>(
     streams: Streams<'_, R, W, E>,
 ) -> Result<Outcome, Error> {
     match device_options(rt.alloc(), path, text, streams.teller) {
-        Ok(options) => {
-            let done = run_with_options(rt, words, options.as_slice(), streams);
-            drop(options);
-            done
-        }
+        Ok(options) => { run_with_options(rt, words, options.as_slice(), streams) }
         Err(outcome) => Ok(outcome),
     }
 }
@@ -91,11 +83,7 @@ fn run_with_options<H: Files + AllocGlobal, S: AsStr, R: Source, W: Sink, E: Sin
     streams: Streams<'_, R, W, E>,
 ) -> Result<Outcome, Error> {
     match with_device(rt.alloc(), words, options) {
-        Ok(all) => {
-            let done = run_plain(rt, all.as_slice(), streams);
-            drop(all);
-            done
-        }
+        Ok(all) => { run_plain(rt, all.as_slice(), streams) }
         Err(_) => Ok(Outcome::NoMemory),
     }
 }
@@ -241,7 +229,6 @@ fn print_script<R: Source, W: Sink, E: Sink>(
             if let Outcome::Done = outcome {
                 warn_of_netlist(alloc, text.as_slice(), teller);
             }
-            drop(text);
             outcome
         }
         Err(error) => Outcome::of_reading(error),

@@ -93,82 +93,35 @@ fn write_tool_names<W: Sink>(writer: &mut W) -> Result<(), Failed> {
     write_names(writer, TOOLBOX.tools)
 }
 
+/// The tools with their options, in the order of a completion script.
+fn tools_for_shells() -> [&'static [Program]; 4] {
+    [VIEWS.tools, ROUTES.tools, LAYOUTS.tools, OTHERS]
+}
+
 /// Writes a case for each tool.
 fn write_all_cases<W: Sink>(writer: &mut W) -> Result<(), Failed> {
-    write_view_cases(writer)?;
-    write_route_cases(writer)?;
-    write_layout_cases(writer)?;
-    write_other_cases(writer)
-}
-
-fn write_view_cases<W: Sink>(writer: &mut W) -> Result<(), Failed> {
-    write_cases(writer, VIEWS.tools)
-}
-
-fn write_route_cases<W: Sink>(writer: &mut W) -> Result<(), Failed> {
-    write_cases(writer, ROUTES.tools)
-}
-
-fn write_layout_cases<W: Sink>(writer: &mut W) -> Result<(), Failed> {
-    write_cases(writer, LAYOUTS.tools)
-}
-
-fn write_other_cases<W: Sink>(writer: &mut W) -> Result<(), Failed> {
-    write_cases(writer, OTHERS)
+    for tools in tools_for_shells() {
+        write_cases(writer, tools)?;
+    }
+    Ok(())
 }
 
 /// Writes the script for fish.
 fn write_fish<W: Sink>(writer: &mut W) -> Result<(), Failed> {
-    write_tool_lines(writer)?;
-    write_view_lines(writer)?;
-    write_route_lines(writer)?;
-    write_layout_lines(writer)?;
-    write_other_lines(writer)
-}
-
-fn write_tool_lines<W: Sink>(writer: &mut W) -> Result<(), Failed> {
-    write_fish_names(writer, TOOLBOX.tools)
-}
-
-fn write_view_lines<W: Sink>(writer: &mut W) -> Result<(), Failed> {
-    write_fish_options(writer, VIEWS.tools)
-}
-
-fn write_route_lines<W: Sink>(writer: &mut W) -> Result<(), Failed> {
-    write_fish_options(writer, ROUTES.tools)
-}
-
-fn write_layout_lines<W: Sink>(writer: &mut W) -> Result<(), Failed> {
-    write_fish_options(writer, LAYOUTS.tools)
-}
-
-fn write_other_lines<W: Sink>(writer: &mut W) -> Result<(), Failed> {
-    write_fish_options(writer, OTHERS)
+    write_fish_names(writer, TOOLBOX.tools)?;
+    for tools in tools_for_shells() {
+        write_fish_options(writer, tools)?;
+    }
+    Ok(())
 }
 
 /// Writes the page of the manual.
 fn write_manual<W: Sink>(writer: &mut W) -> Result<(), Failed> {
     write_all(writer, PAGE_HEAD)?;
-    write_other_sections(writer)?;
-    write_route_sections(writer)?;
-    write_layout_sections(writer)?;
-    write_view_sections(writer)
-}
-
-fn write_view_sections<W: Sink>(writer: &mut W) -> Result<(), Failed> {
-    write_page(writer, VIEWS.tools)
-}
-
-fn write_route_sections<W: Sink>(writer: &mut W) -> Result<(), Failed> {
-    write_page(writer, ROUTES.tools)
-}
-
-fn write_layout_sections<W: Sink>(writer: &mut W) -> Result<(), Failed> {
-    write_page(writer, LAYOUTS.tools)
-}
-
-fn write_other_sections<W: Sink>(writer: &mut W) -> Result<(), Failed> {
-    write_page(writer, OTHERS)
+    for tools in [OTHERS, ROUTES.tools, LAYOUTS.tools, VIEWS.tools] {
+        write_page(writer, tools)?;
+    }
+    Ok(())
 }
 
 /// The script for bash, up to the names of the tools.

@@ -1,2 +1,3 @@
+mod Prelude
 pub mod Shown
 pub mod Zipped

@@ -1,21 +1,5 @@
 -- Texts that show one thing after another.
-use Rattle.std.proofs.Common.{◌≡◌, ℕ, ◌+◌, Bool, List, [], ◌∷◌, ◌++◌, map, take, drop, Option, Some, None, inl, inr, refl, sym, ap, subst, ◌∙◌, append-nil, append_assoc}
-use Rattle.std.specs.List.{slice_get}
-use Rattle.std.proofs.lemmas.List.{take_more, drop_more, take-append-drop}
-use Rattle.std.proofs.lemmas.Option.{slice_get_within, get_or_from_slice_get}
-use Rattle.line_text.proofs.WritingLemmas.{all_then, part_first, part_then}
-use Rattle.line_text.specs.Writing.{TakesAll, TakesPart}
-use Rattle.blif.specs.declared.circuit.Circuit.{Circuit}
-use Rattle.longest_path.specs.declared.longest.Longest.{Longest}
-use Rattle.longest_path.specs.declared.longest.Longest.TheVariants.{Path, NoPath, Loop}
-use Rattle.longest_path.specs.declared.longest.LongestPath.{LongestPath}
-use Rattle.script_replies.specs.Accounts.{NameAccount}
-use Rattle.desk_circuits.specs.EachText.{IsEmptyOr, ShowsEach}
-use Rattle.desk_circuits.specs.Measured.{ShowsLongest}
-use Rattle.desk_circuits.specs.PathLines.{path_in}
-use Rattle.desk_circuits.specs.PathWires.{ShowsStops}
-use Rattle.desk_circuits.specs.Strips.{StripFiles}
-use Rattle.desk_circuits.specs.Usages.{ShowsUsage, usage_text}
+use Rattle.desk_circuits.proofs.Prelude.{◌≡◌, ℕ, ◌+◌, Bool, List, [], ◌∷◌, ◌++◌, map, take, drop, Option, Some, None, inl, inr, refl, sym, ap, subst, ◌∙◌, append-nil, append_assoc, slice_get, take_more, drop_more, take-append-drop, slice_get_within, get_or_from_slice_get, all_then, part_first, part_then, TakesAll, TakesPart, Circuit, Longest, Path, NoPath, Loop, LongestPath, NameAccount, IsEmptyOr, ShowsEach, ShowsLongest, path_in, ShowsStops, StripFiles, ShowsUsage, usage_text}
 
 -- the texts of some things and then those of others
 pub each_append : {X : Type 0} (Shows : X → List ℕ → Type 0) (xs ys : List X) (text rest : List ℕ) → ShowsEach Shows xs text → ShowsEach Shows ys rest → ShowsEach Shows (xs ++ ys) (text ++ rest)

@@ -1,9 +1,6 @@
 -- A channel, as JSON.
 use Rattle.std.specs.Prelude.{[], ◌∷◌, codes}
-use Rattle.device_report.specs.Text.{channel_word}
-use Rattle.device_report.specs.declared.channels.ChannelUse.{ChannelUse}
-use Rattle.json.specs.Json.{Json, string}
-use Rattle.json_text.specs.Values.{number_of, object_of}
+use Rattle.desk_circuits.specs.Prelude.{channel_word, ChannelUse, Json, string, number_of, object_of}
 
 -- its kind, its place, and the number of its wires that are used
 abbrev pub channel_json : ChannelUse → Json

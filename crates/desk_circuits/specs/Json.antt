@@ -2,15 +2,7 @@
 use Rattle.std.specs.Prelude.{ℕ, ◌==◌, Bool, List, [], ◌∷◌, ◌++◌, Option, Some, None, codes, find, length, map, option_map, slice_index_or, if◌then◌else◌}
 use Rattle.std.specs.List.{list_any, slice_get}
 use Rattle.std.specs.Option.{option_map_or}
-use Rattle.blif.specs.LookupTables.{LookupTable}
-use Rattle.blif.specs.declared.circuit.Circuit.{Circuit}
-use Rattle.blif.specs.declared.latches.Latch.{Latch}
-use Rattle.longest_path.specs.declared.longest.Longest.{Longest}
-use Rattle.longest_path.specs.declared.longest.Longest.TheVariants.{Path, NoPath, Loop}
-use Rattle.longest_path.specs.declared.longest.LongestPath.{LongestPath}
-use Rattle.script_replies.specs.declared.usage.Usage.{Usage}
-use Rattle.json.specs.Json.{Json, null}
-use Rattle.json_text.specs.Values.{known_number, list_of, name_of, number_of, object_of}
+use Rattle.desk_circuits.specs.Prelude.{LookupTable, Circuit, Latch, Longest, Path, NoPath, Loop, LongestPath, Usage, Json, null, known_number, list_of, name_of, number_of, object_of}
 use Rattle.desk_circuits.specs.declared.longest.MeasuredCircuit.{MeasuredCircuit}
 use Rattle.desk_circuits.specs.declared.usages.NameFacts.{NameFacts}
 

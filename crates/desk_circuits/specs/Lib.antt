@@ -1,3 +1,4 @@
+pub mod Prelude
 pub mod Fields
 pub mod Json
 pub mod Channels

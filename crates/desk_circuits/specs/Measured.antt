@@ -1,11 +1,6 @@
 -- The circuit of a netlist, with its longest path.
 use Rattle.std.specs.Prelude.{ℕ, ◌≡◌, List, Option, Some, None, Ok, IfSome}
-use Rattle.blif.specs.CircuitOf.{circuit_of}
-use Rattle.blif.specs.declared.circuit.Circuit.{Circuit}
-use Rattle.longest_path.specs.Paths.{IsLongest, IsLoop}
-use Rattle.longest_path.specs.declared.longest.Longest.{Longest}
-use Rattle.longest_path.specs.declared.longest.Longest.TheVariants.{Path, NoPath, Loop}
-use Rattle.script_replies.specs.Present.{FileStates}
+use Rattle.desk_circuits.specs.Prelude.{circuit_of, Circuit, IsLongest, IsLoop, Longest, Path, NoPath, Loop, FileStates}
 use Rattle.desk_circuits.specs.PathWires.{HasWires, ShowsStops}
 use Rattle.desk_circuits.specs.Strips.{StripFiles, present_files}
 use Rattle.desk_circuits.specs.declared.longest.MeasuredCircuit.{MeasuredCircuit}

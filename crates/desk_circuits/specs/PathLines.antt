@@ -2,11 +2,7 @@
 use Rattle.std.specs.Prelude.{ℕ, ◌-◌, ◌==◌, List, [], ◌∷◌, ◌++◌, codes, decimal, length, min, nat_lt, slice_get, slice_index_or, Option, Some, None, option_map, if◌then◌else◌}
 use Rattle.std.specs.List.{concat, flat_map, range_with_len}
 use Rattle.std.specs.Option.{option_map_or}
-use Rattle.blif.specs.LookupTables.{LookupTable}
-use Rattle.blif.specs.declared.circuit.Circuit.{Circuit}
-use Rattle.longest_path.specs.declared.longest.Longest.{Longest}
-use Rattle.longest_path.specs.declared.longest.Longest.TheVariants.{Path, NoPath, Loop}
-use Rattle.longest_path.specs.declared.longest.LongestPath.{LongestPath}
+use Rattle.desk_circuits.specs.Prelude.{LookupTable, Circuit, Longest, Path, NoPath, Loop, LongestPath}
 use Rattle.desk_circuits.specs.Json.{end_name, net_name}
 use Rattle.desk_circuits.specs.declared.longest.MeasuredCircuit.{MeasuredCircuit}
 use Rattle.desk_circuits.specs.declared.loop_line.TheConstants.{MAX_SHOWN}

@@ -1,15 +1,7 @@
 -- The wires of a path, and its stops as a text.
 use Rattle.std.specs.Prelude.{ℕ, ◌≡◌, ◌+◌, ◌-◌, ◌^◌, List, fold, max, min, Option, Some, None}
 use Rattle.std.specs.List.{AllZip, flat_map, sum_by}
-use Rattle.blif.specs.declared.circuit.Circuit.{Circuit}
-use Rattle.longest_path.specs.declared.longest.LongestPath.{LongestPath}
-use Rattle.path_stops.specs.Measured.{IsMeasured}
-use Rattle.path_stops.specs.Stops.{stops_of}
-use Rattle.path_stops.specs.Text.{stop_text}
-use Rattle.path_stops.specs.declared.measured.MeasuredStop.{MeasuredStop}
-use Rattle.path_stops.specs.declared.stops.StopKind.{StopKind}
-use Rattle.path_stops.specs.declared.stops.StopKind.TheVariants.{Start, Table, End}
-use Rattle.strip_files.specs.declared.reader.RoutedStrip.{RoutedStrip}
+use Rattle.desk_circuits.specs.Prelude.{Circuit, LongestPath, IsMeasured, stops_of, stop_text, MeasuredStop, StopKind, Start, Table, End, RoutedStrip}
 use Rattle.desk_circuits.specs.Strips.{IsStripOf, StripFiles}
 
 -- these are the stops of the path over the strip, with the wires on the way to each

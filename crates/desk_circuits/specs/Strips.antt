@@ -1,13 +1,6 @@
 -- A strip, by the three files of a tenancy.
 use Rattle.std.specs.Prelude.{ℕ, List, Option, Some, None}
-use Rattle.script_replies.specs.Present.{FileStates}
-use Rattle.strip_files.specs.BlockLines.{AreBlocksNamed, AreElementsNamed}
-use Rattle.strip_files.specs.NetLines.{AreNamed}
-use Rattle.strip_files.specs.NodeLines.{AreTold, node_lines}
-use Rattle.strip_files.specs.PlaceLines.{HavePlaces}
-use Rattle.strip_files.specs.Starts.{AreBegun, AreBlocksBegun}
-use Rattle.strip_files.specs.declared.reader.RoutedStrip.{RoutedStrip}
-use Rattle.strip_files.specs.declared.reader.StripTexts.{StripTexts}
+use Rattle.desk_circuits.specs.Prelude.{FileStates, AreBlocksNamed, AreElementsNamed, AreNamed, AreTold, node_lines, HavePlaces, AreBegun, AreBlocksBegun, RoutedStrip, StripTexts}
 
 -- a tenancy's `.net`, `.place` and `.route` file
 pub record StripFiles : Type 0 where

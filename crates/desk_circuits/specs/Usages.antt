@@ -1,8 +1,7 @@
 -- What names used, in lines and as a table.
 use Rattle.std.specs.Prelude.{ℕ, ◌≡◌, Bool, true, false, List, [], ◌∷◌, ◌++◌, codes, decimal, Option}
 use Rattle.std.specs.List.{AllZip, concat}
-use Rattle.script_replies.specs.Accounts.{NameAccount}
-use Rattle.script_replies.specs.declared.usage.Usage.{Usage}
+use Rattle.desk_circuits.specs.Prelude.{NameAccount, Usage}
 use Rattle.desk_circuits.specs.EachText.{ShowsEach}
 use Rattle.desk_circuits.specs.Fields.{known_field, number_fields}
 use Rattle.desk_circuits.specs.Measured.{IsOfFilesIfAny}

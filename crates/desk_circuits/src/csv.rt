@@ -1,6 +1,6 @@
 //! Fields of tables.
 ghost use Rattle.std.specs.List.{flat_map};
-ghost use Rattle.line_text.specs.Writing.{Writes};
+ghost use Rattle.desk_circuits.specs.Prelude.{Writes};
 ghost use Rattle.desk_circuits.specs.Fields.{doubled_quote, number_field, number_fields, quote, quoted_field};
 
 use line_text::{Failed, Sink, write_all};

@@ -20,16 +20,9 @@ pub(crate) fn write_latch_warnings<E: Sink>(
 
 /// Writes the warning of a latch.
 fn write_warning<E: Sink>(teller: &mut E, line: u32, name: &[u8]) -> Result<(), Failed> {
-    write_parts(
-        teller,
-        &[
-            Part::Text("warning: line "),
-            Part::Number(line),
-            Part::Text(" of the netlist: latch "),
-            Part::Bytes(name),
-            Part::Text(
-                " has no clock (from Verilog: a level-sensitive latch, or an always block that does not assign in every case)\n",
-            ),
-        ],
-    )
+    const NO_CLOCK: &str =
+        " has no clock (from Verilog: a level-sensitive latch, or an always block that does not assign in every case)\n";
+    write_parts(teller, &[Part::Text("warning: line "), Part::Number(line)])?;
+    write_parts(teller, &[Part::Text(" of the netlist: latch ")])?;
+    write_parts(teller, &[Part::Bytes(name), Part::Text(NO_CLOCK)])
 }

@@ -23,4 +23,4 @@ pub use path_text::{write_netlist_stops, write_path_stops, write_present_stops};
 pub use usages::{NameFacts, facts_of, present_circuit, print_usages, write_longest, write_path};
 pub use usages_json::{LineCounts, usages_text};
 pub use warnings::warn_of_netlist;
-pub use wires::stops_on;
+pub use wires::{name_of, stops_on};

@@ -1,11 +1,9 @@
 //! The longest path of a netlist, in a line.
-ghost use Rattle.blif.specs.LawfulCircuits.{IsCircuit};
+ghost use Rattle.desk_circuits.specs.Prelude.{IsCircuit, Writes, IsLoop};
 ghost use Rattle.desk_circuits.specs.Json.{end_name, has_output, latch_storing};
 ghost use Rattle.desk_circuits.specs.Measured.{AreWiresOf, IsMeasured};
 ghost use Rattle.desk_circuits.specs.PathLines.{measured_line, path_in, path_tables};
 ghost use Rattle.desk_circuits.specs.Strips.{files_of_texts};
-ghost use Rattle.line_text.specs.Writing.{Writes};
-ghost use Rattle.longest_path.specs.Paths.{IsLoop};
 ghost use Rattle.std.specs.Prelude.{◌≡◌, IfSome, option_map};
 
 use crate::loop_line::write_known_loop;
@@ -66,10 +64,7 @@ pub fn measure(
                 wires,
             })
         }
-        Err(_) => {
-            drop(circuit);
-            None
-        }
+        Err(_) => None,
     }
 }
 

@@ -1,7 +1,7 @@
 //! A loop of tables in a line.
 ghost use Rattle.std.specs.Prelude.{◌≡◌, ◌-◌, length, option_map, slice_get};
 ghost use Rattle.desk_circuits.specs.PathLines.{known_loop, left_out, loop_end, loop_tables, loop_text, table_line, table_name, table_text};
-ghost use Rattle.line_text.specs.Writing.{Writes};
+ghost use Rattle.desk_circuits.specs.Prelude.{Writes};
 
 use crate::path_line::write_count;
 use crate::wires::name_of;

@@ -2,15 +2,12 @@
 ghost use Rattle.std.specs.Prelude.{◌≡◌, ◌++◌, OnOk, None, Some, map, option_map};
 ghost use Rattle.std.specs.List.{flat_map};
 ghost use Rattle.desk_circuits.specs.Json.{circuit_members, count_members, ends_json, longest_json, loop_json, table_json};
-ghost use Rattle.json.specs.Tree.{json_tokens};
-ghost use Rattle.longest_path.specs.declared.longest.Longest.TheVariants.{Loop};
-ghost use Rattle.json_text.specs.Values.{list_of, member_tokens};
-ghost use Rattle.json_text.specs.declared.pen.Scalar.TheVariants.{Null};
+ghost use Rattle.desk_circuits.specs.Prelude.{json_tokens, Loop, list_of, member_tokens};
 
 use crate::longest::{MeasuredCircuit, end_name};
 use crate::wires::name_of;
 use blif::Circuit;
-use json_text::{JsonPen, Member, Scalar};
+use json_text::{JsonPen, Scalar};
 use longest_path::{Longest, LongestPath};
 use std::alloc::AllocError;
 
@@ -34,20 +31,10 @@ fn write_unknown(pen: &mut JsonPen) -> Result<(), AllocError>
     ensures { OnOk result (pen.new ≡ pen.old ++ flat_map member_tokens (circuit_members None)) }
 {
     pen.members(&[
-        null_member("tables"),
-        null_member("latches"),
-        null_member("longest_path"),
+        ("tables", Scalar::Null),
+        ("latches", Scalar::Null),
+        ("longest_path", Scalar::Null),
     ])
-}
-
-/// A member of which nothing is known.
-fn null_member(name: &'static str) -> Member<'static>
-    ensures { result ≡ record { name = name.entry; value = Null } }
-{
-    Member {
-        name,
-        value: Scalar::Null,
-    }
 }
 
 /// Writes the members of a circuit.
@@ -66,14 +53,11 @@ fn write_counts(pen: &mut JsonPen, circuit: &Circuit) -> Result<(), AllocError>
         ++ flat_map member_tokens (count_members circuit.now)) }
 {
     pen.members(&[
-        Member {
-            name: "tables",
-            value: Scalar::Number(circuit.tables.len() as u64),
-        },
-        Member {
-            name: "latches",
-            value: Scalar::Number(circuit.latches.as_slice().len() as u64),
-        },
+        ("tables", Scalar::Number(circuit.tables.len() as u64)),
+        (
+            "latches",
+            Scalar::Number(circuit.latches.as_slice().len() as u64),
+        ),
     ])
 }
 
@@ -125,22 +109,10 @@ fn write_ends(
         ++ json_tokens (ends_json circuit.now wires path.now)) }
 {
     pen.object(&[
-        Member {
-            name: "tables",
-            value: Scalar::Number(path.tables.len() as u64),
-        },
-        Member {
-            name: "wires",
-            value: Scalar::Known(wires),
-        },
-        Member {
-            name: "from",
-            value: Scalar::Name(name_of(circuit, path.from)),
-        },
-        Member {
-            name: "to",
-            value: Scalar::Name(end_name(circuit, path.to)),
-        },
+        ("tables", Scalar::Number(path.tables.len() as u64)),
+        ("wires", Scalar::Known(wires)),
+        ("from", Scalar::Name(name_of(circuit, path.from))),
+        ("to", Scalar::Name(end_name(circuit, path.to))),
     ])
 }
 
@@ -174,13 +146,7 @@ fn write_table(pen: &mut JsonPen, circuit: &Circuit, number: usize) -> Result<()
     }
     let table = circuit.tables.table(number);
     pen.object(&[
-        Member {
-            name: "net",
-            value: Scalar::Name(name_of(circuit, table.output)),
-        },
-        Member {
-            name: "line",
-            value: Scalar::Number(u64::from(table.line)),
-        },
+        ("net", Scalar::Name(name_of(circuit, table.output))),
+        ("line", Scalar::Number(u64::from(table.line))),
     ])
 }

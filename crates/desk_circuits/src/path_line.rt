@@ -1,7 +1,7 @@
 //! A path in a line.
 ghost use Rattle.desk_circuits.specs.PathLines.{count_text, counted_tables, ends_part, path_text, wires_part};
 ghost use Rattle.std.specs.Prelude.{length};
-ghost use Rattle.line_text.specs.Writing.{Writes};
+ghost use Rattle.desk_circuits.specs.Prelude.{Writes};
 
 use crate::longest::end_name;
 use crate::wires::name_of;

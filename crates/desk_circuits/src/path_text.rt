@@ -4,8 +4,7 @@ ghost use Rattle.desk_circuits.specs.EachText.{IsEmptyOr};
 ghost use Rattle.desk_circuits.specs.Measured.{ShowsLongest, ShowsNetlistStops, ShowsPresentStops};
 ghost use Rattle.desk_circuits.specs.PathWires.{ShowsStops, ShowsStopsOn};
 ghost use Rattle.desk_circuits.specs.Strips.{files_of_texts, present_files};
-ghost use Rattle.line_text.specs.Writing.{Writes};
-ghost use Rattle.script_replies.specs.Present.{states_of};
+ghost use Rattle.desk_circuits.specs.Prelude.{Writes, states_of};
 
 use crate::longest::{MeasuredCircuit, measure};
 use crate::wires::{stops_on, strip_of};
@@ -88,11 +87,7 @@ pub fn write_netlist_stops<W: Sink>(
         × Writes W.contents W.has_failed writer.old writer.new text result }
 {
     match measure(alloc, netlist, None) {
-        Some(measured) => {
-            let written = write_measured_stops(alloc, texts, &measured, writer);
-            drop(measured);
-            written
-        }
+        Some(measured) => { write_measured_stops(alloc, texts, &measured, writer) }
         None => Ok(()),
     }
 }

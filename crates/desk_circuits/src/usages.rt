@@ -6,9 +6,7 @@ ghost use Rattle.desk_circuits.specs.Measured.{IsOfFilesIfAny};
 ghost use Rattle.desk_circuits.specs.PathLines.{longest_line, tables_if_known, wires_if_known};
 ghost use Rattle.desk_circuits.specs.declared.usages.NameFacts.{NameFacts};
 ghost use Rattle.desk_circuits.specs.Usages.{AreFactsOf, IsFactsOf, ShowsUsage, ShowsUsages, path_fields, usage_headings, usage_line, usage_row, usage_text};
-ghost use Rattle.line_text.specs.Writing.{Writes};
-ghost use Rattle.script_replies.specs.Accounts.{account_now};
-ghost use Rattle.script_replies.specs.Present.{states_of};
+ghost use Rattle.desk_circuits.specs.Prelude.{Writes, account_now, states_of};
 
 use crate::csv::write_numbers;
 use crate::longest::{MeasuredCircuit, measure};
@@ -114,13 +112,8 @@ pub fn facts_of<'a>(
     ensures { IfOk result (λ facts. AreFactsOf (map account_now accounts.now) facts.items) }
 {
     let mut facts = Vec::new(alloc);
-    match add_facts(alloc, accounts, &mut facts) {
-        Ok(()) => Ok(facts),
-        Err(error) => {
-            drop(facts);
-            Err(error)
-        }
-    }
+    add_facts(alloc, accounts, &mut facts)?;
+    Ok(facts)
 }
 
 /// Adds what the names of these accounts used.

@@ -2,12 +2,11 @@
 ghost use Rattle.std.specs.Prelude.{◌≡◌, ◌++◌, IfOk, OnOk, map};
 ghost use Rattle.std.specs.List.{flat_map};
 ghost use Rattle.desk_circuits.specs.Json.{line_members, name_json, usage_members, usages_json};
-ghost use Rattle.json.specs.Tree.{json_tokens};
-ghost use Rattle.json_text.specs.Values.{json_text, list_of, member_tokens};
+ghost use Rattle.desk_circuits.specs.Prelude.{json_tokens, json_text, list_of, member_tokens};
 
 use crate::path_json::write_circuit_members;
 use crate::usages::NameFacts;
-use json_text::{JsonPen, Member, Scalar};
+use json_text::{JsonPen, Scalar};
 use script_replies::Usage;
 use std::alloc::{AllocError, Global};
 
@@ -29,13 +28,8 @@ pub fn usages_text(
         ≡ json_text (usages_json counts.served counts.refused counts.files names.now)) }
 {
     let mut pen = JsonPen::new(alloc);
-    match write_usages(&mut pen, counts, names) {
-        Ok(()) => pen.into_text(),
-        Err(error) => {
-            drop(pen);
-            Err(error)
-        }
-    }
+    let written = write_usages(&mut pen, counts, names);
+    pen.into_text(written)
 }
 
 /// Writes what each name used.
@@ -60,18 +54,9 @@ fn write_line_members(pen: &mut JsonPen, counts: LineCounts) -> Result<(), Alloc
         ++ flat_map member_tokens (line_members counts.served counts.refused counts.files)) }
 {
     pen.members(&[
-        Member {
-            name: "served",
-            value: Scalar::Number(counts.served),
-        },
-        Member {
-            name: "refused",
-            value: Scalar::Number(counts.refused),
-        },
-        Member {
-            name: "files_written",
-            value: Scalar::Number(counts.files),
-        },
+        ("served", Scalar::Number(counts.served)),
+        ("refused", Scalar::Number(counts.refused)),
+        ("files_written", Scalar::Number(counts.files)),
     ])
 }
 
@@ -111,29 +96,11 @@ fn write_usage_members(pen: &mut JsonPen, name: &[u8], usage: Usage) -> Result<(
         ++ flat_map member_tokens (usage_members name.now usage)) }
 {
     pen.members(&[
-        Member {
-            name: "name",
-            value: Scalar::Name(name),
-        },
-        Member {
-            name: "columns",
-            value: Scalar::Number(usage.columns as u64),
-        },
-        Member {
-            name: "lines",
-            value: Scalar::Number(usage.lines as u64),
-        },
-        Member {
-            name: "refused",
-            value: Scalar::Number(usage.refused as u64),
-        },
-        Member {
-            name: "jobs",
-            value: Scalar::Number(usage.jobs as u64),
-        },
-        Member {
-            name: "steps_by_the_operator",
-            value: Scalar::Number(usage.steps),
-        },
+        ("name", Scalar::Name(name)),
+        ("columns", Scalar::Number(usage.columns as u64)),
+        ("lines", Scalar::Number(usage.lines as u64)),
+        ("refused", Scalar::Number(usage.refused as u64)),
+        ("jobs", Scalar::Number(usage.jobs as u64)),
+        ("steps_by_the_operator", Scalar::Number(usage.steps)),
     ])
 }

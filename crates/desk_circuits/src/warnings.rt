@@ -1,5 +1,5 @@
 //! Warnings of what is lawful in a netlist, and is likely to be a mistake.
-ghost use Rattle.blif.specs.LawfulCircuits.{IsCircuit};
+ghost use Rattle.desk_circuits.specs.Prelude.{IsCircuit};
 
 use crate::latches::write_latch_warnings;
 use blif::{Circuit, read_blif};
@@ -26,7 +26,6 @@ pub fn warn_of_netlist<E: Sink>(alloc: Global, netlist: &[u8], teller: &mut E) {
     }
     if let Ok(circuit) = read_blif(alloc, netlist, ANY_TABLE) {
         let _ = write_warnings(alloc, &circuit, teller);
-        drop(circuit);
     }
 }
 
@@ -69,16 +68,11 @@ fn write_unread_warning<E: Sink>(count: u64, teller: &mut E) -> Result<(), Faile
             let words = "warning: 1 table drives nothing that is read, and takes a BLE";
             write_parts(teller, &[Part::Text(words), Part::Text(RECIPE)])
         }
-        _ => write_parts(
-            teller,
-            &[
-                Part::Text("warning: "),
-                Part::Long(count),
-                Part::Text(" tables drive nothing that is read, and take "),
-                Part::Long(count),
-                Part::Text(" BLEs"),
-                Part::Text(RECIPE),
-            ],
-        ),
+        _ => {
+            let words = " tables drive nothing that is read, and take ";
+            write_parts(teller, &[Part::Text("warning: "), Part::Long(count)])?;
+            write_parts(teller, &[Part::Text(words), Part::Long(count)])?;
+            write_parts(teller, &[Part::Text(" BLEs"), Part::Text(RECIPE)])
+        }
     }
 }

@@ -29,9 +29,7 @@ pub(crate) fn wires_of(
     let Ok(strip) = strip_of(alloc, texts) else {
         return None;
     };
-    let wires = wires_on(alloc, circuit, path, &strip);
-    drop(strip);
-    match wires {
+    match wires_on(alloc, circuit, path, &strip) {
         Ok(wires) => Some(wires),
         Err(_) => None,
     }
@@ -57,9 +55,7 @@ fn wires_on(
     ensures { IfOk result (HasWiresOn strip.now circuit.now path.now) }
 {
     let stops = stops_on(alloc, strip, circuit, path)?;
-    let wires = wires_over(&stops);
-    drop(stops);
-    Ok(wires)
+    Ok(wires_over(&stops))
 }
 
 /// Returns the stops of a path over that strip, with the wires between them. Fails with
@@ -73,9 +69,7 @@ pub fn stops_on(
     ensures { IfOk result (λ stops. AreStops strip.now circuit.now path.now stops.items) }
 {
     let stops = stops_of(alloc, strip, circuit, path)?;
-    let measured = measured_stops(alloc, strip, circuit, &stops);
-    drop(stops);
-    measured
+    measured_stops(alloc, strip, circuit, &stops)
 }
 
 /// The wires of a path with these stops: those to its tables, and the most to one of its ends.
@@ -127,8 +121,8 @@ fn wires_to_end(one: MeasuredStop) -> u64
     }
 }
 
-/// The name of a net.
-pub(crate) fn name_of(circuit: &Circuit, net: u32) -> &[u8]
+/// The name of a net; empty if there is no such net.
+pub fn name_of(circuit: &Circuit, net: u32) -> &[u8]
     ensures { result.now ≡ net_name circuit.now net }
 {
     if (net as usize) < circuit.nets.len() {

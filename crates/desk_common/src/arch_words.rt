@@ -1,5 +1,6 @@
 //! The faults of an architecture file in words.
 
+use crate::file_lines::write_place;
 use arch_file::{ArchFault, ArchFaultKind, ArchKeyword};
 use line_text::{Failed, Sink};
 use text_parts::{Part, write_parts};
@@ -12,14 +13,7 @@ pub fn write_arch_fault<E: Sink>(
     fault: ArchFault,
 ) -> Result<(), Failed> {
     let keyword = keyword_in(fault.kind).map_or("", text_of);
-    let line = [
-        Part::Text(path),
-        Part::Text(if fault.line > 0 { ": line " } else { ": " }),
-    ];
-    write_parts(teller, line.as_slice())?;
-    if fault.line > 0 {
-        write_parts(teller, &[Part::Number(fault.line), Part::Text(": ")])?;
-    }
+    write_place(teller, path, fault.line)?;
     let words = [
         Part::Text(words_of(fault.kind)),
         Part::Text(keyword),

@@ -2,6 +2,7 @@
 //! command line has them.
 ghost use Rattle.std.specs.Prelude.{◌<◌, ◌^◌, length};
 
+use crate::file_lines::write_line;
 use crate::outcome::Outcome;
 use device_file::{DeviceFileError, DeviceFileFault, FaultKind, OptionValue, read_device_file};
 use line_text::{Failed, Sink};
@@ -66,8 +67,7 @@ pub fn device_options<'t, E: Sink>(
 ) -> Result<Vec<DeviceOption<'t>>, Outcome> {
     let beginning = &text[..text.len().min(MAX_DEVICE)];
     match options_in(alloc, beginning) {
-        Ok(options) if text.len() > MAX_DEVICE => {
-            drop(options);
+        Ok(_) if text.len() > MAX_DEVICE => {
             let words = [Part::Text(path), Part::Text(": longer than 65536 bytes\n")];
             let _ = write_parts(teller, &words);
             Err(Outcome::DeviceRefused)
@@ -85,14 +85,8 @@ pub fn device_options<'t, E: Sink>(
 fn options_in(alloc: Global, text: &[u8]) -> Result<Vec<DeviceOption<'_>>, DeviceFileError<'_>>
     requires { length text.now < 2 ^ 32 }
 {
-    match read_device_file(alloc, text) {
-        Ok(values) => {
-            let options = texts_of(alloc, &values);
-            drop(values);
-            options
-        }
-        Err(error) => Err(error),
-    }
+    let values = read_device_file(alloc, text)?;
+    texts_of(alloc, &values)
 }
 
 /// The options with their values as texts. Fails at the first that is not UTF-8.
@@ -101,13 +95,8 @@ fn texts_of<'t>(
     values: &[OptionValue<'t>],
 ) -> Result<Vec<DeviceOption<'t>>, DeviceFileError<'t>> {
     let mut options = Vec::new(alloc);
-    match add_texts(&mut options, values) {
-        Ok(()) => Ok(options),
-        Err(error) => {
-            drop(options);
-            Err(error)
-        }
-    }
+    add_texts(&mut options, values)?;
+    Ok(options)
 }
 
 /// Adds the options with their values as texts.
@@ -143,23 +132,12 @@ fn write_fault<'x, E: Sink>(
     fault: DeviceFileFault<'x>,
 ) -> Result<(), Failed> {
     let word = &fault.word[..fault.word.len().min(MAX_SHOWN)];
-    write_parts(
-        teller,
-        &[
-            Part::Text(path),
-            Part::Text(": line "),
-            Part::Number(fault.line),
-            Part::Text(": "),
-            Part::Bytes(word),
-            Part::Text(if word.len() < fault.word.len() {
-                ".."
-            } else {
-                ""
-            }),
-            Part::Text(fault.kind.text()),
-            Part::Text("\n"),
-        ],
-    )
+    write_line(teller, path, fault.line)?;
+    write_parts(teller, &[Part::Bytes(word)])?;
+    if word.len() < fault.word.len() {
+        write_parts(teller, &[Part::Text("..")])?;
+    }
+    write_parts(teller, &[Part::Text(fault.kind.text()), Part::Text("\n")])
 }
 
 /// The words without `--device` and its file, and after them the options that the called tool takes

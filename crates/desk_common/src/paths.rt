@@ -56,23 +56,11 @@ pub fn read_file<H: Files + AllocGlobal, E: Sink>(
 ) -> Result<Vec<u8>, Outcome>
     ensures { IfErr result (IsFileFailure role ⊤) }
 {
-    match File::open(rt, path) {
-        Ok(file) => read_open(rt, role, path, file.take(most), teller),
-        Err(error) => Err(told_failed(rt.alloc(), role, path, error, teller)),
-    }
-}
-
-/// The contents of an open file.
-fn read_open<H: Files + AllocGlobal, F: Read + Drop, E: Sink>(
-    rt: &H,
-    role: FileRole,
-    path: &str,
-    file: F,
-    teller: &mut E,
-) -> Result<Vec<u8>, Outcome>
-    ensures { IfErr result (IsFileFailure role ⊤) }
-{
-    match read_all(rt.alloc(), &mut StdSource::new(file)) {
+    let file = match File::open(rt, path) {
+        Ok(file) => file,
+        Err(error) => return Err(told_failed(rt.alloc(), role, path, error, teller)),
+    };
+    match read_all(rt.alloc(), &mut StdSource::new(file.take(most))) {
         Ok(bytes) => Ok(bytes),
         Err(ReadError::NoMemory) => Err(Outcome::NoMemory),
         Err(ReadError::Failed) => {
@@ -94,7 +82,6 @@ fn told_failed<E: Sink>(
 {
     if let Ok(line) = format!(in alloc; "{path}: {error}\n") {
         let _ = write_all(teller, line.as_bytes());
-        drop(line);
     }
     Outcome::FileFailed(role)
 }
@@ -114,9 +101,7 @@ pub fn write_path<H: Files + AllocGlobal, E: Sink>(
     let Ok(part) = format!(in rt.alloc(); "{path}.part") else {
         return Err(Outcome::NoMemory);
     };
-    let written = write_as(rt, part.as_str(), path, bytes);
-    drop(part);
-    match written {
+    match write_as(rt, part.as_str(), path, bytes) {
         Ok(()) => Ok(()),
         Err(error) => Err(told_failed(rt.alloc(), role, path, error, teller)),
     }
@@ -190,7 +175,6 @@ fn write_all_parts<H: Files + AllocGlobal, E: Sink>(
     for new in files {
         let part = part_of(rt.alloc(), new.file)?;
         let written = fs::write(rt, part.as_str(), new.bytes);
-        drop(part);
         told_unless_done(rt, new.file, written, teller)?;
     }
     Ok(())
@@ -215,16 +199,8 @@ fn name_part<H: Files + AllocGlobal>(
     file: ResultFile<'_>,
 ) -> Result<Result<(), Error>, Outcome> {
     let part = part_of(rt.alloc(), file)?;
-    let renamed = match path_of(rt.alloc(), file) {
-        Ok(path) => {
-            let renamed = fs::rename(rt, part.as_str(), path.as_str());
-            drop(path);
-            Ok(renamed)
-        }
-        Err(outcome) => Err(outcome),
-    };
-    drop(part);
-    renamed
+    let path = path_of(rt.alloc(), file)?;
+    Ok(fs::rename(rt, part.as_str(), path.as_str()))
 }
 
 /// Removes the parts that are there.
@@ -232,7 +208,6 @@ fn remove_parts<H: Files + AllocGlobal>(rt: &H, files: &[NewFile<'_>]) {
     for new in files {
         if let Ok(part) = part_of(rt.alloc(), new.file) {
             let _ = fs::remove_file(rt, part.as_str());
-            drop(part);
         }
     }
 }
@@ -248,19 +223,15 @@ fn told_unless_done<H: Files + AllocGlobal, E: Sink>(
         return Ok(());
     };
     let path = path_of(rt.alloc(), file)?;
-    let outcome = told_failed(rt.alloc(), FileRole::Folder, path.as_str(), error, teller);
-    drop(path);
-    Err(outcome)
+    Err(told_failed(rt.alloc(), FileRole::Folder, path.as_str(), error, teller))
 }
 
 /// Writes to the teller that a file is left from an earlier run, if it is there.
 pub fn tell_stale<H: Files + AllocGlobal, E: Sink>(rt: &H, file: ResultFile<'_>, teller: &mut E) {
     if let Ok(path) = path_of(rt.alloc(), file) {
-        if let Ok(old) = File::open(rt, path.as_str()) {
-            drop(old);
+        if File::open(rt, path.as_str()).is_ok() {
             let _ = write_slices(teller, &[path.as_bytes(), b": left from an earlier run\n"]);
         }
-        drop(path);
     }
 }
 

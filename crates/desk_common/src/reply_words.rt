@@ -2,6 +2,7 @@
 ghost use Rattle.std.specs.Prelude.{◌≡◌};
 ghost use Rattle.desk_common.specs.declared.outcome.Outcome.TheVariants.{NetlistRefused};
 
+use crate::file_lines::write_place;
 use crate::outcome::Outcome;
 use arch_file::read_arch;
 use blif::{BlifFault, BlifFaultKind};
@@ -46,7 +47,6 @@ pub fn told_refused<E: Sink>(
             let _ = write_advice(teller, source.path, line, advice, more);
         }
     }
-    drop(reply);
     Outcome::NetlistRefused
 }
 
@@ -67,11 +67,7 @@ fn more_of(alloc: Global, source: NetlistSource<'_>, refusal: &Refusal) -> More 
     };
     match kind {
         BlifFaultKind::TooWide => match read_arch(alloc, source.arch, 1) {
-            Ok(arch) => {
-                let inputs = arch.lut_size;
-                drop(arch);
-                More::Inputs(inputs)
-            }
+            Ok(arch) => More::Inputs(arch.lut_size),
             Err(_) => More::Nothing,
         },
         BlifFaultKind::NotAscii if *line == 1 && source.text.starts_with(BYTE_ORDER_MARK) => {
@@ -89,11 +85,7 @@ fn write_advice<E: Sink>(
     advice: Advice,
     more: More,
 ) -> Result<(), Failed> {
-    write_parts(teller, &[Part::Text(path), Part::Text(": ")])?;
-    if line > 0 {
-        let parts = [Part::Text("line "), Part::Number(line), Part::Text(": ")];
-        write_parts(teller, parts.as_slice())?;
-    }
+    write_place(teller, path, line)?;
     write_parts(teller, &[Part::Text(advice.words())])?;
     match more {
         More::Nothing => write_parts(teller, &[Part::Text("\n")]),
@@ -118,6 +110,4 @@ pub fn tell_reply<E: Sink>(alloc: Global, reply: Reply, teller: &mut E) {
             let _ = write_slices(teller, &[advice.words().as_bytes(), b"\n"]);
         }
     }
-    drop(line);
-    drop(reply);
 }

@@ -1,8 +1,35 @@
 //! Options that several tools take.
-use option_words::{OptionWord, Takes};
+ghost use Rattle.std.specs.Prelude.{ℕ, Option, IfOk, OnErr};
+ghost use Rattle.desk_common.specs.Numbers.{IsNumberIn};
+
+use option_words::{Given, OptionWord, Takes};
 
 /// Why numbers are refused that are not the sizes of a device.
 pub const NO_DEVICE: &str = "a size is out of range";
+
+/// The architecture.
+pub const ARCH: OptionWord = OptionWord {
+    name: "arch",
+    value_name: "FILE",
+    help: "The architecture",
+    takes: Takes::GivenText,
+    default: None,
+};
+
+/// The tracks of each channel.
+pub const TRACKS: OptionWord = OptionWord {
+    name: "tracks",
+    value_name: "W",
+    help: "Tracks of each channel, 1 to 64",
+    takes: Takes::Number(1, 64),
+    default: Some("2"),
+};
+
+/// The tracks of each channel, without a number of their own.
+pub const GIVEN_TRACKS: OptionWord = OptionWord {
+    default: None,
+    ..TRACKS
+};
 
 /// The columns of a device.
 pub const COLUMNS: OptionWord = OptionWord {
@@ -48,3 +75,15 @@ pub const FOLDER: OptionWord = OptionWord {
     takes: Takes::Alone,
     default: None,
 };
+
+/// The value of an option with a number, if it is given.
+pub fn number_in(given: &Given<'_>, name: &str) -> Result<Option<u32>, &'static str>
+    ensures asked { IfOk result (IsNumberIn given.now name.now) }
+    ensures refused { OnErr result ((number : Option ℕ) →
+        IsNumberIn given.now name.now number → ⊥) }
+{
+    match given.text(name) {
+        Some(_) => Ok(Some(given.number(name)?)),
+        None => Ok(None),
+    }
+}

@@ -1,3 +1,4 @@
+mod Prelude
 pub mod PlaceHeading
 pub mod Refusals
 pub mod StripTexts

@@ -1,20 +1,5 @@
 -- The second line of a `.place` file.
-use Rattle.std.proofs.Common.{◌≡◌, ◌∙◌, ℕ, suc, ◌+◌, ◌^◌, ◌<◌, ◌==◌, ◌&&◌, Bool, true, not, List, [], ◌∷◌, ◌++◌, length, map, drop, refl, ap, sym, codes, decimal, append_assoc, arith}
-use Rattle.std.specs.List.{after_first, before_first, enumerate_from, list_all, position_or_len}
-use Rattle.std.proofs.lemmas.Bool.{and_from, and_parts}
-use Rattle.std.proofs.lemmas.Bool.Decides.{nat_tests}
-use Rattle.std.proofs.lemmas.List.Folds.{list_all-append}
-use Rattle.blif.specs.declared.circuit.Circuit.{Circuit}
-use Rattle.grid.specs.declared.Strip.{Strip}
-use Rattle.implements.specs.Layouts.{Layout}
-use Rattle.layout_files.proofs.Lines.{place_heading, place_parts}
-use Rattle.layout_files.specs.Cursors.{IsPlain, is_word_end}
-use Rattle.layout_text.specs.LayoutText.{place_line, place_text}
-use Rattle.line_text.specs.Decimal.{is_digit}
-use Rattle.line_text.specs.Physical.{first_line, later_lines}
-use Rattle.strip_files.proofs.Fronts.{before, digits_told, end_at}
-use Rattle.strip_files.specs.SizeLines.{size_line}
-use Rattle.vpr_files.specs.TextLines.{text_of}
+use Rattle.desk_layouts.proofs.Prelude.{◌≡◌, ◌∙◌, ℕ, suc, ◌+◌, ◌^◌, ◌<◌, ◌==◌, ◌&&◌, Bool, true, not, List, [], ◌∷◌, ◌++◌, length, map, drop, refl, ap, sym, codes, decimal, append_assoc, arith, after_first, before_first, enumerate_from, list_all, position_or_len, and_from, and_parts, nat_tests, list_all-append, Circuit, Strip, Layout, place_heading, place_parts, IsPlain, is_word_end, place_line, place_text, is_digit, first_line, later_lines, before, digits_told, end_at, size_line, text_of}
 
 -- no byte ends a line
 abbrev IsOneLine : List ℕ → Type 0

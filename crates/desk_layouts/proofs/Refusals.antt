@@ -1,23 +1,5 @@
 -- Files that are refused.
-use Rattle.std.proofs.Common.{◌≡◌, ◌∙◌, ◌≤◌, ◌⊎◌, inl, inr, ℕ, Bool, true, List, Option, Some, None, Result, Ok, Err, IfErr, IsErrAnd, refl, ap, sym, subst, arith}
-use Rattle.arch_file.specs.Arch.{arch_of}
-use Rattle.arch_file.specs.declared.arch.Arch.{Arch}
-use Rattle.blif.specs.CircuitOf.{circuit_of}
-use Rattle.grid.specs.declared.Strip.{Strip}
-use Rattle.desk_common.specs.declared.outcome.Outcome.{Outcome}
-use Rattle.desk_common.specs.declared.outcome.Outcome.TheVariants.{ArchRefused, FileFailed, LayoutRefused, NetlistRefused, NoMemory, OtherCircuit, OutputFailed}
-use Rattle.desk_common.specs.declared.paths.FileRole.{FileRole}
-use Rattle.desk_common.specs.declared.paths.FileRole.TheVariants.{Architecture, Netlist, Net, Places, Routes, Verilog}
-use Rattle.layout_verdict.specs.Texts.{IsReadFrom, Texts, strip_of}
-use Rattle.layout_verdict.specs.Verdicts.{CanBeFiled, IsImplemented}
-use Rattle.layout_verdict.specs.declared.laid_circuit.LaidCircuit.{LaidCircuit}
-use Rattle.layout_verdict.specs.declared.shape.StripShape.{StripShape}
-use Rattle.desk_layouts.specs.Asked.{ArePlacesOn, IsAskedShape, IsOnlyShape}
-use Rattle.desk_layouts.specs.Checked.{AreRead, IsLaidIn, texts_with}
-use Rattle.desk_layouts.specs.Configured.{IsUnwritten, IsUnwrittenOr}
-use Rattle.desk_layouts.specs.Refused.{AreReadAndRefused, AreRefused, HasFailed, IsFailure, IsRefusal, IsRefusalOf, IsUnread}
-use Rattle.desk_layouts.specs.declared.given_files.GivenFiles.{GivenFiles}
-use Rattle.desk_layouts.specs.declared.layout_input.LayoutPaths.{LayoutPaths}
+use Rattle.desk_layouts.proofs.Prelude.{◌≡◌, ◌∙◌, ◌≤◌, ◌⊎◌, inl, inr, ℕ, Bool, true, List, Option, Some, None, Result, Ok, Err, IfErr, IsErrAnd, refl, ap, sym, subst, arith, arch_of, Arch, circuit_of, Strip, Outcome, ArchRefused, FileFailed, LayoutRefused, NetlistRefused, NoMemory, OtherCircuit, OutputFailed, FileRole, Architecture, Netlist, Net, Places, Routes, Verilog, IsReadFrom, Texts, strip_of, CanBeFiled, IsImplemented, LaidCircuit, StripShape, ArePlacesOn, IsAskedShape, IsOnlyShape, AreRead, IsLaidIn, texts_with, IsUnwritten, IsUnwrittenOr, AreReadAndRefused, AreRefused, HasFailed, IsFailure, IsRefusal, IsRefusalOf, IsUnread, GivenFiles, LayoutPaths}
 
 same_strip : (columns columns' rows rows' pads : ℕ) → columns ≡ columns' → rows ≡ rows' → ◌≡◌ {A = Strip} (record { width = columns; rows = rows; io_rat = pads }) (record { width = columns'; rows = rows'; io_rat = pads })
 same_strip columns columns' rows rows' pads e f = rw (e, f) refl

@@ -1,9 +1,5 @@
 -- The texts that a tenancy is drawn from.
-use Rattle.std.proofs.Common.{◌≡◌, ℕ, Bool, true, List, Option, Some, None, IfSome, is_some, codes, refl, sym, subst}
-use Rattle.std.specs.Str.{bytes_eq}
-use Rattle.desk_layouts.specs.Drawn.{AreBytes, AreBytesIf, without_nets}
-use Rattle.desk_layouts.specs.declared.strip_wishes.StripWishes.{StripWishes}
-use Rattle.desk_layouts.specs.declared.strip_check.Against.{Against}
+use Rattle.desk_layouts.proofs.Prelude.{◌≡◌, ℕ, Bool, true, List, Option, Some, None, IfSome, is_some, codes, refl, sym, subst, bytes_eq, AreBytes, AreBytesIf, without_nets, StripWishes, Against}
 
 -- without a file with routes there are no nets
 pub texts_without_routes : (text : List ℕ → Option (List ℕ)) (wishes : StripWishes) (net place : List ℕ) → bytes_eq wishes.route_file.now (codes "-") ≡ true → AreBytes text wishes net place (without_nets net place)

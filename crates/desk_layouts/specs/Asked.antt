@@ -1,18 +1,8 @@
 -- What the options of a tool that reads a layout say, and what its `.place` file adds.
 use Rattle.std.specs.Prelude.{ℕ, ◌≡◌, List, Option, Some, codes, option_map, IfSome}
 use Rattle.std.specs.Option.{option_map_or}
-use Rattle.blif.specs.declared.circuit.Circuit.{Circuit}
-use Rattle.grid.specs.declared.Strip.{Strip}
-use Rattle.implements.specs.Layouts.{Layout}
-use Rattle.layout_files.specs.Cursors.{IsPlain}
-use Rattle.layout_text.specs.LayoutText.{place_text}
-use Rattle.option_words.specs.declared.given.Given.{Given}
-use Rattle.option_words.specs.Values.{number_of, text_of}
-use Rattle.layout_verdict.specs.Shapes.{AreLawful}
-use Rattle.layout_verdict.specs.declared.shape.StripShape.{StripShape}
-use Rattle.strip_files.specs.SizeLines.{HasSize, IsWithin}
-use Rattle.strip_files.specs.declared.size.StripSize.{StripSize}
-use Rattle.desk_common.specs.Numbers.{IsNumberIn}
+use Rattle.desk_layouts.specs.Prelude.{Circuit, Strip, Layout, IsPlain, place_text, Given, number_of, text_of, AreLawful, StripShape, HasSize, StripSize, IsNumberIn}
+use Rattle.strip_files.specs.SizeLines.{IsWithin}
 use Rattle.desk_layouts.specs.declared.configure.ConfigureWishes.{ConfigureWishes}
 use Rattle.desk_layouts.specs.declared.layout_input.LayoutPaths.{LayoutPaths}
 

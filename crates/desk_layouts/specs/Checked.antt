@@ -1,10 +1,6 @@
 -- What the tools say of a layout's files.
 use Rattle.std.specs.Prelude.{ℕ, List, Option}
-use Rattle.desk_common.specs.Outputs.{IsBeginning}
-use Rattle.layout_verdict.specs.declared.shape.StripShape.{StripShape}
-use Rattle.layout_verdict.specs.declared.laid_circuit.LaidCircuit.{LaidCircuit}
-use Rattle.layout_verdict.specs.Texts.{IsReadFrom, Texts}
-use Rattle.layout_verdict.specs.Verdicts.{IsImplemented}
+use Rattle.desk_layouts.specs.Prelude.{IsBeginning, StripShape, LaidCircuit, IsReadFrom, Texts, IsImplemented}
 use Rattle.desk_layouts.specs.Asked.{IsAskedShape}
 use Rattle.desk_layouts.specs.declared.given_files.GivenFiles.{GivenFiles}
 use Rattle.desk_layouts.specs.declared.given_files.TheConstants.{MAX_FILE, MAX_READ}

@@ -1,18 +1,6 @@
 -- What a device is loaded with.
 use Rattle.std.specs.Prelude.{ℕ, ◌≡◌, ◌⊎◌, Bool, true, List, Contains, Option, Ok, ⊤}
-use Rattle.line_text.specs.Lines.{JoinedLine, lines_of}
-use Rattle.blif.specs.LookupTables.{LookupTable}
-use Rattle.implements.specs.Holding.{holds_table}
-use Rattle.implements.specs.Layouts.{traced_ble}
-use Rattle.configuration.specs.Configuration.{configuration_of}
-use Rattle.configuration.specs.ConfigurationText.{configuration_text}
-use Rattle.configuration.specs.Lines.{ConfigurationLine}
-use Rattle.configuration.specs.Wired.{AreBlesApart, Configures, HasOneDriver, HasValues, Spot}
-use Rattle.layout_verdict.specs.declared.laid_circuit.LaidCircuit.{LaidCircuit}
-use Rattle.desk_common.specs.declared.outcome.Outcome.{Outcome}
-use Rattle.desk_common.specs.declared.outcome.Outcome.TheVariants.{FileFailed, NoMemory, OutputFailed}
-use Rattle.desk_common.specs.declared.paths.FileRole.{FileRole}
-use Rattle.desk_common.specs.declared.paths.FileRole.TheVariants.{Verilog}
+use Rattle.desk_layouts.specs.Prelude.{JoinedLine, lines_of, LookupTable, holds_table, traced_ble, configuration_of, configuration_text, ConfigurationLine, AreBlesApart, Configures, HasOneDriver, HasValues, Spot, LaidCircuit, Outcome, FileFailed, NoMemory, OutputFailed, FileRole, Verilog}
 use Rattle.desk_layouts.specs.Checked.{AreRead, IsLaidIn}
 use Rattle.desk_layouts.specs.Refused.{IsRefusal}
 use Rattle.desk_layouts.specs.declared.given_files.GivenFiles.{GivenFiles}

@@ -2,23 +2,8 @@
 use Rattle.std.specs.Prelude.{ℕ, ◌≡◌, ◌-◌, ◌^◌, Bool, true, false, List, [], ◌∷◌, ◌++◌, map, codes, eqb, if◌then◌else◌, position, Option, Some, IfSome, ⊤}
 use Rattle.std.specs.List.{flat_map, starts_with}
 use Rattle.std.specs.Str.{bytes_eq}
-use Rattle.layout_verdict.specs.Texts.{IsReadFrom, Texts}
-use Rattle.layout_verdict.specs.Verdicts.{IsImplemented}
-use Rattle.layout_verdict.specs.declared.laid_circuit.LaidCircuit.{LaidCircuit}
-use Rattle.layout_verdict.specs.declared.shape.StripShape.{StripShape}
-use Rattle.line_text.specs.Lines.{physical_lines}
-use Rattle.line_text.specs.Physical.{first_line, later_lines}
-use Rattle.line_text.specs.Writing.{TakesAll}
-use Rattle.page.specs.Pages.{page_text}
-use Rattle.page.specs.declared.page.PageItem.{PageItem}
-use Rattle.page.specs.declared.page.Viewer.{Viewer}
-use Rattle.strip_files.specs.NetLines.{AreNamed}
-use Rattle.strip_files.specs.declared.reader.RoutedStrip.{RoutedStrip}
-use Rattle.strip_files.specs.declared.reader.StripTexts.{StripTexts}
+use Rattle.desk_layouts.specs.Prelude.{IsReadFrom, Texts, IsImplemented, LaidCircuit, StripShape, physical_lines, first_line, later_lines, TakesAll, page_text, PageItem, Viewer, AreNamed, RoutedStrip, StripTexts, IsBeginning, Outcome, NoMemory, StripRefused}
 use Rattle.strip_files.specs.declared.route_text.Net.{Net}
-use Rattle.desk_common.specs.Outputs.{IsBeginning}
-use Rattle.desk_common.specs.declared.outcome.Outcome.{Outcome}
-use Rattle.desk_common.specs.declared.outcome.Outcome.TheVariants.{NoMemory, StripRefused}
 use Rattle.desk_layouts.specs.declared.given_files.TheConstants.{MAX_READ}
 use Rattle.desk_layouts.specs.declared.strip_wishes.Shown.{Shown}
 use Rattle.desk_layouts.specs.declared.strip_wishes.Shown.TheVariants.{Net as OneNet, Page}

@@ -1,17 +1,6 @@
 -- Why a tool ends without its text.
 use Rattle.std.specs.Prelude.{ℕ, ◌≡◌, Bool, true, List, Option, Ok, Err, ⊤}
-use Rattle.arch_file.specs.declared.arch.Arch.{Arch}
-use Rattle.arch_file.specs.Arch.{arch_of}
-use Rattle.blif.specs.CircuitOf.{circuit_of}
-use Rattle.blif.specs.declared.fault.BlifFault.{BlifFault}
-use Rattle.desk_common.specs.declared.outcome.Outcome.{Outcome}
-use Rattle.desk_common.specs.declared.outcome.Outcome.TheVariants.{ArchRefused, FileFailed, LayoutRefused, NetlistRefused, NoMemory, OtherCircuit, OutputFailed}
-use Rattle.desk_common.specs.declared.paths.FileRole.{FileRole}
-use Rattle.desk_common.specs.declared.paths.FileRole.TheVariants.{Architecture, Netlist, Net, Places, Routes, Verilog}
-use Rattle.layout_verdict.specs.Texts.{IsReadFrom, Texts}
-use Rattle.layout_verdict.specs.Verdicts.{CanBeFiled, HaveNoLayout, IsImplemented, IsOnlyReading}
-use Rattle.layout_verdict.specs.declared.laid_circuit.LaidCircuit.{LaidCircuit}
-use Rattle.layout_verdict.specs.declared.shape.StripShape.{StripShape}
+use Rattle.desk_layouts.specs.Prelude.{Arch, arch_of, circuit_of, BlifFault, Outcome, ArchRefused, FileFailed, LayoutRefused, NetlistRefused, NoMemory, OtherCircuit, OutputFailed, FileRole, Architecture, Netlist, Net, Places, Routes, Verilog, IsReadFrom, Texts, CanBeFiled, HaveNoLayout, IsImplemented, IsOnlyReading, LaidCircuit, StripShape}
 use Rattle.desk_layouts.specs.Asked.{IsAskedShape}
 use Rattle.desk_layouts.specs.Checked.{AreRead, IsLaidIn, texts_with}
 use Rattle.desk_layouts.specs.declared.given_files.GivenFiles.{GivenFiles}

@@ -1,11 +1,6 @@
 -- What the options of the tool that draws one tenancy ask for.
 use Rattle.std.specs.Prelude.{◌≡◌, true, false, Option, Some, None, codes}
-use Rattle.arch_file.specs.Arch.{IsWithin}
-use Rattle.arch_file.specs.declared.arch.TheConstants.{MAX_TRACKS}
-use Rattle.option_words.specs.declared.given.Given.{Given}
-use Rattle.option_words.specs.Values.{is_given, number_of, text_of}
-use Rattle.strip_picture.specs.declared.picture.Full.{Full}
-use Rattle.strip_picture.specs.declared.picture.Full.TheVariants.{Fullest, Tracks}
+use Rattle.desk_layouts.specs.Prelude.{IsWithin, MAX_TRACKS, Given, is_given, number_of, text_of, Full, Fullest, Tracks}
 use Rattle.desk_layouts.specs.declared.strip_wishes.Shown.{Shown}
 use Rattle.desk_layouts.specs.declared.strip_wishes.Shown.TheVariants.{Nets, Net, Channels, Page}
 use Rattle.desk_layouts.specs.declared.strip_wishes.StripWishes.{StripWishes}

@@ -1,7 +1,6 @@
 //! The tool that checks a layout against its netlist.
 ghost use Rattle.std.specs.Prelude.{IfErr, IfOk, codes};
-ghost use Rattle.layout_verdict.specs.declared.laid_circuit.LaidCircuit.{LaidCircuit};
-ghost use Rattle.line_text.specs.Writing.{TakesAll};
+ghost use Rattle.desk_layouts.specs.Prelude.{LaidCircuit, TakesAll};
 ghost use Rattle.desk_layouts.specs.Checked.{IsChecked, IsLaidIn};
 ghost use Rattle.desk_layouts.specs.Refused.{IsFailure, IsRefusal};
 
@@ -13,22 +12,10 @@ use line_text::{Sink, write_all};
 use option_words::Program;
 use std::alloc::Global;
 
-/// The beginning of its help.
-const ABOUT: &str =
-    "Says whether a .net, a .place and a .route file, whoever wrote them, implement a netlist";
-
-/// The tool without its options, for the program's help.
-pub const NAMED: Program = Program {
-    name: "check",
-    about: ABOUT,
-    after_help: "",
-    options: &[],
-};
-
 /// The tool and its options.
 pub const TOOL: Program = Program {
     name: "check",
-    about: ABOUT,
+    about: "Says whether a .net, a .place and a .route file, whoever wrote them, implement a netlist",
     after_help: "\
 Prints `implements` if each table and each latch of the netlist is in exactly one BLE, and each input, clock and output pad gets its
 net from the block that drives it: over wires, in a tree that shares no wire and no pin with another net, or over the global network
@@ -73,11 +60,7 @@ fn check<E: Sink>(
     ensures laid { IfOk result (λ _. (laid : LaidCircuit) × IsLaidIn paths.entry given.now laid) }
     ensures refused { IfErr result (IsRefusal paths.entry given.now) }
 {
-    match circuit_in(alloc, paths, given, teller) {
-        Ok(laid) => {
-            drop(laid);
-            Ok(())
-        }
-        Err(outcome) => Err(outcome),
-    }
+    let laid = circuit_in(alloc, paths, given, teller)?;
+    drop(laid);
+    Ok(())
 }

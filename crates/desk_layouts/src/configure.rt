@@ -1,45 +1,26 @@
 //! The tool that writes what a device is loaded with.
 ghost use Rattle.std.specs.Prelude.{◌≡◌, ℕ, List, Ok, IfErr, IfOk, OnErr};
 ghost use Rattle.std.specs.Option.{ForSome};
-ghost use Rattle.desk_common.specs.Outcomes.{IsFileFailure};
-ghost use Rattle.blif.specs.LawfulCircuits.{IsCircuit};
-ghost use Rattle.grid.specs.Sizes.{IsStripSize};
-ghost use Rattle.layout_verdict.specs.Verdicts.{IsImplemented};
-ghost use Rattle.line_text.specs.Lines.{JoinedLine, lines_of};
-ghost use Rattle.line_text.specs.Writing.{TakesAll};
+ghost use Rattle.desk_layouts.specs.Prelude.{IsFileFailure, IsCircuit, IsStripSize, IsImplemented, JoinedLine, lines_of, TakesAll};
 ghost use Rattle.desk_layouts.specs.Asked.{IsConfigureAskedFor};
 ghost use Rattle.desk_layouts.specs.Configured.{IsConfigurationOf, IsConfigured, IsUnwritten, IsUnwrittenOr, Works, text_with};
 ghost use Rattle.desk_layouts.specs.Refused.{IsFailure};
 
 use crate::given_files::GivenFiles;
 use crate::laid_circuit::circuit_in;
-use crate::layout_input::{
-    ARCH, COLUMNS, LayoutPaths, NETLIST, PACKING, PLACES, ROUTES, ROWS, TRACKS, paths_of,
-};
+use crate::layout_input::{COLUMNS, LayoutPaths, NETLIST, PACKING, PLACES, ROUTES, ROWS, paths_of};
 use circuit_verilog::verilog_text;
 use configuration::{laws_of_configurations, values_are_rows};
 use configuration_text::{Design, Unwritten, write_configuration};
-use desk_common::{DEVICE, FileRole, FileTexts, Outcome};
+use desk_common::{ARCH, DEVICE, FileRole, FileTexts, GIVEN_TRACKS, Outcome};
 use layout_verdict::LaidCircuit;
 use line_text::{Lines, MAX_TEXT, Sink, logical_lines};
 use option_words::{Given, OptionWord, Program, Takes};
 
-/// The beginning of its help.
-const ABOUT: &str =
-    "Prints what a device is loaded with so that it runs a netlist, from the three files of its layout";
-
-/// The tool without its options, for the program's help.
-pub const NAMED: Program = Program {
-    name: "configure",
-    about: ABOUT,
-    after_help: "",
-    options: &[],
-};
-
 /// The tool and its options.
 pub const TOOL: Program = Program {
     name: "configure",
-    about: ABOUT,
+    about: "Prints what a device is loaded with so that it runs a netlist, from the three files of its layout",
     after_help: "\
 It first checks the layout as `fpgad_desk check` does; if the files don't implement the netlist, it prints nothing, and standard error
 says what is wrong. docs/FORMATS.md says what the lines mean. With --verilog F what the device then computes is written to the file F
@@ -48,7 +29,7 @@ as a Verilog module with the netlist's inputs and outputs, to be simulated.
 Example: fpgad_desk configure --arch my.arch --tracks 8 t.blif t.net t.place t.route > t.configuration",
     options: &[
         ARCH,
-        TRACKS,
+        GIVEN_TRACKS,
         COLUMNS,
         ROWS,
         DEVICE,
@@ -123,15 +104,9 @@ fn print_checked<F: FileTexts + AllocGlobal, W: Sink, E: Sink>(
         (ForSome wishes.entry.verilog (λ path. F.fails files.now path.now))
         (W.has_failed writer.new) wishes.entry.paths given.now) }
 {
-    match circuit_in(files.alloc(), wishes.paths, given, teller) {
-        Ok(laid) => {
-            let netlist = given.netlist.as_slice();
-            let printed = print_laid(files, wishes.verilog, netlist, &laid, writer, teller);
-            drop(laid);
-            printed
-        }
-        Err(outcome) => Err(outcome),
-    }
+    let laid = circuit_in(files.alloc(), wishes.paths, given, teller)?;
+    let netlist = given.netlist.as_slice();
+    print_laid(files, wishes.verilog, netlist, &laid, writer, teller)
 }
 
 /// Prints the configuration of the layout. `netlist` is the text that the circuit was read from.
@@ -208,11 +183,7 @@ fn save_verilog<F: FileTexts + AllocGlobal, E: Sink>(
     ensures { IfErr result (IsFileFailure FileRole.Verilog (F.fails files.now path.now)) }
 {
     match verilog_text(files.alloc(), design) {
-        Ok(text) => {
-            let saved = files.write_text(FileRole::Verilog, path, text.as_slice(), teller);
-            drop(text);
-            saved
-        }
+        Ok(text) => { files.write_text(FileRole::Verilog, path, text.as_slice(), teller) }
         Err(_) => Err(Outcome::NoMemory),
     }
 }

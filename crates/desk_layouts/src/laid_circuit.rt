@@ -1,8 +1,6 @@
 //! The circuit and the layout of the files that a tool is given.
 ghost use Rattle.std.specs.Prelude.{◌≡◌, IfErr, IfOk};
-ghost use Rattle.desk_common.specs.declared.outcome.Outcome.TheVariants.{OtherCircuit};
-ghost use Rattle.layout_verdict.specs.Texts.{IsReadFrom};
-ghost use Rattle.layout_verdict.specs.Verdicts.{IsImplemented};
+ghost use Rattle.desk_layouts.specs.Prelude.{OtherCircuit, IsReadFrom, IsImplemented};
 ghost use Rattle.desk_layouts.specs.Checked.{IsLaidIn};
 ghost use Rattle.desk_layouts.specs.Refused.{IsRefusal, IsRefusalOf};
 

@@ -1,11 +1,10 @@
 //! What the tools take that read a layout: its architecture, its netlist and its three files.
-ghost use Rattle.std.specs.Prelude.{◌≡◌, ℕ, None, Option, Some, IfOk, IfSome, OnErr};
+ghost use Rattle.std.specs.Prelude.{◌≡◌, None, Some, IfOk, IfSome, OnErr};
 ghost use Rattle.desk_layouts.specs.Asked.{IsAskedFor, IsAskedShape, IsOnlyShape, IsSizeOfPlaces};
 ghost use Rattle.std.specs.Option.{option_map_or};
-ghost use Rattle.option_words.specs.Values.{text_of};
-ghost use Rattle.desk_common.specs.Numbers.{IsNumberIn};
+ghost use Rattle.desk_layouts.specs.Prelude.{text_of};
 
-use desk_common::{DEVICE, NO_DEVICE};
+use desk_common::{ARCH, DEVICE, GIVEN_TRACKS, NO_DEVICE, number_in};
 use layout_verdict::StripShape;
 use line_text::split_line;
 use option_words::{Given, OptionWord, Takes};
@@ -14,24 +13,6 @@ use strip_files::{StripSize, size_in};
 const NO_FILE: &str = "give an architecture, a netlist and its .net, .place and .route files";
 
 const NO_TRACKS: &str = "give --tracks W";
-
-/// The architecture.
-pub(crate) const ARCH: OptionWord = OptionWord {
-    name: "arch",
-    value_name: "FILE",
-    help: "The architecture",
-    takes: Takes::GivenText,
-    default: None,
-};
-
-/// The tracks of each channel.
-pub(crate) const TRACKS: OptionWord = OptionWord {
-    name: "tracks",
-    value_name: "W",
-    help: "Tracks of each channel, 1 to 64",
-    takes: Takes::Number(1, 64),
-    default: None,
-};
 
 /// The columns of the strip.
 pub(crate) const COLUMNS: OptionWord = OptionWord {
@@ -89,7 +70,15 @@ pub(crate) const ROUTES: OptionWord = OptionWord {
 
 /// The options of a tool that reads a layout.
 pub(crate) const LAYOUT_OPTIONS: &[OptionWord] = &[
-    ARCH, TRACKS, COLUMNS, ROWS, DEVICE, NETLIST, PACKING, PLACES, ROUTES,
+    ARCH,
+    GIVEN_TRACKS,
+    COLUMNS,
+    ROWS,
+    DEVICE,
+    NETLIST,
+    PACKING,
+    PLACES,
+    ROUTES,
 ];
 
 /// The paths of a layout's files, and what is said of its strip.
@@ -139,18 +128,6 @@ fn path_in<'a>(given: &Given<'a>, name: &str) -> Result<&'a str, &'static str>
     ensures refused { OnErr result (text_of given.now name.now ≡ None) }
 {
     given.text(name).ok_or(NO_FILE)
-}
-
-/// The value of an option with a number, if it is given.
-fn number_in(given: &Given<'_>, name: &str) -> Result<Option<u32>, &'static str>
-    ensures asked { IfOk result (IsNumberIn given.now name.now) }
-    ensures refused { OnErr result ((number : Option ℕ) →
-        IsNumberIn given.now name.now number → ⊥) }
-{
-    match given.text(name) {
-        Some(_) => Ok(Some(given.number(name)?)),
-        None => Ok(None),
-    }
 }
 
 /// The size in a `.place` file with this text, in its second line. `None` if it isn't there.

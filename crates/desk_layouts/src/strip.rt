@@ -23,21 +23,10 @@ const NO_FILE: &str = "give a .net, a .place and a .route file";
 
 const NO_ROUTES: &str = "--netlist needs a .route file";
 
-/// The beginning of its help.
-const ABOUT: &str = "Draws one tenancy as an SVG, from its three result files";
-
-/// The tool without its options, for the program's help.
-pub const NAMED: Program = Program {
-    name: "strip",
-    about: ABOUT,
-    after_help: "",
-    options: &[],
-};
-
 /// The tool and its options.
 pub const TOOL: Program = Program {
     name: "strip",
-    about: ABOUT,
+    about: "Draws one tenancy as an SVG, from its three result files",
     after_help: "\
 Shows the blocks with their names, and each net in a colour; with --net one net in front of the others, with its driver and its
 readers, with --heat how many tracks of each channel are used, in colours up to that of the fullest channel, or, with --tracks W,
@@ -179,9 +168,7 @@ pub fn print<F: FileTexts + AllocGlobal, W: Sink, E: Sink>(
         (F.text files.now) wishes.entry) }
 {
     let net = files.read_text(FileRole::Net, wishes.net_file, u64::MAX, teller)?;
-    let outcome = print_packed(files, wishes, net.as_slice(), writer, teller);
-    drop(net);
-    outcome
+    print_packed(files, wishes, net.as_slice(), writer, teller)
 }
 
 /// Draws a tenancy from the text of its packing and its other files.
@@ -196,9 +183,7 @@ fn print_packed<F: FileTexts + AllocGlobal, W: Sink, E: Sink>(
         (F.text files.now) wishes.entry net.now) }
 {
     let place = files.read_text(FileRole::Places, wishes.place_file, u64::MAX, teller)?;
-    let outcome = print_placed(files, wishes, net, place.as_slice(), writer, teller);
-    drop(place);
-    outcome
+    print_placed(files, wishes, net, place.as_slice(), writer, teller)
 }
 
 /// Draws a tenancy from the texts of its packing and placement and the file of its routes.
@@ -256,21 +241,15 @@ fn print_unrouted<W: Sink>(
         (without_nets net.now place.now)) }
 {
     let route = no_routes(alloc, place)?;
-    let outcome = match without_nets(alloc, net) {
-        Ok(net) => {
-            let texts = StripTexts {
-                net: net.as_slice(),
-                place,
-                route: route.as_slice(),
-            };
-            let outcome = draw_strip(alloc, texts, wishes.shown, writer);
-            drop(net);
-            outcome
-        }
-        Err(_) => Err(Outcome::NoMemory),
+    let Ok(net) = without_nets(alloc, net) else {
+        return Err(Outcome::NoMemory);
     };
-    drop(route);
-    outcome
+    let texts = StripTexts {
+        net: net.as_slice(),
+        place,
+        route: route.as_slice(),
+    };
+    draw_strip(alloc, texts, wishes.shown, writer)
 }
 
 /// Draws a tenancy from the texts of its files.
@@ -288,14 +267,12 @@ fn draw_strip<W: Sink>(
         Err(TextError::NoMemory) => return Err(Outcome::NoMemory),
         Err(TextError::Fault(fault)) => return Err(Outcome::StripRefused(fault)),
     };
-    let outcome = match (shown, view_of(&strip, shown)) {
+    match (shown, view_of(&strip, shown)) {
         (Shown::Page, _) => print_page(texts, writer),
         (_, Some(View::Net(net))) => drawn_net(alloc, texts.route, &strip, net, writer),
         (_, Some(view)) => drawing_outcome(draw(alloc, &strip, view, writer)),
         (_, None) => Err(Outcome::NoNet),
-    };
-    drop(strip);
-    outcome
+    }
 }
 
 /// Draws a net in front of the others, with its ends.
@@ -307,11 +284,7 @@ fn drawn_net<W: Sink>(
     writer: &mut W,
 ) -> Result<(), Outcome> {
     match global_ends(alloc, route, net) {
-        Ok(ends) => {
-            let drawn = draw_with_ends(alloc, strip, View::Net(net), &ends, writer);
-            drop(ends);
-            drawing_outcome(drawn)
-        }
+        Ok(ends) => { drawing_outcome(draw_with_ends(alloc, strip, View::Net(net), &ends, writer)) }
         Err(_) => Err(Outcome::NoMemory),
     }
 }

@@ -1,6 +1,6 @@
 //! The check of a layout against its netlist, before it is drawn.
 ghost use Rattle.std.specs.Prelude.{Option, IfOk, OnErr, OnOk};
-ghost use Rattle.desk_common.specs.Outputs.{IsBeginning};
+ghost use Rattle.desk_layouts.specs.Prelude.{IsBeginning};
 ghost use Rattle.desk_layouts.specs.Drawn.{AreChecked, Implement, ImplementOn, IsRefusedStrip, bytes_of};
 ghost use Rattle.desk_layouts.specs.StripAsked.{IsCheckAskedFor};
 
@@ -62,9 +62,7 @@ pub(crate) fn check_against<F: FileTexts + AllocGlobal, E: Sink>(
     ensures { OnOk result (AreChecked (F.text files.now) against.entry (bytes_of texts.entry)) }
 {
     let arch = files.read_text(FileRole::Architecture, against.arch, MAX_READ, teller)?;
-    let outcome = check_on(files, against, arch.as_slice(), texts, teller);
-    drop(arch);
-    outcome
+    check_on(files, against, arch.as_slice(), texts, teller)
 }
 
 /// Checks the layout on an architecture with this text.
@@ -79,16 +77,14 @@ fn check_on<F: FileTexts + AllocGlobal, E: Sink>(
         (bytes_of texts.entry)) }
 {
     let netlist = files.read_text(FileRole::Netlist, against.netlist, MAX_READ, teller)?;
-    let outcome = check_texts(
+    check_texts(
         files.alloc(),
         against,
         arch,
         netlist.as_slice(),
         texts,
         teller,
-    );
-    drop(netlist);
-    outcome
+    )
 }
 
 /// Checks the layout against the netlist with this text, on a strip of the size in the `.place`
@@ -132,9 +128,6 @@ fn outcome_without_size(alloc: Global, files: StripTexts<'_>) -> Outcome
     match read_strip(alloc, files) {
         Err(TextError::Fault(fault)) => Outcome::StripRefused(fault),
         Err(TextError::NoMemory) => Outcome::NoMemory,
-        Ok(strip) => {
-            drop(strip);
-            Outcome::NoMemory
-        }
+        Ok(_) => Outcome::NoMemory,
     }
 }

@@ -42,9 +42,6 @@ pub(crate) fn no_routes(alloc: Global, place: &[u8]) -> Result<Vec<u8>, Outcome>
     let mut text = MemorySink::new(alloc);
     match write_slices(&mut text, &[size, b".\n\nRouting:\n\n"]) {
         Ok(()) => Ok(text.into_bytes()),
-        Err(_) => {
-            drop(text);
-            Err(Outcome::NoMemory)
-        }
+        Err(_) => Err(Outcome::NoMemory),
     }
 }

@@ -1,15 +1,5 @@
 -- Services that answer alike, by what is seen of them.
-use Rattle.std.proofs.Common.{◌≡◌, inl, inr, ℕ, List, [], ◌∷◌, Option, Some, None, MatchOption, Result, Ok, Err, IfOk, ap, subst}
-use Rattle.line_service.proofs.AlongLemmas.{answered_along}
-use Rattle.line_text.specs.Lines.{physical_lines}
-use Rattle.live_input.specs.Serving.{AnswersLine, state_in}
-use Rattle.live_input.specs.declared.lines.LiveLines.{LiveLines}
-use Rattle.live_lines.specs.Live.{LiveState}
-use Rattle.live_log.specs.Alike.{AnswerAlike, IsSafe, ServesAlike}
-use Rattle.live_log.specs.Kept.{lines_in}
-use Rattle.live_log.specs.Questions.{questions_after}
-use Rattle.live_log.specs.declared.checking.CheckedLog.{CheckedLog}
-use Rattle.desk_log.specs.Printed.{IsSafeLog}
+use Rattle.desk_log.proofs.Prelude.{◌≡◌, inl, inr, ℕ, List, [], ◌∷◌, Option, Some, None, MatchOption, Result, Ok, Err, IfOk, ap, subst, answered_along, physical_lines, AnswersLine, state_in, LiveLines, LiveState, AnswerAlike, IsSafe, ServesAlike, lines_in, questions_after, CheckedLog, IsSafeLog}
 
 alike_along : {S T : Type 0} (f : S → T) (a : S → ℕ → List ℕ → List ℕ → S → Type 0) (b : T → ℕ → List ℕ → List ℕ → T → Type 0) → ((old : S) (number : ℕ) (line reply : List ℕ) (new : S) → a old number line reply new → b (f old) number line reply (f new)) →
     (whole short : S) (lines : List (List ℕ)) (whole_after short_after : S) → AnswerAlike a whole short lines whole_after short_after → AnswerAlike b (f whole) (f short) lines (f whole_after) (f short_after)

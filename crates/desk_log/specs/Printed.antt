@@ -1,16 +1,7 @@
 -- What is printed of a log.
 use Rattle.std.specs.Prelude.{ℕ, ◌≡◌, ◌≢◌, Bool, true, List, None, ⊤}
 use Rattle.std.specs.List.{flat_map}
-use Rattle.tagged_lines.specs.Tags.{with_feed}
-use Rattle.live_input.specs.Serving.{AnswersLine, begins, kept_lines}
-use Rattle.live_lines.specs.Live.{LiveState}
-use Rattle.live_log.specs.Alike.{IsSafe}
-use Rattle.live_log.specs.Kept.{lines_in}
-use Rattle.live_log.specs.declared.checking.CheckedLog.{CheckedLog}
-use Rattle.service_core.specs.declared.device.Device.{Device}
-use Rattle.live_run.specs.Sums.{first_differing, no_lines}
-use Rattle.desk_common.specs.declared.outcome.Outcome.{Outcome}
-use Rattle.desk_common.specs.declared.outcome.Outcome.TheVariants.{LogDiffers, NoMemory, OutputFailed}
+use Rattle.desk_log.specs.Prelude.{with_feed, AnswersLine, begins, kept_lines, LiveState, IsSafe, lines_in, CheckedLog, Device, first_differing, no_lines, Outcome, LogDiffers, NoMemory, OutputFailed}
 
 -- why a log is not printed: the output failed, a line of the log says another sum than that of the
 -- lines before it, or memory ran out

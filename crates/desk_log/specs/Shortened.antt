@@ -1,22 +1,7 @@
 -- What the tool reads and prints.
 use Rattle.std.specs.Prelude.{ℕ, ◌≡◌, ◌≢◌, ◌+◌, ◌-◌, ◌^◌, ◌⊎◌, Bool, true, false, List, take, Option, Some, None, Ok, Err, codes, eqb, ⊤}
 use Rattle.std.specs.List.{starts_with}
-use Rattle.arch_file.specs.declared.arch.Arch.{Arch}
-use Rattle.arch_file.specs.Arch.{arch_of}
-use Rattle.line_text.specs.declared.lines.TheConstants.{MAX_TEXT}
-use Rattle.live_input.specs.Serving.{kept_lines}
-use Rattle.live_run.specs.Headings.{heading}
-use Rattle.live_run.specs.Limits.{device_of}
-use Rattle.live_run.specs.Sums.{first_differing, no_lines}
-use Rattle.live_run.specs.WholePart.{whole_bytes}
-use Rattle.live_run.specs.declared.options.Options.{Options}
-use Rattle.option_words.specs.declared.given.Given.{Given}
-use Rattle.option_words.specs.Values.{number_of, text_of}
-use Rattle.desk_common.specs.Outputs.{IsBeginning}
-use Rattle.desk_common.specs.declared.outcome.Outcome.{Outcome}
-use Rattle.desk_common.specs.declared.outcome.Outcome.TheVariants.{ArchRefused, FileFailed, LogDiffers, NoMemory, OutputFailed}
-use Rattle.desk_common.specs.declared.paths.FileRole.{FileRole}
-use Rattle.desk_common.specs.declared.paths.FileRole.TheVariants.{Architecture, Log}
+use Rattle.desk_log.specs.Prelude.{Arch, arch_of, MAX_TEXT, kept_lines, heading, device_of, first_differing, no_lines, whole_bytes, Options, Given, number_of, text_of, IsBeginning, Outcome, ArchRefused, FileFailed, LogDiffers, NoMemory, OutputFailed, FileRole, Architecture, Log}
 use Rattle.desk_log.specs.Printed.{IsPrinted}
 use Rattle.desk_log.specs.declared.log_tool.LogWishes.{LogWishes}
 

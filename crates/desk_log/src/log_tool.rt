@@ -1,15 +1,13 @@
 //! The tool that makes the log of a live service shorter.
 ghost use Rattle.std.specs.Prelude.{◌≡◌, ℕ, List, eqb, IfErr, IfOk, OnErr, OnOk};
 ghost use Rattle.std.specs.List.{starts_with};
-ghost use Rattle.line_text.specs.Writing.{TakesAll};
-ghost use Rattle.live_run.specs.Headings.{heading};
-ghost use Rattle.desk_common.specs.declared.outcome.Outcome.TheVariants.{NoMemory};
+ghost use Rattle.desk_log.specs.Prelude.{TakesAll, heading, NoMemory};
 ghost use Rattle.desk_log.specs.Shortened.{IsAskedFor, IsPrintOf, IsRefusal, IsShortened, IsUnprinted};
 
 use crate::printing::print_checked;
 use arch_file::{ArchError, read_arch};
 use desk_common::{
-    COLUMNS, DEVICE, FileRole, FileTexts, NO_DEVICE, Outcome, ROWS, write_arch_fault,
+    ARCH, COLUMNS, DEVICE, FileRole, FileTexts, NO_DEVICE, Outcome, ROWS, TRACKS, write_arch_fault,
 };
 use line_text::{MAX_TEXT, Sink, write_all};
 use live_run::{Options, first_line, whole_part};
@@ -35,20 +33,8 @@ A log of which a sum differs is refused.
 
 Example: fpgad_desk log --arch my.arch --tracks 8 --columns 20 --rows 10 day.log > short.log && mv short.log day.log",
     options: &[
-        OptionWord {
-            name: "arch",
-            value_name: "FILE",
-            help: "The architecture",
-            takes: Takes::GivenText,
-            default: None,
-        },
-        OptionWord {
-            name: "tracks",
-            value_name: "W",
-            help: "Tracks of each channel, 1 to 64",
-            takes: Takes::Number(1, 64),
-            default: Some("2"),
-        },
+        ARCH,
+        TRACKS,
         COLUMNS,
         ROWS,
         OptionWord {
@@ -111,17 +97,8 @@ pub fn run<F: FileTexts + AllocGlobal, W: Sink, E: Sink>(
 {
     let most = MAX_TEXT as u64 + 1;
     let arch = files.read_text(FileRole::Architecture, wishes.arch, most, teller)?;
-    match files.read_text(FileRole::Log, wishes.log, u64::MAX, teller) {
-        Ok(log) => {
-            let done = print(files.alloc(), wishes, &arch, &log, writer, teller);
-            drop((arch, log));
-            done
-        }
-        Err(failed) => {
-            drop(arch);
-            Err(failed)
-        }
-    }
+    let log = files.read_text(FileRole::Log, wishes.log, u64::MAX, teller)?;
+    print(files.alloc(), wishes, &arch, &log, writer, teller)
 }
 
 /// Prints the shorter log of that log's whole lines.
@@ -161,11 +138,7 @@ fn begins_so(alloc: Global, options: Options, arch: &[u8], log: &[u8]) -> Result
     ensures failed { IfErr result (λ outcome. outcome ≡ NoMemory) }
 {
     match first_line(alloc, &options, arch) {
-        Ok(first) => {
-            let begins = log.starts_with(first.as_slice());
-            drop(first);
-            Ok(begins)
-        }
+        Ok(first) => Ok(log.starts_with(first.as_slice())),
         Err(_) => Err(Outcome::NoMemory),
     }
 }

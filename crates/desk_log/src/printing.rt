@@ -1,11 +1,6 @@
 //! What is printed of a log.
 ghost use Rattle.std.specs.Prelude.{List, ℕ, ◌≡◌, IfErr, IfOk, None, OnOk};
-ghost use Rattle.line_text.specs.Writing.{TakesAll};
-ghost use Rattle.live_input.specs.Serving.{begins, is_ready, kept_lines, state_in};
-ghost use Rattle.live_run.specs.Limits.{device_of};
-ghost use Rattle.live_run.specs.Sums.{first_differing, no_lines};
-ghost use Rattle.service_core.specs.Kept.{IsDevice};
-ghost use Rattle.sessions.specs.Fitting.{own_graph};
+ghost use Rattle.desk_log.specs.Prelude.{TakesAll, begins, is_ready, kept_lines, state_in, device_of, first_differing, no_lines, IsDevice, own_graph};
 ghost use Rattle.desk_log.specs.Printed.{IsFailure, IsPrinted, IsSafeLog};
 
 use arch_file::Arch;
@@ -38,12 +33,22 @@ pub(crate) fn print_checked<W: Sink, E: Sink>(
     ensures failed { IfErr result (IsFailure log.now (W.has_failed writer.new)) }
 {
     match changed_line(alloc, MemorySource::new(log)) {
-        Ok(None) => print_over(alloc, options, arch, log, writer, teller),
+        Ok(None) => {}
         Ok(Some(number)) => {
             let _ = tell_changed(teller, number);
-            Err(Outcome::LogDiffers)
+            return Err(Outcome::LogDiffers);
         }
         // What is in memory can be read.
+        Err(_) => return Err(Outcome::NoMemory),
+    }
+    match shorten_log(alloc, options, arch, log, teller) {
+        Ok(checked) => {
+            let written = checked.log.write(writer);
+            if let Some(name) = checked.differing {
+                let _ = tell_differing(teller, name);
+            }
+            written.or(Err(Outcome::OutputFailed))
+        }
         Err(_) => Err(Outcome::NoMemory),
     }
 }
@@ -59,34 +64,6 @@ fn tell_changed<E: Sink>(teller: &mut E, number: u64) -> Result<(), Failed> {
             b": its sum differs: what is before it has changed\n",
         ],
     )
-}
-
-/// Prints the shorter log of a service with these options, over that architecture, if its service
-/// answers as the whole log's does; else the whole log, and says so.
-fn print_over<W: Sink, E: Sink>(
-    alloc: Global,
-    options: Options,
-    arch: Arch,
-    log: &[u8],
-    writer: &mut W,
-    teller: &mut E,
-) -> Result<(), Outcome>
-    requires { IsDevice (device_of options arch) }
-    ensures printed { OnOk result ((text : List ℕ) × TakesAll W.contents W.has_failed writer.old
-        writer.new text × IsPrinted (device_of options arch) log.now text) }
-    ensures failed { IfErr result (IsFailure log.now (W.has_failed writer.new)) }
-{
-    match shorten_log(alloc, options, arch, log, teller) {
-        Ok(checked) => {
-            let written = checked.log.write(writer);
-            if let Some(name) = checked.differing {
-                let _ = tell_differing(teller, name);
-            }
-            drop(checked);
-            written.or(Err(Outcome::OutputFailed))
-        }
-        Err(_) => Err(Outcome::NoMemory),
-    }
 }
 
 /// Says that the whole log is printed.

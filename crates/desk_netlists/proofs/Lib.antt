@@ -1,3 +1,4 @@
+mod Prelude
 mod Printing
 mod Runs
 mod Saving

@@ -1,14 +1,5 @@
 -- A job that is done as it is asked for.
-use Rattle.std.proofs.Common.{◌≡◌, ◌≤◌, ℕ, Bool, List, Option, Result, IfOk, refl}
-use Rattle.std.proofs.lemmas.Result.{IfOk-weaker}
-use Rattle.strip_place.specs.declared.placing.TheConstants.{MAX_EFFORT}
-use Rattle.desk_common.specs.Outputs.{IsBeginning, NamedBytes}
-use Rattle.desk_common.specs.declared.outcome.Outcome.{Outcome}
-use Rattle.desk_netlists.specs.Jobs.{IsDone, IsRouted, IsSizeFor}
-use Rattle.desk_netlists.specs.Written.{IsStem}
-use Rattle.desk_netlists.specs.declared.route.TheConstants.{MAX_READ}
-use Rattle.desk_netlists.specs.declared.route_job.RouteJob.{RouteJob}
-use Rattle.desk_netlists.specs.declared.route_wishes.RouteWishes.{RouteWishes}
+use Rattle.desk_netlists.proofs.Prelude.{◌≡◌, ◌≤◌, ℕ, Bool, List, Option, Result, IfOk, refl, IfOk-weaker, MAX_EFFORT, IsBeginning, NamedBytes, Outcome, IsDone, IsRouted, IsSizeFor, IsStem, MAX_READ, RouteJob, RouteWishes}
 
 pub done_if : (text : List ℕ → Option (List ℕ)) (job : RouteJob) (old new : Option (List NamedBytes)) (r : Result (Unit {0}) Outcome) → IsBeginning (text job.wishes.netlist.now) MAX_READ job.request.netlist.now → job.request.seed ≡ job.wishes.seed →
     job.request.effort ≡ job.wishes.effort → IsSizeFor job.wishes.size job.arch.now job.request job.size → IsStem job.wishes.netlist.now job.name.now → IfOk r (λ _. IsRouted text job.wishes job old new) →

@@ -1,19 +1,6 @@
 -- Files that are written if they are asked for.
-use Rattle.std.proofs.Common.{◌≡◌, ℕ, Bool, true, List, [], ◌∷◌, ◌++◌, ◌∙◌, Option, Some, None, Result, Ok, Err, IfOk, IfSome, IsSomeAnd, MatchResult, codes, subst, sym, ap}
-use Rattle.std.proofs.lemmas.Option.{same_Some}
-use Rattle.std.proofs.lemmas.Result.{IfOk-weaker}
-use Rattle.configuration.specs.ConfigurationText.{configuration_text}
-use Rattle.desk_common.specs.Outputs.{AreAdded, NamedBytes}
-use Rattle.desk_common.specs.declared.outcome.Outcome.{Outcome}
-use Rattle.desk_common.proofs.Added.{added_then}
-use Rattle.layout_verdict.specs.declared.laid_circuit.LaidCircuit.{LaidCircuit}
-use Rattle.line_text.specs.Lines.{JoinedLine, lines_of}
-use Rattle.one_user.specs.declared.outcome.Files.{Files}
-use Rattle.one_user.specs.declared.outcome.FlowOutcome.{FlowOutcome}
+use Rattle.desk_netlists.proofs.Prelude.{◌≡◌, ℕ, Bool, true, List, [], ◌∷◌, ◌++◌, ◌∙◌, Option, Some, None, Result, Ok, Err, IfOk, IfSome, IsSomeAnd, MatchResult, codes, subst, sym, ap, same_Some, IfOk-weaker, configuration_text, AreAdded, NamedBytes, Outcome, added_then, LaidCircuit, JoinedLine, lines_of, Files, FlowOutcome, AreExtras, AreWritten, IsCheckedExtra, IsConfigured, IsExtra, IsLaidIn, IsRoutedOf, if_asked, of_kind, three_files, RouteJob, Routed}
 use Rattle.one_user.specs.declared.outcome.FlowOutcome.TheVariants as outcome
-use Rattle.desk_netlists.specs.Written.{AreExtras, AreWritten, IsCheckedExtra, IsConfigured, IsExtra, IsLaidIn, IsRoutedOf, if_asked, of_kind, three_files}
-use Rattle.desk_netlists.specs.declared.route_job.RouteJob.{RouteJob}
-use Rattle.desk_netlists.specs.declared.routed_table.Routed.{Routed}
 
 -- the file of that kind, if making it did not fail
 abbrev IsSaved : RouteJob → List ℕ → List ℕ → Option (List NamedBytes) → Option (List NamedBytes) → Result (Unit {0}) Outcome → Type 0

@@ -1,10 +1,6 @@
 -- Sizes of a device that no options ask for.
-use Rattle.std.proofs.Common.{ℕ, List, Option, Some, None, Result, Ok, Err, OnErr, codes}
+use Rattle.desk_netlists.proofs.Prelude.{ℕ, List, Option, Some, None, Result, Ok, Err, OnErr, codes, IsNumberIn, IsSizeAskedFor, Size, Given as GivenBoth, LeastSquare, LeastColumns, LeastRows}
 use Rattle.option_words.specs.declared.given.Given.{Given}
-use Rattle.desk_common.specs.Numbers.{IsNumberIn}
-use Rattle.desk_netlists.specs.Asked.{IsSizeAskedFor}
-use Rattle.desk_netlists.specs.declared.route_wishes.Size.{Size}
-use Rattle.desk_netlists.specs.declared.route_wishes.Size.TheVariants.{Given as GivenBoth, LeastSquare, LeastColumns, LeastRows}
 
 -- what holds, holds of an error
 pub on_error : {T E P : Type 0} (result : Result T E) → P → OnErr result P

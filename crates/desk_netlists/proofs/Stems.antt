@@ -1,11 +1,5 @@
 -- The last part of a path.
-use Rattle.std.proofs.Common.{ℕ, List, ◌∷◌, ◌++◌, None, Bor, take, refl, inl, inr, sym, ap, subst, ◌∙◌, take-append-drop, arith}
-use Rattle.std.proofs.lemmas.Str.Pattern.{NoCharPasses-char, drop_at_char}
-use Rattle.std.specs.Bool.{◌==◌}
-use Rattle.std.specs.Path.{slash}
-use Rattle.std.specs.Str.{NoCharPasses}
-use Rattle.std.specs.Str.Pattern.{RFindsChar, SplitsAroundMatch}
-use Rattle.desk_netlists.specs.Written.{IsLastPart}
+use Rattle.desk_netlists.proofs.Prelude.{ℕ, List, ◌∷◌, ◌++◌, None, Bor, take, refl, inl, inr, sym, ap, subst, ◌∙◌, take-append-drop, arith, NoCharPasses-char, drop_at_char, ◌==◌, slash, NoCharPasses, RFindsChar, SplitsAroundMatch, IsLastPart}
 
 pub last_is_part : (path : List ℕ) (split : Bor (List ℕ) × Bor (List ℕ)) → SplitsAroundMatch (RFindsChar 47) path split.0.now split.1.now → IsLastPart path split.1.now
 last_is_part path split h = record {

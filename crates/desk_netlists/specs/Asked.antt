@@ -1,14 +1,7 @@
 -- What the options of tools ask for.
 use Rattle.std.specs.Prelude.{ℕ, ◌≡◌, true, false, List, Option, Some, None, option_map, codes}
-use Rattle.option_words.specs.declared.given.Given.{Given}
-use Rattle.option_words.specs.Values.{is_given, number_of, text_of}
-use Rattle.random_script.specs.Plans.{HavePlan}
-use Rattle.random_script.specs.declared.plan.LoadParameters.{LoadParameters}
-use Rattle.random_script.specs.declared.plan.Phase.{Phase}
-use Rattle.random_script.specs.declared.plan.Phase.TheVariants.{Reading, Packing, Placing, Routing}
-use Rattle.script_text.specs.Script.{is_name}
-use Rattle.tenancy_script.specs.declared.script.ScriptParameters.{ScriptParameters}
-use Rattle.desk_common.specs.Numbers.{IsNumberIn}
+use Rattle.desk_netlists.specs.Prelude.{Given, is_given, text_of, HavePlan, LoadParameters, Phase, Reading, Packing, Placing, Routing, is_name, ScriptParameters, IsNumberIn}
+use Rattle.option_words.specs.Values.{number_of}
 use Rattle.desk_netlists.specs.declared.random.RandomWishes.{RandomWishes}
 use Rattle.desk_netlists.specs.declared.route_wishes.Extras.{Extras}
 use Rattle.desk_netlists.specs.declared.route_wishes.RouteForm.{RouteForm}

@@ -1,21 +1,6 @@
 -- What `route` is asked for, and how it runs.
 use Rattle.std.specs.Prelude.{ℕ, ◌≡◌, ◌+◌, List, Option, Some, None, Ok, MatchOption, ⊤}
-use Rattle.arch_file.specs.Arch.{arch_of}
-use Rattle.arch_file.specs.declared.arch.Arch.{Arch}
-use Rattle.arch_file.specs.declared.arch.TheConstants.{MAX_TRACKS}
-use Rattle.desk_common.specs.Outputs.{IsBeginning, NamedBytes}
-use Rattle.one_user.specs.Counting.{AreCounts, HasRoom, NoColumnsBelow, NoRowsBelow, NoSquareBelow}
-use Rattle.one_user.specs.Outcomes.{task_on}
-use Rattle.one_user.specs.Pinned.{IsLeastPinned, IsPinnedRun}
-use Rattle.one_user.specs.Tracks.{AreUnroutedBelow, ComesTo}
-use Rattle.one_user.specs.declared.device.Request.{Request}
-use Rattle.one_user.specs.declared.figures.PackedCounts.{PackedCounts}
-use Rattle.one_user.specs.declared.least.DevicePlan.{DevicePlan}
-use Rattle.one_user.specs.declared.outcome.Run.{Run}
-use Rattle.one_user.specs.declared.pinned.PinnedEnd.{PinnedEnd}
-use Rattle.one_user.specs.declared.pinned.PinnedEnd.TheVariants.{Placed}
-use Rattle.pin_file.specs.PinFiles.{Pin, pins_in}
-use Rattle.strips.specs.Windows.{device_strip}
+use Rattle.desk_netlists.specs.Prelude.{arch_of, Arch, MAX_TRACKS, IsBeginning, NamedBytes, AreCounts, HasRoom, NoColumnsBelow, NoRowsBelow, NoSquareBelow, task_on, IsLeastPinned, IsPinnedRun, AreUnroutedBelow, ComesTo, Request, PackedCounts, DevicePlan, Run, PinnedEnd, Placed, Pin, pins_in, device_strip}
 use Rattle.desk_netlists.specs.Written.{AreWritten, IsStem}
 use Rattle.desk_netlists.specs.declared.route.TheConstants.{MAX_READ}
 use Rattle.desk_netlists.specs.declared.route_job.RouteJob.{RouteJob}

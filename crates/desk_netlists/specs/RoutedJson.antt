@@ -1,22 +1,8 @@
 -- What a routed netlist uses of its device, as JSON.
-use Rattle.std.specs.Prelude.{ℕ, List, [], ◌∷◌, ◌++◌, Option, Some, None, codes, map, slice_index_or}
-use Rattle.blif.specs.declared.circuit.Circuit.{Circuit}
-use Rattle.circuit_use.specs.declared.lacking.Lacking.{Lacking}
-use Rattle.circuit_use.specs.declared.lacking.Lacking.TheVariants.{Nothing, Blocks, Pads, BlocksAndPads}
-use Rattle.desk_circuits.specs.Channels.{channel_json}
-use Rattle.desk_circuits.specs.Json.{circuit_members}
-use Rattle.device_report.specs.declared.channels.ChannelUse.{ChannelUse}
-use Rattle.device_report.specs.declared.tenancies.ResourceUse.{ResourceUse}
-use Rattle.json.specs.Json.{Json, null, string}
-use Rattle.json_text.specs.Values.{known_number, list_of, name_of, number_of, object_of}
-use Rattle.path_stops.specs.declared.stops.StopKind.{StopKind}
-use Rattle.path_stops.specs.declared.stops.StopKind.TheVariants.{Start, Table, End}
+use Rattle.std.specs.Prelude.{ℕ, List, [], ◌∷◌, ◌++◌, Option, Some, None, codes, map}
+use Rattle.desk_netlists.specs.Prelude.{Circuit, Lacking, Nothing, Blocks, Pads, BlocksAndPads, channel_json, circuit_members, net_name, ChannelUse, ResourceUse, Json, null, string, known_number, list_of, name_of, number_of, object_of, StopKind, Start, Table, End}
 use Rattle.desk_netlists.specs.declared.path_facts.StopFacts.{StopFacts}
 use Rattle.desk_netlists.specs.declared.routed_json.RoutedFacts.{RoutedFacts}
-
--- the name of a net; empty if there is no such net
-abbrev pub net_name : Circuit → ℕ → List ℕ
-net_name circuit net = slice_index_or circuit.nets net []
 
 abbrev pub stop_word : StopKind → List ℕ
 stop_word Start = codes "from"

@@ -1,13 +1,6 @@
 -- The result of the tool that prints a tenancy's script.
 use Rattle.std.specs.Prelude.{◌≡◌, ℕ, Bool, List, Option, Some}
-use Rattle.line_text.specs.Writing.{TakesAll, TakesPart}
-use Rattle.tenancy_script.specs.declared.script.TenancyScript.{TenancyScript}
-use Rattle.tenancy_script.specs.declared.script.ScriptParameters.{ScriptParameters}
-use Rattle.tenancy_script.specs.Faults.{refusal_of}
-use Rattle.tenancy_script.specs.Printed.{printed_script}
-use Rattle.tenancy_script.specs.Says.{IsOf}
-use Rattle.desk_common.specs.declared.outcome.Outcome.{Outcome}
-use Rattle.desk_common.specs.declared.outcome.Outcome.TheVariants.{Done, OutputFailed, TextRefused}
+use Rattle.desk_netlists.specs.Prelude.{TakesAll, TakesPart, TenancyScript, ScriptParameters, refusal_of, printed_script, IsOf, Outcome, Done, OutputFailed, TextRefused}
 
 -- the whole script with these wishes around this text is written
 pub record IsPrinted {S : Type 0} (contents : S → Option (List ℕ)) (has_failed : S → Bool) (old new : S) (wishes : ScriptParameters) (netlist : List ℕ) : Type 0 where

@@ -1,17 +1,8 @@
 -- The files of a netlist that are written.
 use Rattle.std.specs.Prelude.{ℕ, ◌≡◌, ◌≢◌, ◌<◌, ◌⊎◌, Bool, true, false, List, [], ◌∷◌, ◌++◌, Option, Ok, codes, length, slice_index_or}
 use Rattle.std.specs.Path.{slash}
-use Rattle.configuration.specs.ConfigurationText.{configuration_text}
-use Rattle.layout_verdict.specs.Texts.{IsReadFrom}
-use Rattle.layout_verdict.specs.Verdicts.{IsImplemented}
-use Rattle.layout_verdict.specs.declared.laid_circuit.LaidCircuit.{LaidCircuit}
-use Rattle.layout_verdict.specs.declared.shape.StripShape.{StripShape}
-use Rattle.line_text.specs.Lines.{JoinedLine, lines_of}
-use Rattle.desk_common.specs.Outputs.{AreAdded, NamedBytes}
-use Rattle.one_user.specs.declared.outcome.Files.{Files}
-use Rattle.one_user.specs.declared.outcome.FlowOutcome.{FlowOutcome}
+use Rattle.desk_netlists.specs.Prelude.{configuration_text, IsReadFrom, IsImplemented, LaidCircuit, StripShape, JoinedLine, lines_of, AreAdded, NamedBytes, Files, FlowOutcome, Unrouted}
 use Rattle.one_user.specs.declared.outcome.FlowOutcome.TheVariants as outcome
-use Rattle.one_user.specs.declared.outcome.Unrouted.{Unrouted}
 use Rattle.desk_netlists.specs.declared.route_job.RouteJob.{RouteJob}
 use Rattle.desk_netlists.specs.declared.routed_table.Routed.{Routed}
 

@@ -1,14 +1,11 @@
 //! What a routed netlist uses of its device, what sets the device's size, and its longest path.
 ghost use Rattle.std.specs.Prelude.{◌≤◌};
-ghost use Rattle.arch_file.specs.Arch.{IsArch};
-ghost use Rattle.arch_file.specs.declared.arch.TheConstants.{MAX_IO_RAT};
-ghost use Rattle.blif.specs.LawfulCircuits.{IsCircuit};
+ghost use Rattle.desk_netlists.specs.Prelude.{MAX_IO_RAT};
 
 use crate::path_lines::write_stops_of;
 use crate::route_wishes::{RouteForm, RouteWishes, Size};
+use crate::routed_design::RoutedDesign;
 use crate::routed_table::Routed;
-use arch_file::{Arch, read_arch};
-use blif::{Circuit, read_blif};
 use circuit_use::{DeviceUse, Lacking, circuit_use, lacking_on, write_lacking, write_use};
 use line_text::{Failed, Sink};
 use std::alloc::Global;
@@ -22,66 +19,39 @@ pub(crate) fn write_device_use<W: Sink>(
     routed: Routed<'_>,
     writer: &mut W,
 ) -> Result<(), Failed> {
-    let Ok(arch) = read_arch(alloc, routed.arch, 1) else {
+    let Some(design) = RoutedDesign::read(alloc, routed) else {
         return Ok(());
     };
-    let written = write_use_by(alloc, wishes, routed, &arch, writer);
-    drop(arch);
-    written
+    write_design(alloc, wishes, routed, &design, writer)
 }
 
-/// Writes these for a device of that architecture.
-fn write_use_by<W: Sink>(
-    alloc: Global,
-    wishes: RouteWishes<'_>,
-    routed: Routed<'_>,
-    arch: &Arch,
-    writer: &mut W,
-) -> Result<(), Failed>
-    requires { IsArch arch.now }
-{
-    let Ok(circuit) = read_blif(alloc, routed.netlist, arch.lut_size) else {
-        return Ok(());
-    };
-    let written = write_circuit(alloc, wishes, routed, arch, &circuit, writer);
-    drop(circuit);
-    written
-}
-
-/// Writes the stops of a circuit's longest path if they are asked for, what it uses, and what sets
+/// Writes the stops of a design's longest path if they are asked for, what it uses, and what sets
 /// the device's size.
-fn write_circuit<W: Sink>(
+fn write_design<W: Sink>(
     alloc: Global,
     wishes: RouteWishes<'_>,
     routed: Routed<'_>,
-    arch: &Arch,
-    circuit: &Circuit,
+    design: &RoutedDesign,
     writer: &mut W,
-) -> Result<(), Failed>
-    requires arch { IsArch arch.now }
-    requires circuit { IsCircuit circuit.now }
-{
+) -> Result<(), Failed> {
     if let RouteForm::Path = wishes.form {
-        write_stops_of(alloc, routed, circuit, writer)?;
+        write_stops_of(alloc, routed, &design.circuit, writer)?;
     }
-    write_counted(alloc, routed, arch, circuit, writer)?;
-    match lacking_before(wishes.size, routed, arch.io_rat) {
+    write_counted(alloc, routed, design, writer)?;
+    match lacking_before(wishes.size, routed, design.arch.io_rat) {
         Some(lacking) => write_lacking(writer, lacking),
         None => Ok(()),
     }
 }
 
-/// Writes what a circuit uses.
+/// Writes what a design uses.
 fn write_counted<W: Sink>(
     alloc: Global,
     routed: Routed<'_>,
-    arch: &Arch,
-    circuit: &Circuit,
+    design: &RoutedDesign,
     writer: &mut W,
-) -> Result<(), Failed>
-    requires arch { IsArch arch.now }
-    requires circuit { IsCircuit circuit.now }
-{
+) -> Result<(), Failed> {
+    let RoutedDesign { arch, circuit, .. } = design;
     let size = routed.size;
     let counted = circuit_use(alloc, circuit, arch.cluster_size, size.columns, size.rows);
     match counted {

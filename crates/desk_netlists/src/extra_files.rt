@@ -1,10 +1,7 @@
 //! What is made of the three files of a routed netlist: a picture, a page, a check, and the
 //! configuration.
 ghost use Rattle.std.specs.Prelude.{◌≡◌, ℕ, List, [], ◌∷◌, Some, Ok, codes, IfOk, MatchResult};
-ghost use Rattle.configuration.specs.ConfigurationText.{configuration_text};
-ghost use Rattle.desk_common.specs.Outputs.{AreAdded};
-ghost use Rattle.line_text.specs.Lines.{JoinedLine, lines_of};
-ghost use Rattle.line_text.specs.Writing.{TakesAll};
+ghost use Rattle.desk_netlists.specs.Prelude.{configuration_text, AreAdded, JoinedLine, lines_of, TakesAll};
 ghost use Rattle.desk_netlists.specs.Written.{AreExtras, IsCheckedExtra, IsConfigured, IsExtra, of_kind};
 
 use crate::page_file::write_netlist_page;
@@ -104,15 +101,9 @@ fn save<O: FileOutputs, E: Sink>(
         IfOk result (λ _. MatchResult made (λ _. AreAdded (O.written outputs.old)
         (O.written outputs.new) (of_kind job.entry kind.now text ∷ [])) (λ _. ⊥)) }
 {
-    let written = match made {
-        Ok(()) => {
-            let new = [new_file(job, kind, sink.as_bytes())];
-            outputs.write_files(new.as_slice(), teller)
-        }
-        Err(outcome) => Err(outcome),
-    };
-    drop(sink);
-    written
+    made?;
+    let new = [new_file(job, kind, sink.as_bytes())];
+    outputs.write_files(new.as_slice(), teller)
 }
 
 /// Draws a routed netlist, each net in its colour.
@@ -126,9 +117,7 @@ fn draw_routed<W: Sink>(
         Err(TextError::NoMemory) => return Err(Outcome::NoMemory),
         Err(TextError::Fault(fault)) => return Err(Outcome::StripRefused(fault)),
     };
-    let drawn = draw(alloc, &strip, View::Nets, writer);
-    drop(strip);
-    match drawn {
+    match draw(alloc, &strip, View::Nets, writer) {
         Ok(()) => Ok(()),
         Err(DrawError::NoMemory | DrawError::Failed) => Err(Outcome::NoMemory),
     }
@@ -221,11 +210,7 @@ fn configure<W: Sink>(
         return Err(Outcome::NoMemory);
     }
     match logical_lines(alloc, netlist) {
-        Ok(lines) => {
-            let written = configure_lines(alloc, &lines, laid, writer);
-            drop(lines);
-            written
-        }
+        Ok(lines) => { configure_lines(alloc, &lines, laid, writer) }
         Err(_) => Err(Outcome::NoMemory),
     }
 }

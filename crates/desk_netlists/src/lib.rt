@@ -21,6 +21,7 @@ mod route_job;
 pub mod route_options;
 mod route_size;
 pub mod route_wishes;
+mod routed_design;
 mod routed_json;
 mod routed_table;
 mod saved_files;

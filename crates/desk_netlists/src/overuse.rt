@@ -13,6 +13,5 @@ pub(crate) fn tell_overuse<E: Sink>(alloc: Global, job: RouteJob<'_>, teller: &m
     };
     if let Ok(Some(crowding)) = crowding_with(alloc, job.plan(), number, job.request) {
         let _ = write_crowding(teller, &crowding);
-        drop(crowding);
     }
 }

@@ -13,12 +13,10 @@ pub(crate) fn write_netlist_page<W: Sink>(
     writer: &mut W,
 ) -> Result<(), Outcome> {
     let mut stops = MemorySink::new(alloc);
-    let written = match write_netlist_stops(alloc, routed.netlist, routed.texts, &mut stops) {
+    match write_netlist_stops(alloc, routed.netlist, routed.texts, &mut stops) {
         Ok(()) => write_items(routed, stops.as_bytes(), writer),
         Err(_) => Err(Outcome::NoMemory),
-    };
-    drop(stops);
-    written
+    }
 }
 
 /// Writes the page of a routed netlist with these stops of its longest path.

@@ -1,5 +1,5 @@
 //! The stops of a netlist's longest path, with their places.
-ghost use Rattle.blif.specs.LawfulCircuits.{IsCircuit};
+ghost use Rattle.desk_netlists.specs.Prelude.{IsCircuit};
 
 use crate::routed_table::Routed;
 use blif::Circuit;
@@ -33,11 +33,7 @@ pub(crate) fn path_facts(
     requires { IsCircuit circuit.now }
 {
     match longest_path(alloc, circuit)? {
-        Longest::Path(path) => {
-            let facts = facts_of(alloc, routed, circuit, &path);
-            drop(path);
-            facts
-        }
+        Longest::Path(path) => { facts_of(alloc, routed, circuit, &path) }
         Longest::NoPath | Longest::Loop => Ok(Vec::new(alloc)),
     }
 }
@@ -52,9 +48,7 @@ fn facts_of(
     let Ok(strip) = read_strip(alloc, routed.texts) else {
         return Err(AllocError);
     };
-    let facts = facts_on(alloc, &strip, circuit, path);
-    drop(strip);
-    facts
+    facts_on(alloc, &strip, circuit, path)
 }
 
 /// The stops of that path over a strip.
@@ -65,9 +59,7 @@ fn facts_on(
     path: &LongestPath,
 ) -> Result<Vec<StopFacts>, AllocError> {
     let stops = stops_on(alloc, strip, circuit, path)?;
-    let facts = placed_stops(alloc, strip, &stops);
-    drop(stops);
-    facts
+    placed_stops(alloc, strip, &stops)
 }
 
 /// The stops with their places.

@@ -1,5 +1,5 @@
 //! The longest path of a routed netlist, stop by stop.
-ghost use Rattle.blif.specs.LawfulCircuits.{IsCircuit};
+ghost use Rattle.desk_netlists.specs.Prelude.{IsCircuit};
 
 use crate::routed_table::Routed;
 use blif::Circuit;
@@ -19,11 +19,7 @@ pub(crate) fn write_stops_of<W: Sink>(
     requires { IsCircuit circuit.now }
 {
     match longest_path(alloc, circuit) {
-        Ok(Longest::Path(path)) => {
-            let written = write_path_stops(alloc, routed.texts, circuit, &path, writer);
-            drop(path);
-            written
-        }
+        Ok(Longest::Path(path)) => { write_path_stops(alloc, routed.texts, circuit, &path, writer) }
         Ok(Longest::NoPath | Longest::Loop) | Err(_) => Ok(()),
     }
 }

@@ -1,5 +1,6 @@
 //! The faults of pins in words: the path, the line and what is wrong.
 use crate::route_wishes::GivenSize;
+use desk_common::write_line;
 use line_text::{Failed, LineFault, Sink};
 use pin_file::{PinFileFault, PinLine};
 use pinned_places::{PinFault, PinFaultKind};
@@ -97,42 +98,18 @@ fn write_pin<'x, E: Sink>(
 
 /// Writes a pin's place.
 fn write_place<E: Sink>(teller: &mut E, pin: PinLine<'_>) -> Result<(), Failed> {
+    write_parts(teller, &[Part::Text("column "), Part::Number(pin.place.x)])?;
+    write_parts(teller, &[Part::Text(" row "), Part::Number(pin.place.y)])?;
     write_parts(
         teller,
-        &[
-            Part::Text("column "),
-            Part::Number(pin.place.x),
-            Part::Text(" row "),
-            Part::Number(pin.place.y),
-            Part::Text(" pad "),
-            Part::Number(pin.place.subblock),
-        ],
+        &[Part::Text(" pad "), Part::Number(pin.place.subblock)],
     )
 }
 
 /// Writes where a device of that size has pads.
 fn write_size<E: Sink>(teller: &mut E, size: GivenSize) -> Result<(), Failed> {
-    write_parts(
-        teller,
-        &[
-            Part::Text(" is not a pad of the device: pads are in columns 1 to "),
-            Part::Number(size.columns),
-            Part::Text(", in rows 0 and "),
-            Part::Number(size.rows + 1),
-            Part::Text("\n"),
-        ],
-    )
-}
-
-/// Writes the beginning of a line about that line of a file.
-fn write_line<E: Sink>(teller: &mut E, path: &str, line: u32) -> Result<(), Failed> {
-    write_parts(
-        teller,
-        &[
-            Part::Text(path),
-            Part::Text(": line "),
-            Part::Number(line),
-            Part::Text(": "),
-        ],
-    )
+    let words = " is not a pad of the device: pads are in columns 1 to ";
+    write_parts(teller, &[Part::Text(words), Part::Number(size.columns)])?;
+    write_parts(teller, &[Part::Text(", in rows 0 and ")])?;
+    write_parts(teller, &[Part::Number(size.rows + 1), Part::Text("\n")])
 }

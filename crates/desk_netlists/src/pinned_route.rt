@@ -1,9 +1,7 @@
 //! Routing a netlist whose pads have the places of a pin file.
 ghost use Rattle.std.specs.Prelude.{◌≡◌, ℕ, Ok, IfOk};
 ghost use Rattle.desk_netlists.specs.Jobs.{IsPinnedEnd, IsRunByFile};
-ghost use Rattle.one_user.specs.declared.pinned.PinnedEnd.TheVariants.{Placed};
-ghost use Rattle.pin_file.specs.PinFiles.{pins_in};
-ghost use Rattle.pin_file.specs.Reading.{pins_read};
+ghost use Rattle.desk_netlists.specs.Prelude.{Placed, pins_in, pins_read};
 
 use crate::pin_words::{tell_file_fault, tell_pin_fault, tell_too_long};
 use crate::refusals::told_unfit;
@@ -32,9 +30,7 @@ pub(crate) fn run_with_pins<F: FileTexts + AllocGlobal, E: Sink>(
     let ended = match pins_in(files.alloc(), path, text.as_slice(), teller) {
         Ok(pins) => {
             let end = end_with(files.alloc(), job, &pins, teller);
-            let run = run_of(files.alloc(), job, path, &pins, end, teller);
-            drop(pins);
-            run
+            run_of(files.alloc(), job, path, &pins, end, teller)
         }
         Err(outcome) => Err(outcome),
     };

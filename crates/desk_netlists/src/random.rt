@@ -1,9 +1,6 @@
 //! The tool that prints a script with random circuits.
 ghost use Rattle.std.specs.Prelude.{◌≡◌, ◌≢◌, Some, codes, IfNone, IfOk, IfSome, OnErr};
-ghost use Rattle.option_words.specs.Values.{text_of};
-ghost use Rattle.random_script.specs.Plans.{HavePlan};
-ghost use Rattle.random_script.specs.declared.plan.LoadParameters.{LoadParameters};
-ghost use Rattle.random_script.specs.declared.plan.Phase.{Phase};
+ghost use Rattle.desk_netlists.specs.Prelude.{text_of, HavePlan, LoadParameters, Phase};
 ghost use Rattle.desk_netlists.specs.Asked.{IsLoadAskedFor, IsRandomAskedFor, word_of};
 
 use arch_file::{MAX_CLUSTER_SIZE, MAX_LUT_SIZE};

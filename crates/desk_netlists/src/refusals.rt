@@ -1,6 +1,6 @@
 //! Netlists that are refused.
 ghost use Rattle.std.specs.Prelude.{◌≤◌};
-ghost use Rattle.strip_place.specs.declared.placing.TheConstants.{MAX_EFFORT};
+ghost use Rattle.desk_netlists.specs.Prelude.{MAX_EFFORT};
 
 use crate::route_size::{Sized, size_for};
 use crate::route_wishes::{GivenSize, RouteWishes, Size};
@@ -63,25 +63,19 @@ fn size_found(alloc: Global, asked: Size, arch: &[u8], request: Request<'_>) -> 
 {
     match size_for(alloc, asked, arch, request) {
         Ok(Sized::Size(size)) => Some(size),
-        Ok(Sized::Refused(refusal)) => {
-            drop(refusal);
-            None
-        }
-        Err(_) => None,
+        _ => None,
     }
 }
 
 /// Writes the size that would do.
 fn write_size<E: Sink>(teller: &mut E, path: &str, size: GivenSize) -> Result<(), Failed> {
+    write_parts(teller, &[Part::Text(path), Part::Text(": --columns ")])?;
     write_parts(
         teller,
-        &[
-            Part::Text(path),
-            Part::Text(": --columns "),
-            Part::Number(size.columns),
-            Part::Text(" --rows "),
-            Part::Number(size.rows),
-            Part::Text(" would do\n"),
-        ],
+        &[Part::Number(size.columns), Part::Text(" --rows ")],
+    )?;
+    write_parts(
+        teller,
+        &[Part::Number(size.rows), Part::Text(" would do\n")],
     )
 }

@@ -1,6 +1,6 @@
 //! The tool that routes one netlist on a device of its own.
 ghost use Rattle.std.specs.Prelude.{◌≡◌, IfOk, IfSome, IsSomeAnd};
-ghost use Rattle.desk_common.specs.Outputs.{IsBeginning};
+ghost use Rattle.desk_netlists.specs.Prelude.{IsBeginning};
 ghost use Rattle.desk_netlists.specs.Jobs.{IsDone, IsFreeRun, IsRouted, IsTrial};
 ghost use Rattle.desk_netlists.specs.Written.{AreExtras, AreWritten, IsRoutedOf};
 

@@ -1,6 +1,6 @@
 //! What is routed, and on which device.
 ghost use Rattle.std.specs.Prelude.{◌≤◌};
-ghost use Rattle.strip_place.specs.declared.placing.TheConstants.{MAX_EFFORT};
+ghost use Rattle.desk_netlists.specs.Prelude.{MAX_EFFORT};
 
 use crate::route_wishes::{GivenSize, RouteWishes};
 use one_user::{DevicePlan, Request};

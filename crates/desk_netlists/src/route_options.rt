@@ -1,11 +1,10 @@
 //! What the options of the tool that routes one netlist ask for.
-ghost use Rattle.std.specs.Prelude.{◌≡◌, ℕ, None, Option, Some, IfOk, OnErr};
-ghost use Rattle.option_words.specs.Values.{text_of};
-ghost use Rattle.desk_common.specs.Numbers.{IsNumberIn};
+ghost use Rattle.std.specs.Prelude.{◌≡◌, None, Option, Some, IfOk, OnErr};
+ghost use Rattle.desk_netlists.specs.Prelude.{text_of};
 ghost use Rattle.desk_netlists.specs.Asked.{AreTracksAskedFor, IsFormAskedFor, IsRouteAskedFor, IsSizeAskedFor, extras_of};
 
 use crate::route_wishes::{Extras, RouteForm, RouteWishes, Size, Tracks, device_size};
-use desk_common::NO_DEVICE;
+use desk_common::{NO_DEVICE, number_in};
 use option_words::Given;
 
 const NO_FILE: &str = "give an architecture, a netlist and a folder";
@@ -95,18 +94,6 @@ fn size_of(given: &Given<'_>) -> Result<Size, &'static str>
             Some(size) => Ok(Size::Given(size)),
             None => Err(NO_DEVICE),
         },
-    }
-}
-
-/// The value of an option with a number, if it is given.
-fn number_in(given: &Given<'_>, name: &str) -> Result<Option<u32>, &'static str>
-    ensures asked { IfOk result (IsNumberIn given.now name.now) }
-    ensures refused { OnErr result ((number : Option ℕ) →
-        IsNumberIn given.now name.now number → ⊥) }
-{
-    match given.text(name) {
-        Some(_) => Ok(Some(given.number(name)?)),
-        None => Ok(None),
     }
 }
 

@@ -1,8 +1,7 @@
 //! The size of the device on which a netlist is routed.
 ghost use Rattle.std.specs.Prelude.{◌≤◌, IfOk, IfSome};
 ghost use Rattle.desk_netlists.specs.Jobs.{IsLeastSize, IsSized, IsSizedBy};
-ghost use Rattle.strip_place.specs.declared.placing.TheConstants.{MAX_EFFORT};
-ghost use Rattle.arch_file.specs.declared.arch.TheConstants.{MAX_IO_RAT};
+ghost use Rattle.desk_netlists.specs.Prelude.{MAX_EFFORT, MAX_IO_RAT};
 
 use crate::route_wishes::{GivenSize, Size, device_size};
 use crate::silence::Silence;

@@ -1,30 +1,15 @@
 //! What the tool that routes one netlist is asked for, and its options.
 ghost use Rattle.std.specs.Prelude.{◌≡◌, ◌≤◌, IfNone, IfSome};
-ghost use Rattle.strip_place.specs.declared.placing.TheConstants.{MAX_EFFORT};
-ghost use Rattle.arch_file.specs.Arch.{IsWithin};
-ghost use Rattle.arch_file.specs.declared.arch.TheConstants.{MAX_TRACKS};
-ghost use Rattle.grid.specs.declared.TheConstants.{MAX_COLUMNS, MAX_ROWS};
+ghost use Rattle.desk_netlists.specs.Prelude.{MAX_EFFORT, IsWithin, MAX_TRACKS, MAX_COLUMNS, MAX_ROWS};
 
-use desk_common::{DEVICE, EFFORT, FOLDER, SEED};
+use desk_common::{ARCH, DEVICE, EFFORT, FOLDER, GIVEN_TRACKS, SEED};
 use grid::{MAX_COLUMNS, MAX_ROWS};
 use option_words::{OptionWord, Program, Takes};
-
-/// The beginning of its help.
-const ABOUT: &str =
-    "Packs, places and routes one netlist on a device of its own, and writes its .net, .place and .route files to a folder";
-
-/// The tool without its options, for the program's help.
-pub const NAMED: Program = Program {
-    name: "route",
-    about: ABOUT,
-    after_help: "",
-    options: &[],
-};
 
 /// The tool and its options.
 pub const TOOL: Program = Program {
     name: "route",
-    about: ABOUT,
+    about: "Packs, places and routes one netlist on a device of its own, and writes its .net, .place and .route files to a folder",
     after_help: "\
 The files are the ones that the service prints for this netlist in a strip of this size, on any device and beside any other tenants.
 At the end, a summary says how much of the device they use, and what sets its size if that is not given. With --progress, or if standard error
@@ -33,20 +18,8 @@ was routed are written too.
 
 Example: fpgad_desk route --arch my.arch --tracks 8 --columns 10 --rows 10 --effort 100 t.blif results",
     options: &[
-        OptionWord {
-            name: "arch",
-            value_name: "FILE",
-            help: "The architecture",
-            takes: Takes::GivenText,
-            default: None,
-        },
-        OptionWord {
-            name: "tracks",
-            value_name: "W",
-            help: "Tracks of each channel, 1 to 64",
-            takes: Takes::Number(1, 64),
-            default: None,
-        },
+        ARCH,
+        GIVEN_TRACKS,
         OptionWord {
             name: "least-tracks",
             value_name: "",

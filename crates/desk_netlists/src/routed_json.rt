@@ -1,17 +1,16 @@
 //! What a routed netlist uses of its device, as JSON.
 ghost use Rattle.std.specs.Prelude.{◌≡◌, ◌++◌, IfOk, OnOk, map};
 ghost use Rattle.std.specs.List.{flat_map};
-ghost use Rattle.desk_netlists.specs.RoutedJson.{fullest_json, lacking_json, last_members, net_name, part_json, part_members, routed_json, size_members, stop_json, stop_word};
-ghost use Rattle.json.specs.Tree.{json_tokens};
-ghost use Rattle.json_text.specs.Values.{json_text, list_of, member_tokens};
+ghost use Rattle.desk_netlists.specs.RoutedJson.{fullest_json, lacking_json, last_members, part_json, part_members, routed_json, size_members, stop_json, stop_word};
+ghost use Rattle.desk_netlists.specs.Prelude.{json_tokens, json_text, list_of, member_tokens};
 
 use crate::path_facts::StopFacts;
 use crate::route_wishes::GivenSize;
 use blif::Circuit;
 use circuit_use::{CircuitUse, Lacking};
-use desk_circuits::{MeasuredCircuit, write_channel, write_circuit_members};
+use desk_circuits::{MeasuredCircuit, name_of, write_channel, write_circuit_members};
 use device_report::{ChannelUse, ResourceUse};
-use json_text::{JsonPen, Member, Scalar};
+use json_text::{JsonPen, Scalar};
 use one_user::Figures;
 use path_stops::StopKind;
 use std::alloc::{AllocError, Global};
@@ -42,13 +41,8 @@ pub(crate) fn routed_text(
         text.items ≡ json_text (routed_json circuit.now facts.entry)) }
 {
     let mut pen = JsonPen::new(alloc);
-    match write_routed(&mut pen, circuit, facts) {
-        Ok(()) => pen.into_text(),
-        Err(error) => {
-            drop(pen);
-            Err(error)
-        }
-    }
+    let written = write_routed(&mut pen, circuit, facts);
+    pen.into_text(written)
 }
 
 /// Writes what is known of a routed netlist.
@@ -74,34 +68,16 @@ fn write_size_members(pen: &mut JsonPen, facts: RoutedFacts<'_>) -> Result<(), A
         ++ flat_map member_tokens (size_members facts.entry)) }
 {
     pen.members(&[
-        Member {
-            name: "netlist",
-            value: Scalar::Text(facts.name),
-        },
-        Member {
-            name: "columns",
-            value: Scalar::Number(facts.size.columns as u64),
-        },
-        Member {
-            name: "rows",
-            value: Scalar::Number(facts.size.rows as u64),
-        },
-        Member {
-            name: "tracks",
-            value: Scalar::Number(facts.figures.tracks as u64),
-        },
-        Member {
-            name: "nets",
-            value: Scalar::Number(facts.figures.nets as u64),
-        },
-        Member {
-            name: "global_nets",
-            value: Scalar::Number(facts.elements.globals as u64),
-        },
-        Member {
-            name: "iterations",
-            value: Scalar::Number(facts.figures.iterations as u64),
-        },
+        ("netlist", Scalar::Text(facts.name)),
+        ("columns", Scalar::Number(facts.size.columns as u64)),
+        ("rows", Scalar::Number(facts.size.rows as u64)),
+        ("tracks", Scalar::Number(facts.figures.tracks as u64)),
+        ("nets", Scalar::Number(facts.figures.nets as u64)),
+        ("global_nets", Scalar::Number(facts.elements.globals as u64)),
+        (
+            "iterations",
+            Scalar::Number(facts.figures.iterations as u64),
+        ),
     ])
 }
 
@@ -125,14 +101,8 @@ fn write_part(pen: &mut JsonPen, one: ResourceUse) -> Result<(), AllocError>
     ensures { OnOk result (pen.new ≡ pen.old ++ json_tokens (part_json one)) }
 {
     pen.object(&[
-        Member {
-            name: "used",
-            value: Scalar::Number(one.used as u64),
-        },
-        Member {
-            name: "there",
-            value: Scalar::Number(one.there as u64),
-        },
+        ("used", Scalar::Number(one.used as u64)),
+        ("there", Scalar::Number(one.there as u64)),
     ])
 }
 
@@ -206,30 +176,12 @@ fn write_stop(pen: &mut JsonPen, circuit: &Circuit, stop: StopFacts) -> Result<(
     ensures { OnOk result (pen.new ≡ pen.old ++ json_tokens (stop_json circuit.now stop)) }
 {
     pen.object(&[
-        Member {
-            name: "stop",
-            value: Scalar::Text(stop_word(stop.kind)),
-        },
-        Member {
-            name: "net",
-            value: Scalar::Name(net_name(circuit, stop.net)),
-        },
-        Member {
-            name: "wires",
-            value: Scalar::Known(stop.wires),
-        },
-        Member {
-            name: "x",
-            value: Scalar::Known(stop.x),
-        },
-        Member {
-            name: "y",
-            value: Scalar::Known(stop.y),
-        },
-        Member {
-            name: "pad",
-            value: Scalar::Known(stop.pad),
-        },
+        ("stop", Scalar::Text(stop_word(stop.kind))),
+        ("net", Scalar::Name(name_of(circuit, stop.net))),
+        ("wires", Scalar::Known(stop.wires)),
+        ("x", Scalar::Known(stop.x)),
+        ("y", Scalar::Known(stop.y)),
+        ("pad", Scalar::Known(stop.pad)),
     ])
 }
 
@@ -241,16 +193,5 @@ fn stop_word(kind: StopKind) -> &'static str
         StopKind::Start => "from",
         StopKind::Table => "table",
         StopKind::End => "to",
-    }
-}
-
-/// The name of a net; empty if there is no such net.
-fn net_name(circuit: &Circuit, net: u32) -> &[u8]
-    ensures { result.now ≡ net_name circuit.now net }
-{
-    if (net as usize) < circuit.nets.len() {
-        circuit.nets.name(net as usize)
-    } else {
-        b""
     }
 }

@@ -48,11 +48,7 @@ pub(crate) fn print_routed<W: Sink>(
 /// none is written.
 fn write_longest<W: Sink>(alloc: Global, routed: Routed<'_>, writer: &mut W) -> Result<(), Failed> {
     match measure(alloc, routed.netlist, Some(routed.texts)) {
-        Some(circuit) => {
-            let written = circuit.write_line(writer);
-            drop(circuit);
-            written
-        }
+        Some(circuit) => { circuit.write_line(writer) }
         None => Ok(()),
     }
 }
@@ -61,14 +57,10 @@ fn write_longest<W: Sink>(alloc: Global, routed: Routed<'_>, writer: &mut W) -> 
 fn write_size<W: Sink>(size: GivenSize, writer: &mut W) -> Result<(), Failed> {
     write_parts(
         writer,
-        &[
-            Part::Text("columns "),
-            Part::Number(size.columns),
-            Part::Text("\nrows "),
-            Part::Number(size.rows),
-            Part::Text("\n"),
-        ],
-    )
+        &[Part::Text("columns "), Part::Number(size.columns)],
+    )?;
+    write_parts(writer, &[Part::Text("\nrows ")])?;
+    write_parts(writer, &[Part::Number(size.rows), Part::Text("\n")])
 }
 
 /// Prints the numbers of the table, after the name. A number that there is not is left out.
@@ -90,7 +82,5 @@ fn write_row<W: Sink>(alloc: Global, routed: Routed<'_>, writer: &mut W) -> Resu
         ],
     )?;
     let circuit = measure(alloc, routed.netlist, Some(routed.texts));
-    let written = write_path(writer, &circuit);
-    drop(circuit);
-    written
+    write_path(writer, &circuit)
 }

@@ -1,6 +1,6 @@
 //! The files of a netlist that are written into the folder that is asked for.
 ghost use Rattle.std.specs.Prelude.{◌≡◌, IfOk};
-ghost use Rattle.desk_common.specs.Outputs.{AreAdded, named};
+ghost use Rattle.desk_netlists.specs.Prelude.{AreAdded, named};
 ghost use Rattle.desk_netlists.specs.Written.{IsLastPart, IsStem, left_files, of_kind, three_files};
 
 use crate::route_job::RouteJob;

@@ -1,6 +1,6 @@
 //! The tool that prints the script of a tenancy.
 ghost use Rattle.std.specs.Prelude.{ℕ, Option, codes, IfOk, OnErr};
-ghost use Rattle.desk_common.specs.Numbers.{IsNumberIn};
+ghost use Rattle.desk_netlists.specs.Prelude.{IsNumberIn};
 ghost use Rattle.desk_netlists.specs.Asked.{IsScriptAskedFor};
 ghost use Rattle.desk_netlists.specs.Scripts.{Prints};
 

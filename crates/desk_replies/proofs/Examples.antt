@@ -1,7 +1,6 @@
 -- Examples that are computed.
-use Rattle.std.proofs.Common.{◌≡◌, ℕ, List, [], ◌∷◌, codes, refl}
-use Rattle.script_text.specs.declared.operator_line.OperatorLine.TheVariants.{Admit, Evict, List as ListAll}
-use Rattle.desk_replies.specs.States.{StateAfter, operator_states, session_states}
+use Rattle.desk_replies.proofs.Prelude.{◌≡◌, ℕ, List, [], ◌∷◌, codes, refl, Admit, Evict, StateAfter, operator_states, session_states}
+use Rattle.script_text.specs.declared.operator_line.OperatorLine.TheVariants.{List as ListAll}
 
 abbrev state : List ℕ → List ℕ → StateAfter
 state name word = record { name = name; state = word; act = 4 }

@@ -1,9 +1,5 @@
 -- Facts of tenancies, one after another.
-use Rattle.std.proofs.Common.{◌≡◌, ◌++◌, ◌∙◌, ◌+◌, ℕ, List, [], ◌∷◌, Some, append_assoc, ap, subst, sym, take}
-use Rattle.std.specs.List.{AllZip, slice_get}
-use Rattle.std.proofs.lemmas.List.{take_more}
-use Rattle.std.proofs.lemmas.Option.{slice_get_within, get_or_from_slice_get}
-use Rattle.desk_circuits.proofs.Zipped.{zip_more}
+use Rattle.desk_replies.proofs.Prelude.{◌≡◌, ◌++◌, ◌∙◌, ◌+◌, ℕ, List, [], ◌∷◌, Some, append_assoc, ap, subst, sym, take, AllZip, slice_get, take_more, slice_get_within, get_or_from_slice_get, zip_more}
 
 -- one more is added
 pub one_added : {A C : Type 0} (R : A → C → Type 0) (xs : List A) (i : ℕ) (x : A) (old mid new : List C) (y : C) → slice_get xs i ≡ Some x

@@ -1,3 +1,4 @@
+mod Prelude
 mod Ended
 mod Examples
 mod MoveLemmas

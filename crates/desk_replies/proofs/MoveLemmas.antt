@@ -1,11 +1,5 @@
 -- Moves that are written after the gaps.
-use Rattle.std.proofs.Common.{◌≡◌, ℕ, Bool, List, Option, subst}
-use Rattle.line_text.proofs.WritingLemmas.{all_then}
-use Rattle.line_text.specs.Writing.{TakesAll}
-use Rattle.device_report.specs.declared.report.Report.{Report}
-use Rattle.strip_moves.specs.Gaps.{gaps_of}
-use Rattle.strips.specs.declared.placed_strip.PlacedStrip.{PlacedStrip}
-use Rattle.desk_replies.specs.Moves.{AreJoined, AreJoining, AreMoves, gaps_text, strips_of}
+use Rattle.desk_replies.proofs.Prelude.{◌≡◌, ℕ, Bool, List, Option, subst, all_then, TakesAll, Report, gaps_of, PlacedStrip, AreJoined, AreJoining, AreMoves, gaps_text, strips_of}
 
 pub moves_written : {S : Type 0} {contents : S → Option (List ℕ)} {has_failed : S → Bool} {a b c : S} (report : Report) (strips : List PlacedStrip) → strips ≡ strips_of report →
     TakesAll contents has_failed a b (gaps_text (gaps_of report.size.columns strips) report.widest) →

@@ -1,12 +1,5 @@
 -- The crowding of the routing that was asked for.
-use Rattle.std.proofs.Common.{ℕ, List, Option, Some, None, IfSome, inl, inr}
-use Rattle.one_user.specs.Tracks.{IsCrowdingWith}
-use Rattle.one_user.specs.declared.crowding.Crowding.{Crowding}
-use Rattle.one_user.specs.declared.device.Request.{Request}
-use Rattle.one_user.specs.declared.least.DevicePlan.{DevicePlan}
-use Rattle.desk_replies.specs.Overused.{IsCrowded, IsCrowdedBy, IsCrowdingFor, IsPlanOf}
-use Rattle.desk_replies.specs.Wishes.{Wish}
-use Rattle.desk_replies.specs.declared.shared_device.SharedDevice.{SharedDevice}
+use Rattle.desk_replies.proofs.Prelude.{ℕ, List, Option, Some, None, IfSome, inl, inr, IsCrowdingWith, Crowding, Request, DevicePlan, IsCrowded, IsCrowdedBy, IsCrowdingFor, IsPlanOf, Wish, SharedDevice}
 
 pub crowded_for : (device : SharedDevice) (wish : Wish) (plan : DevicePlan) (request : Request) (name text : List ℕ) → IsPlanOf device wish plan request → IsCrowdedBy plan request device.tracks name text → IsCrowded device wish name text
 crowded_for device wish plan request name text of (inl none) = inl none

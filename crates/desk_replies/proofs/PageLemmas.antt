@@ -1,29 +1,5 @@
 -- Texts of a page that are written one after another.
-use Rattle.std.proofs.Common.{◌≡◌, ◌∙◌, ℕ, ◌+◌, ◌<◌, ◌≤◌, Bool, List, [], ◌++◌, length, take, Option, Some, None, Result, Ok, Err, inl, inr, refl, ap, subst, arith, codes, true, false, if◌then◌else◌}
-use Rattle.std.specs.List.{flat_map, slice_get}
-use Rattle.std.specs.Option.{option_map_or}
-use Rattle.std.specs.Result.{OnOk, is_ok}
-use Rattle.std.proofs.lemmas.Bool.{false≢true}
-use Rattle.std.proofs.lemmas.Option.{slice_get_cases}
-use Rattle.desk_circuits.specs.EachText.{IsEmptyOr}
-use Rattle.desk_circuits.specs.Measured.{ShowsPresentStops}
-use Rattle.line_text.proofs.WritingLemmas.{all_loop, all_same, all_then, part_loop, part_same}
-use Rattle.line_text.specs.Writing.{TakesAll, TakesPart, Writes}
-use Rattle.line_text.specs.declared.source.Failed.{Failed}
-use Rattle.page.specs.Pages.{element_text}
-use Rattle.page.specs.declared.page.Viewer.{Viewer}
-use Rattle.printed_replies.specs.Replies.{AnsweredLine}
-use Rattle.script_replies.specs.Accounts.{NameAccount, accounts_of}
-use Rattle.script_replies.specs.declared.listing.ToldLine.{ToldLine}
-use Rattle.script_text.specs.declared.act.Act.{Act}
-use Rattle.desk_replies.specs.Overused.{IsOveruse}
-use Rattle.desk_replies.specs.Paged.{AreAround, AreItemsOf, AreScriptTexts, AreTexts, IsItem, IsItemIf, IsPageWith, device_text, file_item, file_items, script_items, sink_text, text_items}
-use Rattle.desk_replies.specs.States.{LastStates, is_unrouted}
-use Rattle.desk_replies.specs.Written.{AreTextsOf, WritesSome}
-use Rattle.desk_replies.specs.declared.lines.Lines.{Lines}
-use Rattle.desk_replies.specs.declared.shared_device.SharedDevice.{SharedDevice}
-use Rattle.desk_replies.specs.declared.page_texts.PageTexts.{PageTexts}
-use Rattle.desk_replies.specs.declared.page_tool.PageWishes.{PageWishes}
+use Rattle.desk_replies.proofs.Prelude.{◌≡◌, ◌∙◌, ℕ, ◌+◌, ◌<◌, ◌≤◌, Bool, List, [], ◌++◌, length, take, Option, Some, None, Result, Ok, Err, inl, inr, refl, ap, subst, arith, codes, true, false, if◌then◌else◌, flat_map, slice_get, option_map_or, OnOk, is_ok, false≢true, slice_get_cases, IsEmptyOr, ShowsPresentStops, all_loop, all_same, all_then, part_loop, part_same, TakesAll, TakesPart, Writes, Failed, element_text, Viewer, AnsweredLine, NameAccount, accounts_of, ToldLine, Act, IsOveruse, AreAround, AreItemsOf, AreScriptTexts, AreTexts, IsItem, IsItemIf, IsPageWith, device_text, file_item, file_items, script_items, sink_text, text_items, LastStates, is_unrouted, AreTextsOf, WritesSome, Lines, SharedDevice, PageTexts, PageWishes}
 
 -- the texts at a place of a list, if it has that place
 pub more_at : {S X : Type 0} {contents : S → Option (List ℕ)} {has_failed : S → Bool} {a b c : S} (f : X → List ℕ) (xs : List X) (i : ℕ) → i < length xs → TakesAll contents has_failed a b (flat_map f (take i xs)) →

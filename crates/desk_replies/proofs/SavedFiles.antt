@@ -1,22 +1,6 @@
 -- Files that are written one name after another.
-use Rattle.std.proofs.Common.{◌≡◌, ◌∙◌, ◌+◌, ◌<◌, ◌≤◌, ℕ, List, [], ◌∷◌, ◌++◌, Option, Some, Bool, true, false, length, take, map, get_or, slice_get, slice_index_or, sym, ap, subst, append-nil, refl, arith, codes, Result, Ok, Err, IfOk, MatchResult}
-use Rattle.std.proofs.lemmas.Grind.{flat_map-append}
-use Rattle.std.proofs.lemmas.Option.{get_or_from_slice_get, slice_get-get_or, slice_get_past}
-use Rattle.std.proofs.lemmas.List.{take_more}
-use Rattle.std.proofs.lemmas.List.Folds.{flat_map-map}
-use Rattle.std.proofs.lemmas.List.FromFn.{map-range_with_len_more}
-use Rattle.std.proofs.lemmas.Str.{IsUtf8-from_is_utf8, is_utf8-from_IsUtf8}
-use Rattle.std.specs.List.{flat_map, range_with_len}
-use Rattle.std.specs.Str.{IsUtf8, is_utf8}
-use Rattle.desk_common.specs.Outputs.{AreAdded, NamedBytes}
-use Rattle.desk_common.proofs.Added.{added_then}
-use Rattle.desk_replies.specs.Saved.{files_of_name, if_present, line_at, lines_at, replies_by_number, replies_file}
-use Rattle.printed_replies.specs.Printing.{asked_in}
-use Rattle.printed_replies.specs.Replies.{AnsweredLine, names_of}
-use Rattle.printed_replies.specs.Sections.{session_places}
-use Rattle.script_replies.specs.Accounts.{NameAccount}
-use Rattle.script_replies.specs.Told.{told_text}
-use Rattle.script_replies.specs.declared.listing.ToldLine.{ToldLine}
+use Rattle.desk_replies.proofs.Prelude.{◌≡◌, ◌∙◌, ◌+◌, ◌<◌, ◌≤◌, ℕ, List, [], ◌∷◌, ◌++◌, Option, Some, Bool, true, false, length, take, map, get_or, slice_index_or, sym, ap, subst, append-nil, refl, arith, codes, Result, Ok, Err, IfOk, MatchResult, flat_map-append, get_or_from_slice_get, slice_get-get_or, slice_get_past, take_more, flat_map-map, map-range_with_len_more, IsUtf8-from_is_utf8, is_utf8-from_IsUtf8, flat_map, range_with_len, IsUtf8, is_utf8, AreAdded, NamedBytes, added_then, files_of_name, if_present, line_at, lines_at, replies_by_number, replies_file, asked_in, AnsweredLine, names_of, session_places, NameAccount, told_text, ToldLine}
+use Rattle.std.proofs.Common.{slice_get}
 
 pub flat_more : {A B : Type 0} (f : A → List B) (xs : List A) (i : ℕ) (d : A) → i < length xs → flat_map f (take (i + 1) xs) ≡ flat_map f (take i xs) ++ f (get_or xs i d)
 flat_more f xs i d l = ap (flat_map f) (take_more xs i d l) ∙ flat_map-append f (take i xs) (get_or xs i d ∷ []) ∙ ap (λ more. flat_map f (take i xs) ++ more) (append-nil (f (get_or xs i d)))

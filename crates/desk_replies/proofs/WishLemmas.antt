@@ -1,14 +1,5 @@
 -- What was asked, one act after another.
-use Rattle.std.proofs.Common.{ℕ, ◌≡◌, ◌∙◌, ◌+◌, ◌<◌, ◌≤◌, List, [], ◌∷◌, length, map, min, drop, get_or, inl, inr, refl, ap, sym, arith, add-one}
-use Rattle.std.specs.Borrow.{Bor}
-use Rattle.std.proofs.Math.Seq.{drop-cons}
-use Rattle.std.proofs.lemmas.Bool.{cases_lt}
-use Rattle.std.proofs.lemmas.List.{at_drop_all, get_or-map, length-map}
-use Rattle.printed_replies.specs.Replies.{AnsweredLine, answered_line}
-use Rattle.printed_replies.specs.declared.answered.Answered.{Answered}
-use Rattle.script_text.specs.Script.{named_act}
-use Rattle.script_text.specs.declared.act.Act.{Act}
-use Rattle.desk_replies.specs.Wishes.{Wish, wish_after, wish_from}
+use Rattle.desk_replies.proofs.Prelude.{ℕ, ◌≡◌, ◌∙◌, ◌+◌, ◌<◌, ◌≤◌, List, [], ◌∷◌, length, map, min, drop, get_or, inl, inr, refl, ap, sym, arith, add-one, Bor, drop-cons, cases_lt, at_drop_all, get_or-map, length-map, AnsweredLine, answered_line, Answered, named_act, Act, Wish, wish_after, wish_from}
 
 -- the acts and replies from a place on are those at it and those after it
 pub wish_next : (name : List ℕ) (wish : Wish) (acts : List (Act (Bor (List ℕ)))) (lines : List Answered) (i : ℕ) (act : Act (Bor (List ℕ))) (none : Answered) → i < length acts → i < length lines → act ≡ get_or acts i act

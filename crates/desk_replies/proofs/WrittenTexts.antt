@@ -1,14 +1,5 @@
 -- Texts of which only a relation says what they are.
-use Rattle.std.proofs.Common.{◌≡◌, ◌∙◌, ℕ, ◌+◌, Bool, List, [], ◌∷◌, ◌++◌, take, map, Option, Some, Result, Ok, Err, refl, sym, ap, subst, append-nil, append_assoc}
-use Rattle.std.specs.List.{slice_get}
-use Rattle.std.specs.Result.{OnOk}
-use Rattle.std.proofs.lemmas.List.{map-append, take_more}
-use Rattle.std.proofs.lemmas.Option.{get_or_from_slice_get, slice_get_within}
-use Rattle.std.specs.Io.KnownBytes.{Appends}
-use Rattle.line_text.proofs.WritingLemmas.{all_then}
-use Rattle.line_text.specs.Writing.{Writes}
-use Rattle.line_text.specs.declared.source.Failed.{Failed}
-use Rattle.desk_replies.specs.Written.{AreTextsOf, WritesSome}
+use Rattle.desk_replies.proofs.Prelude.{◌≡◌, ◌∙◌, ℕ, ◌+◌, Bool, List, [], ◌∷◌, ◌++◌, take, map, Option, Some, Result, Ok, Err, refl, sym, ap, subst, append-nil, append_assoc, slice_get, OnOk, map-append, take_more, get_or_from_slice_get, slice_get_within, Appends, all_then, Writes, Failed, AreTextsOf, WritesSome}
 
 -- a text of which that holds is written
 pub some_written : {S : Type 0} (contents : S → Option (List ℕ)) (has_failed : S → Bool) (a b : S) (t : List ℕ) (P : List ℕ → Type 0) (r : Result (Unit {0}) Failed) → Writes contents has_failed a b t r → P t → OnOk r (WritesSome contents has_failed a b P)

@@ -1,8 +1,7 @@
 -- What the options of tools ask for.
 use Rattle.std.specs.Prelude.{◌≡◌, true, false, is_none, Some, option_map, codes}
-use Rattle.option_words.specs.declared.given.Given.{Given}
-use Rattle.option_words.specs.Values.{is_given, number_of, text_of}
-use Rattle.device_lines.specs.declared.size.DeviceSize.{DeviceSize}
+use Rattle.desk_replies.specs.Prelude.{Given, is_given, text_of, DeviceSize}
+use Rattle.option_words.specs.Values.{number_of}
 use Rattle.desk_replies.specs.declared.files.FilesForm.{FilesForm}
 use Rattle.desk_replies.specs.declared.files.FilesForm.TheVariants as files
 use Rattle.desk_replies.specs.declared.files.FilesWishes.{FilesWishes}

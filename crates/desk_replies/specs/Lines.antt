@@ -1,6 +1,6 @@
 -- The lines of a script after its architecture.
 use Rattle.std.specs.Prelude.{ℕ, ◌≡◌, ◌⊎◌, Bool, true, false, List, []}
-use Rattle.script_text.specs.Cuts.{HasNoEnd, IsCut}
+use Rattle.desk_replies.specs.Prelude.{HasNoEnd, IsCut}
 use Rattle.desk_replies.specs.declared.lines.Lines.{Lines}
 
 -- all lines

@@ -1,16 +1,7 @@
 -- What `report --moves` prints.
 use Rattle.std.specs.Prelude.{ℕ, ◌==◌, List, [], ◌∷◌, ◌++◌, codes, decimal, find, flat_map, map, Bool, Option, Some, None}
 use Rattle.std.specs.List.{concat}
-use Rattle.strips.specs.Plan.{IsLaidOut, Plan}
-use Rattle.strips.specs.declared.placed_strip.PlacedStrip.{PlacedStrip}
-use Rattle.device_report.specs.declared.report.Report.{Report}
-use Rattle.device_report.specs.declared.tenancies.TenancyUse.{TenancyUse}
-use Rattle.device_report.specs.declared.widest.Room.{Room}
-use Rattle.line_text.specs.Writing.{TakesAll}
-use Rattle.strip_moves.specs.Gaps.{gaps_of}
-use Rattle.strip_moves.specs.Moves.{IsJoining}
-use Rattle.strip_moves.specs.declared.joining.Joining.{Joining}
-use Rattle.strip_moves.specs.declared.joining.StripMove.{StripMove}
+use Rattle.desk_replies.specs.Prelude.{IsLaidOut, Plan, PlacedStrip, Report, TenancyUse, Room, TakesAll, gaps_of, IsJoining, Joining, StripMove}
 
 -- columns side by side as a comment: the words, their number, and the offset
 abbrev pub room_line : List ℕ → Room → List ℕ

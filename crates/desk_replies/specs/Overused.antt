@@ -1,20 +1,12 @@
 -- What is written of the overused nodes of a routing that is given up.
-use Rattle.std.specs.Prelude.{ℕ, ◌≡◌, ◌⊎◌, Bool, true, false, nat_le, ◌&&◌, List, [], ◌++◌, codes, is_some, Option, Some, None}
+use Rattle.std.specs.Prelude.{ℕ, ◌≡◌, ◌⊎◌, Bool, true, false, nat_le, ◌&&◌, List, [], ◌++◌, codes, is_some, map, Option, Some, None}
 use Rattle.std.specs.Option.{option_map_or}
 use Rattle.std.specs.Str.{bytes_eq}
-use Rattle.device_report.specs.declared.tenancies.TenancyUse.{TenancyUse}
-use Rattle.grid.specs.declared.TheConstants.{MAX_COLUMNS}
-use Rattle.one_user.specs.CrowdingText.{crowding_text}
-use Rattle.one_user.specs.Tracks.{IsCrowdingWith}
-use Rattle.one_user.specs.declared.crowding.Crowding.{Crowding}
-use Rattle.one_user.specs.declared.device.Request.{Request}
-use Rattle.one_user.specs.declared.least.DevicePlan.{DevicePlan}
-use Rattle.printed_replies.specs.Replies.{AnsweredLine}
-use Rattle.script_text.specs.declared.act.Act.{Act}
-use Rattle.strip_place.specs.declared.placing.TheConstants.{MAX_EFFORT}
+use Rattle.desk_replies.specs.Prelude.{TenancyUse, MAX_COLUMNS, crowding_text, IsCrowdingWith, Crowding, Request, DevicePlan, AnsweredLine, named_act, Act, MAX_EFFORT}
 use Rattle.desk_replies.specs.Sizes.{are_sizes}
 use Rattle.desk_replies.specs.Wishes.{Wish, wish_of}
 use Rattle.desk_replies.specs.declared.layout_wish.Start.{Start}
+use Rattle.desk_replies.specs.declared.overuse.ServedScript.{ServedScript}
 use Rattle.desk_replies.specs.declared.shared_device.SharedDevice.{SharedDevice}
 
 -- the wish has a netlist, and a start of its placing on a strip within the limits
@@ -80,6 +72,13 @@ IsOveruseIf false device acts replies name text = text ≡ []
 
 abbrev pub IsOveruseOf : Option SharedDevice → List (Act (List ℕ)) → List AnsweredLine → TenancyUse → List ℕ → Type 0
 IsOveruseOf device acts replies uses text = IsOveruseIf (bytes_eq uses.tenancy.state.now (codes "Unrouted")) device acts replies uses.tenancy.name.now text
+
+-- private: that of a name, and that of a tenancy in a report, by a script that was served
+abbrev pub IsOveruseIn : ServedScript → List ℕ → List ℕ → Type 0
+IsOveruseIn served = IsOveruse served.device (map named_act served.acts.now) served.replies.now
+
+abbrev pub IsReportedOveruseIn : ServedScript → TenancyUse → List ℕ → Type 0
+IsReportedOveruseIn served = IsOveruseOf served.device (map named_act served.acts.now) served.replies.now
 
 -- the device has that architecture, and these rows and tracks; there is none exactly if these are
 -- not the sizes of one

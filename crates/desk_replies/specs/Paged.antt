@@ -3,20 +3,7 @@ use Rattle.std.specs.Prelude.{ℕ, ◌≡◌, ◌-◌, ◌^◌, Bool, true, fals
 use Rattle.std.specs.Borrow.{Bor}
 use Rattle.std.specs.List.{concat, flat_map}
 use Rattle.std.specs.Option.{option_map_or}
-use Rattle.line_text.specs.Decimal.{decimal_of}
-use Rattle.line_text.specs.Writing.{TakesAll}
-use Rattle.line_text.specs.declared.memory_sink.MemorySink.{MemorySink}
-use Rattle.page.specs.Pages.{element_text}
-use Rattle.page.specs.declared.page.Viewer.{Viewer}
-use Rattle.printed_replies.specs.Replies.{AnsweredLine}
-use Rattle.script_replies.specs.Accounts.{NameAccount, accounts_of}
-use Rattle.script_replies.specs.Asking.{replies_in}
-use Rattle.script_replies.specs.Told.{refused_text, told_text}
-use Rattle.script_replies.specs.declared.listing.ToldLine.{ToldLine}
-use Rattle.script_text.specs.Script.{script_of}
-use Rattle.script_text.specs.declared.act.Act.{Act}
-use Rattle.desk_circuits.specs.Measured.{ShowsPresentStops}
-use Rattle.desk_common.specs.Outputs.{IsBeginning}
+use Rattle.desk_replies.specs.Prelude.{decimal_of, TakesAll, MemorySink, element_text, Viewer, AnsweredLine, NameAccount, accounts_of, replies_in, refused_text, told_text, ToldLine, script_of, Act, ShowsPresentStops, IsBeginning}
 use Rattle.desk_replies.specs.Lines.{AreLines}
 use Rattle.desk_replies.specs.Overused.{IsDevice, IsOveruse}
 use Rattle.desk_replies.specs.Served.{AreTold}

@@ -1,15 +1,8 @@
 -- The longest path of each tenancy's netlist, in a report.
-use Rattle.std.specs.Prelude.{ℕ, ◌≡◌, List, [], ◌∷◌, ◌++◌, codes, find, map, Option, Some, None}
+use Rattle.std.specs.Prelude.{ℕ, ◌≡◌, Bool, true, false, List, [], ◌∷◌, ◌++◌, codes, find, map, Option, Some, None}
 use Rattle.std.specs.List.{AllZip, concat}
 use Rattle.std.specs.Str.{bytes_eq}
-use Rattle.desk_circuits.specs.EachText.{ShowsEach}
-use Rattle.desk_circuits.specs.Measured.{IsOfFilesIfAny}
-use Rattle.desk_circuits.specs.PathLines.{longest_line}
-use Rattle.desk_circuits.specs.Usages.{path_fields}
-use Rattle.desk_circuits.specs.declared.longest.MeasuredCircuit.{MeasuredCircuit}
-use Rattle.device_report.specs.declared.report.Report.{Report}
-use Rattle.device_report.specs.declared.tenancies.TenancyUse.{TenancyUse}
-use Rattle.script_replies.specs.Accounts.{NameAccount, account_now}
+use Rattle.desk_replies.specs.Prelude.{ShowsEach, IsOfFilesIfAny, longest_line, path_fields, MeasuredCircuit, Report, TenancyUse, NameAccount, account_now}
 use Rattle.desk_replies.specs.Tables.{heading_fields, row_fields}
 use Rattle.desk_replies.specs.declared.report_facts.TenancyFacts.{TenancyFacts}
 use Rattle.desk_replies.specs.declared.report_facts.Told.{Told}
@@ -43,19 +36,18 @@ pub record IsFactOf (accounts : Option (List NameAccount)) (uses : TenancyUse) (
 abbrev pub AreFactsOf : Option (List NameAccount) → List TenancyUse → List TenancyFacts → Type 0
 AreFactsOf accounts tenancies facts = AllZip (IsFactOf accounts) tenancies facts
 
--- the text has the line of a tenancy's longest path
-abbrev pub ShowsPath : List NameAccount → TenancyUse → List ℕ → Type 0
-ShowsPath accounts uses text =
-    (circuit : Option MeasuredCircuit) × HasCircuit accounts uses.tenancy.name.now circuit × (text ≡ longest_line uses.tenancy.name.now circuit)
+-- the row of a tenancy in a table, with its longest path, or just the line of that
+abbrev pub path_text : Bool → TenancyUse → Option MeasuredCircuit → List ℕ
+path_text true uses circuit = row_fields uses ++ path_fields circuit
+path_text false uses circuit = longest_line uses.tenancy.name.now circuit
 
--- the text has the row of a tenancy, with its longest path
-abbrev pub ShowsPathRow : List NameAccount → TenancyUse → List ℕ → Type 0
-ShowsPathRow accounts uses text =
-    (circuit : Option MeasuredCircuit) × HasCircuit accounts uses.tenancy.name.now circuit × (text ≡ row_fields uses ++ path_fields circuit)
+-- the text has the row of a tenancy, or the line of its longest path
+abbrev pub ShowsPath : Bool → List NameAccount → TenancyUse → List ℕ → Type 0
+ShowsPath is_row accounts uses text = (circuit : Option MeasuredCircuit) × HasCircuit accounts uses.tenancy.name.now circuit × (text ≡ path_text is_row uses circuit)
 
 -- the lines of all tenancies
 abbrev pub ShowsPaths : List NameAccount → Report → List ℕ → Type 0
-ShowsPaths accounts report text = ShowsEach (ShowsPath accounts) report.tenancies.items text
+ShowsPaths accounts report text = ShowsEach (ShowsPath false accounts) report.tenancies.items text
 
 -- the headings of the table with longest paths
 abbrev pub path_headings : List ℕ
@@ -63,4 +55,4 @@ path_headings = heading_fields ++ concat (codes ",longest_path,longest_path_wire
 
 -- the table of all tenancies, with their longest paths
 abbrev pub ShowsPathTable : List NameAccount → Report → List ℕ → Type 0
-ShowsPathTable accounts report text = (rows : List ℕ) × ShowsEach (ShowsPathRow accounts) report.tenancies.items rows × (text ≡ path_headings ++ rows)
+ShowsPathTable accounts report text = (rows : List ℕ) × ShowsEach (ShowsPath true accounts) report.tenancies.items rows × (text ≡ path_headings ++ rows)

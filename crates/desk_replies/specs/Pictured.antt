@@ -1,10 +1,6 @@
 -- How the tool that draws a device ends.
 use Rattle.std.specs.Prelude.{ℕ, ◌≡◌, ◌⊎◌, List, Option, Ok, Err, IfSome, ⊤}
-use Rattle.device_lines.specs.Reading.{Gives, device_in}
-use Rattle.device_lines.specs.declared.device.ListedDevice.{ListedDevice}
-use Rattle.device_lines.specs.declared.size.DeviceSize.{DeviceSize}
-use Rattle.desk_common.specs.declared.outcome.Outcome.{Outcome}
-use Rattle.desk_common.specs.declared.outcome.Outcome.TheVariants.{Done, InputFailed, NoMemory, OutputFailed, ReplyRefused}
+use Rattle.desk_replies.specs.Prelude.{Gives, device_in, ListedDevice, DeviceSize, Outcome, Done, InputFailed, NoMemory, OutputFailed, ReplyRefused}
 
 -- why a text is refused: it has this fault, or memory ran out
 abbrev pub IsRefusedText : DeviceSize → List ℕ → Outcome → Type 0

@@ -1,15 +1,7 @@
 -- What `files` prints.
 use Rattle.std.specs.Prelude.{ℕ, ◌-◌, List, [], ◌∷◌, ◌++◌, Bool, true, false, codes, decimal, length, Option}
 use Rattle.std.specs.List.{concat, flat_map}
-use Rattle.desk_circuits.specs.Json.{usages_json}
-use Rattle.desk_circuits.specs.Usages.{AreFactsOf, ShowsUsages}
-use Rattle.desk_circuits.specs.declared.usages.NameFacts.{NameFacts}
-use Rattle.desk_circuits.specs.declared.usages_json.LineCounts.{LineCounts}
-use Rattle.json_text.specs.Values.{json_text}
-use Rattle.line_text.specs.Writing.{TakesAll}
-use Rattle.script_replies.specs.Accounts.{NameAccount}
-use Rattle.script_replies.specs.Told.{told_text}
-use Rattle.script_replies.specs.declared.listing.ToldLine.{ToldLine}
+use Rattle.desk_replies.specs.Prelude.{usages_json, AreFactsOf, ShowsUsages, NameFacts, LineCounts, json_text, TakesAll, NameAccount, told_text, ToldLine}
 use Rattle.desk_replies.specs.declared.files.FilesForm.{FilesForm}
 use Rattle.desk_replies.specs.declared.files.FilesForm.TheVariants.{Lines, Table, Json}
 

@@ -1,22 +1,6 @@
 -- How full a device is, as JSON.
 use Rattle.std.specs.Prelude.{ℕ, List, [], ◌∷◌, ◌++◌, Option, Some, None, codes, map, if◌then◌else◌}
-use Rattle.cluster.specs.Clusters.{PackedCircuit}
-use Rattle.desk_circuits.specs.Channels.{channel_json}
-use Rattle.desk_circuits.specs.Json.{circuit_members}
-use Rattle.device_lines.specs.declared.size.DeviceSize.{DeviceSize}
-use Rattle.device_lines.specs.declared.tenancy.Tenancy.{Tenancy}
-use Rattle.device_report.specs.Text.{is_routed}
-use Rattle.device_report.specs.declared.columns.ColumnUse.{ColumnUse}
-use Rattle.device_report.specs.declared.report.Report.{Report}
-use Rattle.device_report.specs.declared.tenancies.ResourceUse.{ResourceUse}
-use Rattle.device_report.specs.declared.tenancies.TenancyUse.{TenancyUse}
-use Rattle.device_report.specs.declared.widest.Room.{Room}
-use Rattle.json.specs.Json.{Json, null, string}
-use Rattle.json_text.specs.Values.{known_number, list_of, name_of, number_of, object_of}
-use Rattle.one_user.specs.Crowding.{net_between}
-use Rattle.one_user.specs.declared.crowding.CrowdedNode.{CrowdedNode}
-use Rattle.one_user.specs.declared.crowding.Crowding.{Crowding}
-use Rattle.vpr_files.specs.NodeText.{kind_word}
+use Rattle.desk_replies.specs.Prelude.{PackedCircuit, channel_json, circuit_members, DeviceSize, Tenancy, is_routed, ColumnUse, Report, ResourceUse, TenancyUse, Room, Json, null, string, known_number, list_of, name_of, number_of, object_of, net_between, CrowdedNode, Crowding, kind_word}
 use Rattle.desk_replies.specs.declared.report_facts.TenancyFacts.{TenancyFacts}
 
 -- what a tenancy uses of one kind: not known unless it is routed

@@ -1,18 +1,6 @@
 -- What `report` prints.
 use Rattle.std.specs.Prelude.{ℕ, ◌≡◌, List, ◌++◌, Bool, true, false, Option, Some, None, Ok, IfSome}
-use Rattle.device_lines.specs.Reading.{Gives, device_in}
-use Rattle.device_lines.specs.declared.device.ListedDevice.{ListedDevice}
-use Rattle.device_lines.specs.declared.size.DeviceSize.{DeviceSize}
-use Rattle.device_report.specs.Report.{IsReport}
-use Rattle.device_report.specs.Text.{report_text}
-use Rattle.device_report.specs.declared.report.Report.{Report}
-use Rattle.json_text.specs.Values.{json_text}
-use Rattle.line_text.specs.Writing.{TakesAll}
-use Rattle.printed_replies.specs.Replies.{AnsweredLine}
-use Rattle.script_replies.specs.Accounts.{NameAccount, accounts_of}
-use Rattle.script_replies.specs.Asking.{replies_in}
-use Rattle.script_text.specs.Script.{script_of}
-use Rattle.script_text.specs.declared.act.Act.{Act}
+use Rattle.desk_replies.specs.Prelude.{Gives, device_in, ListedDevice, DeviceSize, IsReport, report_text, Report, json_text, TakesAll, AnsweredLine, NameAccount, accounts_of, replies_in, script_of, Act, TenancyUse}
 use Rattle.desk_replies.specs.Paths.{AreFactsOf, ShowsPathTable, ShowsPaths}
 use Rattle.desk_replies.specs.Moves.{AreMoves}
 use Rattle.desk_replies.specs.Overused.{IsOveruseOf}
@@ -24,7 +12,6 @@ use Rattle.desk_replies.specs.declared.report.ReportForm.TheVariants.{Lines, Tab
 use Rattle.desk_replies.specs.declared.report.ReportWishes.{ReportWishes}
 use Rattle.desk_replies.specs.declared.report_facts.TenancyFacts.{TenancyFacts}
 use Rattle.desk_replies.specs.declared.shared_device.SharedDevice.{SharedDevice}
-use Rattle.device_report.specs.declared.tenancies.TenancyUse.{TenancyUse}
 
 -- the report is of the device of that size which the text prints
 pub record IsReportOf (size : DeviceSize) (printed : List ℕ) (report : Report) : Type 0 where

@@ -3,13 +3,7 @@ use Rattle.std.specs.Prelude.{ℕ, List, [], ◌∷◌, ◌++◌, length, slice_
 use Rattle.std.specs.List.{flat_map, range_with_len}
 use Rattle.std.specs.Option.{option_map_or}
 use Rattle.std.specs.Str.{is_utf8}
-use Rattle.desk_common.specs.Outputs.{NamedBytes}
-use Rattle.printed_replies.specs.Printing.{asked_in}
-use Rattle.printed_replies.specs.Replies.{AnsweredLine, names_of}
-use Rattle.printed_replies.specs.Sections.{session_places}
-use Rattle.script_replies.specs.Accounts.{NameAccount}
-use Rattle.script_replies.specs.Told.{told_text}
-use Rattle.script_replies.specs.declared.listing.ToldLine.{ToldLine}
+use Rattle.desk_replies.specs.Prelude.{NamedBytes, asked_in, AnsweredLine, names_of, session_places, NameAccount, told_text, ToldLine}
 
 -- the bytes, under a name of that kind in the folder
 abbrev pub named_bytes : List ℕ → List ℕ → List ℕ → List ℕ → NamedBytes

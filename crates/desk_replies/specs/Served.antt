@@ -1,17 +1,7 @@
 -- What `files` writes into the folder, and prints.
 use Rattle.std.specs.Prelude.{ℕ, ◌≡◌, ◌-◌, ◌^◌, List, ◌++◌, Bool, count_by, map, Option, Ok, IfSome}
 use Rattle.std.specs.List.{flat_map}
-use Rattle.desk_common.specs.Outputs.{AreAdded, IsBeginning, NamedBytes}
-use Rattle.printed_replies.specs.Replies.{AnsweredLine}
-use Rattle.script_replies.specs.Accounts.{NameAccount, accounts_of}
-use Rattle.script_replies.specs.Asking.{replies_in}
-use Rattle.script_replies.specs.LineReplies.{line_reply, line_replies}
-use Rattle.script_replies.specs.Told.{is_refused}
-use Rattle.script_replies.specs.ScriptLines.{lines_asked, numbered}
-use Rattle.script_replies.specs.declared.lines.ScriptLine.{ScriptLine}
-use Rattle.script_replies.specs.declared.listing.ToldLine.{ToldLine}
-use Rattle.script_text.specs.declared.act.Act.{Act}
-use Rattle.script_text.specs.Script.{script_of}
+use Rattle.desk_replies.specs.Prelude.{AreAdded, IsBeginning, NamedBytes, AnsweredLine, NameAccount, accounts_of, replies_in, line_reply, line_replies, is_refused, lines_asked, numbered, ScriptLine, ToldLine, Act, script_of}
 use Rattle.desk_replies.specs.Lines.{AreLines}
 use Rattle.desk_replies.specs.Printed.{IsPrintedFor}
 use Rattle.desk_replies.specs.Saved.{files_of_name, replies_files}

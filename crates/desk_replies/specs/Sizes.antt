@@ -1,8 +1,7 @@
 -- Sizes of a device.
 use Rattle.std.specs.Prelude.{ℕ, Bool, false, nat_le, ◌&&◌, Option}
 use Rattle.std.specs.Option.{option_map_or}
-use Rattle.arch_file.specs.declared.arch.TheConstants.{MAX_TRACKS}
-use Rattle.grid.specs.declared.TheConstants.{MAX_ROWS}
+use Rattle.desk_replies.specs.Prelude.{MAX_TRACKS, MAX_ROWS}
 
 -- 1 to that number
 abbrev pub is_size : ℕ → ℕ → Bool

@@ -5,17 +5,7 @@ use Rattle.std.specs.List.{fold, position_or_len}
 use Rattle.std.specs.Map.{lookup}
 use Rattle.std.specs.Option.{option_map_or}
 use Rattle.std.specs.Str.{bytes_eq}
-use Rattle.indexmap.specs.IndexMap.{insert_entry}
-use Rattle.line_text.specs.Lines.{physical_lines}
-use Rattle.line_text.specs.Physical.{first_line}
-use Rattle.line_text.specs.Words.{is_blank}
-use Rattle.printed_replies.specs.Replies.{AnsweredLine}
-use Rattle.script_replies.specs.Usage.{first_word}
-use Rattle.script_text.specs.Script.{without_blanks}
-use Rattle.script_text.specs.declared.act.Act.{Act}
-use Rattle.script_text.specs.declared.act.Act.TheVariants.{Operator, Session}
-use Rattle.script_text.specs.declared.operator_line.OperatorLine.{OperatorLine}
-use Rattle.script_text.specs.declared.operator_line.OperatorLine.TheVariants.{Admit, Evict, Move, List as ListAll, Owners, Step, Take, Put}
+use Rattle.desk_replies.specs.Prelude.{insert_entry, physical_lines, first_line, is_blank, AnsweredLine, first_word, without_blanks, Act, Operator, Session, OperatorLine, Admit, Evict, Move, List as ListAll, Owners, Step, Take, Put}
 use Rattle.desk_replies.specs.declared.states.NameState.{NameState}
 
 -- the state that a name is in after the act of that number

@@ -1,9 +1,7 @@
 -- What the tenancies of a device use, as a table.
 use Rattle.std.specs.Prelude.{ℕ, List, [], ◌∷◌, ◌++◌, codes, decimal, flat_map}
 use Rattle.std.specs.List.{concat}
-use Rattle.device_report.specs.declared.report.Report.{Report}
-use Rattle.device_report.specs.declared.tenancies.TenancyUse.{TenancyUse}
-use Rattle.device_report.specs.Text.{used_text}
+use Rattle.desk_replies.specs.Prelude.{Report, TenancyUse, used_text}
 
 abbrev pub line_end : List ℕ
 line_end = codes "\n"

@@ -1,16 +1,8 @@
 -- What was asked for the layout that a name has, by the acts of a script and their replies.
 use Rattle.std.specs.Prelude.{ℕ, List, [], ◌∷◌, Option, Some, None, option_map, if◌then◌else◌}
 use Rattle.std.specs.Str.{bytes_eq}
-use Rattle.printed_replies.specs.Replies.{AnsweredLine}
-use Rattle.script_replies.specs.Usage.{is_refusal}
-use Rattle.script_text.specs.declared.act.Act.{Act}
-use Rattle.script_text.specs.declared.act.Act.TheVariants.{Operator, Session}
-use Rattle.script_text.specs.declared.operator_line.OperatorLine.{OperatorLine}
-use Rattle.script_text.specs.declared.operator_line.OperatorLine.TheVariants.{Admit, Evict}
-use Rattle.sessions.specs.declared.line.SessionLine.{SessionLine}
-use Rattle.sessions.specs.declared.line.SessionLine.TheVariants.{Command}
+use Rattle.desk_replies.specs.Prelude.{AnsweredLine, is_refusal, Act, Operator, Session, OperatorLine, Admit, Evict, SessionLine, Command, Upload, Change, Pack, Place, Withdraw}
 use Rattle.tenant_slot.specs.declared.command.Command.{Command as TenantCommand}
-use Rattle.tenant_slot.specs.declared.command.Command.TheVariants.{Upload, Change, Pack, Place, Route, Cancel, Withdraw, Status, Net, PlaceFile, RouteFile}
 use Rattle.desk_replies.specs.declared.layout_wish.LayoutWish.{LayoutWish}
 use Rattle.desk_replies.specs.declared.layout_wish.Start.{Start}
 
@@ -35,12 +27,7 @@ after_command (Change text) wish = with_netlist None wish
 after_command Withdraw wish = with_netlist None wish
 after_command Pack wish = with_netlist wish.netlist wish
 after_command (Place seed effort) wish = record wish { start = Some (record { seed = seed; effort = effort }) }
-after_command Route wish = wish
-after_command Cancel wish = wish
-after_command Status wish = wish
-after_command Net wish = wish
-after_command PlaceFile wish = wish
-after_command RouteFile wish = wish
+after_command other wish = wish
 
 -- an admission begins with an empty strip, and an eviction leaves none
 abbrev pub after_operator : List ℕ → OperatorLine (List ℕ) → Wish → Wish

@@ -1,6 +1,6 @@
 -- Texts of which only a relation says what they are.
 use Rattle.std.specs.Prelude.{ℕ, ◌≡◌, Bool, List, [], ◌∷◌, ◌++◌, Option}
-use Rattle.line_text.specs.Writing.{TakesAll}
+use Rattle.desk_replies.specs.Prelude.{TakesAll}
 
 -- a text of which that holds is written
 abbrev pub WritesSome : {S : Type 0} → (S → Option (List ℕ)) → (S → Bool) → S → S → (List ℕ → Type 0) → Type 0

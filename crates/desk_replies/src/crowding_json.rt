@@ -2,11 +2,9 @@
 ghost use Rattle.std.specs.Prelude.{◌≡◌, ◌++◌, OnOk, map};
 ghost use Rattle.std.specs.List.{flat_map};
 ghost use Rattle.desk_replies.specs.ReportJson.{crowding_json, net_json, node_json, node_members, overuse_json};
-ghost use Rattle.json.specs.Tree.{json_tokens};
-ghost use Rattle.json_text.specs.Values.{list_of, member_tokens};
-ghost use Rattle.vpr_files.specs.NodeText.{kind_word};
+ghost use Rattle.desk_replies.specs.Prelude.{json_tokens, list_of, member_tokens, kind_word};
 
-use json_text::{JsonPen, Member, Scalar};
+use json_text::{JsonPen, Scalar};
 use one_user::{CrowdedNode, Crowding};
 use rr_graph::NodeKind;
 use std::alloc::AllocError;
@@ -29,10 +27,10 @@ fn write_crowding(pen: &mut JsonPen, crowding: &Crowding) -> Result<(), AllocErr
     ensures { OnOk result (pen.new ≡ pen.old ++ json_tokens (crowding_json crowding.now)) }
 {
     pen.open_object()?;
-    pen.members(&[Member {
-        name: "nodes_left_overused",
-        value: Scalar::Number(crowding.overused as u64),
-    }])?;
+    pen.members(&[(
+        "nodes_left_overused",
+        Scalar::Number(crowding.overused as u64),
+    )])?;
     pen.key("nodes")?;
     write_list(pen, crowding, &crowding.nodes)?;
     pen.close_object()
@@ -90,30 +88,12 @@ fn write_node_members(pen: &mut JsonPen, crowded: &CrowdedNode) -> Result<(), Al
 {
     let node = crowded.node;
     pen.members(&[
-        Member {
-            name: "kind",
-            value: Scalar::Text(kind_word(node.kind)),
-        },
-        Member {
-            name: "x",
-            value: Scalar::Number(node.x as u64),
-        },
-        Member {
-            name: "y",
-            value: Scalar::Number(node.y as u64),
-        },
-        Member {
-            name: "number",
-            value: Scalar::Number(node.n as u64),
-        },
-        Member {
-            name: "occupancy",
-            value: Scalar::Number(crowded.occupancy as u64),
-        },
-        Member {
-            name: "capacity",
-            value: Scalar::Number(crowded.capacity as u64),
-        },
+        ("kind", Scalar::Text(kind_word(node.kind))),
+        ("x", Scalar::Number(node.x as u64)),
+        ("y", Scalar::Number(node.y as u64)),
+        ("number", Scalar::Number(node.n as u64)),
+        ("occupancy", Scalar::Number(crowded.occupancy as u64)),
+        ("capacity", Scalar::Number(crowded.capacity as u64)),
     ])
 }
 

@@ -1,6 +1,6 @@
 //! The device that a tool reads from what the service printed.
 ghost use Rattle.std.specs.Prelude.{Ok, IfErr, IfOk};
-ghost use Rattle.device_lines.specs.Reading.{Gives, device_in};
+ghost use Rattle.desk_replies.specs.Prelude.{Gives, device_in};
 ghost use Rattle.desk_replies.specs.Pictured.{IsRefusedText};
 
 use desk_common::Outcome;

@@ -1,13 +1,10 @@
 //! The tool that saves the files which the service printed.
 ghost use Rattle.std.specs.Prelude.{◌≡◌, count_by, map, IfOk, OnErr};
-ghost use Rattle.desk_common.specs.Outputs.{AreAdded};
+ghost use Rattle.desk_replies.specs.Prelude.{AreAdded, account_now, accounts_of, is_refused, named_act};
 ghost use Rattle.desk_replies.specs.Asked.{IsFilesAskedFor, IsFilesForm};
 ghost use Rattle.desk_replies.specs.Printed.{IsPrintedFor};
 ghost use Rattle.desk_replies.specs.Saved.{replies_files};
 ghost use Rattle.desk_replies.specs.Served.{ArePrinted, AreRepliesSaved, AreSaved, AreSavedFrom, AreServed};
-ghost use Rattle.script_replies.specs.Accounts.{account_now, accounts_of};
-ghost use Rattle.script_replies.specs.Told.{is_refused};
-ghost use Rattle.script_text.specs.Script.{named_act};
 
 use crate::files_text::print_form;
 use crate::lines::Lines;
@@ -15,8 +12,8 @@ use crate::saved_accounts::save_files;
 use crate::script_input::{acts_of, lines_of, replies_of};
 use crate::tenants::save_replies;
 use desk_circuits::LineCounts;
-use desk_common::{DEVICE, FOLDER, FileOutputs, FileRole, FileTexts, Outcome};
-use line_text::{Sink, Source, read_all};
+use desk_common::{DEVICE, FOLDER, FileOutputs, FileRole, FileTexts, Outcome, read_input};
+use line_text::{Sink, Source};
 use option_words::{Given, OptionWord, Program, Takes};
 use printed_replies::Replies;
 use script_replies::{Account, ToldLine, accounts_of, script_lines, told_lines};
@@ -168,14 +165,8 @@ fn run_on_lines<O: FileOutputs, R: Source, W: Sink, E: Sink>(
     ensures { IfOk result (λ refused. ArePrinted W.contents W.has_failed writer.old writer.new
         (R.remaining reader.old) job.entry refused (O.written outputs.old) (O.written outputs.new)) }
 {
-    match read_all(alloc, reader) {
-        Ok(printed) => {
-            let outcome = run_on_texts(alloc, outputs, job, printed.as_slice(), writer, teller);
-            drop(printed);
-            outcome
-        }
-        Err(error) => Err(Outcome::of_reading(error)),
-    }
+    let printed = read_input(alloc, reader)?;
+    run_on_texts(alloc, outputs, job, printed.as_slice(), writer, teller)
 }
 
 /// The replies to a script, and what they say of each name.
@@ -198,16 +189,8 @@ fn run_on_texts<O: FileOutputs, W: Sink, E: Sink>(
         job.entry printed.now refused (O.written outputs.old) (O.written outputs.new)) }
 {
     let acts = acts_of(alloc, job.lines)?;
-    let outcome = match replies_of(alloc, &acts, printed) {
-        Ok(replies) => {
-            let outcome = run_on_replies(alloc, outputs, job, &acts, &replies, writer, teller);
-            drop(replies);
-            outcome
-        }
-        Err(outcome) => Err(outcome),
-    };
-    drop(acts);
-    outcome
+    let replies = replies_of(alloc, &acts, printed)?;
+    run_on_replies(alloc, outputs, job, &acts, &replies, writer, teller)
 }
 
 /// Writes the files and prints the lines, by the acts with their replies.
@@ -231,9 +214,7 @@ fn run_on_replies<O: FileOutputs, W: Sink, E: Sink>(
         replies,
         accounts: &accounts,
     };
-    let outcome = save_and_print(alloc, outputs, job, answers, writer, teller);
-    drop(accounts);
-    outcome
+    save_and_print(alloc, outputs, job, answers, writer, teller)
 }
 
 /// Writes the files, and prints the lines beside their replies.
@@ -272,18 +253,12 @@ fn print<O: FileOutputs, W: Sink, E: Sink>(
     let Ok(asked) = script_lines(alloc, lines.text, lines.number) else {
         return Err(Outcome::NoMemory);
     };
-    let told = told_lines(alloc, &asked, answers.replies);
-    drop(asked);
-    match told {
-        Ok(told) => {
-            let outcome = print_told(
-                alloc, outputs, job.wishes, answers, &told, files, writer, teller,
-            );
-            drop(told);
-            outcome
-        }
-        Err(_) => Err(Outcome::NoMemory),
-    }
+    let Ok(told) = told_lines(alloc, &asked, answers.replies) else {
+        return Err(Outcome::NoMemory);
+    };
+    print_told(
+        alloc, outputs, job.wishes, answers, &told, files, writer, teller,
+    )
 }
 
 /// Writes the lines of each name into the folder, and prints the lines with their replies, and how

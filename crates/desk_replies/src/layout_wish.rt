@@ -1,7 +1,6 @@
 //! What was asked for the layout that a name has.
 ghost use Rattle.std.specs.Prelude.{◌≡◌, None, Some, map, option_map};
-ghost use Rattle.printed_replies.specs.Replies.{answered_line};
-ghost use Rattle.script_text.specs.Script.{named_act, named_operator};
+ghost use Rattle.desk_replies.specs.Prelude.{answered_line, named_act, named_operator};
 ghost use Rattle.desk_replies.specs.Wishes.{after_act, after_command, after_line, after_operator, nothing_on, wish_after, wish_from, wish_now, wish_of, with_netlist};
 
 use printed_replies::{Answered, Replies};

@@ -1,11 +1,7 @@
 //! Where the routing of an unrouted tenancy is overused.
 ghost use Rattle.std.specs.Prelude.{◌≡◌, is_some, map, IfSome, None, OnOk, Some};
-ghost use Rattle.line_text.specs.Writing.{Writes};
-ghost use Rattle.one_user.specs.Tracks.{IsLawful};
-ghost use Rattle.arch_file.specs.Arch.{IsWithin};
-ghost use Rattle.arch_file.specs.declared.arch.TheConstants.{MAX_TRACKS};
-ghost use Rattle.script_text.specs.Script.{named_act};
-ghost use Rattle.desk_replies.specs.Overused.{IsCrowdedBy, IsCrowdingFor, IsCrowdingOf, IsDevice, IsOveruse, IsOveruseBy, IsOveruseIf, IsOveruseOf, IsPlanOf, changed_text, crowded_text, is_placed};
+ghost use Rattle.desk_replies.specs.Prelude.{Writes, IsLawful, IsWithin, MAX_TRACKS, named_act};
+ghost use Rattle.desk_replies.specs.Overused.{IsCrowdedBy, IsCrowdingFor, IsCrowdingOf, IsDevice, IsOveruseBy, IsOveruseIf, IsOveruseIn, IsPlanOf, IsReportedOveruseIn, changed_text, crowded_text, is_placed};
 ghost use Rattle.desk_replies.specs.Wishes.{wish_now, wish_of};
 ghost use Rattle.desk_replies.specs.Written.{AreTextsOf, WritesSome};
 
@@ -52,8 +48,7 @@ pub(crate) fn write_overuses<W: Sink>(
     writer: &mut W,
 ) -> Result<(), Failed>
     ensures { OnOk result (WritesSome W.contents W.has_failed writer.old writer.new
-        (AreTextsOf (IsOveruseOf served.entry.device (map named_act served.entry.acts.now)
-        served.entry.replies.now) report.now.tenancies.items)) }
+        (AreTextsOf (IsReportedOveruseIn served.entry) report.now.tenancies.items)) }
 {
     write_all_overuses(alloc, &report.tenancies, served, writer)
 }
@@ -66,8 +61,7 @@ fn write_all_overuses<W: Sink>(
     writer: &mut W,
 ) -> Result<(), Failed>
     ensures { OnOk result (WritesSome W.contents W.has_failed writer.old writer.new
-        (AreTextsOf (IsOveruseOf served.entry.device (map named_act served.entry.acts.now)
-        served.entry.replies.now) tenancies.now)) }
+        (AreTextsOf (IsReportedOveruseIn served.entry) tenancies.now)) }
 {
     for uses in tenancies {
         let is_unrouted = is_word(uses.tenancy.state, "Unrouted");
@@ -106,8 +100,7 @@ pub(crate) fn write_overuse<W: Sink>(
     writer: &mut W,
 ) -> Result<(), Failed>
     ensures { OnOk result (WritesSome W.contents W.has_failed writer.old writer.new
-        (IsOveruse served.entry.device (map named_act served.entry.acts.now)
-        served.entry.replies.now name.now)) }
+        (IsOveruseIn served.entry name.now)) }
 {
     match served.device {
         Some(device) => {

@@ -1,15 +1,10 @@
 //! What a page shows: texts about the script, and the files of its names.
 ghost use Rattle.std.specs.Prelude.{◌≡◌, codes, map, option_map, if◌then◌else◌, None, Some, OnOk};
-ghost use Rattle.desk_circuits.specs.Measured.{ShowsPresentStops};
-ghost use Rattle.line_text.specs.Writing.{Writes};
-ghost use Rattle.page.specs.Pages.{element_text};
-ghost use Rattle.desk_replies.specs.Overused.{IsOveruse};
+ghost use Rattle.desk_replies.specs.Prelude.{ShowsPresentStops, Writes, element_text, account_now, states_of};
+ghost use Rattle.desk_replies.specs.Overused.{IsOveruseIn};
 ghost use Rattle.desk_replies.specs.Paged.{AreAround, AreItemsOf, IsItem, IsItemIf, file_item, file_items, text_items};
 ghost use Rattle.desk_replies.specs.States.{is_unrouted};
 ghost use Rattle.desk_replies.specs.Written.{AreTextsOf, WritesSome};
-ghost use Rattle.script_replies.specs.Accounts.{account_now};
-ghost use Rattle.script_replies.specs.Present.{states_of};
-ghost use Rattle.script_text.specs.Script.{named_act};
 
 use crate::overuse::{ServedScript, write_overuse};
 use crate::page_texts::PageTexts;
@@ -32,8 +27,8 @@ pub(crate) fn write_page_of<W: Sink>(
     writer: &mut W,
 ) -> Result<(), Failed>
     ensures { OnOk result (AreAround W.contents W.has_failed writer.old writer.new
-        (IsOveruse served.entry.device (map named_act served.entry.acts.now)
-        served.entry.replies.now) (text_items texts.now) states.now.entries (map account_now accounts.now)) }
+        (IsOveruseIn served.entry) (text_items texts.now) states.now.entries
+        (map account_now accounts.now)) }
 {
     let viewer = viewer();
     write_fixed(viewer.head, writer)?;
@@ -68,8 +63,8 @@ fn write_names<W: Sink>(
     writer: &mut W,
 ) -> Result<(), Failed>
     ensures { OnOk result (WritesSome W.contents W.has_failed writer.old writer.new
-        (AreTextsOf (AreItemsOf (IsOveruse served.entry.device (map named_act served.entry.acts.now)
-        served.entry.replies.now) states.now.entries) (map account_now accounts.now))) }
+        (AreTextsOf (AreItemsOf (IsOveruseIn served.entry) states.now.entries)
+        (map account_now accounts.now))) }
 {
     for account in accounts {
         write_name(alloc, served, states, *account, writer)?;
@@ -87,8 +82,7 @@ fn write_name<W: Sink>(
     writer: &mut W,
 ) -> Result<(), Failed>
     ensures { OnOk result (WritesSome W.contents W.has_failed writer.old writer.new
-        (AreItemsOf (IsOveruse served.entry.device (map named_act served.entry.acts.now)
-        served.entry.replies.now) states.now.entries (account_now account.entry))) }
+        (AreItemsOf (IsOveruseIn served.entry) states.now.entries (account_now account.entry))) }
 {
     write_files(account, writer)?;
     write_stops_of(alloc, account, writer)?;
@@ -104,8 +98,7 @@ fn write_if_unrouted<W: Sink>(
     writer: &mut W,
 ) -> Result<(), Failed>
     ensures { OnOk result (WritesSome W.contents W.has_failed writer.old writer.new
-        (IsItemIf (is_unrouted states.now.entries name.now) (IsOveruse served.entry.device
-        (map named_act served.entry.acts.now) served.entry.replies.now name.now)
+        (IsItemIf (is_unrouted states.now.entries name.now) (IsOveruseIn served.entry name.now)
         (codes "overuse") name.now)) }
 {
     if is_unrouted(states, name) {
@@ -133,8 +126,7 @@ fn write_overuse_of<W: Sink>(
     writer: &mut W,
 ) -> Result<(), Failed>
     ensures { OnOk result (WritesSome W.contents W.has_failed writer.old writer.new
-        (IsItem (IsOveruse served.entry.device (map named_act served.entry.acts.now)
-        served.entry.replies.now name.now) (codes "overuse") name.now)) }
+        (IsItem (IsOveruseIn served.entry name.now) (codes "overuse") name.now)) }
 {
     let mut text = MemorySink::new(alloc);
     let made = write_overuse(alloc, served, name, &mut text);

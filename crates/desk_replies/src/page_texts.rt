@@ -1,7 +1,7 @@
 //! The texts that a page shows beside the files.
 ghost use Rattle.std.specs.Prelude.{◌≡◌, [], slice_get, OnOk};
 ghost use Rattle.std.specs.Option.{option_map_or};
-ghost use Rattle.line_text.specs.Writing.{Writes};
+ghost use Rattle.desk_replies.specs.Prelude.{Writes};
 ghost use Rattle.desk_replies.specs.Paged.{AreEmpty, AreScriptTexts, AreTexts, line_of, numbered_state, sink_text, states_text};
 ghost use Rattle.desk_replies.specs.States.{state_after};
 
@@ -57,16 +57,10 @@ impl PageTexts {
         let Ok(asked) = script_lines(alloc, lines.text, lines.number) else {
             return Err(Outcome::NoMemory);
         };
-        let told = told_lines(alloc, &asked, replies);
-        drop(asked);
-        match told {
-            Ok(told) => {
-                let written = self.write(&told, states);
-                drop(told);
-                written.or(Err(Outcome::NoMemory))
-            }
-            Err(_) => Err(Outcome::NoMemory),
-        }
+        let Ok(told) = told_lines(alloc, &asked, replies) else {
+            return Err(Outcome::NoMemory);
+        };
+        self.write(&told, states).or(Err(Outcome::NoMemory))
     }
 
     /// Writes the lines, those that are refused, and the states.

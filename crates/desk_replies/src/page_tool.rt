@@ -1,11 +1,9 @@
 //! The tool that prints a page for a browser.
 ghost use Rattle.std.specs.Prelude.{◌≡◌, ◌<◌, ◌^◌, length, map, option_map, IfOk, OnErr, OnOk};
-ghost use Rattle.line_text.specs.Writing.{Writes};
+ghost use Rattle.desk_replies.specs.Prelude.{Writes, accounts_of, named_act};
 ghost use Rattle.desk_replies.specs.Asked.{IsPageAskedFor};
-ghost use Rattle.desk_replies.specs.Overused.{IsDevice, IsOveruse};
+ghost use Rattle.desk_replies.specs.Overused.{IsDevice, IsOveruseIn};
 ghost use Rattle.desk_replies.specs.Paged.{AreAround, AreEmpty, AreScriptTexts, IsPage, IsPageAfter, IsPageOfInput, IsPageOfScript, IsPageOfText, IsPageShown, IsPageWith, device_text, number_in, sink_text, size_text, text_items};
-ghost use Rattle.script_replies.specs.Accounts.{accounts_of};
-ghost use Rattle.script_text.specs.Script.{named_act};
 
 use crate::lines::Lines;
 use crate::outdated::tell_outdated;
@@ -15,9 +13,9 @@ use crate::page_texts::PageTexts;
 use crate::script_input::{acts_of, lines_of, replies_of};
 use crate::shared_device::SharedDevice;
 use crate::states::{NameState, present_states};
-use desk_common::{DEVICE, FileRole, FileTexts, Outcome};
+use desk_common::{DEVICE, FileRole, FileTexts, Outcome, read_input};
 use indexmap::IndexMap;
-use line_text::{Failed, Sink, Source, decimal_u32, read_all};
+use line_text::{Failed, Sink, Source, decimal_u32};
 use option_words::{Given, OptionWord, Program, Takes};
 use script_replies::{Account, Replies, accounts_of};
 use script_text::Act;
@@ -26,22 +24,10 @@ use text_parts::{Part, write_parts};
 
 const NO_FILE: &str = "give a script";
 
-/// The beginning of its help.
-const ABOUT: &str =
-    "Prints one HTML file for a browser, from a script and what fpgad printed for it, which it reads from standard input";
-
-/// The tool without its options, for the program's help.
-pub const NAMED: Program = Program {
-    name: "page",
-    about: ABOUT,
-    after_help: "",
-    options: &[],
-};
-
 /// The tool and its options.
 pub const TOOL: Program = Program {
     name: "page",
-    about: ABOUT,
+    about: "Prints one HTML file for a browser, from a script and what fpgad printed for it, which it reads from standard input",
     after_help: "\
 The page has the strips with their names, and of each tenancy its placement and routes: zoom with the wheel, drag, search for a net
 or a block, click one to see its driver, its readers and its wires, show the use of channels. It says the state of each tenancy, and
@@ -127,9 +113,7 @@ pub fn run<F: FileTexts + AllocGlobal, R: Source, W: Sink, E: Sink>(
         (F.text files.now) (R.remaining reader.old) wishes.entry) }
 {
     let script = files.read_text(FileRole::Script, wishes.script, u64::MAX, teller)?;
-    let outcome = run_on_script(files, wishes, script.as_slice(), reader, writer, teller);
-    drop(script);
-    outcome
+    run_on_script(files, wishes, script.as_slice(), reader, writer, teller)
 }
 
 /// Reads the architecture if it has a file of its own, and what was printed for the script, and
@@ -183,14 +167,8 @@ fn run_on_lines<R: Source, W: Sink, E: Sink>(
     ensures { IfOk result (λ _. IsPageOfInput W.contents W.has_failed writer.old writer.new
         (R.remaining reader.old) wishes.entry lines.entry) }
 {
-    match read_all(alloc, reader) {
-        Ok(printed) => {
-            let outcome = print(alloc, wishes, lines, printed.as_slice(), writer, teller);
-            drop(printed);
-            outcome
-        }
-        Err(error) => Err(Outcome::of_reading(error)),
-    }
+    let printed = read_input(alloc, reader)?;
+    print(alloc, wishes, lines, printed.as_slice(), writer, teller)
 }
 
 /// Prints the page of these lines and what was printed for them.
@@ -206,16 +184,8 @@ fn print<W: Sink, E: Sink>(
         wishes.entry lines.entry printed.now) }
 {
     let acts = acts_of(alloc, lines)?;
-    let outcome = match replies_of(alloc, &acts, printed) {
-        Ok(replies) => {
-            let outcome = print_acts(alloc, wishes, lines, &acts, &replies, writer, teller);
-            drop(replies);
-            outcome
-        }
-        Err(outcome) => Err(outcome),
-    };
-    drop(acts);
-    outcome
+    let replies = replies_of(alloc, &acts, printed)?;
+    print_acts(alloc, wishes, lines, &acts, &replies, writer, teller)
 }
 
 /// Prints the page of these acts and their replies.
@@ -286,9 +256,7 @@ fn print_served<W: Sink, E: Sink>(
     let Ok(states) = present_states(alloc, served.acts, served.replies) else {
         return Err(Outcome::NoMemory);
     };
-    let outcome = print_states(alloc, job, &states, writer, teller);
-    drop(states);
-    outcome
+    print_states(alloc, job, &states, writer, teller)
 }
 
 /// Prints the page of a script after which names have these last states.
@@ -303,28 +271,25 @@ fn print_states<W: Sink, E: Sink>(
         job.entry.wishes job.entry.lines job.entry.served.device
         (map named_act job.entry.served.acts.now) job.entry.served.replies.now states.now.entries) }
 {
-    let mut texts = PageTexts::new(alloc);
-    let outcome = print_filled(alloc, job, states, &mut texts, writer, teller);
+    let texts = texts_of(alloc, job, states)?;
+    let outcome = print_texts(alloc, job.served, states, &texts, writer, teller);
     drop(texts);
     outcome
 }
 
-/// Fills the texts and prints the page of them.
-fn print_filled<W: Sink, E: Sink>(
+/// The texts about the script and the device. Fails if memory runs out.
+fn texts_of(
     alloc: Global,
     job: PageJob<'_>,
     states: &IndexMap<&[u8], NameState<'_>>,
-    texts: &mut PageTexts,
-    writer: &mut W,
-    teller: &mut E,
-) -> Result<(), Outcome>
-    requires { AreEmpty texts.old }
-    ensures { IfOk result (λ _. IsPageWith W.contents W.has_failed writer.old writer.new
-        job.entry.wishes job.entry.lines job.entry.served.device
-        (map named_act job.entry.served.acts.now) job.entry.served.replies.now states.now.entries) }
+) -> Result<PageTexts, Outcome>
+    ensures texts { IfOk result (AreScriptTexts job.entry.lines job.entry.served.replies.now
+        states.now.entries) }
+    ensures device { IfOk result (λ texts. sink_text texts.device ≡ device_text job.entry.wishes) }
 {
-    fill_texts(alloc, job, states, texts)?;
-    print_texts(alloc, job.served, states, texts, writer, teller)
+    let mut texts = PageTexts::new(alloc);
+    fill_texts(alloc, job, states, &mut texts)?;
+    Ok(texts)
 }
 
 /// Writes the texts about the script and the device. Fails if memory runs out.
@@ -381,17 +346,14 @@ fn print_texts<'a, W: Sink, E: Sink>(
     teller: &mut E,
 ) -> Result<(), Outcome>
     ensures { IfOk result (λ _. AreAround W.contents W.has_failed writer.old writer.new
-        (IsOveruse served.entry.device (map named_act served.entry.acts.now)
-        served.entry.replies.now) (text_items texts.now) states.now.entries
+        (IsOveruseIn served.entry) (text_items texts.now) states.now.entries
         (accounts_of (map named_act served.entry.acts.now) served.entry.replies.now)) }
 {
     let Ok(accounts) = accounts_of(alloc, served.acts, served.replies) else {
         return Err(Outcome::NoMemory);
     };
     tell_all_outdated(&accounts, teller);
-    let written = write_page_of(alloc, served, states, &accounts, texts, writer);
-    drop(accounts);
-    written.or(Err(Outcome::OutputFailed))
+    write_page_of(alloc, served, states, &accounts, texts, writer).or(Err(Outcome::OutputFailed))
 }
 
 /// Says which files of these names are not shown, since they are outdated.

@@ -10,22 +10,10 @@ use line_text::{Sink, Source, read_all};
 use option_words::Program;
 use std::alloc::Global;
 
-/// The beginning of its help.
-const ABOUT: &str =
-    "Draws the device as an SVG, from what fpgad printed for `op list` and `op owners`";
-
-/// The tool without its options, for the program's help.
-pub const NAMED: Program = Program {
-    name: "picture",
-    about: ABOUT,
-    after_help: "",
-    options: &[],
-};
-
 /// The tool and its options.
 pub const TOOL: Program = Program {
     name: "picture",
-    about: ABOUT,
+    about: "Draws the device as an SVG, from what fpgad printed for `op list` and `op owners`",
     after_help: "Example: fpgad --tracks 8 --columns 10 --rows 8 < my.script | fpgad_desk picture --tracks 8 --columns 10 --rows 8 > my.svg",
     options: SIZES,
 };
@@ -54,15 +42,11 @@ fn draw_text<W: Sink>(alloc: Global, size: DeviceSize, text: &[u8], writer: &mut
     ensures { IsTextEnd size text.now result }
 {
     match device_in(alloc, size, text) {
-        Ok(device) => {
-            let drawn = draw(alloc, &device, writer);
-            drop(device);
-            match drawn {
-                Ok(()) => Outcome::Done,
-                Err(DrawError::NoMemory) => Outcome::NoMemory,
-                Err(DrawError::Failed) => Outcome::OutputFailed,
-            }
-        }
+        Ok(device) => match draw(alloc, &device, writer) {
+            Ok(()) => Outcome::Done,
+            Err(DrawError::NoMemory) => Outcome::NoMemory,
+            Err(DrawError::Failed) => Outcome::OutputFailed,
+        },
         Err(outcome) => outcome,
     }
 }

@@ -1,9 +1,8 @@
 //! The tool that says how full the device is.
 ghost use Rattle.std.specs.Prelude.{◌<◌, ◌^◌, length, map, true, is_some, option_map, IfOk, OnErr};
-ghost use Rattle.desk_replies.specs.Overused.{IsOveruseOf};
+ghost use Rattle.desk_replies.specs.Overused.{IsOveruseOf, IsReportedOveruseIn};
 ghost use Rattle.desk_replies.specs.Paths.{told_accounts};
-ghost use Rattle.script_replies.specs.Accounts.{accounts_of};
-ghost use Rattle.script_text.specs.Script.{named_act};
+ghost use Rattle.desk_replies.specs.Prelude.{accounts_of, named_act};
 ghost use Rattle.desk_replies.specs.Asked.{IsReportAskedFor, IsReportForm};
 ghost use Rattle.desk_replies.specs.Reported.{IsObject, IsReportShown, IsReported, IsShown, IsShownAlone, IsShownBy};
 
@@ -16,12 +15,12 @@ use crate::report_moves::print_moves;
 use crate::report_paths::{write_path_table, write_told};
 use crate::script_input::{acts_of, lines_of, replies_of};
 use crate::shared_device::SharedDevice;
-use crate::size::{PADS, TRACKS, size_of};
+use crate::size::{PADS, size_of};
 use crate::tenancy_table::write_table;
-use desk_common::{COLUMNS, DEVICE, FileRole, Outcome, ROWS, read_file};
+use desk_common::{COLUMNS, DEVICE, FileRole, Outcome, ROWS, TRACKS, read_file, read_input};
 use device_lines::DeviceSize;
 use device_report::{Report, write_report};
-use line_text::{Sink, Source, read_all};
+use line_text::{Sink, Source};
 use option_words::{Given, OptionWord, Program, Takes};
 use script_replies::{Replies, accounts_of};
 use script_text::Act;
@@ -30,22 +29,10 @@ use std::rt::Files;
 
 const ONE_FORM: &str = "give only one of --csv, --json and --moves";
 
-/// The beginning of its help.
-const ABOUT: &str =
-    "Reports how full the device is, from what fpgad printed for `op list` and `op owners`";
-
-/// The tool without its options, for the program's help.
-pub const NAMED: Program = Program {
-    name: "report",
-    about: ABOUT,
-    after_help: "",
-    options: &[],
-};
-
 /// The tool and its options.
 pub const TOOL: Program = Program {
     name: "report",
-    about: ABOUT,
+    about: "Reports how full the device is, from what fpgad printed for `op list` and `op owners`",
     after_help: "\
 For each tenancy: how many of its strip's logic blocks, pads and wires it uses. The wires `across` are those of the channels above
 rows (CHANX), and `up` those of the channels beside columns (CHANY). A tenancy that is not Routed owns nothing, and has `-` there.
@@ -176,9 +163,7 @@ pub fn run<H: Files + AllocGlobal, R: Source, W: Sink, E: Sink>(
         return run_on_lines(rt.alloc(), wishes, None, reader, writer);
     };
     let script = read_file(rt, FileRole::Script, path, u64::MAX, teller)?;
-    let outcome = run_on_script(rt, wishes, script.as_slice(), reader, writer, teller);
-    drop(script);
-    outcome
+    run_on_script(rt, wishes, script.as_slice(), reader, writer, teller)
 }
 
 /// Reads the architecture if it has a file of its own, and what was printed for the script, and
@@ -205,9 +190,7 @@ fn run_on_script<H: Files + AllocGlobal, R: Source, W: Sink, E: Sink>(
         architecture: arch.as_slice(),
         number: lines.number,
     };
-    let outcome = run_on_lines(rt.alloc(), wishes, Some(lines), reader, writer);
-    drop(arch);
-    outcome
+    run_on_lines(rt.alloc(), wishes, Some(lines), reader, writer)
 }
 
 /// Reads what was printed, for these lines if the script is given, and prints the report.
@@ -221,14 +204,8 @@ fn run_on_lines<R: Source, W: Sink>(
     ensures { IfOk result (λ _. IsReported W.contents W.has_failed writer.old writer.new
         (R.remaining reader.old) wishes.entry (is_some lines.entry)) }
 {
-    match read_all(alloc, reader) {
-        Ok(printed) => {
-            let outcome = run_on_text(alloc, wishes, lines, printed.as_slice(), writer);
-            drop(printed);
-            outcome
-        }
-        Err(error) => Err(Outcome::of_reading(error)),
-    }
+    let printed = read_input(alloc, reader)?;
+    run_on_text(alloc, wishes, lines, printed.as_slice(), writer)
 }
 
 /// Prints the report of the device that the text prints.
@@ -339,9 +316,7 @@ fn print_object<W: Sink>(
     let Ok(facts) = facts_of(alloc, report, told) else {
         return Err(Outcome::NoMemory);
     };
-    let printed = print_json(alloc, report, &facts, writer);
-    drop(facts);
-    printed
+    print_json(alloc, report, &facts, writer)
 }
 
 /// Prints a report with the longest path of each tenancy's netlist, and where the routings of those
@@ -354,8 +329,7 @@ fn print_served<'a, W: Sink>(
     writer: &mut W,
 ) -> Result<(), Outcome>
     ensures { IfOk result (λ _. IsShownBy W.contents W.has_failed writer.old writer.new
-        (IsOveruseOf served.entry.device (map named_act served.entry.acts.now)
-        served.entry.replies.now) form
+        (IsReportedOveruseIn served.entry) form
         (accounts_of (map named_act served.entry.acts.now) served.entry.replies.now) report.now) }
 {
     let Ok(accounts) = accounts_of(alloc, served.acts, served.replies) else {
@@ -365,9 +339,7 @@ fn print_served<'a, W: Sink>(
         served,
         accounts: &accounts,
     };
-    let outcome = print_told(alloc, form, report, told, writer);
-    drop(accounts);
-    outcome
+    print_told(alloc, form, report, told, writer)
 }
 
 /// Prints a report by a served script, or moves.
@@ -379,8 +351,7 @@ fn print_told<W: Sink>(
     writer: &mut W,
 ) -> Result<(), Outcome>
     ensures { IfOk result (λ _. IsShownBy W.contents W.has_failed writer.old writer.new
-        (IsOveruseOf told.entry.served.device (map named_act told.entry.served.acts.now)
-        told.entry.served.replies.now) form (told_accounts told.entry) report.now) }
+        (IsReportedOveruseIn told.entry.served) form (told_accounts told.entry) report.now) }
 {
     match form {
         ReportForm::Table => write_path_table(alloc, report, told.accounts, writer).or(Err(

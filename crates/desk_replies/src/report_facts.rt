@@ -1,8 +1,7 @@
 //! What is known of a report's tenancies, for its JSON.
 ghost use Rattle.std.specs.Prelude.{◌≡◌, ◌++◌, codes, true, List, IfOk, IfSome, OnOk, map, option_map};
 ghost use Rattle.std.specs.Str.{bytes_eq};
-ghost use Rattle.script_replies.specs.Accounts.{account_now};
-ghost use Rattle.script_text.specs.Script.{named_act};
+ghost use Rattle.desk_replies.specs.Prelude.{account_now, named_act};
 ghost use Rattle.desk_replies.specs.Overused.{IsCrowdingOf};
 ghost use Rattle.desk_replies.specs.Paths.{AreFactsOf, HasCircuit, IsFactOf, account_of, told_accounts};
 ghost use Rattle.desk_replies.specs.declared.report_facts.TenancyFacts.{TenancyFacts};
@@ -44,13 +43,8 @@ pub(crate) fn facts_of<'t>(
         report.now.tenancies.items facts.items) }
 {
     let mut facts = Vec::new(alloc);
-    match add_facts(alloc, &report.tenancies, told, &mut facts) {
-        Ok(()) => Ok(facts),
-        Err(error) => {
-            drop(facts);
-            Err(error)
-        }
-    }
+    add_facts(alloc, &report.tenancies, told, &mut facts)?;
+    Ok(facts)
 }
 
 /// Adds what is known of these tenancies.

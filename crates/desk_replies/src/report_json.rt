@@ -2,19 +2,16 @@
 ghost use Rattle.std.specs.Prelude.{◌≡◌, ◌++◌, ◌∷◌, [], IfOk, OnOk, map};
 ghost use Rattle.std.specs.List.{flat_map};
 ghost use Rattle.desk_replies.specs.ReportJson.{device_members, list_members, report_json, strip_members, tenancy_json, use_json, use_members, used_of, widest_json};
-ghost use Rattle.desk_circuits.specs.Channels.{channel_json};
-ghost use Rattle.json.specs.Tree.{json_tokens};
-ghost use Rattle.json_text.specs.Values.{json_text, list_of, member_tokens};
-ghost use Rattle.line_text.specs.Writing.{TakesAll};
+ghost use Rattle.desk_replies.specs.Prelude.{channel_json, json_tokens, json_text, list_of, member_tokens, TakesAll};
 
 use crate::crowding_json::write_overuse_json;
 use crate::report_facts::TenancyFacts;
 use desk_circuits::{write_channel, write_circuit_members};
-use desk_common::Outcome;
+use desk_common::{Outcome, print_text};
 use device_lines::Tenancy;
 use device_report::{ChannelUse, Report, ResourceUse, Room, TenancyUse};
-use json_text::{JsonPen, Member, Scalar};
-use line_text::{Sink, is_word, write_all};
+use json_text::{JsonPen, Scalar};
+use line_text::{Sink, is_word};
 use std::alloc::{AllocError, Global};
 
 /// Prints a report with these facts of its tenancies as JSON.
@@ -27,15 +24,7 @@ pub(crate) fn print_json<W: Sink>(
     ensures { IfOk result (λ _. TakesAll W.contents W.has_failed writer.old writer.new
         (json_text (report_json report.now facts.now))) }
 {
-    let Ok(text) = report_text(alloc, report, facts) else {
-        return Err(Outcome::NoMemory);
-    };
-    let written = write_all(writer, text.as_slice());
-    drop(text);
-    match written {
-        Ok(()) => Ok(()),
-        Err(_) => Err(Outcome::OutputFailed),
-    }
+    print_text(report_text(alloc, report, facts), writer)
 }
 
 /// The text of a report. Fails if memory runs out.
@@ -47,13 +36,8 @@ fn report_text(
     ensures { IfOk result (λ text. text.items ≡ json_text (report_json report.now facts.now)) }
 {
     let mut pen = JsonPen::new(alloc);
-    match write_report(&mut pen, report, facts) {
-        Ok(()) => pen.into_text(),
-        Err(error) => {
-            drop(pen);
-            Err(error)
-        }
-    }
+    let written = write_report(&mut pen, report, facts);
+    pen.into_text(written)
 }
 
 /// Writes a report.
@@ -78,34 +62,13 @@ fn write_device_members(pen: &mut JsonPen, report: &Report<'_>) -> Result<(), Al
     let size = report.size;
     let columns = report.columns;
     pen.members(&[
-        Member {
-            name: "columns",
-            value: Scalar::Number(size.columns as u64),
-        },
-        Member {
-            name: "rows",
-            value: Scalar::Number(size.rows as u64),
-        },
-        Member {
-            name: "tracks",
-            value: Scalar::Number(size.tracks as u64),
-        },
-        Member {
-            name: "pads",
-            value: Scalar::Number(size.pads as u64),
-        },
-        Member {
-            name: "used_columns",
-            value: Scalar::Number(columns.used as u64),
-        },
-        Member {
-            name: "guard_columns",
-            value: Scalar::Number(columns.guard as u64),
-        },
-        Member {
-            name: "free_columns",
-            value: Scalar::Number(columns.free as u64),
-        },
+        ("columns", Scalar::Number(size.columns as u64)),
+        ("rows", Scalar::Number(size.rows as u64)),
+        ("tracks", Scalar::Number(size.tracks as u64)),
+        ("pads", Scalar::Number(size.pads as u64)),
+        ("used_columns", Scalar::Number(columns.used as u64)),
+        ("guard_columns", Scalar::Number(columns.guard as u64)),
+        ("free_columns", Scalar::Number(columns.free as u64)),
     ])
 }
 
@@ -132,14 +95,8 @@ fn write_widest(pen: &mut JsonPen, widest: Option<Room>) -> Result<(), AllocErro
 {
     match widest {
         Some(room) => pen.object(&[
-            Member {
-                name: "width",
-                value: Scalar::Number(room.width as u64),
-            },
-            Member {
-                name: "offset",
-                value: Scalar::Number(room.offset as u64),
-            },
+            ("width", Scalar::Number(room.width as u64)),
+            ("offset", Scalar::Number(room.offset as u64)),
         ]),
         None => pen.scalar(Scalar::Null),
     }
@@ -206,26 +163,11 @@ fn write_strip_members(pen: &mut JsonPen, tenancy: Tenancy<'_>) -> Result<(), Al
         ++ flat_map member_tokens (strip_members tenancy.entry)) }
 {
     pen.members(&[
-        Member {
-            name: "id",
-            value: Scalar::Number(tenancy.id as u64),
-        },
-        Member {
-            name: "name",
-            value: Scalar::Name(tenancy.name),
-        },
-        Member {
-            name: "offset",
-            value: Scalar::Number(tenancy.offset as u64),
-        },
-        Member {
-            name: "width",
-            value: Scalar::Number(tenancy.width as u64),
-        },
-        Member {
-            name: "state",
-            value: Scalar::Name(tenancy.state),
-        },
+        ("id", Scalar::Number(tenancy.id as u64)),
+        ("name", Scalar::Name(tenancy.name)),
+        ("offset", Scalar::Number(tenancy.offset as u64)),
+        ("width", Scalar::Number(tenancy.width as u64)),
+        ("state", Scalar::Name(tenancy.state)),
     ])
 }
 
@@ -258,14 +200,8 @@ fn write_used(pen: &mut JsonPen, tenancy: Tenancy<'_>, one: ResourceUse) -> Resu
     ensures { OnOk result (pen.new ≡ pen.old ++ json_tokens (use_json tenancy.entry one)) }
 {
     pen.object(&[
-        Member {
-            name: "used",
-            value: Scalar::Known(used_of(tenancy, one)),
-        },
-        Member {
-            name: "there",
-            value: Scalar::Number(one.there as u64),
-        },
+        ("used", Scalar::Known(used_of(tenancy, one))),
+        ("there", Scalar::Number(one.there as u64)),
     ])
 }
 

@@ -1,8 +1,6 @@
 //! Where a device has room, and the moves that join its gaps, as lines of a script.
 ghost use Rattle.std.specs.Prelude.{◌≡◌, ◌≤◌, codes, flat_map, option_map, IfOk};
-ghost use Rattle.grid.specs.declared.TheConstants.{MAX_COLUMNS};
-ghost use Rattle.line_text.specs.Writing.{TakesAll, Writes};
-ghost use Rattle.strip_moves.specs.Gaps.{gaps_of};
+ghost use Rattle.desk_replies.specs.Prelude.{MAX_COLUMNS, TakesAll, Writes, gaps_of};
 ghost use Rattle.desk_replies.specs.Moves.{AreJoined, AreMoves, gaps_text, joining_text, line_to, move_line, room_line, strips_of, tenancy_of, widest_line};
 
 use desk_common::Outcome;
@@ -25,9 +23,7 @@ pub(crate) fn print_moves<W: Sink>(
     let Ok(strips) = strips_of(alloc, report) else {
         return Err(Outcome::NoMemory);
     };
-    let printed = print_strips(alloc, report, &strips, writer);
-    drop(strips);
-    printed
+    print_strips(alloc, report, &strips, writer)
 }
 
 /// The strips of the tenancies of a report.
@@ -72,9 +68,7 @@ fn print_gaps<W: Sink>(
     let Ok(gaps) = gaps_of(alloc, report.size.columns, strips) else {
         return Err(Outcome::NoMemory);
     };
-    let written = write_gaps(&gaps, report.widest, writer);
-    drop(gaps);
-    written.or(Err(Outcome::OutputFailed))
+    write_gaps(&gaps, report.widest, writer).or(Err(Outcome::OutputFailed))
 }
 
 /// Prints the moves and the widest strip that would be admitted after them.
@@ -90,9 +84,7 @@ fn print_joining<W: Sink>(
 {
     match joining_moves(alloc, report.size.columns, strips) {
         Ok(Some(joining)) => {
-            let written = write_joining(&report.tenancies, &joining, writer);
-            drop(joining);
-            written.or(Err(Outcome::OutputFailed))
+            write_joining(&report.tenancies, &joining, writer).or(Err(Outcome::OutputFailed))
         }
         Ok(None) => Ok(()),
         Err(_) => Err(Outcome::NoMemory),

@@ -1,14 +1,10 @@
 //! The longest path of each tenancy's netlist, for the report of a device.
 ghost use Rattle.std.specs.Prelude.{ℕ, ◌++◌, List, OnOk, map};
-ghost use Rattle.desk_circuits.specs.EachText.{ShowsEach};
-ghost use Rattle.desk_circuits.specs.Usages.{path_fields};
-ghost use Rattle.desk_replies.specs.Overused.{IsOveruseOf};
-ghost use Rattle.desk_replies.specs.Paths.{ShowsPath, ShowsPathRow, ShowsPathTable, ShowsPaths, path_headings, told_accounts};
+ghost use Rattle.desk_replies.specs.Prelude.{ShowsEach, path_fields, Writes, account_now};
+ghost use Rattle.desk_replies.specs.Overused.{IsReportedOveruseIn};
+ghost use Rattle.desk_replies.specs.Paths.{ShowsPath, ShowsPathTable, ShowsPaths, path_headings, path_text, told_accounts};
 ghost use Rattle.desk_replies.specs.Reported.{ArePathsShown};
 ghost use Rattle.desk_replies.specs.Tables.{row_fields};
-ghost use Rattle.line_text.specs.Writing.{Writes};
-ghost use Rattle.script_replies.specs.Accounts.{account_now};
-ghost use Rattle.script_text.specs.Script.{named_act};
 
 use crate::overuse::write_overuses;
 use crate::report_facts::{Told, circuit_of};
@@ -32,8 +28,7 @@ pub(crate) fn write_told<W: Sink>(
     writer: &mut W,
 ) -> Result<(), Failed>
     ensures { OnOk result (ArePathsShown W.contents W.has_failed writer.old writer.new
-        (IsOveruseOf told.entry.served.device (map named_act told.entry.served.acts.now)
-        told.entry.served.replies.now) (told_accounts told.entry) report.now) }
+        (IsReportedOveruseIn told.entry.served) (told_accounts told.entry) report.now) }
 {
     write_report(writer, report)?;
     write_paths(alloc, report, told.accounts, writer)?;
@@ -51,40 +46,7 @@ fn write_paths<W: Sink>(
     ensures { (text : List ℕ) × ShowsPaths (map account_now accounts.now) report.now text
         × Writes W.contents W.has_failed writer.old writer.new text result }
 {
-    write_path_lines(alloc, &report.tenancies, accounts, writer)
-}
-
-/// Writes the lines of the tenancies' longest paths.
-fn write_path_lines<W: Sink>(
-    alloc: Global,
-    tenancies: &[TenancyUse<'_>],
-    accounts: &[Account<'_, '_>],
-    writer: &mut W,
-) -> Result<(), Failed>
-    ensures { (text : List ℕ)
-        × ShowsEach (ShowsPath (map account_now accounts.now)) tenancies.now text
-        × Writes W.contents W.has_failed writer.old writer.new text result }
-{
-    for uses in tenancies {
-        write_path_line(alloc, uses, accounts, writer)?;
-    }
-    Ok(())
-}
-
-/// Writes the line of a tenancy's longest path.
-fn write_path_line<W: Sink>(
-    alloc: Global,
-    uses: &TenancyUse<'_>,
-    accounts: &[Account<'_, '_>],
-    writer: &mut W,
-) -> Result<(), Failed>
-    ensures { (text : List ℕ) × ShowsPath (map account_now accounts.now) uses.now text
-        × Writes W.contents W.has_failed writer.old writer.new text result }
-{
-    let circuit = circuit_of(alloc, accounts, uses.tenancy.name);
-    let written = write_longest(writer, uses.tenancy.name, &circuit);
-    drop(circuit);
-    written
+    write_each_path(alloc, false, &report.tenancies, accounts, writer)
 }
 
 /// Writes what the tenancies of a report use as a table, with the longest path of the netlist of
@@ -99,7 +61,7 @@ pub(crate) fn write_path_table<W: Sink>(
         × Writes W.contents W.has_failed writer.old writer.new text result }
 {
     write_path_headings(writer)?;
-    write_path_rows(alloc, &report.tenancies, accounts, writer)
+    write_each_path(alloc, true, &report.tenancies, accounts, writer)
 }
 
 /// Writes the headings of the table.
@@ -110,37 +72,54 @@ fn write_path_headings<W: Sink>(writer: &mut W) -> Result<(), Failed>
     write_parts(writer, &[Part::Text(PATH_HEADINGS)])
 }
 
-/// Writes the rows of the tenancies.
-fn write_path_rows<W: Sink>(
+/// Writes the rows of these tenancies, or the lines of their longest paths.
+fn write_each_path<W: Sink>(
     alloc: Global,
+    is_row: bool,
     tenancies: &[TenancyUse<'_>],
     accounts: &[Account<'_, '_>],
     writer: &mut W,
 ) -> Result<(), Failed>
     ensures { (text : List ℕ)
-        × ShowsEach (ShowsPathRow (map account_now accounts.now)) tenancies.now text
+        × ShowsEach (ShowsPath is_row (map account_now accounts.now)) tenancies.now text
         × Writes W.contents W.has_failed writer.old writer.new text result }
 {
     for uses in tenancies {
-        write_path_row(alloc, uses, accounts, writer)?;
+        write_one_path(alloc, is_row, uses, accounts, writer)?;
     }
     Ok(())
 }
 
-/// Writes the row of a tenancy.
-fn write_path_row<W: Sink>(
+/// Writes the row of a tenancy, or the line of its longest path.
+fn write_one_path<W: Sink>(
     alloc: Global,
+    is_row: bool,
     uses: &TenancyUse<'_>,
     accounts: &[Account<'_, '_>],
     writer: &mut W,
 ) -> Result<(), Failed>
-    ensures { (text : List ℕ) × ShowsPathRow (map account_now accounts.now) uses.now text
+    ensures { (text : List ℕ) × ShowsPath is_row (map account_now accounts.now) uses.now text
         × Writes W.contents W.has_failed writer.old writer.new text result }
 {
     let circuit = circuit_of(alloc, accounts, uses.tenancy.name);
-    let written = write_row(uses, &circuit, writer);
-    drop(circuit);
-    written
+    write_text(is_row, uses, &circuit, writer)
+}
+
+/// Writes the row, or the line, of a tenancy whose netlist has this circuit.
+fn write_text<W: Sink>(
+    is_row: bool,
+    uses: &TenancyUse<'_>,
+    circuit: &Option<MeasuredCircuit>,
+    writer: &mut W,
+) -> Result<(), Failed>
+    ensures { Writes W.contents W.has_failed writer.old writer.new
+        (path_text is_row uses.now circuit.now) result }
+{
+    if is_row {
+        write_row(uses, circuit, writer)
+    } else {
+        write_longest(writer, uses.tenancy.name, circuit)
+    }
 }
 
 /// Writes the row of a tenancy whose netlist has this circuit.

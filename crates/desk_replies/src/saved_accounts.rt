@@ -1,9 +1,8 @@
 //! The files of the names of a script that are written into a folder.
 ghost use Rattle.std.specs.Prelude.{◌≡◌, map, option_map, IfOk};
 ghost use Rattle.std.specs.List.{flat_map};
-ghost use Rattle.desk_common.specs.Outputs.{AreAdded};
+ghost use Rattle.desk_replies.specs.Prelude.{AreAdded, account_now};
 ghost use Rattle.desk_replies.specs.Saved.{files_of_name, if_present};
-ghost use Rattle.script_replies.specs.Accounts.{account_now};
 
 use crate::outdated::tell_outdated;
 use desk_common::{FileOutputs, NewFile, Outcome, ResultFile};

@@ -1,8 +1,7 @@
 //! A script that a tool reads, and the replies that were printed for its lines.
 ghost use Rattle.std.specs.Prelude.{◌≡◌, ◌<◌, ◌^◌, length, map, Ok, IfOk};
 ghost use Rattle.desk_replies.specs.Lines.{AreLines};
-ghost use Rattle.script_replies.specs.Asking.{replies_in};
-ghost use Rattle.script_text.specs.Script.{named_act, script_of};
+ghost use Rattle.desk_replies.specs.Prelude.{replies_in, named_act, script_of};
 
 use crate::lines::Lines;
 use desk_common::Outcome;

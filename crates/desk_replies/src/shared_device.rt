@@ -1,8 +1,6 @@
 //! A device that tenancies share.
 ghost use Rattle.std.specs.Prelude.{◌≡◌, is_some, IfSome, Some};
-ghost use Rattle.arch_file.specs.Arch.{IsWithin};
-ghost use Rattle.arch_file.specs.declared.arch.TheConstants.{MAX_TRACKS};
-ghost use Rattle.grid.specs.declared.TheConstants.{MAX_ROWS};
+ghost use Rattle.desk_replies.specs.Prelude.{IsWithin, MAX_TRACKS, MAX_ROWS};
 ghost use Rattle.desk_replies.specs.Sizes.{are_sizes};
 
 use arch_file::MAX_TRACKS;

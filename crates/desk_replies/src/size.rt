@@ -2,17 +2,9 @@
 ghost use Rattle.std.specs.Prelude.{IfOk, OnErr};
 ghost use Rattle.desk_replies.specs.Asked.{IsDeviceAskedFor};
 
-use desk_common::{COLUMNS, DEVICE, NO_DEVICE, ROWS};
+use desk_common::{COLUMNS, DEVICE, NO_DEVICE, ROWS, TRACKS};
 use device_lines::DeviceSize;
 use option_words::{Given, OptionWord, Takes};
-
-pub(crate) const TRACKS: OptionWord = OptionWord {
-    name: "tracks",
-    value_name: "W",
-    help: "Tracks of each channel, 1 to 64",
-    takes: Takes::Number(1, 64),
-    default: Some("2"),
-};
 
 pub(crate) const PADS: OptionWord = OptionWord {
     name: "pads",

@@ -1,8 +1,6 @@
 //! The state of each name, by the replies to a script.
 ghost use Rattle.std.specs.Prelude.{◌≡◌, ◌++◌, map, IfOk, OnOk};
-ghost use Rattle.script_replies.specs.Usage.{first_word};
-ghost use Rattle.script_text.specs.Script.{named_act, named_operator};
-ghost use Rattle.script_text.specs.declared.operator_line.OperatorLine.TheVariants.{List};
+ghost use Rattle.desk_replies.specs.Prelude.{first_word, named_act, named_operator, List};
 ghost use Rattle.desk_replies.specs.States.{AreLastStates, after_word, granted_states, last_states, listed_state, operator_states, session_states, state_after, states_from, states_in};
 
 use indexmap::IndexMap;
@@ -29,9 +27,7 @@ pub(crate) fn present_states<'a>(
     ensures { IfOk result (λ last. AreLastStates (map named_act acts.now) replies.now last.entries) }
 {
     let states = states_after(alloc, acts, replies)?;
-    let last = last_states(alloc, &states);
-    drop(states);
-    last
+    last_states(alloc, &states)
 }
 
 /// The last of these states of each name, in the order of the first ones.

@@ -1,6 +1,6 @@
 //! What the tenancies of a device use, as a table.
 ghost use Rattle.std.specs.Prelude.{◌≡◌, flat_map};
-ghost use Rattle.line_text.specs.Writing.{Writes};
+ghost use Rattle.desk_replies.specs.Prelude.{Writes};
 ghost use Rattle.desk_replies.specs.Tables.{heading_fields, headings, line_end, row_fields, row_text, table_text};
 
 use device_report::{Report, TenancyUse, used_part};

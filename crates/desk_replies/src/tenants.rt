@@ -1,9 +1,8 @@
 //! What each name asked for and was answered: a file of its lines.
 ghost use Rattle.std.specs.Prelude.{◌≡◌, ◌++◌, IfOk, MatchResult};
 ghost use Rattle.std.specs.List.{flat_map};
-ghost use Rattle.desk_common.specs.Outputs.{AreAdded};
+ghost use Rattle.desk_replies.specs.Prelude.{AreAdded, told_text};
 ghost use Rattle.desk_replies.specs.Saved.{line_at, lines_at, replies_file, replies_files};
-ghost use Rattle.script_replies.specs.Told.{told_text};
 
 use desk_common::{FileOutputs, NewFile, Outcome, ResultFile};
 use line_text::{MemorySink, Sink};
@@ -45,9 +44,7 @@ fn save_name<O: FileOutputs, E: Sink>(
     let Ok(lines) = own else {
         return Err(Outcome::NoMemory);
     };
-    let written = save_text(outputs, folder, name, lines.as_slice(), teller);
-    drop(lines);
-    written
+    save_text(outputs, folder, name, lines.as_slice(), teller)
 }
 
 /// Writes the file of a name's lines.
@@ -78,15 +75,8 @@ fn own_text(alloc: Global, places: &[usize], told: &[ToldLine<'_>]) -> Result<Ve
 {
     let own = own_lines(alloc, places, told)?;
     let mut text = MemorySink::new(alloc);
-    let written = write_told(&mut text, &own);
-    drop(own);
-    match written {
-        Ok(()) => Ok(text.into_bytes()),
-        Err(_) => {
-            drop(text);
-            Err(AllocError)
-        }
-    }
+    write_told(&mut text, &own).or(Err(AllocError))?;
+    Ok(text.into_bytes())
 }
 
 /// The lines at these places with their replies.

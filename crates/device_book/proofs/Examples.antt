@@ -1,11 +1,5 @@
 -- The definitions at small values.
-use Rattle.std.proofs.Common.{◌≡◌, [], ◌∷◌, None, refl, false, true}
-use Rattle.rr_graph.specs.declared.resource.ResourceKind.TheVariants.{Opin, Pad}
-use Rattle.rr_graph.specs.declared.resource.Resource.{Resource}
-use Rattle.device_book.specs.declared.book.Extent.{Extent}
-use Rattle.rr_graph.specs.Resources.{has}
-use Rattle.device_book.specs.Columns.{column_size}
-use Rattle.device_book.specs.Owners.{in_book, no_owners, number_of, owner_of, size_of}
+use Rattle.device_book.proofs.Prelude.{◌≡◌, [], ◌∷◌, None, refl, false, true, Opin, Pad, Resource, Extent, has, column_size, in_book, no_owners, number_of, owner_of, size_of}
 
 -- one column, one row, numbers 0 to 3
 abbrev small : Extent

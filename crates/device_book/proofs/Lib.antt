@@ -1,3 +1,4 @@
+mod Prelude
 pub mod Columns
 pub mod Listing
 pub mod Places

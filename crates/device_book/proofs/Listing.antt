@@ -1,16 +1,6 @@
 -- The owners found so far, as they are listed.
-use Rattle.std.proofs.Common.{◌≡◌, ℕ, ◌+◌, ◌*◌, ◌<◌, ◌≤◌, List, [], ◌∷◌, ◌++◌, length, get_or, Bool, true, false, Option, Some, None, refl, sym, ap, subst, ◌∙◌, inl, inr, arith}
-use Rattle.std.specs.Prelude.{Contains, if◌then◌else◌}
-use Rattle.std.proofs.lemmas.Option.{none-some}
-use Rattle.std.proofs.lemmas.Bool.{cases_eq, cases_lt}
-use Rattle.std.proofs.lemmas.List.Elements.{Contains-append_left, Contains-get_or, Contains-push, Contains-push_cases}
-use Rattle.std.proofs.lemmas.List.Quantifiers.{all_pairs_push}
-use Rattle.rr_graph.specs.declared.resource.Resource.{Resource}
-use Rattle.rr_graph.specs.Resources.{IsEarlier}
-use Rattle.device_book.specs.declared.book.Owned.{Owned}
-use Rattle.device_book.specs.Columns.{ListsPlaces, column_size, owned_in}
-use Rattle.device_book.specs.Owners.{ListsOwners, Owners, in_book, number_of, owner_of, size_of}
-use Rattle.device_book.proofs.Columns.{all_columns, nobody_in}
+use Rattle.device_book.proofs.Prelude.{◌≡◌, ℕ, ◌+◌, ◌*◌, ◌<◌, ◌≤◌, List, [], ◌∷◌, ◌++◌, length, get_or, true, Option, Some, None, sym, ap, subst, ◌∙◌, inl, inr, arith, Contains, if◌then◌else◌, cases_eq, Contains-append_left, Contains-get_or, Contains-push, Contains-push_cases, all_pairs_push, Resource, IsEarlier, Owned, ListsPlaces, column_size, owned_in, ListsOwners, Owners, in_book, number_of, owner_of, size_of}
+use Rattle.device_book.proofs.Columns.{nobody_in}
 use Rattle.device_book.proofs.Places.{earlier_place, one_resource, place_within}
 
 abbrev value : Option ℕ → ℕ
@@ -20,12 +10,7 @@ value (Some id) = id
 -- what is owned is in the book, and its owner is in its place
 owned_there : (book : Owners) (resource : Resource) (id : ℕ) → owner_of book resource ≡ Some id →
     (in_book book.extent resource ≡ true) × (get_or book.owners (number_of book.extent resource) None ≡ Some id)
-owned_there book resource id e = by_test (in_book book.extent resource) refl e
-  where
-    by_test : (b : Bool) → in_book book.extent resource ≡ b → (if b then get_or book.owners (number_of book.extent resource) None else None) ≡ Some id →
-        (in_book book.extent resource ≡ true) × (get_or book.owners (number_of book.extent resource) None ≡ Some id)
-    by_test true there e = (there, e)
-    by_test false there e = absurd (none-some _ e)
+owned_there book resource id e = grind arith
 
 owned_by : (book : Owners) (resource : Resource) (owner : Option ℕ) → in_book book.extent resource ≡ true → get_or book.owners (number_of book.extent resource) None ≡ owner →
     owner_of book resource ≡ owner
@@ -33,35 +18,18 @@ owned_by book resource owner there e = ap (λ b. if b then get_or book.owners (n
 
 -- an owner that equals no id is `None`
 pub no_owner : (owner : Option ℕ) → ((id : ℕ) → owner ≡ Some id → ⊥) → owner ≡ None
-no_owner None none = refl
-no_owner (Some id) none = absurd (none id refl)
+no_owner owner none = grind arith
 
 pub lists_none : (book : Owners) → ListsPlaces book 0 []
 lists_none book = record { in_order = λ i j d lt few. absurd (omega (arith, few)); exact = λ owned. ((λ within. absurd (omega (arith, within.1))), (λ there. absurd (omega (arith, there.1)))) }
 
--- nobody owns the next places, so the list stays as it is
-lists_past : (book : Owners) (places more : ℕ) (list : List Owned) → places ≤ more → ((place : ℕ) → places ≤ place → place < more → get_or book.owners place None ≡ None) →
-    ListsPlaces book places list → ListsPlaces book more list
-lists_past book places more list le free so_far = record {
-  in_order = so_far.in_order;
-  exact = λ owned. ((λ within. let found = (so_far.exact owned).0 within in (found.0, omega (arith, found.1, le))), (λ there. (so_far.exact owned).1 (there.0, before owned there.0 there.1)));
-}
-  where
-    before : (owned : Owned) → owner_of book owned.resource ≡ Some owned.id → number_of book.extent owned.resource < more → number_of book.extent owned.resource < places
-    before owned has lt = elim (cases_lt (number_of book.extent owned.resource) places) [
-      | inl here ↦ here
-      | inr ge ↦ absurd (none-some _ (sym (free (number_of book.extent owned.resource) ge lt) ∙ (owned_there book owned.resource owned.id has).1))
-    ]
-
 pub lists_free : (book : Owners) (place : ℕ) (list : List Owned) → get_or book.owners place None ≡ None → ListsPlaces book place list → ListsPlaces book (place + 1) list
-lists_free book place list free = lists_past book place (place + 1) list (omega arith)
-    (λ other ge lt. ap (λ k. get_or book.owners k None) (let here : other ≡ place = omega (arith, ge, lt) in here) ∙ free)
+lists_free book place list free = grind arith
 
 -- nobody owns a place of the next column, so the list stays as it is
 pub lists_free_column : (book : Owners) (column : ℕ) (list : List Owned) → length book.owners ≡ size_of book.extent → column ≤ book.extent.columns → owned_in book.extent book.owners column ≡ 0 →
     ListsPlaces book (column * column_size book.extent) list → ListsPlaces book ((column + 1) * column_size book.extent) list
-lists_free_column book column list long within none = lists_past book (column * column_size book.extent) ((column + 1) * column_size book.extent) list (omega arith)
-    (λ place ge lt. nobody_in book.extent book.owners column place long within none ge lt)
+lists_free_column book column list long within none = grind (arith, nobody_in)
 
 -- the next place is owned, so its owner is appended
 pub lists_owned : (book : Owners) (place : ℕ) (list : List Owned) (resource : Resource) (id : ℕ) → get_or book.owners place None ≡ Some id →
@@ -94,13 +62,4 @@ lists_owned book place list resource id has there at' so_far = record {
 
 -- after all columns, the list is complete
 pub lists_all : (book : Owners) (list : List Owned) → ListsPlaces book ((book.extent.columns + 1) * column_size book.extent) list → ListsOwners book list
-lists_all book list all = record {
-  in_order = all.in_order;
-  exact = λ owned. ((λ within. ((all.exact owned).0 within).0), (λ is. (all.exact owned).1 (is, below owned is)));
-}
-  where
-    below : (owned : Owned) → owner_of book owned.resource ≡ Some owned.id → number_of book.extent owned.resource < (book.extent.columns + 1) * column_size book.extent
-    below owned is =
-        let within = place_within book.extent owned.resource (owned_there book owned.resource owned.id is).0 in
-        let ends = all_columns book.extent in
-        omega (arith, within, ends)
+lists_all book list all = grind (arith, place_within)

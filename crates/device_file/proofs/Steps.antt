@@ -1,12 +1,5 @@
 -- One word or line before others.
-use Rattle.std.proofs.Common.{◌≡◌, ℕ, ◌+◌, List, [], ◌∷◌, map, Result, Ok, Err, Option, Some, None, Bool, true, false, ◌||◌, cond, refl, sym, ap, ◌∙◌}
-use Rattle.std.specs.List.{list_any}
-use Rattle.line_text.specs.declared.text_error.TextError.{TextError}
-use Rattle.line_text.specs.declared.text_error.TextError.TheVariants.{NoMemory, Fault}
-use Rattle.device_file.specs.declared.fault.DeviceFileFault.{DeviceFileFault}
-use Rattle.device_file.specs.declared.fault.FaultKind.TheVariants.{NoValue}
-use Rattle.device_file.specs.DeviceFiles.{FoundFault, Given, Read, Step, Unfinished, all_values, begins_comment, line_read, lines_read, then_read, values_at_end, word_read, words_read}
-use Rattle.device_file.specs.Reading.{IsError, Refuses}
+use Rattle.device_file.proofs.Prelude.{◌≡◌, ℕ, ◌+◌, List, [], ◌∷◌, map, Result, Ok, Err, Option, Some, None, Bool, true, false, ◌||◌, cond, refl, sym, ap, ◌∙◌, list_any, TextError, NoMemory, Fault, DeviceFileFault, NoValue, FoundFault, Given, Read, Step, Unfinished, all_values, begins_comment, line_read, lines_read, then_read, values_at_end, word_read, words_read, IsError, Refuses}
 
 -- a word
 pub comment_begun : (read : Read) (line : ℕ) (word : List ℕ) (words : List (List ℕ)) → begins_comment word ≡ true → words_read (word ∷ words) read line ≡ Ok read

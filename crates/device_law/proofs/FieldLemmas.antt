@@ -1,38 +1,19 @@
 -- The parts of a printed line are read back.
-use Rattle.std.proofs.Common.{◌≡◌, ℕ, ◌+◌, ◌-◌, ◌*◌, ◌/◌, ◌%◌, ◌^◌, ◌<◌, ◌≤◌, Bool, true, false, not, cond, List, [], ◌∷◌, ◌++◌, length, take, drop, codes, decimal, Some, None, refl, ap, ◌∙◌, arith}
-use Rattle.std.specs.Prelude.{⊤, nat_le, nat_lt, option_map}
-use Rattle.std.specs.List.{list_all, position_or_len}
-use Rattle.std.proofs.lemmas.Bool.{and_from, and_parts}
-use Rattle.line_text.specs.Decimal.{decimal_of, is_digit, value_of, with_digit}
-use Rattle.std.proofs.lemmas.List.Folds.{list_all-append}
-use Rattle.std.proofs.lemmas.List.Sums.{fold-append}
-use Rattle.std.proofs.lemmas.Bool.Decides.{nat_tests}
-use Rattle.std.proofs.lemmas.Fmt.{decimal_by_steps, decimal_nonempty}
-use Rattle.device_lines.specs.Words.{after_text, first_number, if_given, is_other, is_space, number_field, word_field}
+use Rattle.device_law.proofs.Prelude.{◌≡◌, ℕ, ◌+◌, ◌/◌, ◌%◌, ◌^◌, ◌<◌, ◌≤◌, Bool, true, not, cond, List, [], ◌∷◌, ◌++◌, length, take, drop, codes, decimal, Some, refl, ap, ◌∙◌, arith, ⊤, option_map, list_all, position_or_len, and_parts, decimal_of, is_digit, list_all-append, fold-append, decimal_by_steps, decimal_nonempty, after_text, first_number, is_other, is_space, number_field, word_field}
+use Rattle.line_text.specs.Decimal.{value_of}
 
 -- the digits of a number, and their value
 digit_one : (n : ℕ) → n < 10 → (list_all is_digit ((48 + n) ∷ []) ≡ true) × (value_of ((48 + n) ∷ []) ≡ n)
-digit_one n small =
-    let low : nat_le 48 (48 + n) ≡ true = grind (arith, nat_tests) in
-    let high : nat_le (48 + n) 57 ≡ true = grind (arith, nat_tests, small) in
-    (and_from _ _ (and_from _ _ low high) refl, omega arith)
+digit_one n small = grind arith
 
 digit_more : (n : ℕ) (ds : List ℕ) → 10 ≤ n → (list_all is_digit ds ≡ true) × (value_of ds ≡ n / 10) → (list_all is_digit (ds ++ (48 + n % 10) ∷ []) ≡ true) × (value_of (ds ++ (48 + n % 10) ∷ []) ≡ n)
-digit_more n ds big h =
-    let last = digit_one (n % 10) (omega arith) in
-    let value : value_of (ds ++ (48 + n % 10) ∷ []) ≡ value_of ds * 10 + (48 + n % 10 - 48) = fold-append with_digit 0 ds ((48 + n % 10) ∷ []) in
-    (list_all-append is_digit ds ((48 + n % 10) ∷ []) ∙ and_from _ _ h.0 last.0, value ∙ omega (arith, h.1))
+digit_more n ds big h = grind (arith, fold-append, list_all-append)
 
 pub digits_told : (n : ℕ) → n < 2 ^ 64 → (list_all is_digit (decimal n) ≡ true) × (value_of (decimal n) ≡ n)
 digits_told n small = decimal_by_steps (λ m ds. (list_all is_digit ds ≡ true) × (value_of ds ≡ m)) digit_one digit_more n small
 
 pub decimal_is : (n : ℕ) → n < 2 ^ 32 → decimal_of 32 (decimal n) ≡ Some n
-decimal_is n fits =
-    let told = digits_told n (omega arith) in
-    let ds : List ℕ = decimal n in
-    let some : nat_le 1 (length ds) ≡ true = grind (arith, nat_tests, decimal_nonempty n (omega arith)) in
-    let less : nat_lt (value_of ds) (2 ^ 32) ≡ true = ap (λ v. nat_lt v (2 ^ 32)) told.1 ∙ grind (arith, nat_tests, fits) in
-    ap (λ v. cond v (Some (value_of ds)) None) (and_from _ _ (and_from _ _ told.0 some) less) ∙ ap Some told.1
+decimal_is n fits = grind (arith, digits_told, decimal_nonempty)
 
 -- a byte that passes the test is the first one of the rest
 abbrev pub Stops : (ℕ → Bool) → List ℕ → Type 0
@@ -55,14 +36,7 @@ dropped [] ys = refl
 dropped (x ∷ xs) ys = dropped xs ys
 
 digits_all : (ds : List ℕ) → list_all is_digit ds ≡ true → list_all (λ b. not (is_other b)) ds ≡ true
-digits_all [] all = refl
-digits_all (d ∷ ds) all =
-    let parts = and_parts (is_digit d) (list_all is_digit ds) all in
-    and_from _ _ (twice (is_digit d) parts.0) (digits_all ds parts.1)
-  where
-    twice : (b : Bool) → b ≡ true → not (not b) ≡ true
-    twice true e = refl
-    twice false e = e
+digits_all ds all = grind arith
 
 pub first_is : (n : ℕ) (rest : List ℕ) → n < 2 ^ 32 → Stops is_other rest → first_number (decimal n ++ rest) ≡ Some (n, rest)
 unfolding first_number
@@ -83,9 +57,7 @@ space_after rest = refl
 
 pub number_is : (n : ℕ) (rest : List ℕ) → n < 2 ^ 32 → number_field (decimal n ++ 32 ∷ rest) ≡ Some (n, rest)
 unfolding number_field
-number_is n rest small =
-    ap (λ o. if_given o (λ (taken : ℕ × List ℕ). option_map (λ (r : List ℕ). (taken.0, r)) (after_text (codes " ") taken.1))) (first_is n (32 ∷ rest) small refl)
-    ∙ ap (option_map (λ (r : List ℕ). (n, r))) (space_after rest)
+number_is n rest small = grind (arith, first_is, space_after)
 
 pub word_is : (word rest : List ℕ) → list_all (λ b. not (is_space b)) word ≡ true → word_field (word ++ 32 ∷ rest) ≡ Some (word, rest)
 unfolding word_field

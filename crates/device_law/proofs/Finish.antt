@@ -1,18 +1,6 @@
 -- The end of an output: what was shown is read, or something is missing.
-use Rattle.std.proofs.Common.{◌≡◌, ℕ, ◌-◌, inl, inr, Bool, true, false, cond, ◌&&◌, List, [], ◌∷◌, length, map, Option, Some, None, refl, sym, ap, ◌∙◌, subst, arith}
-use Rattle.std.specs.Prelude.{◌==◌, IfSome, is_some, nat_lt, not, option_map, unwrap_or}
-use Rattle.std.specs.Option.{option_or}
-use Rattle.std.proofs.lemmas.Bool.{false≢true}
-use Rattle.std.proofs.lemmas.Bool.Decides.{nat_tests}
-use Rattle.strips.specs.declared.placed_strip.PlacedStrip.{PlacedStrip}
-use Rattle.service_core.specs.Service.{empty_service}
-use Rattle.operator.specs.Serving.{Stage}
-use Rattle.device_lines.specs.declared.fault.DeviceFault.TheVariants.{NoList, NoOwners, Unfinished}
-use Rattle.device_lines.specs.declared.fault.InputFault.{InputFault}
-use Rattle.device_lines.specs.Lines.{Listed, OwnedNode}
-use Rattle.device_lines.specs.Reading.{Seen, at_line, unless_fault, first_foreign, owner_fault, last_fault, missing_part, missing_inside}
-use Rattle.device_law.specs.ReadBack.{entries}
-use Rattle.device_law.specs.Shown.{IsReadFrom, Shown, without_state}
+use Rattle.device_law.proofs.Prelude.{◌≡◌, ℕ, ◌-◌, Bool, true, false, cond, ◌&&◌, List, [], ◌∷◌, length, map, Option, Some, None, refl, sym, ap, ◌∙◌, subst, arith, ◌==◌, IfSome, is_some, nat_lt, option_map, unwrap_or, option_or, nat_tests, PlacedStrip, empty_service, Stage, NoList, NoOwners, Listed, OwnedNode, Seen, unless_fault, first_foreign, owner_fault, last_fault, missing_part, missing_inside, entries, IsReadFrom, Shown, without_state}
+use Rattle.std.specs.Prelude.{not}
 use Rattle.device_law.proofs.Each.{Each}
 use Rattle.device_law.proofs.Found.{OwnedIn, none_foreign}
 use Rattle.device_law.proofs.StripEntries.{strip_entries}
@@ -28,12 +16,7 @@ module _ (strips : List PlacedStrip) (names : List (List ℕ)) (shown : Shown) (
 
   -- so many tenancies are live that some list shows them
   no_list : (o : Option (List Listed)) → final.listed ≡ unwrap_or o [] → IsNow o → final.live ≡ length (strip_entries strips names) → (nat_lt 0 final.live && (length final.listed == 0)) ≡ true → o ≡ None
-  no_list None listed now live is = refl
-  no_list (Some xs) listed now live is =
-      let same : length xs ≡ length (strip_entries strips names) = sym (mapped xs) ∙ ap (λ ys. length ys) now in
-      let count : length final.listed ≡ length xs = ap (λ ys. length ys) listed in
-      let none : (nat_lt 0 final.live && (length final.listed == 0)) ≡ false = grind (arith, nat_tests, live, same, count) in
-      absurd (false≢true (sym none ∙ is))
+  no_list o listed now live is = grind (arith, mapped)
 
   all_live : (o : Option (List Listed)) → final.listed ≡ unwrap_or o [] → IsNow o → final.live ≡ length (strip_entries strips names) → (nat_lt 0 final.live && (length final.listed == 0)) ≡ false → map without_state final.listed ≡ strip_entries strips names
   all_live (Some xs) listed now live is = ap (map without_state) listed ∙ now
@@ -50,9 +33,7 @@ module _ (strips : List PlacedStrip) (names : List (List ℕ)) (shown : Shown) (
   by_owned : (o : Option (List OwnedNode)) → shown.owned ≡ o → final.owned ≡ unwrap_or o [] → final.has_owners ≡ is_some o → IfSome o (Each (OwnedIn strips (length names))) →
       map without_state final.listed ≡ strip_entries strips names → map without_state (entries last.service last.names) ≡ strip_entries strips names → final.listed ≡ unwrap_or shown.listed [] →
       IsReadFrom shown last (unless_fault final (option_or (cond (not final.has_owners) (Some (record { fault = NoOwners; line = final.changed })) None) (option_map (owner_fault final) (first_foreign final))))
-  by_owned None is owned has each now all listed =
-      let P : Bool → Type 0 = λ b. IsReadFrom shown last (unless_fault final (option_or (cond (not b) (Some (record { fault = NoOwners; line = final.changed })) None) (option_map (owner_fault final) (first_foreign final)))) in
-      subst P (sym has) (inr (refl, is))
+  by_owned None is owned has each now all listed = grind arith
   by_owned (Some xs) is owned has each now all listed =
       let P : Bool → Type 0 = λ b. IsReadFrom shown last (unless_fault final (option_or (cond (not b) (Some (record { fault = NoOwners; line = final.changed })) None) (option_map (owner_fault final) (first_foreign final)))) in
       let Q : Option ℕ → Type 0 = λ o. IsReadFrom shown last (unless_fault final (option_map (owner_fault final) o)) in
@@ -64,14 +45,10 @@ module _ (strips : List PlacedStrip) (names : List (List ℕ)) (shown : Shown) (
       final.owned ≡ unwrap_or shown.owned [] → final.has_owners ≡ is_some shown.owned → IfSome shown.owned (Each (OwnedIn strips (length names))) →
       map without_state (entries last.service last.names) ≡ strip_entries strips names →
       IsReadFrom shown last (unless_fault final (option_or (cond b (Some (record { fault = NoList; line = final.changed })) (cond (not final.has_owners) (Some (record { fault = NoOwners; line = final.changed })) None)) (option_map (owner_fault final) (first_foreign final))))
-  by_missing true is listed now live owned has each all = inl (refl, no_list shown.listed listed now live is)
-  by_missing false is listed now live owned has each all = by_owned shown.owned refl owned has each (all_live shown.listed listed now live is) all listed
+  by_missing b is listed now live owned has each all = grind (arith, no_list, by_owned, all_live)
 
   pub finish : final.awaited ≡ 0 → missing_part final lines ≡ missing_inside final lines → final.listed ≡ unwrap_or shown.listed [] → IsNow shown.listed → final.live ≡ length (strip_entries strips names) →
       final.owned ≡ unwrap_or shown.owned [] → final.has_owners ≡ is_some shown.owned → IfSome shown.owned (Each (OwnedIn strips (length names))) →
       map without_state (entries last.service last.names) ≡ strip_entries strips names → IsReadFrom shown last (unless_fault final (last_fault final lines))
   unfolding last_fault
-  finish awaited missing_is listed now live owned has each all =
-      let P : Option InputFault → Type 0 = λ o. IsReadFrom shown last (unless_fault final (option_or o (option_map (owner_fault final) (first_foreign final)))) in
-      let Q : ℕ → Type 0 = λ k. P (cond (nat_lt 0 k) (Some (at_line lines Unfinished)) (cond (nat_lt 0 final.live && (length final.listed == 0)) (Some (at_line final.changed NoList)) (cond (not final.has_owners) (Some (at_line final.changed NoOwners)) None))) in
-      subst P (sym missing_is) (subst Q (sym awaited) (by_missing (nat_lt 0 final.live && (length final.listed == 0)) refl listed now live owned has each all))
+  finish awaited missing_is listed now live owned has each all = grind (arith, by_missing)

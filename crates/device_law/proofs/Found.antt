@@ -1,17 +1,6 @@
 -- The tenancy with an id is found in a list.
-use Rattle.std.proofs.Common.{◌≡◌, ℕ, ◌+◌, ◌<◌, ◌≤◌, ◌⊎◌, inl, inr, Bool, true, false, cond, eqb, ◌||◌, ◌&&◌, List, [], ◌∷◌, ◌++◌, length, map, Option, Some, None, refl, sym, ap, ◌∙◌, subst, arith}
-use Rattle.std.specs.Prelude.{⊤, ◌==◌, find, nat_le, nat_lt, not, option_map, position, IsSomeAnd}
-use Rattle.std.specs.Option.{option_map_or, option_or}
-use Rattle.std.specs.List.{position_or_len}
-use Rattle.std.proofs.lemmas.Bool.{cases_lt}
-use Rattle.std.proofs.lemmas.Bool.Decides.{nat_tests}
-use Rattle.std.proofs.lemmas.List.Folds.{find-append}
-use Rattle.strips.specs.declared.placed_strip.PlacedStrip.{PlacedStrip}
-use Rattle.strips.specs.Plan.{strip_of}
-use Rattle.rr_graph.specs.declared.resource.Resource.{Resource}
-use Rattle.device_lines.specs.Lines.{Listed, OwnedNode}
-use Rattle.device_lines.specs.Reading.{is_chan_y, is_in_strip, is_owners, with_id}
-use Rattle.device_law.specs.Shown.{strip_listed, without_state}
+use Rattle.device_law.proofs.Prelude.{◌≡◌, ℕ, ◌+◌, ◌<◌, ◌≤◌, ◌⊎◌, inl, inr, Bool, true, false, cond, eqb, List, [], ◌∷◌, ◌++◌, length, map, Option, Some, None, refl, sym, ap, ◌∙◌, subst, arith, ⊤, ◌==◌, find, nat_lt, option_map, position, IsSomeAnd, option_map_or, option_or, position_or_len, cases_lt, nat_tests, find-append, PlacedStrip, strip_of, Resource, Listed, OwnedNode, is_in_strip, is_owners, with_id, strip_listed, without_state}
+use Rattle.std.specs.Prelude.{not}
 use Rattle.device_law.proofs.Each.{Each, each-append, each-weaken}
 use Rattle.device_law.proofs.StripEntries.{strip_entries, strip_entry}
 
@@ -21,21 +10,11 @@ HasStrip s one = (one.offset ≡ s.offset) × (one.width ≡ s.width)
 
 ids_few : (strips : List PlacedStrip) (names : List (List ℕ)) → Each (λ (one : Listed). one.id ≤ length names) (strip_entries strips names)
 ids_few strips [] = tt
-ids_few strips (newest ∷ older) =
-    each-append (λ (one : Listed). one.id ≤ length (newest ∷ older)) (strip_entries strips older) (strip_entry (strip_of strips (length older + 1)) (length older + 1) newest)
-    (each-weaken (λ (one : Listed). one.id ≤ length older) (λ (one : Listed). one.id ≤ length (newest ∷ older)) (λ one few. omega (arith, few)) (strip_entries strips older) (ids_few strips older))
-    (last (strip_of strips (length older + 1)))
-  where
-    last : (o : Option PlacedStrip) → Each (λ (one : Listed). one.id ≤ length (newest ∷ older)) (strip_entry o (length older + 1) newest)
-    last None = tt
-    last (Some s) = (omega arith, tt)
+ids_few strips (newest ∷ older) = grind (arith, each-append, each-weaken, ids_few strips older)
 
 past_all : (xs : List Listed) (count id : ℕ) → count < id → Each (λ (one : Listed). one.id ≤ count) xs → with_id xs id ≡ None
 past_all [] count id past each = refl
-past_all (one ∷ xs) count id past each =
-    let low : one.id ≤ count = each.0 in
-    let other : (one.id == id) ≡ false = grind (arith, nat_tests, past, low) in
-    ap (λ b. cond b (Some one) (with_id xs id)) other ∙ past_all xs count id past each.1
+past_all (one ∷ xs) count id past each = grind (arith, past_all xs count id past each.1)
 
 strip_found : (strips : List PlacedStrip) (names : List (List ℕ)) (id : ℕ) (s : PlacedStrip) → 0 < id → id ≤ length names → strip_of strips id ≡ Some s → IsSomeAnd (with_id (strip_entries strips names) id) (HasStrip s)
 strip_found strips [] id s some few found = absurd (omega (arith, some, few))
@@ -60,11 +39,7 @@ strip_found strips (newest ∷ older) id s some few found =
 -- the names of states don't matter
 bare_found : (xs : List Listed) (id : ℕ) → with_id (map without_state xs) id ≡ option_map without_state (with_id xs id)
 bare_found [] id = refl
-bare_found (one ∷ xs) id = by (one.id == id) (bare_found xs id)
-  where
-    by : (b : Bool) → with_id (map without_state xs) id ≡ option_map without_state (with_id xs id) → cond b (Some (without_state one)) (with_id (map without_state xs) id) ≡ option_map without_state (cond b (Some one) (with_id xs id))
-    by true rest = refl
-    by false rest = rest
+bare_found (one ∷ xs) id = grind (arith, bare_found xs id)
 
 -- an owned node in the strip of a listed tenancy
 pub record OwnedIn (strips : List PlacedStrip) (count : ℕ) (one : OwnedNode) : Type 0 where
@@ -75,9 +50,7 @@ pub record OwnedIn (strips : List PlacedStrip) (count : ℕ) (one : OwnedNode) :
   pub within : is_in_strip one.node (strip_listed strip) ≡ true
 
 by_strip : (node : Resource) (s : PlacedStrip) (one : Listed) → HasStrip s one → is_in_strip node (strip_listed s) ≡ true → is_in_strip node one ≡ true
-by_strip node s one has within =
-    ap (λ w. (nat_lt one.offset node.x && nat_le node.x (one.offset + w)) || (is_chan_y node.kind && (node.x == one.offset))) has.1
-    ∙ ap (λ o. (nat_lt o node.x && nat_le node.x (o + s.width)) || (is_chan_y node.kind && (node.x == o))) has.0 ∙ within
+by_strip node s one has within = grind arith
 
 is_owners_of : (strips : List PlacedStrip) (names : List (List ℕ)) (listed : List Listed) (one : OwnedNode) → map without_state listed ≡ strip_entries strips names → OwnedIn strips (length names) one → is_owners listed one ≡ true
 is_owners_of strips names listed one same is =

@@ -1,3 +1,4 @@
+mod Prelude
 pub mod FieldLemmas
 pub mod LineLemmas
 pub mod ListLemmas

@@ -1,16 +1,5 @@
 -- The printed list is read back, tenancy after tenancy.
-use Rattle.std.proofs.Common.{◌≡◌, ℕ, ◌+◌, Bool, true, false, not, cond, List, [], ◌∷◌, ◌++◌, length, Option, Some, None, Ok, Err, refl, sym, ap, ◌∙◌, append_assoc}
-use Rattle.std.specs.Prelude.{unwrap_or}
-use Rattle.std.specs.List.{list_all}
-use Rattle.service_core.specs.History.{History, state_of}
-use Rattle.service_core.specs.Service.{live_of}
-use Rattle.strips.specs.Plan.{offset_of}
-use Rattle.tenant_slot.specs.Names.{state_text}
-use Rattle.operator.specs.OperatorText.{list_text, list_lines, listed_text}
-use Rattle.device_lines.specs.declared.fault.DeviceFault.TheVariants.{NotParted}
-use Rattle.device_lines.specs.Lines.{Listed, listed_on}
-use Rattle.device_lines.specs.Reading.{Seen, after_line, are_parted, seen_in_list, is_feed, lines_of, lines_read, list_line, plus}
-use Rattle.device_law.specs.ReadBack.{ArePrintable, IsInside, IsListReadBack, IsPrintable, Reading, entries, entries_read, entry_of}
+use Rattle.device_law.proofs.Prelude.{◌≡◌, ℕ, ◌+◌, true, not, List, [], ◌∷◌, ◌++◌, length, Option, Some, None, refl, sym, ap, ◌∙◌, append_assoc, arith, unwrap_or, list_all, History, state_of, live_of, offset_of, state_text, list_text, list_lines, listed_text, Listed, listed_on, Seen, after_line, seen_in_list, is_feed, lines_of, lines_read, list_line, plus, ArePrintable, IsInside, IsListReadBack, IsPrintable, Reading, entries, entries_read, entry_of}
 use Rattle.device_law.proofs.LineLemmas.{first_of_lines, line_is, line_solid, list_bytes, state_solid}
 
 -- what was read, with one more tenancy
@@ -19,12 +8,7 @@ added seen one = record (seen_in_list seen one.id) { listed = (seen_in_list seen
 
 -- two continuations that agree after a tenancy agree after its line
 by_one : (xs ys : Seen → ℕ → Reading) (seen : Seen) (number : ℕ) (o : Option Listed) → ((one : Listed) → xs (added seen one) number ≡ ys (added seen one) number) → after_line xs number (list_line seen o) ≡ after_line ys number (list_line seen o)
-by_one xs ys seen number None same = refl
-by_one xs ys seen number (Some one) same = by_test (list_all (λ other. are_parted other one) (seen_in_list seen one.id).listed)
-  where
-    by_test : (b : Bool) → after_line xs number (cond b (Ok (added seen one)) (Err NotParted)) ≡ after_line ys number (cond b (Ok (added seen one)) (Err NotParted))
-    by_test true = same one
-    by_test false = refl
+by_one xs ys seen number o same = grind arith
 
 -- the continuation matters only where the section goes on
 under : (xs : List Listed) (seen : Seen) (number : ℕ) (next other : Seen → ℕ → Reading) → IsInside seen → ((s : Seen) (n : ℕ) → IsInside s → next s n ≡ other s n) → entries_read xs seen number next ≡ entries_read xs seen number other
@@ -51,17 +35,12 @@ print_back (x ∷ xs) ys all = print_back xs ys all.1
 line_read_first : (one : Listed) (rest : List ℕ) (seen : Seen) (number : ℕ) → IsPrintable one → list_all (λ b. not (is_feed b)) one.state ≡ true → IsInside seen →
     lines_read (lines_of ((list_bytes one ++ 10 ∷ []) ++ rest)) seen number ≡ entries_read (one ∷ []) seen number (λ s n. lines_read (lines_of rest) s n)
 unfolding lines_read
-line_read_first one rest seen number fits state inside =
-    let line : List ℕ = list_bytes one in
-    ap (λ (t : List ℕ). lines_read (lines_of t) seen number) (append_assoc line (10 ∷ []) rest)
-    ∙ ap (λ (ls : List (List ℕ)). lines_read ls seen number) (first_of_lines line rest (line_solid one fits state))
-    ∙ ap (after_line (lines_read (lines_of rest)) (plus number 1)) (line_is seen (plus number 1) one fits inside)
+line_read_first one rest seen number fits state inside = search (append_assoc, first_of_lines, line_solid, line_is, arith)
 
 one_read : (live : Option History) (offset : Option ℕ) (id : ℕ) (name rest : List ℕ) (seen : Seen) (number : ℕ) → ArePrintable (entry_of live offset id name) → IsInside seen →
     lines_read (lines_of (listed_text live offset id name ++ rest)) seen number ≡ entries_read (entry_of live offset id name) seen number (λ s n. lines_read (lines_of rest) s n)
 one_read None offset id name rest seen number fits inside = refl
-one_read (Some h) offset id name rest seen number fits inside =
-    line_read_first (record { id = id; name = name; offset = unwrap_or offset 0; width = h.strip.width; state = state_text (state_of h).name }) rest seen number fits.0 (state_solid (state_of h).name) inside
+one_read (Some h) offset id name rest seen number fits inside = grind (arith, line_read_first (record { id = id; name = name; offset = unwrap_or offset 0; width = h.strip.width; state = state_text (state_of h).name }) rest seen number fits.0 (state_solid (state_of h).name) inside)
 
 pub list_is_read : IsListReadBack
 list_is_read service [] rest seen number fits inside = refl

@@ -1,14 +1,6 @@
 -- A printed list that is whole: its tenancies are read, and nothing else.
-use Rattle.std.proofs.Common.{◌≡◌, ℕ, zero, suc, ◌+◌, ◌-◌, ◌<◌, ◌≤◌, Bool, true, false, cond, List, [], ◌∷◌, ◌++◌, length, Option, Some, None, Result, Ok, Err, refl, sym, ap, ◌∙◌, subst, arith, append_assoc, append-nil, length-append, lt-ltb}
-use Rattle.std.specs.Prelude.{⊤, ◌&&◌, nat_lt, slice_get}
-use Rattle.std.specs.List.{list_all}
-use Rattle.std.proofs.lemmas.Bool.Decides.{nat_tests}
-use Rattle.std.proofs.lemmas.Option.{same_Some}
-use Rattle.device_lines.specs.declared.fault.DeviceFault.TheVariants.{NotParted}
-use Rattle.device_lines.specs.declared.size.DeviceSize.{DeviceSize}
-use Rattle.device_lines.specs.Lines.{Listed, listed_on}
-use Rattle.device_lines.specs.Reading.{Seen, Step, after_line, are_parted, seen_in_list, last_of, list_before, list_line, plus, rises}
-use Rattle.device_law.specs.ReadBack.{Reading, entries_read}
+use Rattle.device_law.proofs.Prelude.{◌≡◌, ℕ, zero, suc, ◌+◌, ◌-◌, ◌<◌, ◌≤◌, Bool, true, false, cond, List, [], ◌∷◌, ◌++◌, length, Option, Some, None, Result, Ok, refl, sym, ap, ◌∙◌, subst, arith, append_assoc, append-nil, length-append, ⊤, nat_lt, slice_get, list_all, nat_tests, same_Some, DeviceSize, Listed, listed_on, Seen, are_parted, seen_in_list, last_of, list_before, list_line, plus, rises, Reading, entries_read}
+use Rattle.std.specs.Prelude.{◌&&◌}
 use Rattle.device_law.proofs.Each.{Each, each-get}
 
 -- each tenancy goes on with the list before it
@@ -35,29 +27,20 @@ lines_on number (one ∷ more) = lines_on (plus number 1) more
 
 appended : (seen : Seen) (front : List Listed) (one : Listed) → IsOn seen.size one → rises (last_of front) one.id ≡ true → list_all (λ other. are_parted other one) front ≡ true →
     list_line (listing seen front) (listed_on seen.size one) ≡ Ok (listing seen (front ++ one ∷ []))
-appended seen front one on rise parted =
-    let now = listing seen front in
-    ap (list_line now) on
-    ∙ ap (λ b. let s : Step = cond (list_all (λ other. are_parted other one) (cond b front [])) (Ok (listing seen (cond b front [] ++ one ∷ []))) (Err NotParted) in s) rise
-    ∙ ap (λ b. let s : Step = cond b (Ok (listing seen (front ++ one ∷ []))) (Err NotParted) in s) parted
+appended seen front one on rise parted = grind arith
 
 more_read : (more front : List Listed) (seen : Seen) (number : ℕ) (next : Seen → ℕ → Reading) → Each (IsOn seen.size) more → Fits front more →
     entries_read more (listing seen front) number next ≡ next (listing seen (front ++ more)) (lines_on number more)
 more_read [] front seen number next on fits = ap (λ zs. next (listing seen zs) number) (sym (append-nil front))
-more_read (one ∷ more) front seen number next on fits =
-    ap (after_line (λ s n. entries_read more s n next) (plus number 1)) (appended seen front one on.0 fits.0 fits.1)
-    ∙ more_read more (front ++ one ∷ []) seen (plus number 1) next on.1 fits.2
-    ∙ ap (λ zs. next (listing seen zs) (lines_on (plus number 1) more)) (append_assoc front (one ∷ []) more)
+more_read (one ∷ more) front seen number next on fits = grind (arith, append_assoc, more_read more (front ++ one ∷ []) seen (plus number 1) next on.1 fits.2)
 
 -- a list that begins anew
 begins : (seen : Seen) (one : Listed) → IsOn seen.size one → list_before seen one.id ≡ [] → list_line seen (listed_on seen.size one) ≡ Ok (listing seen (one ∷ []))
-begins seen one on fresh =
-    ap (list_line seen) on ∙ ap (λ zs. let s : Step = cond (list_all (λ other. are_parted other one) zs) (Ok (listing seen (zs ++ one ∷ []))) (Err NotParted) in s) fresh
+begins seen one on fresh = grind arith
 
 pub whole_read : (one : Listed) (more : List Listed) (seen : Seen) (number : ℕ) (next : Seen → ℕ → Reading) → Each (IsOn seen.size) (one ∷ more) → Fits [] (one ∷ more) → list_before seen one.id ≡ [] →
     entries_read (one ∷ more) seen number next ≡ next (listing seen (one ∷ more)) (lines_on number (one ∷ more))
-whole_read one more seen number next on fits fresh =
-    ap (after_line (λ s n. entries_read more s n next) (plus number 1)) (begins seen one on.0 fresh) ∙ more_read more (one ∷ []) seen (plus number 1) next on.1 fits.2
+whole_read one more seen number next on fits fresh = grind (arith, more_read)
 
 -- ids rise
 at_end : (xs : List Listed) (x : Listed) → slice_get (xs ++ x ∷ []) (length xs) ≡ Some x
@@ -65,16 +48,10 @@ at_end [] x = refl
 at_end (y ∷ xs) x = at_end xs x
 
 pub last_push : (xs : List Listed) (x : Listed) → last_of (xs ++ x ∷ []) ≡ Some x
-last_push xs x =
-    let e : length (xs ++ x ∷ []) - 1 ≡ length xs = omega (arith, length-append xs (x ∷ [])) in
-    ap (slice_get (xs ++ x ∷ [])) e ∙ at_end xs x
+last_push xs x = grind (arith, length-append xs (x ∷ []), at_end xs x)
 
 pub rises_after : (xs : List Listed) (id : ℕ) → Each (λ one. one.id < id) xs → rises (last_of xs) id ≡ true
-rises_after xs id each = by (last_of xs) refl
-  where
-    by : (o : Option Listed) → last_of xs ≡ o → rises o id ≡ true
-    by None e = refl
-    by (Some one) e = lt-ltb one.id id (each-get (λ (one : Listed). one.id < id) xs (length xs - 1) one each e)
+rises_after xs id each = grind (arith, each-get)
 
 -- a list's first id is its least one
 least : (front more : List Listed) (id : ℕ) (last : Listed) → last_of front ≡ Some last → id ≤ last.id → Fits front more → Each (λ one. id ≤ one.id) more

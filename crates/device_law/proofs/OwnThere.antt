@@ -1,69 +1,12 @@
 -- What a tenancy has routed, its strip has: each pin and wire, and each pad.
-use Rattle.std.proofs.Common.{◌≡◌, ℕ, zero, suc, ◌+◌, ◌<◌, ◌≤◌, inl, inr, Bool, true, false, ◌||◌, ◌&&◌, nat_le, nat_lt, List, [], ◌∷◌, length, get_or, map, Result, Ok, Err, refl, sym, ap, ◌∙◌, subst, arith, le-leb, lt-ltb, eq-eqb}
-use Rattle.std.specs.Prelude.{All, Contains, ◌==◌}
-use Rattle.std.specs.List.{enumerate_from, flat_map, range_with_len}
-use Rattle.std.specs.Option.{option_to_list}
-use Rattle.std.proofs.lemmas.Bool.{and_from, cases_lt, false≢true}
-use Rattle.std.proofs.lemmas.List.{get_or_past}
-use Rattle.std.proofs.lemmas.List.Elements.{All-append, All-cons, All-contains, All-head, All-nil, All-tail, filter_passes}
-use Rattle.arch_file.specs.Arch.{IsArch}
-use Rattle.arch_file.specs.declared.arch.Arch.{Arch}
-use Rattle.blif.specs.CircuitOf.{circuit_of}
-use Rattle.blif.specs.declared.circuit.Circuit.{Circuit}
-use Rattle.blif.specs.declared.fault.BlifFault.{BlifFault}
-use Rattle.block_places.specs.Fits.{kind_of}
-use Rattle.block_places.specs.Placed.{block_at, place_of}
-use Rattle.cluster.specs.declared.block.Block.{Block}
-use Rattle.cluster.specs.declared.block.Block.TheVariants.{InputPad, OutputPad, Cluster}
-use Rattle.cluster.specs.Clusters.{PackedCircuit, packed_of}
-use Rattle.cluster.specs.Blocks.{blocks_of}
-use Rattle.grid.specs.declared.Strip.{Strip}
+use Rattle.device_law.proofs.Prelude.{◌≡◌, ℕ, zero, suc, ◌+◌, ◌<◌, ◌≤◌, Bool, true, false, ◌||◌, ◌&&◌, nat_le, List, [], ◌∷◌, length, get_or, map, Result, Ok, Err, sym, ap, ◌∙◌, subst, arith, lt-ltb, All, Contains, ◌==◌, enumerate_from, flat_map, range_with_len, option_to_list, false≢true, get_or_past, All-append, All-head, All-nil, All-tail, filter_passes, IsArch, Arch, circuit_of, Circuit, BlifFault, kind_of, block_at, place_of, Block, Cluster, PackedCircuit, packed_of, blocks_of, Strip, Place, IsPlaceIn, places_of, IsStripSize, all_within, laid_block, layout_of, LaidBlock, Placing as PlacingJob, Sources, Work, Placed as PlacedWork, on_path, on_tree, on_trees, end_value, pads_in, pass_count, placing_at, placing_sources, routing_sources, routing_stands, step_count, value_of, pad_of, pads_of, held_at_end, resources_of, KeptPlaces, ImplementsItsText, placed_end, Tree, Standing, More, Done, GaveUp as GivenUp, NoPath as WithoutPath, Routed as RoutedTrees, routes_by_node, Net, NodeKind, Node, Resource, Pad as PadResource, is_node, Basis, graph_of, make_node, nodes_of, has, is_there, resource_of, History, state_of, events_stay, has_all, PlacingUnderWay, is_past_last, places_by_block, Event, StateName, Empty, Loaded, Packing, Packed, Routing, Unrouted, held_in, routed_set, State, run}
+use Rattle.std.proofs.Common.{nat_lt}
 use Rattle.grid.specs.declared.place.Kind.TheVariants.{Pad}
-use Rattle.grid.specs.declared.place.Place.{Place}
-use Rattle.grid.specs.PlaceLaws.{IsPlaceIn}
-use Rattle.grid.specs.Places.{places_of}
-use Rattle.grid.specs.Sizes.{IsStripSize}
-use Rattle.grid.proofs.Numbers.{all_within}
-use Rattle.implements.specs.LayoutOf.{laid_block, layout_of}
-use Rattle.implements.specs.Layouts.{LaidBlock}
-use Rattle.job_state.specs.declared.sources.JobKind.TheVariants.{Placing as PlacingJob}
-use Rattle.job_state.specs.declared.sources.Sources.{Sources}
-use Rattle.job_state.specs.declared.work.Work.{Work}
-use Rattle.job_state.specs.declared.work.Work.TheVariants.{Placed as PlacedWork}
-use Rattle.job_state.specs.Gathered.{on_path, on_tree, on_trees}
-use Rattle.job_state.specs.JobValue.{basis_in, end_value, nets_in, pads_in, pass_count, placing_at, placing_sources, routing_sources, routing_stands, step_count, value_of}
-use Rattle.job_state.specs.RoutedCircuits.{pad_of, pads_of}
-use Rattle.job_state.specs.RoutedSet.{held_at_end, resources_of}
-use Rattle.kept_places.specs.Kept.{KeptPlaces}
-use Rattle.layout_law.specs.Tenancies.{ImplementsItsText}
-use Rattle.layout_law.proofs.Ends.{placed_end}
-use Rattle.pathfinder.specs.Negotiation.{Tree, Standing, More, Done, GaveUp as GivenUp, NoPath as WithoutPath, Routed as RoutedTrees, routed_after}
-use Rattle.pathfinder.specs.PlacedNets.{wiring_of}
-use Rattle.pathfinder.specs.Routings.{routes_by_node}
-use Rattle.pathfinder.specs.Wiring.{Net}
-use Rattle.rr_graph.specs.declared.node.NodeKind.{NodeKind}
 use Rattle.rr_graph.specs.declared.node.NodeKind.TheVariants as Nodes
-use Rattle.rr_graph.specs.declared.node.Node.{Node}
-use Rattle.rr_graph.specs.declared.resource.Resource.{Resource}
-use Rattle.rr_graph.specs.declared.resource.ResourceKind.TheVariants.{Pad as PadResource}
-use Rattle.rr_graph.specs.Geometry.{is_node}
-use Rattle.rr_graph.specs.Graph.{Basis, graph_of, make_node, nodes_of}
-use Rattle.rr_graph.specs.Resources.{has, is_there, resource_of}
-use Rattle.service_core.specs.History.{History, events_of, state_of}
-use Rattle.service_core.proofs.Held.{events_stay}
-use Rattle.service_core.proofs.Holdings.{has_all}
-use Rattle.strip_place.specs.Anneal.{PlacingUnderWay, is_past_last, places_by_block}
-use Rattle.tenant_slot.specs.declared.event.Event.{Event}
-use Rattle.tenant_slot.specs.declared.reply.StateName.{StateName}
-use Rattle.tenant_slot.specs.declared.reply.StateName.TheVariants.{Empty, Loaded, Packing, Packed, Placing, Placed, Routing, Routed, Unrouted}
-use Rattle.tenant_slot.specs.RoutedSet.{held_in, routed_set}
-use Rattle.tenant_slot.specs.SingleUser.{State, run, start}
+use Rattle.tenant_slot.specs.declared.reply.StateName.TheVariants.{Placing, Placed, Routed}
 
 at_any : {X : Type 0} (P : X → Type 0) (xs : List X) (i : ℕ) (d : X) → All P xs → P d → P (get_or xs i d)
-at_any P xs i d all default = elim (cases_lt i (length xs)) [
-  | inl within ↦ all i d within
-  | inr past ↦ rw (get_or_past xs i d past) default
-]
+at_any P xs i d all default = grind (arith, get_or_past)
 
 -- a flat map over numbers of a range
 all_range : {Y : Type 0} (P : Y → Type 0) (f : ℕ → List Y) (a n : ℕ) → ((i : ℕ) → i < a + n → All P (f i)) → All P (flat_map f (range_with_len a n))
@@ -74,8 +17,7 @@ or_left : (a b : Bool) → a ≡ true → (a || b) ≡ true
 or_left a b is = ap (λ t. t || b) is
 
 or_right : (a b : Bool) → b ≡ true → (a || b) ≡ true
-or_right true b is = refl
-or_right false b is = is
+or_right a b is = grind arith
 
 module _ (arch : Arch) (strip : Strip) where
   abbrev IsThere : Resource → Type 0
@@ -89,12 +31,7 @@ module _ (arch : Arch) (strip : Strip) where
   NodeThere node = All IsThere (option_to_list (resource_of node))
 
   kind_there : (x : ℕ) (kind : NodeKind) (y n : ℕ) → is_node arch strip (make_node x kind y n) ≡ true → NodeThere (make_node x kind y n)
-  kind_there x Nodes.Source y n is = All-nil IsThere
-  kind_there x Nodes.Sink y n is = All-nil IsThere
-  kind_there x Nodes.Opin y n is = All-cons IsThere _ [] is (All-nil IsThere)
-  kind_there x Nodes.Ipin y n is = All-cons IsThere _ [] is (All-nil IsThere)
-  kind_there x Nodes.ChanX y n is = All-cons IsThere _ [] is (All-nil IsThere)
-  kind_there x Nodes.ChanY y n is = All-cons IsThere _ [] is (All-nil IsThere)
+  kind_there x kind y n is = grind arith
 
   filtered_there : (nodes : List Node) → All (λ node. is_node arch strip node ≡ true) nodes → All NodeThere nodes
   filtered_there nodes each = λ k d lt. let node = get_or nodes k d in kind_there node.x node.kind node.y node.n (each k d lt)
@@ -118,19 +55,13 @@ module _ (arch : Arch) (strip : Strip) where
 
   -- the pads of blocks that are on places for them
   pad_there : (place : Place) → IsPlaceIn strip Pad place → IsThere (record { x = place.x; kind = PadResource; y = place.y; n = place.subblock })
-  pad_there place within =
-      and_from _ _ (le-leb 1 place.x within.column.0) (and_from _ _ (le-leb place.x strip.width within.column.1) (and_from _ _ (elim within.row.0 [
-        | inl below ↦ or_left _ _ (eq-eqb place.y 0 below)
-        | inr above ↦ or_right _ _ (eq-eqb place.y (strip.rows + 1) above)
-      ]) (lt-ltb place.subblock strip.io_rat within.row.1)))
+  pad_there place within = grind (arith, lt-ltb)
 
   abbrev IsOnPlace : Block → Place → Type 0
   IsOnPlace block place = Contains (places_of strip (kind_of block)) place
 
   block_there : IsStripSize strip → (block : Block) (place : Place) → IsOnPlace block place → All IsThere (pad_of block place)
-  block_there size (InputPad net) place on = All-cons IsThere _ [] (pad_there place (All-contains (IsPlaceIn strip Pad) (places_of strip Pad) place (all_within strip Pad size) on)) (All-nil IsThere)
-  block_there size (OutputPad net) place on = All-cons IsThere _ [] (pad_there place (All-contains (IsPlaceIn strip Pad) (places_of strip Pad) place (all_within strip Pad size) on)) (All-nil IsThere)
-  block_there size (Cluster cluster) place on = All-nil IsThere
+  block_there size block place on = grind (arith, pad_there, all_within)
 
   pads_there : IsStripSize strip → (packed : PackedCircuit) (places : List Place) → ((block : ℕ) → block < length (blocks_of packed) → IsOnPlace (block_at packed block) (place_of places block)) → All IsThere (pads_of packed places)
   pads_there size packed places on =
@@ -152,9 +83,7 @@ module _ (arch : Arch) (strip : Strip) where
 
     value_there : (steps : ℕ) → All IsThere (pads_of (packed_of circuit arch) its_places) → All IsThere (held_at_end (value_of job (Ok circuit) steps))
     unfolding pads_in
-    value_there steps pads =
-        let after = routed_after (wiring_of (basis_in job)) (nets_in job circuit) steps in
-        standing_there (pads_in job circuit) (nets_in job circuit) steps after after.standing pads
+    value_there steps pads = grind (arith, standing_there)
 
     resources_there : circuit_of text arch.lut_size ≡ Ok circuit → All IsThere (pads_of (packed_of circuit arch) its_places) → All IsThere (resources_of job)
     unfolding resources_of
@@ -162,9 +91,7 @@ module _ (arch : Arch) (strip : Strip) where
 
 -- the places of the blocks of a layout
 laid_is : (strip : Strip) (packed : PackedCircuit) (block : Block) (place : Place) → Contains (places_of strip (kind_of (laid_block packed block place).block)) (laid_block packed block place).place → Contains (places_of strip (kind_of block)) place
-laid_is strip packed (InputPad net) place on = on
-laid_is strip packed (OutputPad net) place on = on
-laid_is strip packed (Cluster cluster) place on = on
+laid_is strip packed block place on = grind arith
 
 enumerated : {X : Type 0} (P : X → Type 0) (f : ℕ × Block → X) (bs : List Block) (k : ℕ) → All P (map f (enumerate_from k bs)) → (i : ℕ) (d : Block) (n : ℕ) → n ≡ k + i → i < length bs → P (f (n, get_or bs i d))
 enumerated P f [] k all i d n is within = absurd (omega arith)
@@ -206,14 +133,9 @@ held_there laws Packed state r named size implements is = absurd (false≢true i
 held_there laws Placing state r named size implements is = absurd (false≢true is)
 held_there laws Placed state r named size implements is = absurd (false≢true is)
 held_there laws Routing state r named size implements is = absurd (false≢true is)
-held_there laws Routed state r named size implements is =
-    has_all (IsThere state.arch state.strip) (resources_of (routing_sources state.arch state.strip state.text state.kept state.seed state.effort)) r (state_there laws state size (implements (sym named))) is
+held_there laws Routed state r named size implements is = grind (arith, has_all (IsThere state.arch state.strip) (resources_of (routing_sources state.arch state.strip state.text state.kept state.seed state.effort)) r (state_there laws state size (implements (sym named))) is)
 held_there laws Unrouted state r named size implements is = absurd (false≢true is)
 
 pub routed_there : Laws → (h : History) (r : Resource) → IsArch h.arch → IsStripSize h.strip → has (routed_set (state_of h)) r ≡ true → is_there h.arch h.strip r ≡ true
 unfolding routed_set
-routed_there laws h r arch size is =
-    let state = state_of h in
-    let stay = events_stay (start h.arch h.strip) (events_of h.entries) in
-    let there = held_there laws state.name state r refl (subst IsStripSize (sym stay.strip_is) size) (laws.implemented h.arch h.strip (events_of h.entries) arch size) is in
-    sym (ap (λ a. is_there a state.strip r) stay.arch_is ∙ ap (λ s. is_there h.arch s r) stay.strip_is) ∙ there
+routed_there laws h r arch size is = grind (arith, events_stay, held_there)

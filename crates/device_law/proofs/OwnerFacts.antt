@@ -1,34 +1,6 @@
 -- What a tenancy owns in a run is on the device, and in the tenancy's strip.
-use Rattle.std.proofs.Common.{◌≡◌, ℕ, ◌+◌, ◌-◌, ◌<◌, ◌≤◌, inl, inr, Bool, true, false, eqb, ◌&&◌, nat_le, List, [], ◌∷◌, length, map, Option, Some, None, refl, sym, ap, ◌∙◌, subst, arith}
-use Rattle.std.specs.Prelude.{All, IsSomeAnd, option_map, if◌then◌else◌}
-use Rattle.std.proofs.lemmas.Bool.{and_parts, cases_lt, leb-true}
-use Rattle.std.proofs.lemmas.List.Elements.{All-head, All-tail}
-use Rattle.std.proofs.lemmas.Option.{none-some, same_Some}
-use Rattle.arch_file.specs.Arch.{IsArch}
-use Rattle.arch_file.specs.declared.arch.Arch.{Arch}
-use Rattle.grid.specs.Sizes.{IsStripSize}
-use Rattle.grid.specs.declared.Strip.{Strip}
-use Rattle.rr_graph.specs.declared.resource.Resource.{Resource}
-use Rattle.rr_graph.specs.Resources.{has, is_there, moved_resource}
-use Rattle.strips.specs.declared.placed_strip.PlacedStrip.{PlacedStrip}
-use Rattle.strips.specs.Plan.{strip_of}
-use Rattle.tenant_slot.specs.RoutedSet.{routed_set}
-use Rattle.service_core.specs.declared.device.Device.{Device}
-use Rattle.service_core.specs.Headline.{AreParted}
-use Rattle.service_core.specs.History.{History, state_of}
-use Rattle.service_core.specs.Kept.{IsDevice, IsService}
-use Rattle.service_core.specs.Owners.{IsOwner}
-use Rattle.service_core.specs.Run.{Call, Run}
-use Rattle.service_core.specs.Service.{IsAloneOn, ServiceState, empty_service, history_of, live_of, strip_on}
-use Rattle.service_core.proofs.Booking.{its_width}
-use Rattle.service_core.proofs.Effects.{run_device, run_keeps}
-use Rattle.service_core.proofs.Holdings.{has-moved, moved_left}
-use Rattle.service_core.proofs.Keeps.{IsService-empty, if_live_some}
-use Rattle.service_core.proofs.Lists.{All-history_of, history_of-past, history_of-zero}
+use Rattle.device_law.proofs.Prelude.{◌≡◌, ℕ, ◌+◌, ◌-◌, ◌<◌, ◌≤◌, Bool, true, false, eqb, ◌&&◌, nat_le, List, [], ◌∷◌, length, map, Option, Some, None, refl, sym, ap, ◌∙◌, subst, arith, All, IsSomeAnd, option_map, if◌then◌else◌, and_parts, leb-true, All-head, All-tail, none-some, same_Some, IsArch, Arch, IsStripSize, Strip, Resource, has, is_there, moved_resource, PlacedStrip, strip_of, routed_set, Device, AreParted, History, state_of, IsDevice, IsService, IsOwner, Call, Run, IsAloneOn, ServiceState, empty_service, history_of, live_of, strip_on, its_width, run_device, run_keeps, has-moved, moved_left, if_live_some, All-history_of, history_of-past, history_of-zero, is_in_strip, is_on, AreOnDevice, size_of, strip_listed}
 use Rattle.service_core.proofs.Parted.{are_parted}
-use Rattle.device_lines.specs.Reading.{is_in_strip}
-use Rattle.device_law.specs.OwnersBack.{is_on}
-use Rattle.device_law.specs.Shown.{AreOnDevice, size_of, strip_listed}
 use Rattle.device_law.proofs.OnDevice.{in_strip, on_device}
 use Rattle.device_law.proofs.OwnThere.{Laws, routed_there}
 use Rattle.device_law.proofs.Wide.{IsWide, are_wide}
@@ -41,14 +13,7 @@ pub record Stands (device : Device) (state : ServiceState) : Type 0 where
   pub wide : All IsWide state.histories
 
 pub after_run : (device : Device) (calls : List Call) (state : ServiceState) → Run (empty_service device) calls state → Stands device state
-after_run device calls state run =
-    let on : state.device ≡ device = run_device (empty_service device) calls state run in
-    record {
-      kept = subst (λ d. IsService d state.plan.strips state.histories) on (run_keeps (empty_service device) calls state run (IsService-empty device));
-      on = on;
-      parted = are_parted device calls state run;
-      wide = are_wide device calls state run;
-    }
+after_run device calls state run = grind (arith, run_device, run_keeps, are_parted, are_wide)
 
 -- a live tenancy, with its strip
 pub record Lives (device : Device) (state : ServiceState) (id : ℕ) : Type 0 where
@@ -91,10 +56,7 @@ of_both device state id h s stands live found =
     }
 
 strip_size : (device : Device) (state : ServiceState) (id : ℕ) → IsDevice device → (l : Lives device state id) → IsStripSize l.history.strip
-strip_size device state id known l =
-    let few : l.strip.width ≤ 256 = (let within = l.inside in let most = known.columns.1 in omega (arith, within, most)) in
-    let some : 1 ≤ l.strip.width = (let wide = l.some in omega (arith, wide)) in
-    subst IsStripSize (sym l.strip_is) (record { width = (some, few); rows = known.rows; io_rat = known.arch.io_rat })
+strip_size device state id known l = grind arith
 
 -- an owned node
 pub record IsOwnedAt (device : Device) (known : IsDevice device) (state : ServiceState) (r : Resource) (id : ℕ) : Type 0 where
@@ -129,10 +91,7 @@ owned_at laws device state r id stands known owns = by_live (live_of state.histo
 
 -- an id of a live tenancy
 pub live_within : (state : ServiceState) (id : ℕ) (h : History) → history_of state.histories id ≡ Some h → (0 < id) × (id ≤ length state.histories)
-live_within state id h is = (
-  elim (cases_lt 0 id) [ inl some ↦ some | inr none ↦ (let zero' : id ≡ 0 = omega (arith, none) in let wrong : None ≡ Some h = sym (ap (history_of state.histories) zero' ∙ history_of-zero state.histories) ∙ is in absurd cc) ],
-  elim (cases_lt (length state.histories) id) [ inl past ↦ (let wrong : None ≡ Some h = sym (history_of-past state.histories id past) ∙ is in absurd cc) | inr few ↦ few ],
-)
+live_within state id h is = grind (arith, history_of-past, history_of-zero state.histories)
 
 pub are_on_device : Laws → (device : Device) (calls : List Call) (state : ServiceState) → (known : IsDevice device) → Run (empty_service device) calls state → AreOnDevice device known state
 are_on_device laws device calls state known run = λ r id owns.

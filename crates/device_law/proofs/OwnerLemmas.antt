@@ -1,25 +1,8 @@
 -- The printed owners are read back, node after node.
-use Rattle.std.proofs.Common.{◌≡◌, subst, ℕ, ◌+◌, ◌-◌, ◌^◌, ◌<◌, suc, zero, Bool, true, false, cond, List, [], ◌∷◌, ◌++◌, length, map, codes, decimal, Option, Some, Result, Ok, Err, length-append, refl, sym, ap, ◌∙◌, arith, append_assoc, append-nil}
-use Rattle.std.specs.Prelude.{⊤, ◌&&◌, ◌||◌, ◌==◌, All, AllPairs, nat_lt, slice_get, if◌then◌else◌}
-use Rattle.std.specs.List.{flat_map, list_all}
-use Rattle.std.proofs.lemmas.Bool.Decides.{nat_tests}
-use Rattle.std.proofs.lemmas.List.Elements.{All-head, All-tail}
+use Rattle.device_law.proofs.Prelude.{◌≡◌, subst, ℕ, ◌+◌, ◌-◌, ◌^◌, ◌<◌, suc, zero, Bool, true, false, cond, List, [], ◌∷◌, ◌++◌, length, map, codes, decimal, Option, Some, Result, Ok, Err, length-append, refl, sym, ap, ◌∙◌, arith, append_assoc, append-nil, ⊤, ◌==◌, All, AllPairs, nat_lt, slice_get, if◌then◌else◌, flat_map, list_all, nat_tests, All-head, All-tail, Resource, ResourceKind, IsEarlier, node_text_of, number_word, position_text, Owned, owned_text, owners_text, resource_text, DeviceFault, NotThere, OutOfOrder, DeviceSize, OwnedNode, first_counted, first_kind, is_within, owned_in, owner_count, owner_line, Seen, after_line, follows, is_earlier, last_of, line_read, lines_of, lines_read, owner_seen, plus, after_text, AreExactlyRead, AreOwnersReadBack, IsSmall, after_count, is_on, is_pad_on, last_line, node_of, owned_as, owners_read, IsInside, Reading, after_heading}
+use Rattle.std.specs.Prelude.{◌&&◌, ◌||◌}
 use Rattle.rr_graph.specs.declared.node.NodeKind.TheVariants as NodeKinds
-use Rattle.rr_graph.specs.declared.resource.Resource.{Resource}
-use Rattle.rr_graph.specs.declared.resource.ResourceKind.{ResourceKind}
 use Rattle.rr_graph.specs.declared.resource.ResourceKind.TheVariants as Kind
-use Rattle.rr_graph.specs.Resources.{IsEarlier}
-use Rattle.vpr_files.specs.NodeText.{node_text_of, number_word, position_text}
-use Rattle.device_book.specs.declared.book.Owned.{Owned}
-use Rattle.operator.specs.OwnersText.{owned_text, owners_text, resource_text}
-use Rattle.device_lines.specs.declared.fault.DeviceFault.{DeviceFault}
-use Rattle.device_lines.specs.declared.fault.DeviceFault.TheVariants.{NotThere, OutOfOrder}
-use Rattle.device_lines.specs.declared.size.DeviceSize.{DeviceSize}
-use Rattle.device_lines.specs.Lines.{OwnedNode, first_counted, first_kind, is_within, owned_in, owner_count, owner_line}
-use Rattle.device_lines.specs.Reading.{Seen, after_line, follows, is_earlier, last_of, line_at, line_read, lines_of, lines_read, owner_seen, plus, reply_line}
-use Rattle.device_lines.specs.Words.{after_text}
-use Rattle.device_law.specs.OwnersBack.{AreExactlyRead, AreOwnersReadBack, IsSmall, after_count, is_on, is_pad_on, last_line, node_of, owned_as, owners_read}
-use Rattle.device_law.specs.ReadBack.{IsInside, Reading, after_heading}
 use Rattle.device_law.proofs.FieldLemmas.{decimal_is, first_is}
 use Rattle.device_law.proofs.LineLemmas.{decimal_solid, first_of_lines, is_solid, solid_append}
 
@@ -141,50 +124,23 @@ owned_is : (size : DeviceSize) (owned : Owned) → IsSmall owned → owned_in si
 owned_is size owned small = let is = its_read size owned small in ap (owned_in size) is.same ∙ is.read
 
 owned_solid : (size : DeviceSize) (owned : Owned) → IsSmall owned → list_all is_solid (owner_bytes size.rows owned) ≡ true
-owned_solid size owned small =
-    let is = its_read size owned small in
-    let r : Resource = owned.resource in
-    let last : List ℕ = codes " owner " ++ decimal owned.id in
-    let number : List ℕ = decimal r.n ++ last in
-    let count : List ℕ = is.counted ++ number in
-    let row : List ℕ = decimal r.y ++ count in
-    ap (list_all is_solid) is.same
-    ∙ solid_append is.word (decimal r.x ++ 44 ∷ row) is.word_solid
-    (solid_append (decimal r.x) (44 ∷ row) (decimal_solid r.x small.x)
-    (solid_append (44 ∷ []) row refl
-    (solid_append (decimal r.y) count (decimal_solid r.y small.y)
-    (solid_append is.counted number is.counted_solid
-    (solid_append (decimal r.n) last (decimal_solid r.n small.n) (solid_append (codes " owner ") (decimal owned.id) refl (decimal_solid owned.id small.id)))))))
+owned_solid size owned small = grind (arith, solid_append, decimal_solid, its_read size owned small)
 
 -- the line that announces them
 heading_read : (seen : Seen) (number count : ℕ) → count < 2 ^ 32 → IsInside seen → line_read seen (codes "owners " ++ decimal count) number ≡ Ok (after_count seen number count)
 unfolding owner_count after_text
-heading_read seen number count small inside =
-    let line : List ℕ = codes "owners " ++ decimal count in
-    ap (λ p. line_at p seen line number) inside.place
-    ∙ (ap (λ k. cond (k == 0) (reply_line seen line number) (owner_seen seen (k - 1) (owned_in seen.size line))) inside.awaited
-    ∙ rw (decimal_is count small) refl)
+heading_read seen number count small inside = grind (arith, decimal_is)
 
 -- an owner's line
 owner_read : (seen : Seen) (number rest : ℕ) (owned : Owned) → IsSmall owned → seen.place ≡ (after_heading seen.size).place → seen.awaited ≡ rest + 1 → line_read seen (owner_bytes seen.size.rows owned) number ≡ owner_seen seen (seen.awaited - 1) (owned_as seen.size owned)
-owner_read seen number rest owned small place awaited =
-    let line : List ℕ = owner_bytes seen.size.rows owned in
-    let some : (seen.awaited == 0) ≡ false = grind (arith, nat_tests, awaited) in
-    ap (λ p. line_at p seen line number) place
-    ∙ (ap (λ b. cond b (reply_line seen line number) (owner_seen seen (seen.awaited - 1) (owned_in seen.size line))) some
-    ∙ ap (owner_seen seen (seen.awaited - 1)) (owned_is seen.size owned small))
+owner_read seen number rest owned small place awaited = grind (arith, owned_is)
 
 -- what was read, with one more node
 abbrev with_one : Seen → ℕ → OwnedNode → Seen
 with_one seen rest one = record seen { owned = seen.owned ++ one ∷ []; awaited = rest }
 
 by_one : (xs ys : Seen → ℕ → Reading) (seen : Seen) (number rest : ℕ) (o : _) → ((one : OwnedNode) → xs (with_one seen rest one) number ≡ ys (with_one seen rest one) number) → after_line xs number (owner_seen seen rest o) ≡ after_line ys number (owner_seen seen rest o)
-by_one xs ys seen number rest (Err fault) same = refl
-by_one xs ys seen number rest (Ok one) same = by_test (follows (last_of seen.owned) one)
-  where
-    by_test : (b : Bool) → after_line xs number (cond b (Ok (with_one seen rest one)) (Err OutOfOrder)) ≡ after_line ys number (cond b (Ok (with_one seen rest one)) (Err OutOfOrder))
-    by_test true = same one
-    by_test false = refl
+by_one xs ys seen number rest o same = grind arith
 
 all_read : (owners : List Owned) (rest : List ℕ) (seen : Seen) (number : ℕ) → All IsSmall owners → seen.place ≡ (after_heading seen.size).place → seen.awaited ≡ length owners →
     lines_read (lines_of (flat_map (owned_text seen.size.rows) owners ++ rest)) seen number ≡ owners_read owners seen number (λ s n. lines_read (lines_of rest) s n)
@@ -224,9 +180,7 @@ at_end [] x = refl
 at_end (y ∷ xs) x = at_end xs x
 
 last_push : (xs : List OwnedNode) (x : OwnedNode) → last_of (xs ++ x ∷ []) ≡ Some x
-last_push xs x =
-    let e : length (xs ++ x ∷ []) - 1 ≡ length xs = omega (arith, length-append xs (x ∷ [])) in
-    ap (slice_get (xs ++ x ∷ [])) e ∙ at_end xs x
+last_push xs x = grind (arith, length-append xs (x ∷ []), at_end xs x)
 
 abbrev GoesOn : Option OwnedNode → List Owned → Type 0
 GoesOn last [] = ⊤
@@ -241,8 +195,7 @@ Finished seen owners = record seen { owned = seen.owned ++ map node_of owners; a
 
 exactly : (owners : List Owned) (seen : Seen) (number : ℕ) (next : Seen → ℕ → Reading) → All (λ o. is_on seen.size o.resource ≡ true) owners → AllPairs (λ a b. IsEarlier a.resource b.resource) owners → GoesOn (last_of seen.owned) owners → seen.awaited ≡ length owners →
     owners_read owners seen number next ≡ next (Finished seen owners) (last_line number owners)
-exactly [] seen number next on order goes awaited =
-    ap (λ k. next (record seen { awaited = k }) number) awaited ∙ ap (λ (ns : List OwnedNode). next (record seen { owned = ns; awaited = 0 }) number) (sym (append-nil seen.owned))
+exactly [] seen number next on order goes awaited = grind (arith, append-nil)
 exactly (one ∷ more) seen number next on order goes awaited =
     let there : is_on seen.size one.resource ≡ true = All-head (λ (o : Owned). is_on seen.size o.resource ≡ true) one more on in
     let left : seen.awaited - 1 ≡ length more = omega (arith, awaited) in
@@ -255,11 +208,5 @@ exactly (one ∷ more) seen number next on order goes awaited =
     ∙ (exactly more mid (plus number 1) next (All-tail (λ (o : Owned). is_on seen.size o.resource ≡ true) one more on) (λ i j d below within. order (suc i) (suc j) d (omega arith) (omega arith)) later refl
     ∙ ap (λ (ns : List OwnedNode). next (record seen { owned = ns; awaited = 0 }) (last_line (plus number 1) more)) (append_assoc seen.owned (node_of one ∷ []) (map node_of more)))
 
-first_goes : (owners : List Owned) → GoesOn (last_of []) owners
-first_goes [] = tt
-first_goes (one ∷ more) = refl
-
 pub are_exactly_read : AreExactlyRead
-are_exactly_read owners rest seen number few small inside on order =
-    are_read_back owners rest seen number few small inside
-    ∙ exactly owners (after_count seen (plus number 1) (length owners)) (plus number 1) (λ s n. lines_read (lines_of rest) s n) on order (first_goes owners) refl
+are_exactly_read owners rest seen number few small inside on order = grind (arith, are_read_back, exactly)

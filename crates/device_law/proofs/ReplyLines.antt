@@ -1,12 +1,6 @@
 -- The operator's other replies, line by line.
-use Rattle.std.proofs.Common.{◌≡◌, ℕ, ◌+◌, ◌-◌, ◌^◌, ◌<◌, Bool, true, false, cond, List, [], ◌∷◌, ◌++◌, length, codes, decimal, Option, Some, None, Result, Ok, Err, refl, sym, ap, ◌∙◌, arith, append_assoc, append-nil}
-use Rattle.std.specs.Prelude.{◌||◌, ◌==◌, is_some, min}
-use Rattle.std.specs.List.{before_first, list_all, list_any}
-use Rattle.line_text.specs.Decimal.{decimal_of}
-use Rattle.device_lines.specs.Lines.{begins_with_digit, change_in, is_reply_word, is_silent, owned_in, owner_count}
-use Rattle.device_lines.specs.Reading.{Seen, Step, after_line, line_at, line_read, lines_of, lines_read, owner_seen, plus, reply_line, with_change}
-use Rattle.device_lines.specs.Words.{after_text, first_number, is_space}
-use Rattle.device_law.specs.ReadBack.{IsInside}
+use Rattle.device_law.proofs.Prelude.{◌≡◌, ℕ, ◌+◌, ◌-◌, ◌^◌, ◌<◌, Bool, true, false, cond, List, [], ◌∷◌, ◌++◌, codes, decimal, Option, None, Result, Ok, Err, refl, ap, ◌∙◌, arith, append_assoc, append-nil, is_some, min, before_first, list_all, list_any, decimal_of, begins_with_digit, change_in, is_reply_word, owner_count, Seen, after_line, line_read, lines_of, lines_read, plus, with_change, after_text, first_number, is_space, IsInside}
+use Rattle.std.specs.Prelude.{◌||◌}
 use Rattle.device_law.proofs.FieldLemmas.{decimal_is, first_is}
 use Rattle.device_law.proofs.LineLemmas.{decimal_solid, first_of_lines, is_solid, solid_append}
 
@@ -19,10 +13,7 @@ pub reads-none : (seen : Seen) (number : ℕ) → Reads seen number [] seen
 reads-none seen number = record { next = number; reads = λ rest. refl }
 
 pub reads-append : (seen : Seen) (number : ℕ) (text more : List ℕ) (mid new : Seen) → (first : Reads seen number text mid) → Reads mid first.next more new → Reads seen number (text ++ more) new
-reads-append seen number text more mid new first second = record {
-  next = second.next;
-  reads = λ rest. ap (λ (t : List ℕ). lines_read (lines_of t) seen number) (append_assoc text more rest) ∙ first.reads (more ++ rest) ∙ second.reads rest;
-}
+reads-append seen number text more mid new first second = grind (arith, append_assoc)
 
 -- what a change of the device leaves of what was read
 abbrev pub reset : Seen → ℕ → ℕ → Seen
@@ -47,17 +38,10 @@ abbrev pub after_reply : Seen → ℕ → Bool → (ℕ → ℕ) → Seen
 after_reply seen number told live = cond told (reset (quiet seen) number (live seen.live)) (quiet seen)
 
 or_right : (a b : Bool) → b ≡ true → (a || b) ≡ true
-or_right true b is = refl
-or_right false b is = is
+or_right a b is = grind arith
 
 reply_read : (seen : Seen) (number : ℕ) (line : List ℕ) (told : Bool) (live : ℕ → ℕ) → IsInside seen → IsReplyLine line told live → line_read seen line number ≡ Ok (after_reply seen number told live)
-reply_read seen number line told live inside is =
-    let silent : is_silent line ≡ true = or_right (length line == 0) (is_reply_word (before_first is_space line)) is.word in
-    let step : reply_line seen line number ≡ Ok (with_change (quiet seen) number (change_in line)) = rw (is.digit, is.heading, is.count, silent) refl in
-    ap (λ p. line_at p seen line number) inside.place
-    ∙ ap (λ k. cond (k == 0) (reply_line seen line number) (owner_seen seen (k - 1) (owned_in seen.size line))) inside.awaited
-    ∙ step
-    ∙ ap (λ new. let s : Step = Ok new in s) (is.effect (quiet seen) number)
+reply_read seen number line told live inside is = grind arith
 
 pub line_reads : (seen : Seen) (number : ℕ) (line : List ℕ) (told : Bool) (live : ℕ → ℕ) → IsInside seen → IsReplyLine line told live → Reads seen number (line ++ 10 ∷ []) (after_reply seen (plus number 1) told live)
 unfolding lines_read
@@ -77,8 +61,7 @@ unfolding lines_of change_in after_text
 reports-none = refl
 
 pub reports-line : (line rest : List ℕ) (told : Bool) (live : ℕ → ℕ) → IsReplyLine line told live → change_lines (line ++ 10 ∷ rest) ≡ (told || change_lines rest)
-reports-line line rest told live is =
-    ap (list_any (λ line. is_some (change_in line))) (first_of_lines line rest is.solid) ∙ ap (λ b. b || change_lines rest) is.told_is
+reports-line line rest told live is = grind (arith, first_of_lines)
 
 abbrev pub kept : ℕ → ℕ
 kept n = n
@@ -125,43 +108,17 @@ word_none = record { solid = refl; digit = refl; heading = refl; count = refl; w
 -- a refusal
 pub refused_line : (number : ℕ) (name : List ℕ) → number < 2 ^ 32 → list_all is_solid name ≡ true → IsReplyLine (codes "refused" ++ (32 ∷ (decimal number ++ (32 ∷ name)))) false kept
 unfolding owner_count after_text change_in
-refused_line number name small solid = record {
-  solid = solid_append (codes "refused ") (decimal number ++ (32 ∷ name)) refl (solid_append (decimal number) (32 ∷ name) (decimal_solid number small) (solid_append (32 ∷ []) name refl solid));
-  digit = refl;
-  heading = refl;
-  count = refl;
-  word = refl;
-  told_is = refl;
-  effect = λ seen number. refl;
-}
+refused_line number name small solid = grind (arith, solid_append, decimal_solid)
 
 -- an admission
 pub admitted_line : (id offset : ℕ) → id < 2 ^ 32 → offset < 2 ^ 32 → IsReplyLine (codes "ok" ++ (32 ∷ (decimal id ++ (32 ∷ decimal offset)))) true one_more
 unfolding owner_count after_text change_in
-admitted_line id offset small near = record {
-  solid = solid_append (codes "ok ") (decimal id ++ (32 ∷ decimal offset)) refl (solid_append (decimal id) (32 ∷ decimal offset) (decimal_solid id small) (solid_append (32 ∷ []) (decimal offset) refl (decimal_solid offset near)));
-  digit = refl;
-  heading = refl;
-  count = refl;
-  word = refl;
-  told_is = rw (first_is id (32 ∷ decimal offset) small refl, decimal_is offset near) refl;
-  effect = λ seen number. rw (first_is id (32 ∷ decimal offset) small refl, decimal_is offset near) refl;
-}
+admitted_line id offset small near = grind (arith, solid_append, decimal_solid, first_is, decimal_is)
 
 -- a move
 pub moved_line : (offset : ℕ) → offset < 2 ^ 32 → IsReplyLine (codes "ok" ++ (32 ∷ decimal offset)) true kept
 unfolding owner_count after_text change_in
-moved_line offset near =
-    let all : first_number (decimal offset) ≡ Some (offset, []) = sym (ap first_number (append-nil (decimal offset))) ∙ first_is offset [] near tt in
-    record {
-      solid = solid_append (codes "ok ") (decimal offset) refl (decimal_solid offset near);
-      digit = refl;
-      heading = refl;
-      count = refl;
-      word = refl;
-      told_is = rw all refl;
-      effect = λ seen number. rw all refl;
-    }
+moved_line offset near = grind (arith, first_is, solid_append, decimal_solid, append-nil (decimal offset), first_is offset [] near tt, solid_append (codes "ok ") (decimal offset) refl (decimal_solid offset near), decimal_solid offset near)
 
 -- a job that is taken
 pub taken_line : (number : ℕ) → list_all is_solid (decimal number) ≡ true → IsReplyLine (codes "ok job" ++ (32 ∷ decimal number)) false kept

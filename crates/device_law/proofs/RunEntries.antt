@@ -1,36 +1,12 @@
 -- What `op list` shows in a run is printable, on the device, by rising id, and separated.
-use Rattle.std.proofs.Common.{◌≡◌, ℕ, ◌+◌, ◌-◌, ◌^◌, ◌<◌, ◌≤◌, ◌⊎◌, inl, inr, Bool, true, false, cond, ◌||◌, ◌&&◌, List, [], ◌∷◌, ◌++◌, length, Option, Some, None, refl, sym, ap, ◌∙◌, subst, arith, le-leb, lt-ltb}
-use Rattle.std.specs.Prelude.{nat_le, nat_lt, option_map}
-use Rattle.std.specs.List.{list_all}
-use Rattle.std.proofs.lemmas.Bool.{and_from}
-use Rattle.strips.specs.declared.placed_strip.PlacedStrip.{PlacedStrip}
-use Rattle.strips.specs.Plan.{AreApart, strip_of}
-use Rattle.strips.proofs.Laid.{apart_of}
-use Rattle.tenant_slot.specs.declared.reply.StateName.{StateName}
+use Rattle.device_law.proofs.Prelude.{◌≡◌, ℕ, ◌+◌, ◌^◌, ◌<◌, ◌≤◌, ◌⊎◌, true, List, [], ◌∷◌, ◌++◌, length, Option, Some, None, refl, sym, ap, ◌∙◌, subst, arith, option_map, list_all, PlacedStrip, strip_of, apart_of, StateName, state_text, Device, History, state_of, IsDevice, ServiceState, live_of, Listed, is_name, is_state, listed_on, are_parted, ArePrintable, IsPrintable, entries, entry_of, size_of}
 use Rattle.tenant_slot.specs.declared.reply.StateName.TheVariants as State
-use Rattle.tenant_slot.specs.Names.{state_text}
-use Rattle.service_core.specs.declared.device.Device.{Device}
-use Rattle.service_core.specs.History.{History, state_of}
-use Rattle.service_core.specs.Kept.{IsDevice}
-use Rattle.service_core.specs.Service.{ServiceState, live_of}
-use Rattle.device_lines.specs.Lines.{Listed, is_name, is_on_device, is_state, listed_on}
-use Rattle.device_lines.specs.Reading.{are_parted}
-use Rattle.device_law.specs.ReadBack.{ArePrintable, IsPrintable, entries, entry_of}
-use Rattle.device_law.specs.Shown.{size_of}
 use Rattle.device_law.proofs.Each.{Each, each-append, each-weaken}
 use Rattle.device_law.proofs.Listing.{Fits, IsOn, fits-append, rises_after}
 use Rattle.device_law.proofs.OwnerFacts.{Lives, Stands, of_both}
 
 state_named : (name : StateName) → is_state (state_text name) ≡ true
-state_named State.Empty = refl
-state_named State.Loaded = refl
-state_named State.Packing = refl
-state_named State.Packed = refl
-state_named State.Placing = refl
-state_named State.Placed = refl
-state_named State.Routing = refl
-state_named State.Routed = refl
-state_named State.Unrouted = refl
+state_named name = grind arith
 
 -- the line of a live tenancy
 pub record IsEntry (device : Device) (state : ServiceState) (count : ℕ) (one : Listed) : Type 0 where
@@ -66,49 +42,19 @@ are_entries device state (newest ∷ older) stands named =
 
 -- such a line is printable, and the device can have its strip
 pub entry_prints : (device : Device) (state : ServiceState) (count : ℕ) (one : Listed) → IsDevice device → count ≤ 65535 → IsEntry device state count one → IsPrintable one
-entry_prints device state count one known most is =
-    let inside = is.lives.inside in
-    let columns = known.columns.1 in
-    let few = is.few in
-    let offset = is.offset_is in
-    let width = is.width_is in
-    record { id = omega (arith, few, most); name = is.named; offset = omega (arith, inside, columns, offset); width = omega (arith, inside, columns, width) }
+entry_prints device state count one known most is = grind arith
 
 pub all_print : (device : Device) (state : ServiceState) (count : ℕ) (list : List Listed) → IsDevice device → count ≤ 65535 → Each (IsEntry device state count) list → ArePrintable list
 all_print device state count [] known most each = tt
 all_print device state count (one ∷ more) known most each = (entry_prints device state count one known most each.0, all_print device state count more known most each.1)
 
 pub entry_on : (device : Device) (known : IsDevice device) (state : ServiceState) (count : ℕ) (one : Listed) → IsEntry device state count one → IsOn (size_of device known) one
-entry_on device known state count one is =
-    let inside = is.lives.inside in
-    let some = is.lives.some in
-    let offset = is.offset_is in
-    let width = is.width_is in
-    let strip : is_on_device (size_of device known) one.offset one.width ≡ true =
-    and_from (nat_le 1 one.width) (nat_le one.width device.columns && nat_le one.offset (device.columns - one.width)) (le-leb 1 one.width (omega (arith, some, width)))
-    (and_from (nat_le one.width device.columns) (nat_le one.offset (device.columns - one.width)) (le-leb one.width device.columns (omega (arith, inside, width)))
-    (le-leb one.offset (device.columns - one.width) (omega (arith, inside, width, offset)))) in
-    let all : (is_name one.name && (is_state one.state && is_on_device (size_of device known) one.offset one.width)) ≡ true =
-    and_from (is_name one.name) (is_state one.state && is_on_device (size_of device known) one.offset one.width) is.named (and_from (is_state one.state) (is_on_device (size_of device known) one.offset one.width) is.stated strip) in
-    ap (λ b. cond b (Some one) None) all
-
--- the list is whole
-apart_lines : (a b : Listed) (s t : PlacedStrip) → a.offset ≡ s.offset → a.width ≡ s.width → b.offset ≡ t.offset → b.width ≡ t.width → AreApart s t → are_parted a b ≡ true
-apart_lines a b s t ao aw bo bw (inl before) = ap (λ c. c || nat_lt (b.offset + b.width) a.offset) (lt-ltb (a.offset + a.width) b.offset (omega (arith, ao, aw, bo, before)))
-apart_lines a b s t ao aw bo bw (inr after) = or_right (nat_lt (a.offset + a.width) b.offset) (nat_lt (b.offset + b.width) a.offset) (lt-ltb (b.offset + b.width) a.offset (omega (arith, ao, bo, bw, after)))
-  where
-    or_right : (a b : Bool) → b ≡ true → (a || b) ≡ true
-    or_right true b is = refl
-    or_right false b is = is
+entry_on device known state count one is = grind arith
 
 all_apart : (device : Device) (state : ServiceState) (front : List Listed) (one : Listed) (before count : ℕ) → Stands device state → Each (IsEntry device state before) front → before < one.id → IsEntry device state count one →
     list_all (λ other. are_parted other one) front ≡ true
 all_apart device state [] one before count stands each later is = refl
-all_apart device state (other ∷ front) one before count stands each later is =
-    let few = each.0.few in
-    let apart : AreApart each.0.lives.strip is.lives.strip = apart_of state.plan other.id one.id each.0.lives.strip is.lives.strip stands.parted.parted each.0.lives.found is.lives.found (λ same. omega (arith, few, later, same)) in
-    and_from (are_parted other one) (list_all (λ other. are_parted other one) front) (apart_lines other one each.0.lives.strip is.lives.strip each.0.offset_is each.0.width_is is.offset_is is.width_is apart)
-    (all_apart device state front one before count stands each.1 later is)
+all_apart device state (other ∷ front) one before count stands each later is = grind (arith, apart_of, all_apart device state front one before count stands each.1 later is)
 
 pub entries_fit : (device : Device) (state : ServiceState) (names : List (List ℕ)) → Stands device state → Each (λ name. is_name name ≡ true) names → Fits [] (entries state names)
 entries_fit device state [] stands named = tt

@@ -1,12 +1,5 @@
 -- What is read after the operator's section: nothing.
-use Rattle.std.proofs.Common.{◌≡◌, ℕ, ◌+◌, ◌-◌, cond, List, [], ◌∷◌, ◌++◌, codes, Ok, refl, ap, ◌∙◌}
-use Rattle.std.specs.Prelude.{◌==◌}
-use Rattle.std.specs.List.{flat_map, onto_first, slice_split}
-use Rattle.script_text.specs.Replies.{Section, section_text}
-use Rattle.device_lines.specs.Lines.{change_in, owned_in, owner_count}
-use Rattle.device_lines.specs.Reading.{Seen, after_line, is_feed, line_at, line_read, lines_of, lines_read, missing_part, missing_at, missing_inside, owner_seen, plus, reply_line}
-use Rattle.device_lines.specs.Words.{after_text}
-use Rattle.device_law.specs.ReadBack.{IsInside, from_step}
+use Rattle.device_law.proofs.Prelude.{◌≡◌, ℕ, ◌+◌, List, [], ◌∷◌, ◌++◌, codes, Ok, refl, ap, ◌∙◌, arith, flat_map, onto_first, slice_split, Section, section_text, change_in, owner_count, Seen, after_line, is_feed, line_read, lines_of, lines_read, missing_part, missing_at, missing_inside, plus, reply_line, after_text, IsInside, from_step}
 use Rattle.device_law.proofs.ReplyLines.{quiet}
 
 -- the sections of the names
@@ -25,8 +18,7 @@ pub record Rest (seen : Seen) (number : ℕ) (text : List ℕ) : Type 0 where
   pub missing_is : missing_part new lines ≡ missing_inside new lines
 
 inside_is : (seen : Seen) (number : ℕ) (line : List ℕ) → IsInside seen → line_read seen line number ≡ reply_line seen line number
-inside_is seen number line inside =
-    ap (λ p. line_at p seen line number) inside.place ∙ ap (λ k. cond (k == 0) (reply_line seen line number) (owner_seen seen (k - 1) (owned_in seen.size line))) inside.awaited
+inside_is seen number line inside = grind arith
 
 blank_read : (seen : Seen) (number : ℕ) → reply_line seen [] number ≡ Ok (quiet seen)
 unfolding owner_count after_text change_in
@@ -67,16 +59,10 @@ record HeadRead (seen : Seen) (lines : List (List ℕ)) (number : ℕ) : Type 0 
 
 head_read : (seen : Seen) (number : ℕ) (line : List ℕ) (lines : List (List ℕ)) → IsInside seen → HeadRead seen ((61 ∷ 61 ∷ 32 ∷ line) ∷ lines) number
 unfolding lines_read
-head_read seen number line lines inside =
-    let rest = behind_read lines seen (plus number 1) in
-    record {
-      last = rest.last;
-      reads = ap (after_line (lines_read lines) (plus number 1)) (inside_is seen (plus number 1) (61 ∷ 61 ∷ 32 ∷ line) inside ∙ heading_read seen (plus number 1) line) ∙ rest.reads;
-    }
+head_read seen number line lines inside = grind (arith, behind_read lines seen (plus number 1), heading_read seen (plus number 1) line)
 
 parts_read : (seen : Seen) (number : ℕ) (parts : List (List ℕ)) → IsInside seen → HeadRead seen (onto_first 61 (onto_first 61 (onto_first 32 parts))) number
-parts_read seen number [] inside = head_read seen number [] [] inside
-parts_read seen number (line ∷ lines) inside = head_read seen number line lines inside
+parts_read seen number parts inside = grind (arith, head_read)
 
 headed_read : (seen : Seen) (number : ℕ) (tail : List ℕ) → IsInside seen → HeadRead seen (lines_of (61 ∷ 61 ∷ 32 ∷ tail)) number
 unfolding lines_of

@@ -1,30 +1,6 @@
 -- What is read of the reply to each line of the operator.
-use Rattle.std.proofs.Common.{◌≡◌, ℕ, zero, suc, ◌+◌, ◌-◌, ◌/◌, ◌%◌, ◌^◌, ◌<◌, ◌≤◌, Bool, true, false, cond, eqb, List, [], ◌∷◌, ◌++◌, length, map, codes, decimal, Option, Some, None, Result, Ok, Err, refl, sym, ap, ◌∙◌, subst, arith, append_assoc}
-use Rattle.std.specs.Prelude.{⊤, IsSome, min, nat_lt, option_map}
-use Rattle.std.specs.Fmt.{digits, digits_onto, digit_glyph}
-use Rattle.std.specs.List.{list_all}
-use Rattle.std.proofs.lemmas.Bool.{and_from, false≢true}
-use Rattle.std.proofs.lemmas.Bool.Decides.{nat_tests}
-use Rattle.job_state.specs.Job.{JobState}
-use Rattle.strips.specs.declared.placed_strip.PlacedStrip.{PlacedStrip}
-use Rattle.strips.specs.Plan.{IsParted, Plan, moved_strip, strip_of, with_moved, strips_without}
-use Rattle.strips.proofs.Laid.{IsParted-with-inside}
-use Rattle.service_core.specs.declared.device.Device.{Device}
-use Rattle.service_core.specs.declared.op_refusal.OpRefusal.{OpRefusal}
+use Rattle.device_law.proofs.Prelude.{◌≡◌, ℕ, zero, suc, ◌+◌, ◌-◌, ◌/◌, ◌%◌, ◌^◌, ◌<◌, ◌≤◌, Bool, true, false, cond, eqb, List, [], ◌∷◌, ◌++◌, length, map, codes, decimal, Option, Some, None, Result, Ok, Err, refl, sym, ap, ◌∙◌, subst, arith, append_assoc, ⊤, IsSome, min, option_map, digits, digits_onto, digit_glyph, list_all, and_from, false≢true, JobState, PlacedStrip, IsParted, Plan, moved_strip, strip_of, with_moved, strips_without, IsParted-with-inside, Device, OpRefusal, IsAdmitted, IsEvicted, IsMoved, History, IsDevice, op_refusal_number, op_refusal_text, Call, ServiceState, history_of, live_of, placed_strip, if_live_some, no_strip-next, own_stands, admitted_text, evicted_text, last_id, moved_text, names_after, refused_text, taken_text, IsAdmission, Stage, Seen, Shown, reports, size_of}
 use Rattle.service_core.specs.declared.op_refusal.OpRefusal.TheVariants as Op
-use Rattle.service_core.specs.Calls.{IsAdmitted, IsEvicted, IsMoved}
-use Rattle.service_core.specs.History.{History}
-use Rattle.service_core.specs.Kept.{IsDevice}
-use Rattle.service_core.specs.Names.{op_refusal_number, op_refusal_text}
-use Rattle.service_core.specs.Run.{Call}
-use Rattle.service_core.specs.Service.{ServiceState, history_of, live_of}
-use Rattle.service_core.proofs.Booking.{placed_strip}
-use Rattle.service_core.proofs.Keeps.{if_live_some, no_strip-next}
-use Rattle.service_core.proofs.Moving.{own_stands}
-use Rattle.operator.specs.OperatorText.{admitted_text, evicted_text, last_id, moved_text, names_after, refused_text, taken_text}
-use Rattle.operator.specs.Serving.{IsAdmission, Stage}
-use Rattle.device_lines.specs.Reading.{Seen}
-use Rattle.device_law.specs.Shown.{Shown, reports, size_of}
 use Rattle.device_law.proofs.LineLemmas.{is_solid}
 use Rattle.device_law.proofs.OwnerFacts.{Lives, Stands, live_within, of_both, strip_all}
 use Rattle.device_law.proofs.ReplyLines.{IsReplyLine, admitted_line, kept, moved_line, one_less, one_more, refused_line, taken_line, word_none, word_ok}
@@ -34,11 +10,7 @@ use Rattle.device_law.proofs.StripEntries.{entries_admitted, entries_evicted, en
 
 -- the digits of any number
 glyph_solid : (d : ℕ) → is_solid (digit_glyph false d) ≡ true
-glyph_solid d = by_test (nat_lt d 10)
-  where
-    by_test : (b : Bool) → is_solid (cond b (48 + d) (87 + d)) ≡ true
-    by_test true = grind (arith, nat_tests)
-    by_test false = grind (arith, nat_tests)
+glyph_solid d = grind arith
 
 digits_solid : (k n : ℕ) (acc : List ℕ) → list_all is_solid acc ≡ true → list_all is_solid (digits_onto k 10 false n acc) ≡ true
 digits_solid zero n acc all = all

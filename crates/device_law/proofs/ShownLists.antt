@@ -1,24 +1,5 @@
 -- What is read of the replies to `op list` and `op owners`.
-use Rattle.std.proofs.Common.{◌≡◌, ℕ, ◌+◌, ◌^◌, ◌<◌, ◌≤◌, true, List, [], ◌∷◌, ◌++◌, length, get_or, map, Option, Some, None, refl, sym, ap, ◌∙◌, subst, arith}
-use Rattle.std.specs.Prelude.{⊤, All, AllPairs, Contains, IfSome, unwrap_or}
-use Rattle.std.proofs.lemmas.List.Elements.{All-contains_itself}
-use Rattle.rr_graph.specs.Resources.{IsEarlier}
-use Rattle.strips.specs.declared.placed_strip.PlacedStrip.{PlacedStrip}
-use Rattle.device_book.specs.declared.book.Owned.{Owned}
-use Rattle.service_core.specs.declared.device.Device.{Device}
-use Rattle.service_core.specs.Kept.{IsDevice}
-use Rattle.service_core.specs.Owners.{ListsOwnersOf}
-use Rattle.operator.specs.OperatorText.{list_text}
-use Rattle.operator.specs.OwnersText.{owners_text}
-use Rattle.operator.specs.Serving.{Stage}
-use Rattle.service_core.proofs.Keeps.{if_live_some}
-use Rattle.service_core.specs.Service.{history_of}
-use Rattle.device_lines.specs.declared.size.DeviceSize.{DeviceSize}
-use Rattle.device_lines.specs.Lines.{Listed, OwnedNode}
-use Rattle.device_lines.specs.Reading.{Seen, lines_of, lines_read, list_before, plus}
-use Rattle.device_law.specs.OwnersBack.{IsSmall, is_on, last_line, node_of, with_owners}
-use Rattle.device_law.specs.ReadBack.{entries, entries_read}
-use Rattle.device_law.specs.Shown.{Shown, size_of, without_state}
+use Rattle.device_law.proofs.Prelude.{◌≡◌, ℕ, ◌+◌, ◌^◌, ◌<◌, ◌≤◌, true, List, [], ◌∷◌, ◌++◌, length, get_or, map, Option, Some, None, refl, sym, ap, ◌∙◌, subst, arith, ⊤, All, AllPairs, Contains, IfSome, unwrap_or, All-contains_itself, IsEarlier, PlacedStrip, Owned, Device, IsDevice, ListsOwnersOf, list_text, owners_text, Stage, if_live_some, history_of, DeviceSize, Listed, OwnedNode, Seen, lines_of, lines_read, list_before, plus, IsSmall, is_on, last_line, node_of, with_owners, entries, entries_read, Shown, size_of, without_state}
 use Rattle.device_law.proofs.Box.{InBox, each_of, in_box, owners_few}
 use Rattle.device_law.proofs.Each.{Each, each-map, each-of_map, each-weaken}
 use Rattle.device_law.proofs.Found.{OwnedIn}

@@ -1,18 +1,5 @@
 -- What has been read shows what the operator was shown.
-use Rattle.std.proofs.Common.{◌≡◌, ℕ, ◌+◌, ◌-◌, ◌^◌, ◌<◌, ◌≤◌, Bool, true, false, cond, ◌||◌, List, [], ◌∷◌, ◌++◌, length, map, Option, Some, None, refl, sym, ap, ◌∙◌, subst, arith, append_assoc}
-use Rattle.std.specs.Prelude.{⊤, IfSome, is_some, unwrap_or}
-use Rattle.strips.specs.declared.placed_strip.PlacedStrip.{PlacedStrip}
-use Rattle.tenant_slot.specs.declared.reply.StepReply.TheVariants.{Advanced, Finished, Stale}
-use Rattle.service_core.specs.Run.{Call}
-use Rattle.sessions.specs.declared.steps.StepOutcome.{StepOutcome}
-use Rattle.sessions.specs.declared.steps.StepOutcome.TheVariants.{Recorded, Full, Gone, NoMemory, Nothing, Unfit}
-use Rattle.operator.specs.OperatorText.{outcome_text, outcome_word}
-use Rattle.operator.specs.Serving.{Tried, tried_text}
-use Rattle.device_lines.specs.declared.size.DeviceSize.{DeviceSize}
-use Rattle.device_lines.specs.Lines.{Listed, OwnedNode}
-use Rattle.device_lines.specs.Reading.{Seen, plus}
-use Rattle.device_law.specs.ReadBack.{IsInside}
-use Rattle.device_law.specs.Shown.{Shown, nothing_shown, reports, without_state}
+use Rattle.device_law.proofs.Prelude.{◌≡◌, ℕ, ◌+◌, ◌-◌, ◌^◌, ◌<◌, ◌≤◌, Bool, true, false, cond, ◌||◌, List, [], ◌∷◌, ◌++◌, length, map, Option, Some, None, refl, sym, ap, ◌∙◌, subst, arith, append_assoc, ⊤, IfSome, is_some, unwrap_or, PlacedStrip, Call, StepOutcome, outcome_text, outcome_word, Tried, tried_text, DeviceSize, Listed, OwnedNode, Seen, plus, IsInside, Shown, nothing_shown, reports, without_state}
 use Rattle.device_law.proofs.Each.{Each}
 use Rattle.device_law.proofs.Found.{OwnedIn}
 use Rattle.device_law.proofs.ReplyLines.{IsReplyLine, Reads, after_reply, kept, line_reads, quiet, reads-append, reads-none, reports-line, reports-none, reset, word_advanced, word_finished, word_full, word_gone, word_no_memory, word_none, word_stale}
@@ -37,44 +24,21 @@ pub record After (size : DeviceSize) (strips : List PlacedStrip) (names : List (
   pub shows : Shows size strips names shown new
 
 pub shows_same : (size : DeviceSize) (strips other : List PlacedStrip) (names others : List (List ℕ)) (shown : Shown) (seen : Seen) → other ≡ strips → others ≡ names → Shows size strips names shown seen → Shows size other others shown seen
-shows_same size strips other names others shown seen same same_names shows =
-    subst (λ ns. Shows size other ns shown seen) (sym same_names) (subst (λ ss. Shows size ss names shown seen) (sym same) shows)
+shows_same size strips other names others shown seen same same_names shows = grind arith
 
 shows_quiet : (size : DeviceSize) (strips : List PlacedStrip) (names : List (List ℕ)) (shown : Shown) (seen : Seen) → Shows size strips names shown seen → Shows size strips names shown (quiet seen)
-shows_quiet size strips names shown seen shows = record {
-  size_is = shows.size_is;
-  inside = record { place = shows.inside.place; awaited = shows.inside.awaited };
-  live_is = shows.live_is;
-  listed_is = shows.listed_is;
-  list_now = shows.list_now;
-  owned_is = shows.owned_is;
-  has_is = shows.has_is;
-  owned_now = shows.owned_now;
-}
+shows_quiet size strips names shown seen shows = grind arith
 
 shows_reset : (size : DeviceSize) (strips other : List PlacedStrip) (names others : List (List ℕ)) (shown : Shown) (seen : Seen) (number live : ℕ) → live ≡ length (strip_entries other others) → Shows size strips names shown seen →
     Shows size other others nothing_shown (reset (quiet seen) number live)
-shows_reset size strips other names others shown seen number live is shows = record {
-  size_is = shows.size_is;
-  inside = record { place = shows.inside.place; awaited = shows.inside.awaited };
-  live_is = is;
-  listed_is = refl;
-  list_now = tt;
-  owned_is = refl;
-  has_is = refl;
-  owned_now = tt;
-}
+shows_reset size strips other names others shown seen number live is shows = grind arith
 
 -- after a reply of one line
 abbrev pub now_shown : Bool → Shown → Shown
 now_shown told shown = cond told nothing_shown shown
 
 one_told : (line text : List ℕ) (told : Bool) (live : ℕ → ℕ) → IsReplyLine line told live → text ≡ line ++ 10 ∷ [] → reports text ≡ told
-one_told line text told live is same = ap reports same ∙ reports-line line [] told live is ∙ ap (λ b. told || b) reports-none ∙ or_false told
-  where
-    or_false : (b : Bool) → (b || false) ≡ b
-    or_false true = refl
-    or_false false = refl
+one_told line text told live is same = grind (arith, reports-none, reports-line line [] told live is)
 
 module _ (size : DeviceSize) (strips : List PlacedStrip) (names : List (List ℕ)) (shown : Shown) (seen : Seen) (number : ℕ) (shows : Shows size strips names shown seen) where
   -- one that reports no change
@@ -108,14 +72,7 @@ record Outcome (outcome : StepOutcome) : Type 0 where
   line : IsReplyLine (outcome_word outcome) told kept
 
 outcome_line : (outcome : StepOutcome) → Outcome outcome
-outcome_line (Recorded Advanced) = record { told = false; line = word_advanced }
-outcome_line (Recorded Finished) = record { told = true; line = word_finished }
-outcome_line (Recorded Stale) = record { told = false; line = word_stale }
-outcome_line Full = record { told = false; line = word_full }
-outcome_line Gone = record { told = false; line = word_gone }
-outcome_line NoMemory = record { told = false; line = word_no_memory }
-outcome_line Nothing = record { told = false; line = word_none }
-outcome_line Unfit = record { told = false; line = word_none }
+outcome_line outcome = grind (arith, word_advanced, word_finished, word_stale, word_full, word_gone, word_no_memory, word_none)
 
 pub outcome_after : (size : DeviceSize) (strips : List PlacedStrip) (names : List (List ℕ)) (shown : Shown) (seen : Seen) (number : ℕ) → Shows size strips names shown seen → (outcome : StepOutcome) →
     After size strips names (now_shown (reports (outcome_text outcome)) shown) seen number (outcome_text outcome)
@@ -126,9 +83,7 @@ outcome_after size strips names shown seen number shows outcome = let o = outcom
     by false line = reply_same size strips names shown seen number shows (outcome_word outcome) (outcome_text outcome) kept strips names line refl refl refl
 
 twice : (a b : Bool) (shown : Shown) → now_shown b (now_shown a shown) ≡ now_shown (a || b) shown
-twice true true shown = refl
-twice true false shown = refl
-twice false b shown = refl
+twice a b shown = grind arith
 
 more_told : (outcome : StepOutcome) (rest : List ℕ) → reports (outcome_text outcome ++ rest) ≡ (reports (outcome_text outcome) || reports rest)
 more_told outcome rest =
@@ -138,9 +93,7 @@ more_told outcome rest =
 
 pub steps_after : (size : DeviceSize) (strips : List PlacedStrip) (names : List (List ℕ)) (tried : Tried) (shown : Shown) (seen : Seen) (number : ℕ) → Shows size strips names shown seen →
     After size strips names (now_shown (reports (tried_text tried)) shown) seen number (tried_text tried)
-steps_after size strips names [] shown seen number shows =
-    let P : Bool → Type 0 = λ b. Shows size strips names (now_shown b shown) seen in
-    record { new = seen; reads = reads-none seen number; shows = subst P (sym reports-none) shows }
+steps_after size strips names [] shown seen number shows = search (reads-none, reports-none, arith)
 steps_after size strips names (t ∷ ts) shown seen number shows =
     let first = outcome_after size strips names shown seen number shows t.1 in
     let rest = steps_after size strips names ts (now_shown (reports (outcome_text t.1)) shown) first.new first.reads.next first.shows in

@@ -1,30 +1,6 @@
 -- What holds of each stage of a script's run.
-use Rattle.std.proofs.Common.{◌≡◌, ℕ, zero, suc, ◌<◌, List, [], ◌∷◌, ◌++◌, length, true, Option, Some, None, Result, Ok, Err, refl, sym, ap, ◌∙◌, subst, arith}
-use Rattle.std.specs.Prelude.{⊤, All}
-use Rattle.std.specs.List.{flat_map}
-use Rattle.job_state.specs.Job.{JobState}
-use Rattle.service_core.specs.declared.device.Device.{Device}
-use Rattle.service_core.specs.declared.not_served.NotServed.TheVariants.{JournalFull, NoMemory as NotServedNoMemory, NoSuchTenancy}
-use Rattle.service_core.specs.declared.op_refusal.OpRefusal.{OpRefusal}
-use Rattle.service_core.specs.declared.put_reply.PutReply.TheVariants.{Recorded as PutRecorded, Full as PutFull, Gone as PutGone}
-use Rattle.service_core.specs.History.{History}
-use Rattle.service_core.specs.Run.{Call, Happens, Run, IsGivenBackTo}
-use Rattle.service_core.specs.Run.Call.{Admit as AdmitCall, Evict as EvictCall, Move as MoveCall, Tenant, Take as TakeCall, Put as PutCall, GiveBack, Owners as OwnersCall}
-use Rattle.service_core.specs.Service.{ServiceState, empty_service, live_of}
-use Rattle.sessions.specs.declared.steps.StepOutcome.{StepOutcome}
-use Rattle.sessions.specs.Steps.{MakesStep}
-use Rattle.sessions.proofs.StepLemmas.{Run-append}
-use Rattle.script_text.specs.declared.act.Act.{Act}
-use Rattle.script_text.specs.declared.act.Act.TheVariants.{Operator, Session}
-use Rattle.script_text.specs.declared.operator_line.OperatorLine.TheVariants.{Admit, Evict, Move, List as ListAll, Owners, Step, Take, Put}
-use Rattle.operator.specs.HeldJobs.{job_at}
-use Rattle.operator.specs.OperatorText.{last_id, names_after}
-use Rattle.operator.specs.Serving.{IsAdmission, Stage, Tried, tried_calls}
-use Rattle.operator.proofs.OperatorLemmas.{lengths-admitted, lengths-evicted, lengths-moved}
-use Rattle.operator.proofs.Stepping.{AreSteady, Steady, lengths-run, steady_asks, steady_held, steady_step, steady_take}
-use Rattle.fpgad_run.specs.Run.{IsAnswered}
-use Rattle.fpgad_run.proofs.Telling.{answered_runs}
-use Rattle.device_lines.specs.Lines.{is_name}
+use Rattle.device_law.proofs.Prelude.{◌≡◌, ℕ, zero, suc, ◌<◌, List, [], ◌∷◌, ◌++◌, length, true, Option, refl, sym, ap, ◌∙◌, subst, arith, ⊤, All, flat_map, JobState, Device, History, Call, Happens, Run, IsGivenBackTo, ServiceState, empty_service, live_of, StepOutcome, MakesStep, Run-append, Act, Operator, Session, Admit, Evict, Move, Owners, Step, Take, Put, last_id, IsAdmission, Stage, Tried, tried_calls, lengths-admitted, lengths-evicted, lengths-moved, AreSteady, Steady, lengths-run, steady_asks, steady_step, IsAnswered, answered_runs, is_name}
+use Rattle.script_text.specs.declared.operator_line.OperatorLine.TheVariants.{List as ListAll}
 use Rattle.device_law.proofs.AdmittedNames.{HasName}
 use Rattle.device_law.proofs.Each.{Each}
 use Rattle.device_law.proofs.OwnerFacts.{Stands, after_run}
@@ -50,25 +26,10 @@ same : (old new : ServiceState) → new ≡ old → new.plan ≡ old.plan
 same old new is = ap (λ (s : ServiceState). s.plan) is
 
 given : (o : Option History) (old new : ServiceState) (job : JobState) → IsGivenBackTo o old job new → new.plan ≡ old.plan
-given None old new job is = same old new is
-given (Some h) old new job is = ap (λ (s : ServiceState). s.plan) is.2
+given o old new job is = grind arith
 
 plan-happens : (old new : ServiceState) (call : Call) → Steady call → Happens old call new → new.plan ≡ old.plan
-plan-happens old new (AdmitCall width answer) never is = absurd never
-plan-happens old new (EvictCall id answer) never is = absurd never
-plan-happens old new (MoveCall id offset answer) never is = absurd never
-plan-happens old new (Tenant id command (Ok r)) steady is = ap (λ (s : ServiceState). s.plan) is.1
-plan-happens old new (Tenant id command (Err (JournalFull note))) steady is = same old new is.2
-plan-happens old new (Tenant id command (Err (NoSuchTenancy note))) steady is = same old new is.2
-plan-happens old new (Tenant id command (Err NotServedNoMemory)) steady is = same old new is.1
-plan-happens old new (TakeCall id None) steady is = same old new is.1
-plan-happens old new (TakeCall id (Some job)) steady is = ap (λ (s : ServiceState). s.plan) is.1
-plan-happens old new (PutCall done foreign (Ok (PutRecorded reply))) steady is = ap (λ (s : ServiceState). s.plan) is.1
-plan-happens old new (PutCall done foreign (Ok PutFull)) steady is = same old new is.1
-plan-happens old new (PutCall done foreign (Ok PutGone)) steady is = same old new is.1
-plan-happens old new (PutCall done foreign (Err back)) steady is = same old new is.2
-plan-happens old new (GiveBack job) steady is = given (live_of old.histories job.step.id) old new job is
-plan-happens old new (OwnersCall list) steady is = same old new is.1
+plan-happens old new call never is = grind arith
 
 pub plan-run : (old new : ServiceState) (calls : List Call) → AreSteady calls → Run old calls new → new.plan ≡ old.plan
 plan-run old new [] steady run = same old new run
@@ -90,35 +51,18 @@ no_change : (old new : Stage) → new ≡ old → IsNamed old → IsNamed new
 no_change old new is named = subst IsNamed (sym is) named
 
 admission_named : (o : Option History) (old new : Stage) (name : List ℕ) (width : ℕ) (calls : List Call) (text : List ℕ) → IsAdmission o old name width calls text new → is_name name ≡ true → IsNamed old → IsNamed new
-admission_named (Some h) old new name width calls text is printable named = no_change old new is.2 named
-admission_named None old new name width calls text is printable named = record {
-  even = ap length is.2 ∙ lengths-admitted old.service new.service width is.0 old.names name named.even is.1;
-  named = subst AreNamed (sym is.2) (newer is.0);
-}
-  where
-    newer : (answer : Result (ℕ × ℕ) OpRefusal) → AreNamed (names_after old.names name answer)
-    newer (Ok given) = (printable, named.named)
-    newer (Err refusal) = named.named
+admission_named o old new name width calls text is printable named = grind (arith, lengths-admitted)
 
 names_next : (old new : Stage) (act : Act (List ℕ)) (calls : List Call) (text : List ℕ) → IsAnswered old act calls text new → HasName act → IsNamed old → IsNamed new
-names_next old new (Session name line) calls text is printable named =
-    same_names old new is.3 (lengths-run old.service new.service calls (steady_asks (last_id old.names name) line calls is.0 is.1) is.2) named
+names_next old new (Session name line) calls text is printable named = grind (arith, lengths-run, steady_asks)
 names_next old new (Operator (Admit name width)) calls text is printable named = admission_named (live_of old.service.histories (last_id old.names name)) old new name width calls text is printable named
 names_next old new (Operator (Evict name)) calls text is printable named = same_names old new is.2 (lengths-evicted old.service new.service (last_id old.names name) is.0 is.1) named
 names_next old new (Operator (Move name offset)) calls text is printable named = same_names old new is.2 (lengths-moved old.service new.service (last_id old.names name) offset is.0 is.1) named
-names_next old new (Operator (Step name count)) calls text is printable named =
-    let steady : AreSteady calls = subst AreSteady (sym is.6) (steady-tried (last_id old.names name) is.0 is.2) in
-    same_names old new is.4 (lengths-run old.service new.service calls steady is.3) named
-names_next old new (Operator (Take name)) calls text is printable named =
-    same_names old new is.3 (lengths-run old.service new.service calls (steady_take (last_id old.names name) is.0 calls is.1) is.2) named
-names_next old new (Operator (Put number)) calls text is printable named =
-    same_names old new is.3 (lengths-run old.service new.service calls (steady_held (job_at old.jobs number) calls is.0 is.1) is.2) named
+names_next old new (Operator (Step name count)) calls text is printable named = grind (arith, lengths-run, steady-tried (last_id old.names name) is.0 is.2)
+names_next old new (Operator (Take name)) calls text is printable named = grind (arith, lengths-run)
+names_next old new (Operator (Put number)) calls text is printable named = grind (arith, lengths-run)
 names_next old new (Operator ListAll) calls text is printable named = no_change old new is.2 named
 names_next old new (Operator Owners) calls text is printable named = no_change old new is.4 named
 
 pub fine_next : (device : Device) (old new : Stage) (act : Act (List ℕ)) (calls : List Call) (text : List ℕ) → IsAnswered old act calls text new → HasName act → Fine device old → Fine device new
-fine_next device old new act calls text is printable fine = record {
-  before = fine.before ++ calls;
-  runs = Run-append (empty_service device) fine.before old.service calls new.service fine.runs (answered_runs old act calls text new is);
-  names = names_next old new act calls text is printable fine.names;
-}
+fine_next device old new act calls text is printable fine = grind (arith, Run-append (empty_service device) fine.before old.service calls new.service fine.runs (answered_runs old act calls text new is), names_next old new act calls text is printable fine.names)

@@ -1,18 +1,5 @@
 -- The tenancies that `op list` shows, by their strips.
-use Rattle.std.proofs.Common.{◌≡◌, ℕ, ◌+◌, ◌<◌, ◌≤◌, ◌⊎◌, inl, inr, Bool, true, false, cond, eqb, List, [], ◌∷◌, ◌++◌, length, map, Option, Some, None, refl, sym, ap, ◌∙◌, subst, arith, length-append}
-use Rattle.std.specs.Prelude.{⊤, option_map}
-use Rattle.std.proofs.lemmas.Bool.{cases_lt}
-use Rattle.std.proofs.lemmas.Bool.Decides.{nat_tests}
-use Rattle.std.proofs.lemmas.Option.{same_Some}
-use Rattle.strips.specs.declared.placed_strip.PlacedStrip.{PlacedStrip}
-use Rattle.strips.specs.Plan.{moved_strip, strip_of, strips_without}
-use Rattle.strips.proofs.Laid.{strip_of-push, strip_of-without}
-use Rattle.service_core.specs.History.{History}
-use Rattle.service_core.specs.Service.{ServiceState, live_of, live_width, placed_width}
-use Rattle.service_core.proofs.MovedStrips.{strip_of-moved}
-use Rattle.device_lines.specs.Lines.{Listed}
-use Rattle.device_law.specs.ReadBack.{entries, entry_of}
-use Rattle.device_law.specs.Shown.{without_state}
+use Rattle.device_law.proofs.Prelude.{◌≡◌, ℕ, ◌+◌, ◌<◌, ◌≤◌, ◌⊎◌, inl, inr, Bool, true, false, cond, eqb, List, [], ◌∷◌, ◌++◌, length, map, Option, Some, None, refl, sym, ap, ◌∙◌, subst, arith, length-append, ⊤, option_map, cases_lt, nat_tests, PlacedStrip, moved_strip, strip_of, strips_without, strip_of-push, strip_of-without, History, ServiceState, live_width, placed_width, strip_of-moved, Listed, entries, entry_of, without_state}
 
 abbrev pub strip_entry : Option PlacedStrip → ℕ → List ℕ → List Listed
 strip_entry None id name = []
@@ -30,33 +17,20 @@ map_both (x ∷ xs) ys = ap (λ zs. without_state x ∷ zs) (map_both xs ys)
 
 one_entry : (o : Option PlacedStrip) (l : Option History) (id : ℕ) (name : List ℕ) → option_map (λ (s : PlacedStrip). s.width) o ≡ option_map (λ (h : History). h.strip.width) l →
     map without_state (entry_of l (option_map (λ (s : PlacedStrip). s.offset) o) id name) ≡ strip_entry o id name
-one_entry None None id name e = refl
-one_entry None (Some h) id name e = absurd cc
-one_entry (Some s) None id name e = absurd cc
-one_entry (Some s) (Some h) id name e = ap (λ w. record { id = id; name = name; offset = s.offset; width = w; state = [] } ∷ []) (sym (same_Some _ _ e))
+one_entry o l id name e = grind arith
 
 -- these are the live tenancies, without the names of their states
 pub bare_entries : (state : ServiceState) (names : List (List ℕ)) → ((id : ℕ) → placed_width state.plan.strips id ≡ live_width state.histories id) → map without_state (entries state names) ≡ strip_entries state.plan.strips names
 bare_entries state [] linked = refl
-bare_entries state (newest ∷ older) linked =
-    let id = length older + 1 in
-    let last = entry_of (live_of state.histories id) (option_map (λ (s : PlacedStrip). s.offset) (strip_of state.plan.strips id)) id newest in
-    map_both (entries state older) last
-    ∙ ap (λ xs. xs ++ map without_state last) (bare_entries state older linked)
-    ∙ ap (λ ys. strip_entries state.plan.strips older ++ ys) (one_entry (strip_of state.plan.strips id) (live_of state.histories id) id newest (linked id))
+bare_entries state (newest ∷ older) linked = grind (arith, map_both, bare_entries state older linked)
 
 -- how many there are
 one_few : (o : Option PlacedStrip) (id : ℕ) (name : List ℕ) → length (strip_entry o id name) ≤ 1
-one_few None id name = omega arith
-one_few (Some s) id name = omega arith
+one_few o id name = grind arith
 
 pub entries_few : (strips : List PlacedStrip) (names : List (List ℕ)) → length (strip_entries strips names) ≤ length names
 entries_few strips [] = omega arith
-entries_few strips (newest ∷ older) =
-    let more = entries_few strips older in
-    let one = one_few (strip_of strips (length older + 1)) (length older + 1) newest in
-    let both = length-append (strip_entries strips older) (strip_entry (strip_of strips (length older + 1)) (length older + 1) newest) in
-    omega (arith, more, one, both)
+entries_few strips (newest ∷ older) = grind (arith, length-append, entries_few strips older)
 
 -- strips that are the same for the ids of the names
 pub entries_same : (strips other : List PlacedStrip) (names : List (List ℕ)) → ((id : ℕ) → id ≤ length names → strip_of other id ≡ strip_of strips id) → strip_entries other names ≡ strip_entries strips names
@@ -69,16 +43,7 @@ entries_same strips other (newest ∷ older) same =
 -- with one more tenancy
 pub entries_admitted : (strips : List PlacedStrip) (names : List (List ℕ)) (name : List ℕ) (s : PlacedStrip) → s.id ≡ length names + 1 → strip_of strips (length names + 1) ≡ None →
     length (strip_entries (strips ++ s ∷ []) (name ∷ names)) ≡ length (strip_entries strips names) + 1
-entries_admitted strips names name s id new =
-    let free : strip_of strips s.id ≡ None = ap (strip_of strips) id ∙ new in
-    let older : strip_entries (strips ++ s ∷ []) names ≡ strip_entries strips names =
-    entries_same strips (strips ++ s ∷ []) names (λ i few. let other : eqb i s.id ≡ false = grind (arith, nat_tests, id, few) in strip_of-push strips s i free ∙ ap (λ b. cond b (Some s) (strip_of strips i)) other) in
-    let here : strip_of (strips ++ s ∷ []) (length names + 1) ≡ Some s =
-    (let own : eqb (length names + 1) s.id ≡ true = grind (arith, nat_tests, id) in strip_of-push strips s (length names + 1) free ∙ ap (λ b. cond b (Some s) (strip_of strips (length names + 1))) own) in
-    let both = length-append (strip_entries (strips ++ s ∷ []) names) (strip_entry (strip_of (strips ++ s ∷ []) (length names + 1)) (length names + 1) name) in
-    let front : length (strip_entries (strips ++ s ∷ []) names) ≡ length (strip_entries strips names) = ap (λ xs. length xs) older in
-    let back : length (strip_entry (strip_of (strips ++ s ∷ []) (length names + 1)) (length names + 1) name) ≡ 1 = ap (λ o. length (strip_entry o (length names + 1) name)) here in
-    omega (arith, both, front, back)
+entries_admitted strips names name s id new = grind (arith, entries_same, strip_of-push, length-append)
 
 -- without one
 gone : (strips : List PlacedStrip) (id other : ℕ) (b : Bool) → eqb other id ≡ b → strip_of (strips_without strips id) other ≡ cond b None (strip_of strips other)
@@ -111,18 +76,6 @@ entries_evicted strips (newest ∷ older) id s some few found = by (cases_lt id 
         ap (λ xs. length xs) (entries_same strips (strips_without strips id) older (λ i below. let other : eqb i id ≡ false = grind (arith, nat_tests, same, below) in gone strips id i false other)) in
         omega (arith, now, was, rest, last, here)
 
--- or with one moved
-one_moved : (id offset : ℕ) (o : Option PlacedStrip) (k : ℕ) (name : List ℕ) → length (strip_entry (option_map (moved_strip id offset) o) k name) ≡ length (strip_entry o k name)
-one_moved id offset None k name = refl
-one_moved id offset (Some s) k name = refl
-
 pub entries_moved : (strips : List PlacedStrip) (names : List (List ℕ)) (id offset : ℕ) → length (strip_entries (map (moved_strip id offset) strips) names) ≡ length (strip_entries strips names)
 entries_moved strips [] id offset = refl
-entries_moved strips (newest ∷ older) id offset =
-    let k = length older + 1 in
-    let rest = entries_moved strips older id offset in
-    let last : length (strip_entry (strip_of (map (moved_strip id offset) strips) k) k newest) ≡ length (strip_entry (strip_of strips k) k newest) =
-    ap (λ o. length (strip_entry o k newest)) (strip_of-moved id offset strips k) ∙ one_moved id offset (strip_of strips k) k newest in
-    let now = length-append (strip_entries (map (moved_strip id offset) strips) older) (strip_entry (strip_of (map (moved_strip id offset) strips) k) k newest) in
-    let was = length-append (strip_entries strips older) (strip_entry (strip_of strips k) k newest) in
-    omega (arith, rest, last, now, was)
+entries_moved strips (newest ∷ older) id offset = grind (arith, strip_of-moved, length-append, entries_moved strips older id offset)

@@ -1,26 +1,6 @@
 -- What is read of the answers to the operator, one after another.
-use Rattle.std.proofs.Common.{◌≡◌, ℕ, ◌+◌, ◌-◌, List, [], ◌∷◌, length, map, Some, sym, ap, subst}
-use Rattle.std.specs.List.{flat_map}
-use Rattle.strips.specs.declared.placed_strip.PlacedStrip.{PlacedStrip}
-use Rattle.service_core.specs.declared.device.Device.{Device}
-use Rattle.service_core.specs.Kept.{IsDevice}
-use Rattle.service_core.specs.Run.{Call}
-use Rattle.service_core.specs.Service.{ServiceState, live_of}
-use Rattle.script_text.specs.declared.act.Act.{Act}
-use Rattle.script_text.specs.declared.act.Act.TheVariants.{Operator, Session}
-use Rattle.script_text.specs.declared.operator_line.OperatorLine.{OperatorLine}
-use Rattle.script_text.specs.declared.operator_line.OperatorLine.TheVariants.{Admit, Evict, Move, List as ListAll, Owners, Step, Take, Put}
-use Rattle.operator.specs.HeldJobs.{job_at}
-use Rattle.operator.specs.OperatorText.{last_id, outcome_text}
-use Rattle.operator.specs.Serving.{IsServed, Stage, tried_text}
-use Rattle.operator.proofs.Stepping.{AreSteady, steady_asks, steady_held, steady_take}
-use Rattle.strips.specs.Plan.{Plan}
-use Rattle.fpgad_run.specs.Run.{IsAnswered, Telling, Tells, told_operator}
-use Rattle.device_lines.specs.declared.size.DeviceSize.{DeviceSize}
-use Rattle.device_lines.specs.Reading.{Seen}
-use Rattle.device_law.specs.OwnersBack.{node_of}
-use Rattle.device_law.specs.ReadBack.{entries}
-use Rattle.device_law.specs.Shown.{Shown, owners_in, reports, shown_after, shown_by, size_of}
+use Rattle.device_law.proofs.Prelude.{◌≡◌, ℕ, ◌+◌, ◌-◌, List, [], ◌∷◌, length, map, Some, sym, ap, subst, arith, flat_map, PlacedStrip, Device, IsDevice, Call, ServiceState, live_of, Act, Operator, Session, OperatorLine, Admit, Evict, Move, Owners, Step, Take, Put, last_id, IsServed, Stage, tried_text, AreSteady, steady_asks, steady_held, steady_take, Plan, IsAnswered, Telling, Tells, told_operator, DeviceSize, Seen, node_of, Shown, owners_in, reports, shown_after, shown_by, size_of}
+use Rattle.script_text.specs.declared.operator_line.OperatorLine.TheVariants.{List as ListAll}
 use Rattle.device_law.proofs.AdmittedNames.{HasName}
 use Rattle.device_law.proofs.Each.{Each}
 use Rattle.device_law.proofs.OwnThere.{Laws}
@@ -61,14 +41,8 @@ module _ (laws : Laws) (device : Device) (known : IsDevice device) where
       (steps_after (size_of device known) old.service.plan.strips old.names is.0 shown seen number at))
   line_then old new (Take name) calls text is fine shown seen number at =
       take_then device known old new fine shown seen number at is.0 (length old.jobs + 1) text (plan-run old.service new.service calls (steady_take (last_id old.names name) is.0 calls is.1) is.2) is.3 is.5
-  line_then old new (Put number') calls text is fine shown seen number at =
-      let plan = plan-run old.service new.service calls (steady_held (job_at old.jobs number') calls is.0 is.1) is.2 in
-      let P : List ℕ → Type 0 = λ t. Then new (now_shown (reports t) shown) seen number t in
-      subst P (sym is.5) (after_same (size_of device known) old.service.plan.strips new.service.plan.strips old.names new.names (now_shown (reports (outcome_text is.0)) shown) seen number (outcome_text is.0) (strips_same old.service new.service plan) is.3
-      (outcome_after (size_of device known) old.service.plan.strips old.names shown seen number at is.0))
-  line_then old new ListAll calls text is fine shown seen number at =
-      let P : Stage → Type 0 = λ s. Then s (record shown { listed = Some (entries old.service old.names) }) seen number text in
-      subst P (sym is.2) (list_then device known old fine shown seen number at text is.1)
+  line_then old new (Put number') calls text is fine shown seen number at = grind (arith, plan-run, steady_held, after_same, strips_same, outcome_after)
+  line_then old new ListAll calls text is fine shown seen number at = search (list_then, arith)
   line_then old new Owners calls text is fine shown seen number at =
       let now = owners_then device known old fine shown seen number at laws is.0 is.1 text is.3 in
       let P : Stage → Type 0 = λ s. Then s (record shown { owned = Some (map node_of (owners_in calls)) }) seen number text in

@@ -1,19 +1,5 @@
 -- What is read of a whole output.
-use Rattle.std.proofs.Common.{◌≡◌, ℕ, ◌+◌, ◌-◌, List, [], ◌∷◌, ◌++◌, map, codes, Result, Ok, refl, sym, ap, ◌∙◌, subst, append_assoc}
-use Rattle.std.specs.Prelude.{◌==◌}
-use Rattle.std.specs.List.{flat_map}
-use Rattle.rr_graph.specs.Graph.{Basis}
-use Rattle.service_core.specs.declared.device.Device.{Device}
-use Rattle.service_core.specs.Kept.{IsDevice}
-use Rattle.service_core.specs.Service.{empty_service}
-use Rattle.operator.specs.Serving.{Stage}
-use Rattle.script_text.specs.Replies.{section_text}
-use Rattle.fpgad_run.specs.Run.{Telling, Tells, sections_after, told_operator, replies_text}
-use Rattle.device_lines.specs.declared.fault.InputFault.{InputFault}
-use Rattle.device_lines.specs.declared.size.DeviceSize.{DeviceSize}
-use Rattle.device_lines.specs.Reading.{Seen, device_in, end_of, lines_of, lines_read, nothing_seen}
-use Rattle.device_law.specs.ReadBack.{after_heading}
-use Rattle.device_law.specs.Shown.{IsReadFrom, nothing_shown, shown_after, size_of, IsOutputRead, shown_in}
+use Rattle.device_law.proofs.Prelude.{◌≡◌, ℕ, ◌+◌, ◌-◌, List, [], ◌∷◌, ◌++◌, map, codes, Result, Ok, refl, sym, ap, ◌∙◌, subst, append_assoc, arith, ◌==◌, flat_map, Basis, Device, IsDevice, empty_service, Stage, section_text, Telling, Tells, sections_after, told_operator, replies_text, InputFault, DeviceSize, Seen, device_in, end_of, lines_of, lines_read, nothing_seen, after_heading, IsReadFrom, nothing_shown, shown_after, size_of, IsOutputRead, shown_in, own_graph, device_of}
 use Rattle.device_law.proofs.AdmittedNames.{HasName, start_has}
 use Rattle.device_law.proofs.Each.{Each}
 use Rattle.device_law.proofs.LineLemmas.{first_of_lines}
@@ -21,8 +7,6 @@ use Rattle.device_law.proofs.OwnThere.{Laws}
 use Rattle.device_law.proofs.Shows.{Shows}
 use Rattle.device_law.proofs.Stages.{Fine, stands_in}
 use Rattle.device_law.proofs.StripEntries.{bare_entries}
-use Rattle.sessions.specs.Fitting.{own_graph}
-use Rattle.fpgad_run.specs.Program.{device_of}
 use Rattle.device_law.proofs.Finish.{finish}
 use Rattle.device_law.proofs.Sections.{rest_read}
 use Rattle.device_law.proofs.Tellings.{tells_then}
@@ -30,8 +14,7 @@ use Rattle.device_law.proofs.Tellings.{tells_then}
 -- the whole output
 heading_is : (size : DeviceSize) (rest : List ℕ) → lines_read (lines_of ((codes "== op" ++ 10 ∷ []) ++ rest)) (nothing_seen size) 0 ≡ lines_read (lines_of rest) (after_heading size) 1
 unfolding lines_read
-heading_is size rest =
-    ap (λ (ls : List (List ℕ)). lines_read ls (nothing_seen size) 0) (first_of_lines (codes "== op") rest refl)
+heading_is size rest = grind (arith, first_of_lines (codes "== op") rest refl)
 
 start_shows : (size : DeviceSize) → Shows size [] [] nothing_shown (after_heading size)
 start_shows size = record { size_is = refl; inside = record { place = refl; awaited = refl }; live_is = refl; listed_is = refl; list_now = tt; owned_is = refl; has_is = refl; owned_now = tt }

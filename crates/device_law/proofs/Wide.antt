@@ -1,14 +1,5 @@
 -- Over every run, no tenancy's strip is of width 0.
-use Rattle.std.proofs.Common.{ℕ, ◌<◌, ◌+◌, List, [], ◌∷◌, length, arith}
-use Rattle.std.specs.Prelude.{All}
-use Rattle.std.proofs.lemmas.List.Elements.{All-nil, All-push}
-use Rattle.service_core.specs.declared.device.Device.{Device}
-use Rattle.service_core.specs.History.{History, with_entry, with_here}
-use Rattle.service_core.specs.Run.{Call, Run}
-use Rattle.service_core.specs.Service.{ServiceState, admitted_history, empty_service}
-use Rattle.service_core.specs.Tenancy.{closed_history}
-use Rattle.service_core.proofs.Effects.{Admitted, Effect, Entered, Evicted, Moved, Nothing, Turned, effect}
-use Rattle.service_core.proofs.Lists.{All-modified}
+use Rattle.device_law.proofs.Prelude.{ℕ, ◌<◌, ◌+◌, List, [], ◌∷◌, length, arith, All, All-nil, All-push, Device, History, with_entry, with_here, Call, Run, ServiceState, admitted_history, empty_service, closed_history, Admitted, Effect, Entered, Evicted, Moved, Nothing, Turned, effect, All-modified}
 
 abbrev pub IsWide : History → Type 0
 IsWide h = 0 < h.strip.width

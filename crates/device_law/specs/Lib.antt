@@ -1,3 +1,4 @@
+pub mod Prelude
 pub mod OwnersBack
 pub mod ReadBack
 pub mod Shown

@@ -1,17 +1,6 @@
 -- What the service prints for `op owners` is read back.
 use Rattle.std.specs.Prelude.{ℕ, ◌≡◌, ◌+◌, ◌-◌, ◌^◌, ◌<◌, Bool, ◌&&◌, ◌||◌, ◌==◌, nat_le, nat_lt, List, [], ◌∷◌, ◌++◌, length, map, true, false, Result, Ok, Err, All, AllPairs, if◌then◌else◌}
-use Rattle.arch_file.specs.declared.arch.TheConstants.{MAX_PINS}
-use Rattle.rr_graph.specs.declared.resource.Resource.{Resource}
-use Rattle.rr_graph.specs.declared.resource.ResourceKind.{ResourceKind}
-use Rattle.rr_graph.specs.declared.resource.ResourceKind.TheVariants.{Opin, Ipin, ChanX, ChanY, Pad}
-use Rattle.rr_graph.specs.Resources.{IsEarlier}
-use Rattle.device_book.specs.declared.book.Owned.{Owned}
-use Rattle.operator.specs.OwnersText.{owners_text}
-use Rattle.device_lines.specs.declared.fault.DeviceFault.{DeviceFault}
-use Rattle.device_lines.specs.declared.fault.DeviceFault.TheVariants.{NotThere}
-use Rattle.device_lines.specs.declared.size.DeviceSize.{DeviceSize}
-use Rattle.device_lines.specs.Lines.{OwnedNode, is_end, is_within}
-use Rattle.device_lines.specs.Reading.{Seen, after_line, lines_of, lines_read, owner_seen, plus}
+use Rattle.device_law.specs.Prelude.{MAX_PINS, Resource, ResourceKind, Opin, Ipin, ChanX, ChanY, Pad, IsEarlier, Owned, owners_text, DeviceFault, NotThere, DeviceSize, OwnedNode, is_end, is_within, Seen, after_line, lines_of, lines_read, owner_seen, plus}
 use Rattle.device_law.specs.ReadBack.{IsInside, Reading}
 
 -- a device of that size has the pad

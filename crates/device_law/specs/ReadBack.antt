@@ -1,14 +1,6 @@
 -- What the service prints for `op list` is read back.
 use Rattle.std.specs.Prelude.{ℕ, ◌≡◌, ◌+◌, ◌^◌, ◌<◌, true, List, [], ◌∷◌, ◌++◌, length, codes, Option, Some, None, unwrap_or, Result, Ok, Err, ⊤}
-use Rattle.strips.specs.Plan.{offset_of}
-use Rattle.tenant_slot.specs.Names.{state_text}
-use Rattle.service_core.specs.History.{History, state_of}
-use Rattle.service_core.specs.Service.{ServiceState, live_of}
-use Rattle.operator.specs.OperatorText.{list_text}
-use Rattle.device_lines.specs.declared.fault.InputFault.{InputFault}
-use Rattle.device_lines.specs.declared.size.DeviceSize.{DeviceSize}
-use Rattle.device_lines.specs.Lines.{Listed, is_name, listed_on}
-use Rattle.device_lines.specs.Reading.{Seen, Step, after_line, first_line, lines_of, lines_read, list_line, nothing_seen, plus}
+use Rattle.device_law.specs.Prelude.{offset_of, state_text, History, state_of, ServiceState, live_of, list_text, InputFault, DeviceSize, Listed, is_name, listed_on, Seen, Step, after_line, first_line, lines_of, lines_read, list_line, nothing_seen, plus}
 
 -- a live tenancy, as the service lists it
 abbrev pub entry_of : Option History → Option ℕ → ℕ → List ℕ → List Listed

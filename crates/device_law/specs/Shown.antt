@@ -1,29 +1,8 @@
 -- What is read of a whole output is what the service printed last.
 use Rattle.std.specs.Prelude.{◌≡◌, ◌⊎◌, ℕ, Bool, true, List, [], ◌∷◌, map, is_some, unwrap_or, IsSomeAnd, Option, Some, None, Result, Ok, Err, if◌then◌else◌}
 use Rattle.std.specs.List.{list_any}
-use Rattle.rr_graph.specs.declared.resource.Resource.{Resource}
-use Rattle.device_book.specs.declared.book.Owned.{Owned}
-use Rattle.service_core.specs.declared.device.Device.{Device}
-use Rattle.service_core.specs.Kept.{IsDevice}
-use Rattle.service_core.specs.Owners.{IsOwner}
-use Rattle.service_core.specs.Run.{Call}
+use Rattle.device_law.specs.Prelude.{Resource, Owned, Device, IsDevice, IsOwner, Call, ServiceState, PlacedStrip, strip_of, Act, Operator, Session, List as ListAll, Owners, Stage, Architecture, Options, IsReplies, Start, device_of, start_of, Telling, Tells, NoList, NoOwners, InputFault, DeviceSize, Listed, OwnedNode, change_in, Seen, device_in, is_in_strip, lines_of}
 use Rattle.service_core.specs.Run.Call.{Owners as OwnersCall}
-use Rattle.service_core.specs.Service.{ServiceState}
-use Rattle.strips.specs.declared.placed_strip.PlacedStrip.{PlacedStrip}
-use Rattle.strips.specs.Plan.{strip_of}
-use Rattle.script_text.specs.declared.act.Act.{Act}
-use Rattle.script_text.specs.declared.act.Act.TheVariants.{Operator, Session}
-use Rattle.script_text.specs.declared.operator_line.OperatorLine.TheVariants.{List as ListAll, Owners}
-use Rattle.operator.specs.Serving.{Stage}
-use Rattle.fpgad_run.specs.declared.inputs.Architecture.{Architecture}
-use Rattle.fpgad_run.specs.declared.options.Options.{Options}
-use Rattle.fpgad_run.specs.Program.{IsReplies, Start, device_of, start_of}
-use Rattle.fpgad_run.specs.Run.{Telling, Tells}
-use Rattle.device_lines.specs.declared.fault.DeviceFault.TheVariants.{NoList, NoOwners}
-use Rattle.device_lines.specs.declared.fault.InputFault.{InputFault}
-use Rattle.device_lines.specs.declared.size.DeviceSize.{DeviceSize}
-use Rattle.device_lines.specs.Lines.{Listed, OwnedNode, change_in}
-use Rattle.device_lines.specs.Reading.{Seen, device_in, is_in_strip, lines_of}
 use Rattle.device_law.specs.OwnersBack.{is_on, node_of}
 use Rattle.device_law.specs.ReadBack.{entries}
 

@@ -1,9 +1,6 @@
 //! The laws.
 ghost use Rattle.std.specs.Prelude.{List};
-ghost use Rattle.service_core.specs.declared.device.Device.{Device};
-ghost use Rattle.service_core.specs.Kept.{IsDevice};
-ghost use Rattle.service_core.specs.Run.{Call, Run};
-ghost use Rattle.service_core.specs.Service.{ServiceState, empty_service};
+ghost use Rattle.device_law.specs.Prelude.{Device, IsDevice, Call, Run, ServiceState, empty_service};
 ghost use Rattle.device_law.specs.OwnersBack.{AreExactlyRead, AreOwnersReadBack};
 ghost use Rattle.device_law.specs.ReadBack.{IsListReadBack};
 ghost use Rattle.device_law.specs.Shown.{AreOnDevice, IsOutputRead};

@@ -1,3 +1,4 @@
+mod Prelude
 pub mod ListLemmas
 pub mod OwnerLemmas
 pub mod ReadLemmas

@@ -1,11 +1,5 @@
 -- Lists of values.
-use Rattle.std.proofs.Common.{◌≡◌, ◌+◌, ◌-◌, ◌≤◌, arith, List, [], ◌∷◌, length, map, cond, Bool, true, false, not, Option, Some, None, find, position, refl, ap, ◌∙◌}
-use Rattle.std.specs.Prelude.{All, ◌&&◌, is_some, nat_lt, option_map, slice_get}
-use Rattle.std.specs.List.{list_all, position_or_len}
-use Rattle.std.proofs.lemmas.Bool.Decides.{nat_tests}
-use Rattle.std.proofs.lemmas.List.Sums.{fails_before_first}
-use Rattle.std.proofs.lemmas.Option.{slice_get-map}
-use Rattle.device_lines.specs.Reading.{last_of}
+use Rattle.device_lines.proofs.Prelude.{◌≡◌, ◌+◌, ◌-◌, ◌≤◌, arith, List, [], ◌∷◌, length, map, cond, Bool, true, false, not, Option, Some, None, find, position, refl, ap, ◌∙◌, All, ◌&&◌, is_some, nat_lt, option_map, slice_get, list_all, position_or_len, nat_tests, fails_before_first, slice_get-map, last_of}
 
 pub find_mapped : {A B : Type 0} (p : B → Bool) (f : A → B) (xs : List A) → find p (map f xs) ≡ option_map f (find (λ x. p (f x)) xs)
 find_mapped p f [] = refl

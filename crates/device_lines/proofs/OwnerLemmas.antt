@@ -1,18 +1,6 @@
 -- Owned nodes, their order and their strips.
-use Rattle.std.proofs.Common.{◌≡◌, ℕ, suc, ◌+◌, ◌<◌, ◌≤◌, List, [], ◌∷◌, map, get_or, find, Bool, true, false, not, cond, eqb, Option, Some, None, refl, sym, ap, ◌∙◌, arith}
-use Rattle.std.specs.Prelude.{All, MatchBool, ◌&&◌, ◌||◌, ◌==◌, ◌⊎◌, nat_lt, nat_le, option_map, position, is_some}
-use Rattle.std.specs.Option.{option_map_or}
-use Rattle.std.proofs.lemmas.Bool.{and_parts, eqb-true, false≢true}
-use Rattle.std.proofs.lemmas.Bool.Decides.{nat_tests}
-use Rattle.rr_graph.specs.declared.resource.Resource.{Resource}
-use Rattle.rr_graph.specs.declared.resource.ResourceKind.{ResourceKind}
-use Rattle.rr_graph.specs.declared.resource.ResourceKind.TheVariants.{Opin, Ipin, ChanX, ChanY, Pad}
-use Rattle.rr_graph.specs.Resources.{IsEarlier, resource_rank}
-use Rattle.device_lines.specs.declared.device.OwnedResource.{OwnedResource}
-use Rattle.device_lines.specs.declared.tenancy.Tenancy.{Tenancy}
-use Rattle.device_lines.specs.Lines.{listed_of, owned_node}
-use Rattle.device_lines.specs.Owning.{IsInStrip, IsOwners}
-use Rattle.device_lines.specs.Reading.{is_chan_y, is_earlier, is_in_strip, is_owners}
+use Rattle.device_lines.proofs.Prelude.{◌≡◌, ℕ, suc, ◌+◌, ◌<◌, ◌≤◌, List, [], ◌∷◌, map, get_or, find, Bool, true, false, not, cond, eqb, Option, Some, None, refl, sym, ap, ◌∙◌, arith, All, MatchBool, ◌&&◌, ◌||◌, ◌==◌, ◌⊎◌, nat_lt, nat_le, option_map, is_some, option_map_or, and_parts, eqb-true, false≢true, nat_tests, Resource, ResourceKind, Opin, Ipin, ChanX, ChanY, Pad, IsEarlier, resource_rank, OwnedResource, Tenancy, listed_of, owned_node, IsInStrip, IsOwners, is_chan_y, is_earlier, is_in_strip, is_owners}
+use Rattle.std.specs.Prelude.{position}
 use Rattle.device_lines.proofs.ListLemmas.{find_mapped, none_passes}
 
 -- the test of node order, of columns, ranks, rows and numbers

@@ -1,17 +1,5 @@
 -- The results of reading lines.
-use Rattle.std.proofs.Common.{◌≡◌, ℕ, ◌+◌, ◌-◌, ◌<◌, ◌≤◌, List, [], ◌∷◌, length, take, drop, position, Result, Ok, Err, Option, Some, None, Bool, true, false, cond, refl, sym, ap, ◌∙◌, arith, length-drop}
-use Rattle.std.specs.Prelude.{nat_lt}
-use Rattle.std.specs.List.{position_or_len, slice_split}
-use Rattle.std.proofs.lemmas.Bool.Decides.{nat_tests}
-use Rattle.std.proofs.lemmas.List.{take_all}
-use Rattle.std.proofs.lemmas.List.Splits.{slice_split_first, slice_split_none}
-use Rattle.std.proofs.lemmas.List.Sums.{fails_before_first}
-use Rattle.std.proofs.lemmas.Option.{cond_some}
-use Rattle.device_lines.specs.declared.fault.DeviceFault.{DeviceFault}
-use Rattle.device_lines.specs.declared.fault.InputFault.{InputFault}
-use Rattle.line_text.specs.declared.text_error.TextError.{TextError}
-use Rattle.line_text.specs.declared.text_error.TextError.TheVariants.{NoMemory, Fault}
-use Rattle.device_lines.specs.Reading.{IsError, is_feed, lines_of, IsStep, Seen, after_line, end_of, error_at, line_read, lines_read, plus}
+use Rattle.device_lines.proofs.Prelude.{◌≡◌, ℕ, ◌+◌, ◌-◌, ◌<◌, ◌≤◌, List, [], ◌∷◌, length, take, drop, position, Result, Ok, Err, Option, Some, None, Bool, true, false, cond, refl, sym, ap, ◌∙◌, arith, length-drop, nat_lt, position_or_len, slice_split, nat_tests, take_all, slice_split_first, slice_split_none, fails_before_first, cond_some, DeviceFault, InputFault, TextError, NoMemory, Fault, IsError, is_feed, lines_of, IsStep, Seen, after_line, end_of, error_at, line_read, lines_read, plus}
 
 -- a line before others
 pub line_first : (seen next : Seen) (number n : ℕ) (line : List ℕ) (lines : List (List ℕ)) → n ≡ plus number 1 → line_read seen line n ≡ Ok next → lines_read (line ∷ lines) seen number ≡ lines_read lines next n

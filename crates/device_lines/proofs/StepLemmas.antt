@@ -1,17 +1,5 @@
 -- What one line changes.
-use Rattle.std.proofs.Common.{◌≡◌, ℕ, List, [], ◌∷◌, ◌++◌, Bool, true, false, cond, Option, Some, None, Result, Ok, Err, refl, sym, ap, ◌∙◌, subst, codes}
-use Rattle.std.specs.Prelude.{◌&&◌, is_some, option_map}
-use Rattle.std.specs.List.{list_all}
-use Rattle.std.specs.Option.{option_or}
-use Rattle.device_lines.specs.declared.fault.DeviceFault.TheVariants.{NotParted, OutOfOrder, UnknownLine}
-use Rattle.device_lines.specs.declared.fault.DeviceFault.{DeviceFault}
-use Rattle.device_lines.specs.declared.fault.InputFault.{InputFault}
-use Rattle.device_lines.specs.declared.reader.Place.TheVariants.{Behind}
-use Rattle.line_text.specs.declared.text_error.TextError.{TextError}
-use Rattle.device_lines.specs.declared.size.DeviceSize.{DeviceSize}
-use Rattle.device_lines.specs.Lines.{Listed, OwnedNode, begins_with_digit, change_in, is_name, is_on_device, is_silent, is_state, listed_in, listed_on, owner_count}
-use Rattle.device_lines.specs.Reading.{IsStep, Seen, Step, are_parted, seen_in_list, first_foreign, follows, owner_fault, last_fault, last_of, list_line, missing_part, other_line, reply_line, with_change, with_owned}
-use Rattle.device_lines.specs.Words.{after_text}
+use Rattle.device_lines.proofs.Prelude.{◌≡◌, ℕ, List, [], ◌∷◌, ◌++◌, Bool, true, false, cond, Option, Some, None, Result, Ok, Err, refl, sym, ap, ◌∙◌, subst, codes, ◌&&◌, is_some, option_map, list_all, option_or, NotParted, OutOfOrder, UnknownLine, DeviceFault, InputFault, Behind, TextError, DeviceSize, Listed, OwnedNode, begins_with_digit, change_in, is_name, is_on_device, is_silent, is_state, listed_in, listed_on, owner_count, IsStep, Seen, Step, are_parted, seen_in_list, first_foreign, follows, owner_fault, last_fault, last_of, list_line, missing_part, other_line, reply_line, with_change, with_owned, after_text}
 
 -- a tenancy's values
 values : (size : DeviceSize) (one : Listed) (a b c : Bool) → a ≡ is_name one.name → (b ≡ is_state one.state) → c ≡ is_on_device size one.offset one.width → cond (a && (b && c)) (Some one) None ≡ listed_on size one

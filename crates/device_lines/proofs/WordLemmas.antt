@@ -1,9 +1,5 @@
 -- The parts of a line.
-use Rattle.std.proofs.Common.{◌≡◌, ℕ, ◌+◌, List, length, take, drop, cond, true, false, Option, Some, None, sym, ap, ◌∙◌}
-use Rattle.std.specs.Prelude.{MatchOption, option_map}
-use Rattle.std.specs.Borrow.{Bor}
-use Rattle.std.specs.Str.{bytes_eq}
-use Rattle.device_lines.specs.Words.{after_text}
+use Rattle.device_lines.proofs.Prelude.{◌≡◌, ℕ, ◌+◌, List, length, take, drop, cond, true, false, Option, Some, None, sym, ap, ◌∙◌, MatchOption, option_map, Bor, bytes_eq, after_text}
 
 pub after_is : (text bytes : List ℕ) (found : Option (Bor (List ℕ))) → MatchOption found (bytes_eq (take (length text) bytes) text ≡ false) (λ x. (bytes_eq (take (length text) bytes) text ≡ true) × (x.now ≡ drop (length text) bytes) × (length x.now + length text ≡ length bytes)) →
     option_map (λ rest. rest.now) found ≡ after_text text bytes

@@ -5,11 +5,7 @@ use Rattle.std.specs.Option.{option_or}
 use Rattle.std.specs.Char.{is_ascii_alphabetic, is_ascii_alphanumeric, is_ascii_digit}
 use Rattle.std.specs.List.{before_first, list_all}
 use Rattle.std.specs.Str.{bytes_eq}
-use Rattle.arch_file.specs.declared.arch.TheConstants.{MAX_PINS}
-use Rattle.line_text.specs.Decimal.{decimal_of}
-use Rattle.rr_graph.specs.declared.resource.Resource.{Resource}
-use Rattle.rr_graph.specs.declared.resource.ResourceKind.{ResourceKind}
-use Rattle.rr_graph.specs.declared.resource.ResourceKind.TheVariants.{Opin, Ipin, ChanX, ChanY, Pad}
+use Rattle.device_lines.specs.Prelude.{MAX_PINS, decimal_of, Resource, ResourceKind, Opin, Ipin, ChanX, ChanY, Pad}
 use Rattle.device_lines.specs.declared.changes.Change.{Change}
 use Rattle.device_lines.specs.declared.changes.Change.TheVariants.{Admission, Eviction, Other}
 use Rattle.device_lines.specs.declared.device.OwnedResource.{OwnedResource}

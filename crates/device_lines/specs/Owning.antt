@@ -1,7 +1,6 @@
 -- Which tenancy may own which node.
 use Rattle.std.specs.Prelude.{◌≡◌, ◌+◌, ◌≤◌, List, All, Contains}
-use Rattle.rr_graph.specs.declared.resource.Resource.{Resource}
-use Rattle.rr_graph.specs.declared.resource.ResourceKind.TheVariants.{ChanY}
+use Rattle.device_lines.specs.Prelude.{Resource, ChanY}
 use Rattle.device_lines.specs.declared.device.ListedDevice.{ListedDevice}
 use Rattle.device_lines.specs.declared.device.OwnedResource.{OwnedResource}
 use Rattle.device_lines.specs.declared.tenancy.Tenancy.{Tenancy}

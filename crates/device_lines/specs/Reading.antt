@@ -3,18 +3,13 @@ use Rattle.std.specs.Prelude.{ℕ, ◌≡◌, ◌+◌, ◌-◌, ◌^◌, min, Bo
 use Rattle.std.specs.List.{list_all, slice_split}
 use Rattle.std.specs.Option.{option_map_or, option_or}
 use Rattle.std.specs.Str.{bytes_eq}
-use Rattle.rr_graph.specs.declared.resource.Resource.{Resource}
-use Rattle.rr_graph.specs.declared.resource.ResourceKind.{ResourceKind}
-use Rattle.rr_graph.specs.declared.resource.ResourceKind.TheVariants.{Opin, Ipin, ChanX, ChanY, Pad}
-use Rattle.rr_graph.specs.Resources.{resource_rank}
+use Rattle.device_lines.specs.Prelude.{Resource, ResourceKind, ChanY, resource_rank, TextError, NoMemory, Fault}
 use Rattle.device_lines.specs.declared.changes.Change.{Change}
 use Rattle.device_lines.specs.declared.changes.Change.TheVariants.{Admission, Eviction, Other}
 use Rattle.device_lines.specs.declared.device.ListedDevice.{ListedDevice}
 use Rattle.device_lines.specs.declared.fault.DeviceFault.{DeviceFault}
 use Rattle.device_lines.specs.declared.fault.DeviceFault.TheVariants.{NoSection, UnknownLine, BadTenancy, NotParted, OutOfOrder, NotListed, OutsideStrip, Unfinished, NoList, NoOwners}
 use Rattle.device_lines.specs.declared.fault.InputFault.{InputFault}
-use Rattle.line_text.specs.declared.text_error.TextError.{TextError}
-use Rattle.line_text.specs.declared.text_error.TextError.TheVariants.{NoMemory, Fault}
 use Rattle.device_lines.specs.declared.reader.Place.{Place}
 use Rattle.device_lines.specs.declared.reader.Place.TheVariants.{Before, Inside, Behind}
 use Rattle.device_lines.specs.declared.reader.Reader.{Reader}
@@ -181,10 +176,7 @@ missing_part seen lines = missing_at seen.place seen lines
 -- a node is in a column of the strip, or in the vertical channel before its first column
 abbrev pub is_chan_y : ResourceKind → Bool
 is_chan_y ChanY = true
-is_chan_y ChanX = false
-is_chan_y Opin = false
-is_chan_y Ipin = false
-is_chan_y Pad = false
+is_chan_y other = false
 
 abbrev pub is_in_strip : Resource → Listed → Bool
 is_in_strip node strip = (nat_lt strip.offset node.x && nat_le node.x (strip.offset + strip.width)) || (is_chan_y node.kind && (node.x == strip.offset))

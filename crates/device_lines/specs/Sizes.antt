@@ -1,7 +1,6 @@
 -- The limits of a device's size.
 use Rattle.std.specs.Prelude.{ℕ, ◌≡◌, ◌≤◌}
-use Rattle.arch_file.specs.declared.arch.TheConstants.{MAX_IO_RAT, MAX_TRACKS}
-use Rattle.grid.specs.declared.TheConstants.{MAX_COLUMNS, MAX_ROWS}
+use Rattle.device_lines.specs.Prelude.{MAX_IO_RAT, MAX_TRACKS, MAX_COLUMNS, MAX_ROWS}
 use Rattle.device_lines.specs.declared.size.DeviceSize.{DeviceSize}
 
 abbrev pub AreLawful : ℕ → ℕ → ℕ → ℕ → Type 0

@@ -3,7 +3,7 @@ use Rattle.std.specs.Prelude.{ℕ, Bool, not, ◌==◌, List, length, take, drop
 use Rattle.std.specs.Char.{is_ascii_digit}
 use Rattle.std.specs.List.{before_first, position_or_len}
 use Rattle.std.specs.Str.{bytes_eq}
-use Rattle.line_text.specs.Decimal.{decimal_of}
+use Rattle.device_lines.specs.Prelude.{decimal_of}
 
 -- what follows if there is a value; nothing follows from `None`
 abbrev pub if_given : {A B : Type 0} → Option A → (A → Option B) → Option B

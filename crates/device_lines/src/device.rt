@@ -1,8 +1,7 @@
 //! The device that is read.
 ghost use Rattle.std.specs.Prelude.{◌+◌, ◌-◌, ◌≡◌, ◌≤◌, [], ◌==◌, Contains, IfSome, find, is_some, map, option_map};
 ghost use Rattle.std.specs.List.{list_all};
-ghost use Rattle.arch_file.specs.declared.arch.TheConstants.{MAX_PINS};
-ghost use Rattle.grid.specs.declared.TheConstants.{MAX_COLUMNS, MAX_ROWS};
+ghost use Rattle.device_lines.specs.Prelude.{MAX_PINS, MAX_COLUMNS, MAX_ROWS};
 
 use crate::size::DeviceSize;
 use crate::tenancy::Tenancy;

@@ -2,7 +2,7 @@
 ghost use Rattle.std.specs.Prelude.{◌≡◌, ◌+◌, ◌≤◌, length, true, option_map};
 ghost use Rattle.std.specs.Char.{is_ascii_alphabetic};
 ghost use Rattle.std.specs.List.{list_all};
-ghost use Rattle.grid.specs.declared.TheConstants.{MAX_COLUMNS};
+ghost use Rattle.device_lines.specs.Prelude.{MAX_COLUMNS};
 ghost use Rattle.device_lines.specs.Lines.{is_name, is_name_byte, is_on_device, is_state, listed_in, listed_of};
 
 use crate::size::DeviceSize;

@@ -1,7 +1,6 @@
 //! The lines of `op owners`.
 ghost use Rattle.std.specs.Prelude.{◌+◌, ◌-◌, ◌≡◌, ◌≤◌, true, option_map};
-ghost use Rattle.arch_file.specs.declared.arch.TheConstants.{MAX_PINS};
-ghost use Rattle.grid.specs.declared.TheConstants.{MAX_COLUMNS, MAX_ROWS};
+ghost use Rattle.device_lines.specs.Prelude.{MAX_PINS, MAX_COLUMNS, MAX_ROWS};
 ghost use Rattle.device_lines.specs.Lines.{IsOwned, first_counted, first_kind, is_there, owned_in, owner_line};
 
 use crate::device::OwnedResource;

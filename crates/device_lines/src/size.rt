@@ -1,7 +1,6 @@
 //! The size of the device that is drawn.
 ghost use Rattle.std.specs.Prelude.{◌≤◌, IfNone, IfSome};
-ghost use Rattle.arch_file.specs.declared.arch.TheConstants.{MAX_IO_RAT, MAX_TRACKS};
-ghost use Rattle.grid.specs.declared.TheConstants.{MAX_COLUMNS, MAX_ROWS};
+ghost use Rattle.device_lines.specs.Prelude.{MAX_IO_RAT, MAX_TRACKS, MAX_COLUMNS, MAX_ROWS};
 
 use arch_file::{MAX_IO_RAT, MAX_TRACKS};
 use grid::{MAX_COLUMNS, MAX_ROWS};

@@ -1,6 +1,6 @@
 //! Live tenancies.
 ghost use Rattle.std.specs.Prelude.{◌≡◌, ◌↔◌, ◌+◌, ◌≤◌, ◌<◌, IsTrue, length, true};
-ghost use Rattle.grid.specs.declared.TheConstants.{MAX_COLUMNS};
+ghost use Rattle.device_lines.specs.Prelude.{MAX_COLUMNS};
 
 use rr_graph::{Resource, ResourceKind};
 

@@ -133,19 +133,12 @@ impl Frame {
     /// Writes the heading: the size of the device.
     pub(crate) fn write_heading<K: Sink>(&self, pen: &mut Pen<'_, K>, device: &ListedDevice<'_>) {
         let size = device.size;
-        pen.write(&[
-            Part::Text("<text x=\""),
-            Part::Number(self.font),
-            Part::Text("\" y=\""),
-            Part::Number(2 * self.font),
-            Part::Text("\" font-weight=\"bold\">"),
-            Part::Number(size.columns),
-            Part::Text(" × "),
-            Part::Number(size.rows),
-            Part::Text(" blocks, "),
-            Part::Number(size.tracks),
-            Part::Text(" tracks</text>\n"),
-        ]);
+        pen.write(&[Part::Text("<text x=\""), Part::Number(self.font)]);
+        pen.write(&[Part::Text("\" y=\""), Part::Number(2 * self.font)]);
+        pen.text("\" font-weight=\"bold\">");
+        pen.write(&[Part::Number(size.columns), Part::Text(" × ")]);
+        pen.write(&[Part::Number(size.rows), Part::Text(" blocks, ")]);
+        pen.write(&[Part::Number(size.tracks), Part::Text(" tracks</text>\n")]);
     }
 
     /// Begins the group in which heights count upwards, and column 0 begins at 0.

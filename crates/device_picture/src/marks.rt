@@ -54,19 +54,12 @@ fn write_path<K: Sink>(
 
 /// Writes a rectangle.
 fn write_mark<K: Sink>(pen: &mut Pen<'_, K>, mark: Mark) {
-    pen.write(&[
-        Part::Text("M"),
-        Part::Number(mark.x),
-        Part::Text(" "),
-        Part::Number(mark.y),
-        Part::Text("h"),
-        Part::Number(mark.width),
-        Part::Text("v"),
-        Part::Number(mark.height),
-        Part::Text("h-"),
-        Part::Number(mark.width),
-        Part::Text("z"),
-    ]);
+    pen.write(&[Part::Text("M"), Part::Number(mark.x)]);
+    pen.write(&[Part::Text(" "), Part::Number(mark.y)]);
+    pen.write(&[Part::Text("h"), Part::Number(mark.width)]);
+    pen.write(&[Part::Text("v"), Part::Number(mark.height)]);
+    pen.write(&[Part::Text("h-"), Part::Number(mark.width)]);
+    pen.text("z");
 }
 
 /// The rectangle of a pin or a pad.

@@ -3,7 +3,7 @@ use Rattle.std.specs.Prelude.{ℕ, ◌≡◌, ◌+◌, ◌*◌, ◌/◌, ◌%◌
 use Rattle.std.specs.List.{range_with_len}
 use Rattle.std.specs.List.Sorted.{IsPermutation, IsSortedBy, IsStableBy}
 use Rattle.rr_graph.specs.declared.resource.ResourceKind.{ResourceKind}
-use Rattle.rr_graph.specs.declared.resource.ResourceKind.TheVariants.{Opin, Ipin, ChanX, ChanY, Pad}
+use Rattle.rr_graph.specs.declared.resource.ResourceKind.TheVariants.{ChanX, ChanY}
 use Rattle.device_lines.specs.declared.device.OwnedResource.{OwnedResource}
 use Rattle.device_report.specs.declared.channels.ChannelDirection.{ChannelDirection}
 use Rattle.device_report.specs.declared.channels.ChannelDirection.TheVariants.{Across, Up}
@@ -13,15 +13,8 @@ use Rattle.device_report.specs.declared.channels.TheConstants.{MAX_SHOWN}
 -- a wire of a channel above a row, or right of a column
 abbrev pub is_wire : ChannelDirection → ResourceKind → Bool
 is_wire Across ChanX = true
-is_wire Across Opin = false
-is_wire Across Ipin = false
-is_wire Across ChanY = false
-is_wire Across Pad = false
 is_wire Up ChanY = true
-is_wire Up Opin = false
-is_wire Up Ipin = false
-is_wire Up ChanX = false
-is_wire Up Pad = false
+is_wire direction other = false
 
 -- how many wires of a channel are owned
 abbrev pub wires_in : List OwnedResource → ChannelDirection → ℕ → ℕ → ℕ

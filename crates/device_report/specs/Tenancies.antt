@@ -2,7 +2,7 @@
 use Rattle.std.specs.Prelude.{ℕ, ◌+◌, ◌*◌, ◌/◌, ◌%◌, List, count_by, Bool, true, false, ◌&&◌, ◌==◌}
 use Rattle.std.specs.List.{list_any, range_with_len}
 use Rattle.rr_graph.specs.declared.resource.ResourceKind.{ResourceKind}
-use Rattle.rr_graph.specs.declared.resource.ResourceKind.TheVariants.{Opin, Ipin, ChanX, ChanY, Pad}
+use Rattle.rr_graph.specs.declared.resource.ResourceKind.TheVariants.{Opin, Ipin, Pad}
 use Rattle.device_lines.specs.declared.device.OwnedResource.{OwnedResource}
 use Rattle.device_lines.specs.declared.size.DeviceSize.{DeviceSize}
 use Rattle.device_lines.specs.declared.tenancy.Tenancy.{Tenancy}
@@ -15,16 +15,11 @@ use Rattle.device_report.specs.Channels.{is_wire}
 abbrev pub is_pin : ResourceKind → Bool
 is_pin Opin = true
 is_pin Ipin = true
-is_pin ChanX = false
-is_pin ChanY = false
-is_pin Pad = false
+is_pin other = false
 
 abbrev pub is_pad : ResourceKind → Bool
 is_pad Pad = true
-is_pad Opin = false
-is_pad Ipin = false
-is_pad ChanX = false
-is_pad ChanY = false
+is_pad other = false
 
 -- a pin of that block is owned
 abbrev pub has_pin : List OwnedResource → ℕ → ℕ → Bool

@@ -23,5 +23,5 @@ pub use channels::{ChannelDirection, ChannelUse, MAX_SHOWN};
 pub use columns::ColumnUse;
 pub use report::Report;
 pub use tenancies::{ResourceUse, TenancyUse};
-pub use text::{used_part, write_channel, write_report};
+pub use text::{channel_word, used_part, write_channel, write_report};
 pub use widest::Room;

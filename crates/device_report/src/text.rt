@@ -160,7 +160,8 @@ pub fn write_channel<K: Sink>(sink: &mut K, channel: ChannelUse, tracks: u32) ->
     )
 }
 
-fn channel_word(direction: ChannelDirection) -> &'static str
+/// The word for a channel.
+pub fn channel_word(direction: ChannelDirection) -> &'static str
     ensures { result.now ≡ channel_word direction }
 {
     match direction {

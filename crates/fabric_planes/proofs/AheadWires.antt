@@ -1,19 +1,5 @@
 -- The wires up to a sink, by tables of distances.
-use Rattle.std.proofs.Common.{◌≡◌, ℕ, ◌-◌, ◌<◌, ◌≤◌, true, List, subst, sym, arith}
-use Rattle.rr_graph.specs.declared.node.NodeKind.{NodeKind}
-use Rattle.rr_graph.specs.declared.node.NodeKind.TheVariants.{Sink, ChanX, ChanY}
-use Rattle.rr_graph.specs.declared.node.Node.{Node}
-use Rattle.rr_graph.specs.Geometry.{IsWire, is_node}
-use Rattle.rr_graph.specs.Graph.{Basis, IsBasis, graph_of, make_node}
-use Rattle.fabric_planes.specs.Aheads.{AreAheads}
-use Rattle.fabric_planes.specs.Differences.{wires_to}
-use Rattle.fabric_planes.specs.Fars.{AreFar}
-use Rattle.fabric_planes.specs.Distances.{wires_by}
-use Rattle.fabric_planes.specs.declared.distances.Target.{Target}
-use Rattle.fabric_planes.specs.declared.distances.Target.TheVariants.{Level, Block}
-use Rattle.fabric_planes.specs.SidePlaces.{IsInStrip}
-use Rattle.fabric_planes.specs.Sides.{IsAtSide}
-use Rattle.fabric_planes.specs.Ways.{IsWireAt}
+use Rattle.fabric_planes.proofs.Prelude.{◌≡◌, ℕ, ◌-◌, ◌<◌, ◌≤◌, true, List, subst, sym, arith, NodeKind, Sink, ChanX, ChanY, Node, IsWire, is_node, Basis, IsBasis, graph_of, make_node, AreAheads, wires_to, AreFar, wires_by, Target, Level, Block, IsInStrip, IsAtSide, IsWireAt}
 use Rattle.fabric_planes.proofs.Lowered.{by_four}
 use Rattle.fabric_planes.proofs.PinsRowed.{pin_facts}
 use Rattle.fabric_planes.proofs.Strips.{lawful, wire_row}

@@ -1,28 +1,6 @@
 -- Nodes whose edges lead to the same places, but for a shift: wires of other tracks and columns,
 -- and pins of other columns.
-use Rattle.std.proofs.Common.{◌≡◌, ℕ, ◌+◌, ◌-◌, ◌*◌, ◌<◌, ◌≤◌, ◌⊎◌, List, [], ◌∷◌, length, get_or, map, refl, sym, ap, ◌∙◌, subst, inl, inr, arith, Bool, true, ◌==◌, ◌&&◌, ◌||◌, nat_le}
-use Rattle.std.specs.Prelude.{Contains}
-use Rattle.std.specs.List.Sorted.{IsStrictlyIncreasing}
-use Rattle.std.proofs.lemmas.Bool.{eq-eqb, eqb-true, le-leb, or_right, false≢true}
-use Rattle.std.proofs.lemmas.Bool.Decides.{nat_tests}
-use Rattle.std.proofs.lemmas.List.{length-map, get_or-map}
-use Rattle.std.proofs.lemmas.List.Elements.{Contains-get_or}
-use Rattle.std.proofs.lemmas.Nat.{mul-le}
-use Rattle.std.proofs.lemmas.Simd.{map-map}
-use Rattle.arch_file.specs.declared.arch.Arch.{Arch}
-use Rattle.grid.specs.declared.Strip.{Strip}
-use Rattle.rr_graph.specs.declared.node.NodeKind.{NodeKind}
-use Rattle.rr_graph.specs.declared.node.NodeKind.TheVariants.{Source, Sink, Opin, Ipin, ChanX, ChanY}
-use Rattle.rr_graph.specs.declared.node.Node.{Node}
-use Rattle.rr_graph.specs.Geometry.{IsWire, is_node, is_slot, is_chan_y, is_block_row, is_together, is_next, joins, node_at_offset}
-use Rattle.rr_graph.specs.Graph.{Basis, IsBasis, graph_of, make_node}
-use Rattle.rr_graph.specs.Table.{columns_right}
-use Rattle.rr_graph.proofs.Moves.{joins_moved}
-use Rattle.rr_graph.proofs.Nearness.{IsNear, joins_reached, reached_near}
-use Rattle.rr_graph.proofs.Unique.{same_rising}
-use Rattle.fabric_planes.specs.declared.ends.View.{View}
-use Rattle.fabric_planes.specs.Ends.{shown_ends, seen_from, row_of, base_of}
-use Rattle.fabric_planes.specs.Layout.{Terminals, stride_of, offset_of, place_of, shows}
+use Rattle.fabric_planes.proofs.Prelude.{◌≡◌, ℕ, ◌+◌, ◌-◌, ◌*◌, ◌<◌, ◌≤◌, ◌⊎◌, List, [], ◌∷◌, length, get_or, map, refl, sym, ap, ◌∙◌, subst, inl, inr, arith, Bool, true, ◌==◌, ◌&&◌, ◌||◌, nat_le, Contains, IsStrictlyIncreasing, le-leb, or_right, nat_tests, length-map, get_or-map, Contains-get_or, mul-le, map-map, Arch, Strip, NodeKind, Source, Sink, Opin, Ipin, ChanX, ChanY, Node, IsWire, is_node, is_slot, is_chan_y, is_block_row, is_together, joins, node_at_offset, Basis, IsBasis, graph_of, make_node, columns_right, joins_moved, IsNear, joins_reached, reached_near, same_rising, View, shown_ends, seen_from, row_of, base_of, Terminals, stride_of, offset_of, place_of, shows}
 use Rattle.fabric_planes.proofs.Found.{same_offset}
 use Rattle.fabric_planes.proofs.PlaneEnds.{end_back, end_shown, shown_rise}
 use Rattle.fabric_planes.proofs.Members.{in_map, map_in}
@@ -42,32 +20,20 @@ rises_moved xs b c rises low k few =
 
 raised_back : (c : ℕ) (xs : List ℕ) → map (λ v. v - c) (map (λ v. v + c) xs) ≡ xs
 raised_back c [] = refl
-raised_back c (x ∷ xs) =
-    let e : x + c - c ≡ x = omega arith in
-    ap (λ (y : ℕ). y ∷ map (λ (v : ℕ). v - c) (map (λ (v : ℕ). v + c) xs)) e ∙ ap (λ (ys : List ℕ). x ∷ ys) (raised_back c xs)
+raised_back c (x ∷ xs) = grind (arith, raised_back c xs)
 
 -- ---- the geometry
 
 -- a wire leads to wires and to input pins
 leads_on : (arch : Arch) (strip : Strip) (ka kb : NodeKind) (a b : Node) → IsWire ka → joins arch strip ka kb a b ≡ true → IsWire kb ⊎ (kb ≡ Ipin)
-leads_on arch strip ka ChanX a b w h = inl tt
-leads_on arch strip ka ChanY a b w h = inl tt
-leads_on arch strip ka Ipin a b w h = inr refl
-leads_on arch strip ChanX _ a b w h = absurd (false≢true h)
-leads_on arch strip ChanY _ a b w h = absurd (false≢true h)
-leads_on arch strip _ _ a b w h = absurd w
+leads_on arch strip ka kb a b w h = grind arith
 
 -- a pin's edges lead within its column, but for those to the vertical wires to its left
 pin_right : (ka kb : NodeKind) → (IsWire ka → ⊥) → columns_right ka kb ≡ 0
-pin_right ChanX kb pin = absurd (pin tt)
-pin_right ChanY kb pin = absurd (pin tt)
-pin_right _ kb pin = refl
+pin_right ka kb pin = grind arith
 
 pin_left : (ka kb : NodeKind) → (IsWire ka → ⊥) → (columns_right kb ka ≡ 0) ⊎ (is_chan_y kb ≡ true)
-pin_left ka ChanY pin = inr refl
-pin_left ChanX ChanX pin = absurd (pin tt)
-pin_left ChanY ChanX pin = absurd (pin tt)
-pin_left _ _ pin = inl refl
+pin_left ka kb pin = grind arith
 
 same_moved : (d m n : ℕ) → (m + d == n + d) ≡ (m == n)
 same_moved d m n = grind (arith, nat_tests)
@@ -81,21 +47,11 @@ on_track n p = make_node p.x p.kind p.y n
 
 -- wires meet on each track, or on none
 meet_on : (arch : Arch) (strip : Strip) (ka kb : NodeKind) (a b : Node) (n m : ℕ) → IsWire ka → IsWire kb → joins arch strip ka kb (on_track n a) (on_track n b) ≡ joins arch strip ka kb (on_track m a) (on_track m b)
-meet_on arch strip ChanX ChanX a b n m v w = ap (λ (t : Bool). t && ((a.y == b.y) && is_next a.x b.x)) (eq-eqb n n refl ∙ sym (eq-eqb m m refl))
-meet_on arch strip ChanX ChanY a b n m v w =
-    ap (λ (t : Bool). t && (((b.x == a.x) || (b.x + 1 == a.x)) && ((b.y == a.y) || (b.y == a.y + 1)))) (eq-eqb n n refl ∙ sym (eq-eqb m m refl))
-meet_on arch strip ChanY ChanX a b n m v w =
-    ap (λ (t : Bool). t && (((a.x == b.x) || (a.x + 1 == b.x)) && ((a.y == b.y) || (a.y == b.y + 1)))) (eq-eqb n n refl ∙ sym (eq-eqb m m refl))
-meet_on arch strip ChanY ChanY a b n m v w = ap (λ (t : Bool). t && ((a.x == b.x) && is_next a.y b.y)) (eq-eqb n n refl ∙ sym (eq-eqb m m refl))
-meet_on arch strip ChanX _ a b n m v w = absurd w
-meet_on arch strip ChanY _ a b n m v w = absurd w
-meet_on arch strip _ _ a b n m v w = absurd v
+meet_on arch strip ka kb a b n m v w = grind arith
 
 -- the track of a wire that is shown
 track_of : (strip : Strip) (t : Terminals) (track : ℕ) (kind : NodeKind) (p : Node) → IsWire kind → shows strip t track kind p ≡ true → p.n ≡ track
-track_of strip t track ChanX p w s = eqb-true p.n track s
-track_of strip t track ChanY p w s = eqb-true p.n track s
-track_of strip t track _ p w s = absurd w
+track_of strip t track kind p w s = grind arith
 
 module _ {basis : Basis} (is : IsBasis basis) where
   abbrev node : ℕ → Node

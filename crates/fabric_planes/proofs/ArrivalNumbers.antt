@@ -1,32 +1,12 @@
 -- The rows of the ends of wires at sides, by number.
-use Rattle.std.proofs.Common.{ℕ, ◌≡◌, ◌+◌, ◌-◌, ◌*◌, ◌/◌, ◌%◌, ◌^◌, ◌<◌, ◌≤◌, ◌⊎◌, ◌==◌, true, Bool, List, [], map, min, inl, inr, refl, sym, ap, subst, ◌∙◌, arith}
-use Rattle.std.specs.Prelude.{slice_index, slice_index_or}
-use Rattle.std.proofs.lemmas.Bool.{cases_Bool, cases_eq, cases_lt, eq-eqb, ne_eqb}
-use Rattle.std.proofs.lemmas.List.FromFn.{length-map-range_with_len, get_or-map-range_with_len}
-use Rattle.std.proofs.lemmas.Nat.{mul-le, mul-add-lt, div-mul-add, mod-mul-add}
-use Rattle.rr_graph.specs.declared.node.NodeKind.{NodeKind}
-use Rattle.rr_graph.specs.declared.node.NodeKind.TheVariants.{Sink}
-use Rattle.rr_graph.specs.declared.node.Node.{Node}
-use Rattle.rr_graph.specs.Geometry.{IsWire, is_node, is_slot, node_at_offset}
-use Rattle.rr_graph.specs.Graph.{Basis, IsBasis, graph_of, make_node}
-use Rattle.fabric_planes.specs.ArrivalRows.{index_of, column_of, wire_beside, arrival_if, arrival_for, arrival_in, arrival_at, row_count, first_row, first_rows}
-use Rattle.fabric_planes.specs.Ends.{AreRowsBelow, base_of, row_of, seen_from, shown_ends}
-use Rattle.fabric_planes.specs.Layout.{Terminals, band_of}
-use Rattle.fabric_planes.specs.Pins.{AreArrivals, ends_in}
-use Rattle.fabric_planes.specs.Sides.{IsAtSide, side_kind, rows_less, columns_less}
-use Rattle.fabric_planes.specs.Ways.{IsWireAt}
-use Rattle.fabric_planes.specs.declared.ends.Listed.{Listed}
-use Rattle.fabric_planes.specs.declared.ends.View.{View}
+use Rattle.fabric_planes.proofs.Prelude.{ℕ, ◌≡◌, ◌+◌, ◌-◌, ◌*◌, ◌^◌, ◌<◌, ◌≤◌, ◌⊎◌, true, Bool, List, [], map, min, inl, inr, refl, sym, ap, subst, ◌∙◌, arith, slice_index, slice_index_or, cases_eq, cases_lt, eq-eqb, ne_eqb, length-map-range_with_len, get_or-map-range_with_len, mul-le, mul-add-lt, div-mul-add, mod-mul-add, NodeKind, Sink, Node, IsWire, is_node, is_slot, node_at_offset, Basis, IsBasis, graph_of, make_node, index_of, column_of, wire_beside, arrival_if, arrival_for, arrival_at, row_count, first_row, first_rows, AreRowsBelow, base_of, row_of, seen_from, shown_ends, Terminals, band_of, AreArrivals, ends_in, IsAtSide, side_kind, rows_less, columns_less, IsWireAt, Listed, View}
 use Rattle.fabric_planes.proofs.Alike.{columns_alike, node_moved, not_moved, wire_row_moved}
 use Rattle.fabric_planes.proofs.PinsRowed.{IsPin, pin_facts, sink_few}
 use Rattle.fabric_planes.proofs.Strips.{node_slot, lawful, track_low}
 
 -- at most one column less
 pub column_few : (side x : ℕ) → 1 ≤ x → columns_less side ≤ x
-column_few side x l = elim (cases_Bool (side == 3)) [
-  | inl left ↦ rw left l
-  | inr other ↦ rw other (omega arith)
-]
+column_few side x l = grind arith
 
 -- ---- columns
 
@@ -58,22 +38,7 @@ like width x some low = elim (cases_eq x width) [
 -- the parts of a row's number
 number_back : (basis : Basis) (y n index side track : ℕ) → n < basis.strip.io_rat → index < 4 → side < 4 → track < basis.arch.tracks
     → arrival_at basis ((((y * basis.strip.io_rat + n) * 4 + index) * 4 + side) * basis.arch.tracks + track) ≡ arrival_for basis (make_node (column_of basis.strip.width index) Sink y n) side track
-number_back basis y n index side track few_n few four low =
-    let t : ℕ = basis.arch.tracks in
-    let io : ℕ = basis.strip.io_rat in
-    let column : ℕ = column_of basis.strip.width index in
-    let site : ℕ = y * io + n in
-    let q : ℕ = (site * 4 + index) * 4 + side in
-    let a : q / 4 / 4 ≡ site = omega (arith, few, four) in
-    let b : q / 4 % 4 ≡ index = omega (arith, few, four) in
-    let c : q % 4 ≡ side = omega (arith, four) in
-    ap (λ (p : ℕ). arrival_in basis (p / 4 / 4) (p / 4 % 4) (p % 4) ((q * t + track) % t)) (div-mul-add q t track low)
-    ∙ (ap (λ (k : ℕ). arrival_in basis (q / 4 / 4) (q / 4 % 4) (q % 4) k) (mod-mul-add q t track low)
-    ∙ (ap (λ (k : ℕ). arrival_in basis k (q / 4 % 4) (q % 4) track) a
-    ∙ (ap (λ (k : ℕ). arrival_in basis site k (q % 4) track) b
-    ∙ (ap (λ (k : ℕ). arrival_in basis site index k track) c
-    ∙ (ap (λ (v : ℕ). arrival_for basis (make_node column Sink v (site % io)) side track) (div-mul-add y io n few_n)
-    ∙ ap (λ (m : ℕ). arrival_for basis (make_node column Sink y m) side track) (mod-mul-add y io n few_n))))))
+number_back basis y n index side track few_n few four low = grind (arith, div-mul-add, mod-mul-add)
 
 module _ {basis : Basis} (is : IsBasis basis) (sink : Node) (there : is_node basis.arch basis.strip sink ≡ true) (kind : sink.kind ≡ Sink) where
   facts : IsPin is sink

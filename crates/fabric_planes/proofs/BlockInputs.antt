@@ -1,20 +1,6 @@
 -- All blocks have their input pins in one order, so one list has the sides of those of all blocks.
-use Rattle.std.proofs.Common.{◌≡◌, ℕ, zero, suc, ◌+◌, ◌-◌, ◌<◌, ◌≤◌, List, [], ◌∷◌, ◌++◌, length, length-append, refl, sym, ap, ◌∙◌, subst, inl, inr, arith, true, false, ◌&&◌, ◌||◌, ◌==◌, nat_le}
-use Rattle.std.specs.Option.{option_map_or}
-use Rattle.std.specs.Prelude.{nat_lt, slice_get, slice_index_or}
-use Rattle.std.proofs.lemmas.Bool.{and_from, and_parts, cases_lt, eqb-true, false_from_ne_true, false≢true, le-leb, leb-true, or_cases, or_left, or_right}
-use Rattle.std.proofs.lemmas.List.{get_or_append_left, get_or_push}
-use Rattle.arch_file.specs.declared.arch.Pin.{Pin}
-use Rattle.arch_file.specs.declared.arch.Sides.{Sides}
-use Rattle.grid.specs.declared.Strip.{Strip}
-use Rattle.rr_graph.specs.declared.node.Node.{Node}
-use Rattle.rr_graph.specs.declared.node.NodeKind.{NodeKind}
-use Rattle.rr_graph.specs.declared.node.NodeKind.TheVariants.{Ipin}
-use Rattle.rr_graph.specs.Geometry.{is_block_number, is_block_row, is_chan_y, is_node, is_pad_row, is_slot, sides_at}
-use Rattle.rr_graph.specs.Graph.{AreNumbersAt, Basis, IsBasis, graph_of, make_node}
-use Rattle.rr_graph.specs.Node.{rank_of}
-use Rattle.fabric_planes.specs.InputSides.{AreInputSides}
-use Rattle.fabric_planes.proofs.Strips.{before_number, lawful, node_column, node_slot}
+use Rattle.fabric_planes.proofs.Prelude.{◌≡◌, ℕ, zero, suc, ◌+◌, ◌-◌, ◌<◌, ◌≤◌, List, [], ◌∷◌, ◌++◌, length, length-append, refl, sym, ap, ◌∙◌, subst, inl, inr, arith, true, nat_le, slice_index_or, and_from, and_parts, cases_lt, le-leb, leb-true, or_cases, get_or_append_left, get_or_push, Sides, Strip, Node, Ipin, is_block_number, is_block_row, is_node, is_pad_row, sides_at, AreNumbersAt, Basis, IsBasis, graph_of, make_node, rank_of, AreInputSides}
+use Rattle.fabric_planes.proofs.Strips.{before_number, lawful, node_column}
 
 -- ---- two rising lists of the same numbers
 
@@ -55,53 +41,23 @@ module _ (f g : ℕ → ℕ) (a b : ℕ) (f_rises : (i j : ℕ) → i < j → j 
 
 -- a row of blocks is none of pads
 no_pad_row : (strip : Strip) (y : ℕ) → is_block_row strip y ≡ true → is_pad_row strip y ≡ true → ⊥
-no_pad_row strip y block pad =
-    let parts = and_parts (nat_le 1 y) (nat_le y strip.rows) block in
-    let low = leb-true 1 y parts.0 in
-    let high = leb-true y strip.rows parts.1 in
-    elim (or_cases (y == 0) (y == strip.rows + 1) pad) [
-      | inl e ↦ omega (arith, low, eqb-true y 0 e)
-      | inr e ↦ omega (arith, high, eqb-true y (strip.rows + 1) e)
-    ]
+no_pad_row strip y block pad = grind arith
 
 -- a block's input pin has the number of an input pin
 input_number : (basis : Basis) (node : Node) (y : ℕ) → node.kind ≡ Ipin → node.y ≡ y → is_block_row basis.strip y ≡ true → is_node basis.arch basis.strip node ≡ true → is_block_number basis.arch Ipin node.n ≡ true
-input_number basis node y kind at block there =
-    let slot : is_slot basis.arch basis.strip Ipin y node.n ≡ true =
-    subst (λ (v : ℕ). is_slot basis.arch basis.strip Ipin v node.n ≡ true) at (subst (λ (k : NodeKind). is_slot basis.arch basis.strip k node.y node.n ≡ true) kind (node_slot basis node there)) in
-    elim (or_cases (is_pad_row basis.strip y && nat_lt node.n basis.strip.io_rat) (is_block_row basis.strip y && is_block_number basis.arch Ipin node.n) slot) [
-      | inl pad ↦ absurd (no_pad_row basis.strip y block (and_parts (is_pad_row basis.strip y) (nat_lt node.n basis.strip.io_rat) pad).0)
-      | inr pin ↦ (and_parts (is_block_row basis.strip y) (is_block_number basis.arch Ipin node.n) pin).1
-    ]
+input_number basis node y kind at block there = grind (arith, or_cases, no_pad_row, and_parts)
 
 -- each block has an input pin of that number
 input_there : (basis : Basis) (x y n : ℕ) → 1 ≤ x → x ≤ basis.strip.width → is_block_row basis.strip y ≡ true → is_block_number basis.arch Ipin n ≡ true → is_node basis.arch basis.strip (make_node x Ipin y n) ≡ true
-input_there basis x y n from to block number =
-    and_from (nat_le x basis.strip.width) ((nat_le 1 x || false) && ((is_pad_row basis.strip y && nat_lt n basis.strip.io_rat) || (is_block_row basis.strip y && is_block_number basis.arch Ipin n))) (le-leb x basis.strip.width to)
-    (and_from (nat_le 1 x || false) ((is_pad_row basis.strip y && nat_lt n basis.strip.io_rat) || (is_block_row basis.strip y && is_block_number basis.arch Ipin n)) (or_left (nat_le 1 x) false (le-leb 1 x from))
-    (or_right (is_pad_row basis.strip y && nat_lt n basis.strip.io_rat) (is_block_row basis.strip y && is_block_number basis.arch Ipin n) (and_from (is_block_row basis.strip y) (is_block_number basis.arch Ipin n) block number)))
+input_there basis x y n from to block number = grind arith
 
 -- an input pin is in a column of blocks
 input_column : (basis : Basis) (node : Node) → node.kind ≡ Ipin → is_node basis.arch basis.strip node ≡ true → 1 ≤ node.x
-input_column basis node kind there =
-    let column = (and_parts (nat_le 1 node.x || is_chan_y node.kind) (is_slot basis.arch basis.strip node.kind node.y node.n)
-    (and_parts (nat_le node.x basis.strip.width) ((nat_le 1 node.x || is_chan_y node.kind) && is_slot basis.arch basis.strip node.kind node.y node.n) there).1).0 in
-    let only : (nat_le 1 node.x || is_chan_y Ipin) ≡ true = subst (λ (k : NodeKind). (nat_le 1 node.x || is_chan_y k) ≡ true) kind column in
-    elim (or_cases (nat_le 1 node.x) false only) [
-      | inl e ↦ leb-true 1 node.x e
-      | inr e ↦ absurd (false≢true e)
-    ]
+input_column basis node kind there = grind arith
 
 -- the sides of a block's pin depend on its number alone
 sides_by_number : (basis : Basis) (a b : Node) → is_block_row basis.strip a.y ≡ true → is_block_row basis.strip b.y ≡ true → a.n ≡ b.n → sides_at basis.arch basis.strip a ≡ sides_at basis.arch basis.strip b
-sides_by_number basis a b block other same =
-    by_number a block ∙ (ap (λ (n : ℕ). option_map_or (λ (found : Pin). found.sides) (slice_get basis.arch.pins n) (record { top = false; bottom = false; left = false; right = false })) same ∙ sym (by_number b other))
-  where
-    by_number : (v : Node) → is_block_row basis.strip v.y ≡ true → sides_at basis.arch basis.strip v ≡ option_map_or (λ (found : Pin). found.sides) (slice_get basis.arch.pins v.n) (record { top = false; bottom = false; left = false; right = false })
-    by_number v at =
-        let low : (v.y == 0) ≡ false = false_from_ne_true (v.y == 0) (λ e. no_pad_row basis.strip v.y at (or_left (v.y == 0) (v.y == basis.strip.rows + 1) e)) in
-        let high : (v.y == basis.strip.rows + 1) ≡ false = false_from_ne_true (v.y == basis.strip.rows + 1) (λ e. no_pad_row basis.strip v.y at (or_right (v.y == 0) (v.y == basis.strip.rows + 1) e)) in
-        rw (low, high) refl
+sides_by_number basis a b block other same = grind (arith, no_pad_row)
 
 -- ---- from one block to all
 
@@ -111,10 +67,7 @@ pub record AreSidesUpTo (basis : Basis) (first number : ℕ) (list : List Sides)
   pub each : (index : ℕ) (d : Sides) → index < length list → slice_index_or list index d ≡ sides_at basis.arch basis.strip ((graph_of basis).node (first + index))
 
 pub none_up_to : (basis : Basis) (first : ℕ) → AreSidesUpTo basis first first []
-none_up_to basis first = record {
-  long = omega arith;
-  each = λ index d within. absurd (omega (arith, within));
-}
+none_up_to basis first = grind arith
 
 pub one_more : (basis : Basis) (first number : ℕ) (list : List Sides) (sides : Sides) → AreSidesUpTo basis first number list → sides ≡ sides_at basis.arch basis.strip ((graph_of basis).node number) → AreSidesUpTo basis first (number + 1) (list ++ sides ∷ [])
 one_more basis first number list sides are is = record {

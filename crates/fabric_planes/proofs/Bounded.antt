@@ -1,25 +1,7 @@
 -- Lower bounds of ways in a plane, from what is known of the places before the sink.
-use Rattle.std.proofs.Common.{◌≡◌, ℕ, zero, suc, ◌+◌, ◌*◌, ◌<◌, ◌≤◌, ◌⊎◌, List, [], ◌∷◌, min, refl, sym, ap, ◌∙◌, subst, inl, inr, arith, true}
-use Rattle.std.specs.Prelude.{sum_by, slice_index}
-use Rattle.std.proofs.lemmas.Bool.{cases_Bool, eqb-true}
-use Rattle.std.proofs.lemmas.List.Elements.{All-contains}
-use Rattle.std.proofs.lemmas.List.Sums.{sum_by-cons}
-use Rattle.rr_graph.specs.declared.node.NodeKind.{NodeKind}
-use Rattle.rr_graph.specs.declared.node.NodeKind.TheVariants.{Source, Sink, Opin, Ipin, ChanX, ChanY}
-use Rattle.rr_graph.specs.declared.node.Node.{Node}
-use Rattle.rr_graph.specs.Geometry.{IsWire}
-use Rattle.rr_graph.specs.Graph.{Basis, IsBasis, graph_of}
-use Rattle.least_path.specs.Path.{Leads}
-use Rattle.plane_search.specs.Planes.{IsFamily}
-use Rattle.fabric_planes.specs.Aheads.{AreAheads, AreSides, AreLeast, HaveBounds}
-use Rattle.fabric_planes.specs.Differences.{IsPinPlace}
-use Rattle.fabric_planes.specs.Distances.{is_same_wire, wires_apart}
-use Rattle.fabric_planes.specs.Labels.{node_at, family_of}
-use Rattle.fabric_planes.specs.Laid.{IsWireOf}
-use Rattle.fabric_planes.specs.Layout.{Terminals, pins_of, in_column, offset_of, place_of, place_count, shows, labels_of, planes_of, IsNetSearch}
-use Rattle.fabric_planes.specs.Sides.{side_kind, rows_less, columns_less, IsAtSide, IsBySide}
+use Rattle.fabric_planes.proofs.Prelude.{◌≡◌, ℕ, ◌+◌, ◌*◌, ◌<◌, ◌≤◌, ◌⊎◌, List, [], ◌∷◌, min, refl, sym, ap, ◌∙◌, subst, inl, inr, arith, true, sum_by, slice_index, eqb-true, All-contains, sum_by-cons, NodeKind, Source, Sink, Opin, Ipin, ChanX, ChanY, Node, IsWire, Basis, IsBasis, graph_of, Leads, IsFamily, AreAheads, AreSides, AreLeast, HaveBounds, IsPinPlace, wires_apart, node_at, family_of, IsWireOf, Terminals, pins_of, in_column, offset_of, place_of, place_count, shows, labels_of, planes_of, IsNetSearch, side_kind, rows_less, columns_less, IsAtSide, IsBySide}
 use Rattle.fabric_planes.proofs.Labeled.{shown_at, is_family}
-use Rattle.fabric_planes.proofs.Nearer.{no_wires, same_parts}
+use Rattle.fabric_planes.proofs.Nearer.{no_wires}
 use Rattle.fabric_planes.proofs.PlaneWays.{way_there, wire_way}
 use Rattle.fabric_planes.proofs.Strips.{IsSlot, lawful, are_labels, slot_facts, node_slot, node_column}
 
@@ -31,30 +13,14 @@ different e = cc
 
 -- the number of a side, from its kind and from what is less there
 side_from : (kind : NodeKind) (s : ℕ) → s < 4 → kind ≡ side_kind s → (kind ≡ ChanX) × (s ≡ rows_less s) ⊎ (kind ≡ ChanY) × (s ≡ 2 + columns_less s)
-side_from kind zero b e = inl (e, refl)
-side_from kind (suc zero) b e = inl (e, refl)
-side_from kind (suc (suc zero)) b e = inr (e, refl)
-side_from kind (suc (suc (suc zero))) b e = inr (e, refl)
-side_from kind (suc (suc (suc (suc more)))) b e = absurd (omega (arith, b))
+side_from kind s b e = grind arith
 
 pub one_side : (sink : Node) (s r : ℕ) (kind : NodeKind) (x y : ℕ) → IsAtSide sink s kind x y → IsAtSide sink r kind x y → s ≡ r
-one_side sink s r kind x y a b = elim (side_from kind s a.few a.kind_is) [
-  | inl p ↦ elim (side_from kind r b.few b.kind_is) [
-    | inl q ↦ omega (arith, p.1, q.1, a.row, b.row)
-    | inr q ↦ absurd (different (sym p.0 ∙ q.0))
-  ]
-  | inr p ↦ elim (side_from kind r b.few b.kind_is) [
-    | inl q ↦ absurd (different (sym q.0 ∙ p.0))
-    | inr q ↦ omega (arith, p.1, q.1, a.column, b.column)
-  ]
-]
+one_side sink s r kind x y a b = grind (arith, side_from)
 
 -- the wires are one, or a way has one more
 apart_cases : (a b : Node) → ((a.kind ≡ b.kind) × (a.x ≡ b.x) × (a.y ≡ b.y)) ⊎ (1 ≤ wires_apart a b)
-apart_cases a b = elim (cases_Bool (is_same_wire a.kind a.x a.y b.kind b.x b.y)) [
-  | inl same ↦ inl (same_parts a.kind a.x a.y b.kind b.x b.y same)
-  | inr other ↦ inr (rw other (omega arith))
-]
+apart_cases a b = grind arith
 
 module _ (basis : Basis) (sink : Node) where
   abbrev node : ℕ → Node

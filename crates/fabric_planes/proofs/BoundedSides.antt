@@ -1,21 +1,6 @@
 -- The bounds of the wires at the sides of a sink's block or pad, as they are listed.
-use Rattle.std.proofs.Common.{◌≡◌, ℕ, zero, suc, ◌+◌, ◌*◌, ◌<◌, ◌≤◌, true, List, [], ◌∷◌, All, length, refl, ap, sym, subst, ◌∙◌, inl, inr, arith}
-use Rattle.std.specs.Prelude.{slice_index}
-use Rattle.std.proofs.lemmas.Bool.{cases_lt, cases_eq, false≢true}
-use Rattle.std.proofs.lemmas.List.{get_or_past}
-use Rattle.std.proofs.lemmas.Nat.{mul-le}
-use Rattle.std.proofs.lemmas.List.Elements.{All-cons, All-get_or, All-nil, All-from_get_or}
-use Rattle.arch_file.specs.declared.arch.Sides.{Sides}
-use Rattle.rr_graph.specs.declared.node.Node.{Node}
-use Rattle.rr_graph.specs.Geometry.{sides_at}
-use Rattle.rr_graph.specs.Graph.{Basis, IsBasis, graph_of}
-use Rattle.fabric_planes.specs.Aheads.{AreSides, HaveBounds}
-use Rattle.fabric_planes.specs.Laid.{IsWireOf}
-use Rattle.fabric_planes.specs.Layout.{place_of}
-use Rattle.fabric_planes.specs.Pins.{AreByPlace}
-use Rattle.fabric_planes.specs.SideBounds.{AreFew, AreLow, ArePinBounds, AreSidesBounded, IsSideBounded, by_side}
-use Rattle.fabric_planes.specs.Sides.{is_on_side}
-use Rattle.fabric_planes.specs.declared.pin_bounds.PinBounds.{PinBounds}
+use Rattle.fabric_planes.proofs.Prelude.{◌≡◌, ℕ, ◌+◌, ◌*◌, ◌<◌, ◌≤◌, true, List, [], length, ap, sym, subst, ◌∙◌, inl, inr, arith, slice_index, cases_lt, cases_eq, get_or_past, mul-le, All-from_get_or, Sides, Node, Basis, IsBasis, AreSides, HaveBounds, AreByPlace, AreFew, AreLow, ArePinBounds, AreSidesBounded, IsSideBounded, by_side, is_on_side, PinBounds}
+use Rattle.std.proofs.Common.{All}
 use Rattle.fabric_planes.proofs.Priced.{by_place_low}
 use Rattle.fabric_planes.proofs.Strips.{track_low}
 
@@ -33,17 +18,11 @@ row_fits place places tracks less = elim (cases_lt place places) [
 
 -- the entries of a side come after those of the sides before
 before_side : (tracks side other n : ℕ) → other < side → n < tracks → other * tracks + n < side * tracks
-before_side tracks side other n less few =
-    let m : (other + 1) * tracks ≤ side * tracks = mul-le (other + 1) tracks side tracks (omega (arith, less)) (omega arith) in
-    let e : (other + 1) * tracks ≡ other * tracks + tracks = grind arith in
-    omega (arith, m, e, few)
+before_side tracks side other n less few = grind arith
 
 -- each number is few, also one that is not there
 few_at : (xs : List ℕ) (k : ℕ) → All (λ bound. bound ≤ 20000) xs → slice_index xs k ≤ 20000
-few_at xs k few = elim (cases_lt k (length xs)) [
-  | inl low ↦ All-get_or (λ bound. bound ≤ 20000) xs k 0 low few
-  | inr high ↦ omega (arith, get_or_past xs k 0 high)
-]
+few_at xs k few = grind (arith, get_or_past)
 
 -- no side yet
 pub no_side : (tracks : ℕ) (sides by_place pins lasts : List ℕ) → length lasts ≡ 4 * tracks → All (λ bound. bound ≤ 20000) lasts → AreSidesBounded tracks sides by_place pins 0 lasts
@@ -67,38 +46,17 @@ one_side_more tracks side sides by_place pins old new known next = record {
 -- ---- the bounds of a sink
 
 pub few_by_side : (pins : PinBounds) (list : List ℕ) → list ≡ by_side pins → AreFew pins → All (λ bound. bound ≤ 19000) list
-few_by_side pins list same few = subst (λ (xs : List ℕ). All (λ bound. bound ≤ 19000) xs) (sym same)
-    (All-cons (λ bound. bound ≤ 19000) pins.top (pins.bottom ∷ pins.right ∷ pins.left ∷ []) few.top
-    (All-cons (λ bound. bound ≤ 19000) pins.bottom (pins.right ∷ pins.left ∷ []) few.bottom
-    (All-cons (λ bound. bound ≤ 19000) pins.right (pins.left ∷ []) few.right
-    (All-cons (λ bound. bound ≤ 19000) pins.left [] few.left (All-nil (λ bound. bound ≤ 19000))))))
+few_by_side pins list same few = grind arith
 
 few_lasts : (lasts : List ℕ) → ((k : ℕ) → slice_index lasts k ≤ 20000) → All (λ bound. bound ≤ 20000) lasts
 few_lasts lasts few = All-from_get_or (λ bound. bound ≤ 20000) lasts 0 (λ k within. few k)
 
 pin_low : (pins : PinBounds) (sides : Sides) (cost side : ℕ) → AreLow sides pins cost → is_on_side sides side ≡ true → slice_index (by_side pins) side ≤ cost
-pin_low pins sides cost zero low on = low.top on
-pin_low pins sides cost (suc zero) low on = low.bottom on
-pin_low pins sides cost (suc (suc zero)) low on = low.right on
-pin_low pins sides cost (suc (suc (suc zero))) low on = low.left on
-pin_low pins sides cost (suc (suc (suc (suc more)))) low on = absurd (false≢true on)
+pin_low pins sides cost side low on = grind arith
 
 have_bounds : (basis : Basis) → IsBasis basis → (cost : ℕ → ℕ) (sink : Node) (pins : PinBounds) (sides by_place list lasts : List ℕ) → list ≡ by_side pins → ArePinBounds basis cost sink pins → AreSides basis sink sides → AreByPlace basis cost by_place
     → AreSidesBounded basis.arch.tracks sides by_place list 4 lasts → HaveBounds basis cost sink list lasts
-have_bounds basis is cost sink pins sides by_place list lasts same low are prices bounded = record {
-  pin = λ side number own on. rw same (pin_low pins (sides_at basis.arch basis.strip ((graph_of basis).node number)) (cost number) side (low number own) on);
-  last = λ side number wire at.
-      let node = (graph_of basis).node number in
-      let place = place_of basis node in
-      let tracks = basis.arch.tracks in
-      let of : IsWireOf basis place number = record { wire = wire; is_at = refl } in
-      let here : slice_index sides side ≡ place = are.all side place number of at in
-      let index : slice_index sides side * tracks + node.n ≡ place * tracks + node.n = ap (λ (p : ℕ). p * tracks + node.n) here in
-      let within : slice_index sides side * tracks + node.n < length by_place = omega (arith, index, by_place_low is number wire, prices.long) in
-      let e = bounded.here side node.n at.few (track_low is number wire) within in
-      let f : slice_index by_place (slice_index sides side * tracks + node.n) ≡ slice_index by_place (place * tracks + node.n) = ap (slice_index by_place) index in
-      omega (arith, e, f, prices.low place number of);
-}
+have_bounds basis is cost sink pins sides by_place list lasts same low are prices bounded = search (by_place_low, track_low, arith)
 
 pub record AreFromSides (basis : Basis) (cost : ℕ → ℕ) (sink : Node) (list lasts : List ℕ) : Type 0 where
   pub few : All (λ bound. bound ≤ 20000) lasts
@@ -107,8 +65,4 @@ pub record AreFromSides (basis : Basis) (cost : ℕ → ℕ) (sink : Node) (list
 
 pub bounds_from : (basis : Basis) → IsBasis basis → (cost : ℕ → ℕ) (sink : Node) (pins : PinBounds) (sides by_place list lasts same_lasts : List ℕ) → list ≡ by_side pins → lasts ≡ same_lasts → ArePinBounds basis cost sink pins → AreSides basis sink sides
     → AreByPlace basis cost by_place → AreSidesBounded basis.arch.tracks sides by_place list 4 lasts → AreFromSides basis cost sink list same_lasts
-bounds_from basis is cost sink pins sides by_place list lasts same_lasts same e low are prices bounded = subst (AreFromSides basis cost sink list) e (record {
-  few = few_lasts lasts bounded.few;
-  long = bounded.long;
-  bounded = have_bounds basis is cost sink pins sides by_place list lasts same low are prices bounded;
-})
+bounds_from basis is cost sink pins sides by_place list lasts same_lasts same e low are prices bounded = grind (arith, few_lasts lasts bounded.few, have_bounds basis is cost sink pins sides by_place list lasts same low are prices bounded)

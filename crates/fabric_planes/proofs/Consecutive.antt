@@ -1,40 +1,11 @@
 -- The wires of a row have consecutive numbers, track by track, and places in their order.
-use Rattle.std.proofs.Common.{◌≡◌, ℕ, zero, suc, ◌+◌, ◌<◌, ◌≤◌, refl, sym, ap, ◌∙◌, subst, inl, inr, arith, true}
-use Rattle.std.proofs.lemmas.Bool.{cases_eq, cases_lt}
-use Rattle.rr_graph.specs.declared.node.NodeKind.{NodeKind}
-use Rattle.rr_graph.specs.declared.node.Node.{Node}
-use Rattle.rr_graph.specs.Node.{IsBefore, rank_of}
-use Rattle.rr_graph.specs.Geometry.{IsWire, is_node}
-use Rattle.rr_graph.specs.Graph.{Basis, IsBasis, graph_of, make_node}
-use Rattle.fabric_planes.specs.Layout.{Terminals, place_of, place_count}
+use Rattle.fabric_planes.proofs.Prelude.{◌≡◌, ℕ, zero, suc, ◌+◌, ◌<◌, refl, sym, ap, ◌∙◌, subst, inl, inr, arith, true, cases_eq, cases_lt, NodeKind, Node, IsBefore, rank_of, IsWire, is_node, Basis, IsBasis, graph_of, make_node, Terminals, place_of, place_count}
 use Rattle.fabric_planes.proofs.Wires.{each_track}
 use Rattle.fabric_planes.proofs.Strips.{lawful, low, place_order, before_number, track_low, wire_shows}
 
-before_column : (a b : Node) → IsBefore a b → a.x ≤ b.x
-before_column a b (inl l) = omega (arith, l)
-before_column a b (inr (e, more)) = omega (arith, e)
-
-before_kind : (a b : Node) → IsBefore a b → a.x ≡ b.x → rank_of a.kind ≤ rank_of b.kind
-before_kind a b (inl l) x = absurd (omega (arith, l, x))
-before_kind a b (inr (e, inl l)) x = omega (arith, l)
-before_kind a b (inr (e, inr (f, more))) x = omega (arith, f)
-
-before_row : (a b : Node) → IsBefore a b → a.x ≡ b.x → rank_of a.kind ≡ rank_of b.kind → a.y ≤ b.y
-before_row a b (inl l) x k = absurd (omega (arith, l, x))
-before_row a b (inr (e, inl l)) x k = absurd (omega (arith, l, k))
-before_row a b (inr (e, inr (f, inl l))) x k = omega (arith, l)
-before_row a b (inr (e, inr (f, inr (g, l)))) x k = omega (arith, g)
-
 -- nothing is between two wires of a row whose tracks follow one another
 nothing_between : (a b c : Node) → a.x ≡ c.x → rank_of a.kind ≡ rank_of c.kind → a.y ≡ c.y → a.n + 1 ≡ c.n → IsBefore a b → IsBefore b c → ⊥
-nothing_between a b c x k y n before after =
-    let xs : a.x ≡ b.x = omega (arith, before_column a b before, before_column b c after, x) in
-    let xt : b.x ≡ c.x = omega (arith, xs, x) in
-    let ks : rank_of a.kind ≡ rank_of b.kind = omega (arith, before_kind a b before xs, before_kind b c after xt, k) in
-    let kt : rank_of b.kind ≡ rank_of c.kind = omega (arith, ks, k) in
-    let ys : a.y ≡ b.y = omega (arith, before_row a b before xs ks, before_row b c after xt kt, y) in
-    let yt : b.y ≡ c.y = omega (arith, ys, y) in
-    omega (arith, before_number a b xs ks ys before, before_number b c xt kt yt after, n)
+nothing_between a b c x k y n before after = grind arith
 
 -- a node does not come after one with a greater number
 not_after : (a b : Node) → a.x ≡ b.x → rank_of a.kind ≡ rank_of b.kind → a.y ≡ b.y → a.n < b.n → IsBefore b a → ⊥

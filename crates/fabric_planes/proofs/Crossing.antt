@@ -1,31 +1,12 @@
 -- Each way from a wire to a sink leads over a last wire and a pin.
-use Rattle.std.proofs.Common.{◌≡◌, ℕ, ◌+◌, ◌<◌, List, [], ◌∷◌, refl, sym, ap, ◌∙◌, subst, inl, inr, arith, true}
-use Rattle.std.specs.Prelude.{Contains, sum_by}
-use Rattle.std.proofs.lemmas.List.Sums.{sum_by-cons}
-use Rattle.rr_graph.specs.declared.node.NodeKind.{NodeKind}
-use Rattle.rr_graph.specs.declared.node.NodeKind.TheVariants.{Source, Sink, Opin, Ipin, ChanX, ChanY}
-use Rattle.rr_graph.specs.declared.node.Node.{Node}
-use Rattle.rr_graph.specs.Geometry.{IsWire, is_together, joins}
-use Rattle.rr_graph.specs.Graph.{Basis, IsBasis, graph_of}
-use Rattle.rr_graph.proofs.GeometryLaws.{edge_joins}
-use Rattle.least_path.specs.Path.{Leads}
-use Rattle.fabric_planes.specs.Layout.{graph_at, AreCosts}
-use Rattle.fabric_planes.specs.Distances.{wires_apart}
-use Rattle.fabric_planes.specs.Ways.{IsWireAt, IsWayOver}
+use Rattle.fabric_planes.proofs.Prelude.{◌≡◌, ℕ, ◌+◌, ◌<◌, List, [], ◌∷◌, refl, sym, ap, ◌∙◌, subst, inl, inr, arith, true, Contains, sum_by, sum_by-cons, NodeKind, Source, Sink, Opin, Ipin, ChanX, ChanY, Node, IsWire, is_together, joins, Basis, IsBasis, graph_of, edge_joins, Leads, graph_at, AreCosts, wires_apart, IsWireAt, IsWayOver}
 use Rattle.fabric_planes.proofs.Joins.{IsReached}
 use Rattle.fabric_planes.proofs.Nearer.{no_wires, wires_fall}
 use Rattle.fabric_planes.proofs.Strips.{lawful, edge_reached, sink_last}
 
 -- an input pin leads only to a sink
 from_pin : (strip : _) (kb : NodeKind) (a b : Node) → IsReached strip Ipin kb a b → (kb ≡ Sink) × (is_together strip a b ≡ true)
-from_pin strip Source a b r = absurd r
-from_pin strip Sink a b r = (refl, r.1)
-from_pin strip Opin a b r = cc
-from_pin strip Ipin a b r = absurd r
-from_pin strip ChanX a b (inl o) = cc
-from_pin strip ChanX a b (inr w) = absurd w.0
-from_pin strip ChanY a b (inl o) = cc
-from_pin strip ChanY a b (inr w) = absurd w.0
+from_pin strip kb a b r = grind arith
 
 module _ {basis : Basis} (is : IsBasis basis) {cost : ℕ → ℕ} (costs : AreCosts basis cost) (goal : ℕ) (kind : ((graph_of basis).node goal).kind ≡ Sink) where
   abbrev node : ℕ → Node

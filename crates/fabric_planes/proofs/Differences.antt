@@ -1,79 +1,23 @@
 -- What the tables of distances tell of places.
-use Rattle.std.proofs.Common.{◌≡◌, ℕ, ◌+◌, ◌-◌, ◌*◌, ◌/◌, ◌%◌, ◌<◌, ◌≤◌, length, take, drop, min, refl, sym, ap, ◌∙◌, inl, inr, arith, Bool, cond, ◌==◌, ◌&&◌}
-use Rattle.std.specs.Prelude.{slice_index}
-use Rattle.std.proofs.lemmas.Bool.{cases_eq, eq-eqb, ne_eqb, lt-ltb, lt-leb, le-leb, le-ltb}
-use Rattle.std.proofs.lemmas.Nat.{div-mul-add, mod-mul-add, mul-le}
-use Rattle.std.proofs.lemmas.List.FromFn.{get_or-map-range_with_len, length-map-range_with_len}
-use Rattle.std.proofs.lemmas.List.{get_or-take, get_or-drop}
-use Rattle.rr_graph.specs.declared.node.NodeKind.{NodeKind}
-use Rattle.rr_graph.specs.declared.node.NodeKind.TheVariants.{Source, Sink, Opin, Ipin, ChanX, ChanY}
-use Rattle.rr_graph.specs.Node.{rank_of}
-use Rattle.rr_graph.specs.Geometry.{IsWire}
-use Rattle.rr_graph.specs.Graph.{Basis, make_node}
-use Rattle.fabric_planes.specs.declared.distances.Target.{Target}
-use Rattle.fabric_planes.specs.declared.distances.Target.TheVariants.{Level, Upright, Block}
-use Rattle.fabric_planes.specs.Distances.{west_of, south_of, ends_apart, is_same_wire, wires_by}
-use Rattle.fabric_planes.specs.Differences.{MOST_FAR, wires_to, far_at, far_count, far_table, shift_of, IsPlaced, IsTarget, IsTargetAt, target_at, target_offset, index_from}
-use Rattle.fabric_planes.specs.Layout.{band_of, level_at, upright_at, stride_of, in_column, place_of, place_count}
+use Rattle.fabric_planes.proofs.Prelude.{◌≡◌, ℕ, ◌+◌, ◌-◌, ◌*◌, ◌/◌, ◌%◌, ◌<◌, ◌≤◌, length, take, drop, min, refl, sym, ap, ◌∙◌, arith, ◌==◌, slice_index, lt-ltb, le-leb, le-ltb, div-mul-add, mod-mul-add, mul-le, get_or-map-range_with_len, length-map-range_with_len, get_or-take, get_or-drop, NodeKind, Source, Sink, Opin, Ipin, ChanX, ChanY, IsWire, Basis, make_node, Target, Level, Upright, Block, south_of, wires_by, MOST_FAR, wires_to, far_at, far_count, far_table, shift_of, IsPlaced, IsTarget, IsTargetAt, target_at, target_offset, index_from, band_of, level_at, upright_at, stride_of, in_column, place_of, place_count}
 use Rattle.fabric_planes.proofs.Offsets.{place_below}
 
 -- ---- a move of both wires
 
--- along the rows
-across_moved : (ka kb : NodeKind) (x u k : ℕ) → IsWire ka → IsWire kb → u ≤ k → (west_of kb k - (x + k - u + 1)) + (west_of ka (x + k - u) - (k + 1)) ≡ (west_of kb u - (x + 1)) + (west_of ka x - (u + 1))
-across_moved Source kb x u k wa wb l = absurd wa
-across_moved Sink kb x u k wa wb l = absurd wa
-across_moved Opin kb x u k wa wb l = absurd wa
-across_moved Ipin kb x u k wa wb l = absurd wa
-across_moved ChanX ChanX x u k wa wb l = omega (arith, l)
-across_moved ChanX ChanY x u k wa wb l = omega (arith, l)
-across_moved ChanY ChanX x u k wa wb l = omega (arith, l)
-across_moved ChanY ChanY x u k wa wb l = omega (arith, l)
-across_moved _ _ x u k wa wb l = absurd wb
-
 -- along the columns
 up_moved : (ka kb : NodeKind) (x u k : ℕ) → IsWire ka → IsWire kb → u ≤ k → (south_of kb k - (x + k - u + 1)) + (south_of ka (x + k - u) - (k + 1)) ≡ (south_of kb u - (x + 1)) + (south_of ka x - (u + 1))
-up_moved Source kb x u k wa wb l = absurd wa
-up_moved Sink kb x u k wa wb l = absurd wa
-up_moved Opin kb x u k wa wb l = absurd wa
-up_moved Ipin kb x u k wa wb l = absurd wa
-up_moved ChanX ChanX x u k wa wb l = omega (arith, l)
-up_moved ChanX ChanY x u k wa wb l = omega (arith, l)
-up_moved ChanY ChanX x u k wa wb l = omega (arith, l)
-up_moved ChanY ChanY x u k wa wb l = omega (arith, l)
-up_moved _ _ x u k wa wb l = absurd wb
+up_moved ka kb x u k wa wb l = grind arith
 
 same_moved : (x u k : ℕ) → u ≤ k → (x + k - u == k) ≡ (x == u)
-same_moved x u k l = elim (cases_eq x u) [
-  | inl same ↦ (let e : x + k - u ≡ k = omega (arith, same) in eq-eqb (x + k - u) k e ∙ sym (eq-eqb x u same))
-  | inr other ↦ (let n : x + k - u ≡ k → ⊥ = λ e. other (omega (arith, e, l)) in ne_eqb (x + k - u) k n ∙ sym (ne_eqb x u other))
-]
+same_moved x u k l = grind arith
 
 pub wires_moved : (ka kb : NodeKind) (x y u v k b : ℕ) → IsWire ka → IsWire kb → u ≤ k → v ≤ b → wires_by ka (x + k - u) (y + b - v) kb k b ≡ wires_by ka x y kb u v
-wires_moved ka kb x y u v k b wa wb lu lv =
-    let same : is_same_wire ka (x + k - u) (y + b - v) kb k b ≡ is_same_wire ka x y kb u v =
-    ap (λ (t : Bool). (rank_of ka == rank_of kb) && (t && (y + b - v == b))) (same_moved x u k lu) ∙ ap (λ (t : Bool). (rank_of ka == rank_of kb) && ((x == u) && t)) (same_moved y v b lv) in
-    let ends : ends_apart ka (x + k - u) (y + b - v) kb k b ≡ ends_apart ka x y kb u v =
-    ap (λ (d : ℕ). d + ((south_of kb b - (y + b - v + 1)) + (south_of ka (y + b - v) - (b + 1)))) (across_moved ka kb x u k wa wb lu)
-    ∙ ap (λ (d : ℕ). (west_of kb u - (x + 1)) + (west_of ka x - (u + 1)) + d) (up_moved ka kb y v b wa wb lv) in
-    ap (λ (t : Bool). cond t 0 (1 + ends_apart ka (x + k - u) (y + b - v) kb k b)) same ∙ ap (λ (d : ℕ). cond (is_same_wire ka x y kb u v) 0 (1 + d)) ends
+wires_moved ka kb x y u v k b wa wb lu lv = grind (arith, same_moved, up_moved)
 
 to_moved : (target : Target) (ka : NodeKind) (x y u v k b : ℕ) → IsWire ka → u ≤ k → v ≤ b → IsPlaced target u v → wires_to target ka (x + k - u) (y + b - v) k b ≡ wires_to target ka x y u v
 to_moved Level ka x y u v k b wa lu lv p = wires_moved ka ChanX x y u v k b wa tt lu lv
 to_moved Upright ka x y u v k b wa lu lv p = wires_moved ka ChanY x y u v k b wa tt lu lv
-to_moved Block ka x y u v k b wa lu lv p =
-    let under : y + b - v ≡ y + (b - 1) - (v - 1) = omega (arith, lv, p.1) in
-    let before : x + k - u ≡ x + (k - 1) - (u - 1) = omega (arith, lu, p.0) in
-    let first = wires_moved ka ChanX x y u v k b wa tt lu lv in
-    let second : wires_by ka (x + k - u) (y + b - v) ChanX k (b - 1) ≡ wires_by ka x y ChanX u (v - 1) =
-    ap (λ (r : ℕ). wires_by ka (x + k - u) r ChanX k (b - 1)) under ∙ wires_moved ka ChanX x y u (v - 1) k (b - 1) wa tt lu (omega (arith, lv)) in
-    let third = wires_moved ka ChanY x y u v k b wa tt lu lv in
-    let fourth : wires_by ka (x + k - u) (y + b - v) ChanY (k - 1) b ≡ wires_by ka x y ChanY (u - 1) v =
-    ap (λ (c : ℕ). wires_by ka c (y + b - v) ChanY (k - 1) b) before ∙ wires_moved ka ChanY x y (u - 1) v (k - 1) b wa tt (omega (arith, lu)) lv in
-    ap (λ (d : ℕ). min (min d (wires_by ka (x + k - u) (y + b - v) ChanX k (b - 1))) (min (wires_by ka (x + k - u) (y + b - v) ChanY k b) (wires_by ka (x + k - u) (y + b - v) ChanY (k - 1) b))) first
-    ∙ (ap (λ (d : ℕ). min (min (wires_by ka x y ChanX u v) d) (min (wires_by ka (x + k - u) (y + b - v) ChanY k b) (wires_by ka (x + k - u) (y + b - v) ChanY (k - 1) b))) second
-    ∙ (ap (λ (d : ℕ). min (min (wires_by ka x y ChanX u v) (wires_by ka x y ChanX u (v - 1))) (min d (wires_by ka (x + k - u) (y + b - v) ChanY (k - 1) b))) third
-    ∙ ap (λ (d : ℕ). min (min (wires_by ka x y ChanX u v) (wires_by ka x y ChanX u (v - 1))) (min (wires_by ka x y ChanY u v) d)) fourth))
+to_moved Block ka x y u v k b wa lu lv p = grind (arith, wires_moved ka ChanX x y u v k b wa tt lu lv, wires_moved ka ChanX x y u (v - 1) k (b - 1) wa tt lu (omega (arith, lv)), wires_moved ka ChanY x y u v k b wa tt lu lv, wires_moved ka ChanY x y (u - 1) v (k - 1) b wa tt (omega (arith, lu)) lv)
 
 -- ---- entries
 
@@ -83,21 +27,10 @@ row_of ChanX band = band
 row_of _ band = 3 * band
 
 entry_moved : (target : Target) (ka : NodeKind) (x y u v k band : ℕ) → IsWire ka → u ≤ k → y + 2 ≤ band → v < band → IsPlaced target u v → far_at target k band (x + k - u) (y + row_of ka band - v) ≡ min MOST_FAR (wires_to target ka x y u v)
-entry_moved target ChanX x y u v k band w lu ly lv p =
-    rw (lt-leb (4 * band) (y + band - v) (omega (arith, ly, lv)), lt-ltb (y + band - v) (2 * band) (omega (arith, ly, lv))) (ap (min MOST_FAR) (to_moved target ChanX x y u v k band w lu (omega (arith, lv)) p))
-entry_moved target ChanY x y u v k band w lu ly lv p =
-    rw (lt-leb (4 * band) (y + 3 * band - v) (omega (arith, ly, lv)), le-ltb (y + 3 * band - v) (2 * band) (omega (arith, ly, lv))) (ap (min MOST_FAR) (to_moved target ChanY x y u v k (3 * band) w lu (omega (arith, lv)) p))
-entry_moved target _ x y u v k band w lu ly lv p = absurd w
+entry_moved target ka x y u v k band w lu ly lv p = grind (arith, lt-ltb, to_moved, le-ltb)
 
 entry_at : (target : Target) (k band stride c r : ℕ) → r < stride → c ≤ 2 * k → slice_index (far_table target k band stride) (c * stride + r) ≡ far_at target k band c r
-entry_at target k band stride c r lr lc =
-    let few : c * stride + r < far_count k stride =
-    (let m : (c + 1) * stride ≤ (2 * k + 1) * stride = mul-le (c + 1) stride (2 * k + 1) stride (omega (arith, lc)) (omega arith) in
-    let e : (c + 1) * stride ≡ c * stride + stride = grind arith in
-    omega (arith, m, e, lr)) in
-    let none : 0 + (c * stride + r) ≡ c * stride + r = omega arith in
-    get_or-map-range_with_len (λ at. far_at target k band (at / stride) (at % stride)) 0 (far_count k stride) (c * stride + r) (c * stride + r) 0 few none
-    ∙ (ap (λ (x : ℕ). far_at target k band x ((c * stride + r) % stride)) (div-mul-add c stride r lr) ∙ ap (far_at target k band c) (mod-mul-add c stride r lr))
+entry_at target k band stride c r lr lc = grind (arith, get_or-map-range_with_len, div-mul-add, mod-mul-add, mul-le (c + 1) stride (2 * k + 1) stride (omega (arith, lc)) (omega arith), div-mul-add c stride r lr, mod-mul-add c stride r lr)
 
 module _ (basis : Basis) where
   abbrev K : ℕ

@@ -1,18 +1,5 @@
 -- The wires up to each side of a sink's block or pad.
-use Rattle.std.proofs.Common.{◌≡◌, ℕ, ◌-◌, ◌<◌, ◌≤◌, List, min, refl, subst, sym, ◌∙◌, arith}
-use Rattle.std.specs.Prelude.{slice_index}
-use Rattle.std.proofs.lemmas.Bool.{le-ltb, lt-ltb}
-use Rattle.rr_graph.specs.declared.node.NodeKind.{NodeKind}
-use Rattle.rr_graph.specs.declared.node.NodeKind.TheVariants.{ChanX, ChanY}
-use Rattle.rr_graph.specs.declared.node.Node.{Node}
-use Rattle.rr_graph.specs.Graph.{Basis, graph_of}
-use Rattle.fabric_planes.specs.declared.distances.Target.{Target}
-use Rattle.fabric_planes.specs.declared.distances.Target.TheVariants.{Level, Upright}
-use Rattle.fabric_planes.specs.Aheads.{AreFars}
-use Rattle.fabric_planes.specs.Differences.{MOST_FAR, wires_to}
-use Rattle.fabric_planes.specs.Distances.{wires_by}
-use Rattle.fabric_planes.specs.Fars.{AreFar}
-use Rattle.fabric_planes.specs.Sides.{side_kind, rows_less, columns_less}
+use Rattle.fabric_planes.proofs.Prelude.{◌≡◌, ℕ, ◌-◌, ◌<◌, ◌≤◌, List, min, refl, subst, sym, ◌∙◌, arith, slice_index, le-ltb, lt-ltb, NodeKind, ChanX, ChanY, Node, Basis, graph_of, Target, Level, Upright, AreFars, MOST_FAR, wires_to, wires_by, AreFar, side_kind, rows_less, columns_less}
 
 module _ (basis : Basis) (sink : Node) (side : ℕ) (list : List ℕ) where
   -- the wires at the side are of this kind

@@ -1,18 +1,5 @@
 -- Bounds of the paths of a track's plane, by the starts from which they lead.
-use Rattle.std.proofs.Common.{◌≡◌, ℕ, ◌+◌, ◌<◌, ◌≤◌, List, ◌++◌, length, take, drop, sym, ◌∙◌, subst, inl, inr, arith}
-use Rattle.std.specs.Prelude.{Contains, slice_index, sum_by}
-use Rattle.std.proofs.lemmas.List.{take_at}
-use Rattle.std.proofs.lemmas.List.Elements.{All-contains}
-use Rattle.rr_graph.specs.declared.node.Node.{Node}
-use Rattle.rr_graph.specs.Graph.{Basis, IsBasis, graph_of}
-use Rattle.least_path.specs.Path.{Leads, cost_of}
-use Rattle.plane_search.specs.Planes.{Family, IsPlaneBound}
-use Rattle.fabric_planes.specs.Bounds.{IsWireBound}
-use Rattle.fabric_planes.specs.Laid.{IsWireOf}
-use Rattle.fabric_planes.specs.Layout.{Terminals, IsNetSearch, IsStart, place_of, planes_of}
-use Rattle.fabric_planes.specs.RivalBounds.{AreRivalsFrom}
-use Rattle.fabric_planes.specs.Rivals.{IsOtherPath, IsPinPath, IsSourcePath, IsWirePath}
-use Rattle.fabric_planes.specs.declared.rivals.Head.{Head}
+use Rattle.fabric_planes.proofs.Prelude.{◌≡◌, ℕ, ◌+◌, ◌<◌, ◌≤◌, List, ◌++◌, length, take, drop, sym, ◌∙◌, subst, inl, inr, arith, Contains, slice_index, sum_by, take_at, All-contains, Node, Basis, IsBasis, graph_of, Leads, cost_of, Family, IsPlaneBound, IsWireBound, IsWireOf, Terminals, IsNetSearch, IsStart, place_of, planes_of, AreRivalsFrom, IsOtherPath, IsPinPath, IsSourcePath, IsWirePath, Head}
 use Rattle.fabric_planes.proofs.Heads.{plane_head}
 use Rattle.fabric_planes.proofs.RivalPaths.{met_somewhere, source_pin}
 

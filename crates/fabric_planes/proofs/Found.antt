@@ -1,26 +1,12 @@
 -- What tables tell of wires.
-use Rattle.std.proofs.Common.{◌≡◌, ℕ, ◌+◌, ◌<◌, ◌⊎◌, List, refl, sym, ap, ◌∙◌, ◌*◌, subst, inl, inr, arith}
-use Rattle.std.specs.Prelude.{slice_index}
-use Rattle.std.proofs.lemmas.Bool.{cases_eq, cases_lt}
-use Rattle.rr_graph.specs.declared.node.NodeKind.{NodeKind}
-use Rattle.rr_graph.specs.declared.node.NodeKind.TheVariants.{ChanX, ChanY}
-use Rattle.rr_graph.specs.declared.node.Node.{Node}
-use Rattle.rr_graph.specs.Geometry.{IsWire}
-use Rattle.rr_graph.specs.Graph.{Basis, IsBasis, graph_of, make_node}
-use Rattle.fabric_planes.specs.Layout.{offset_of, place_of, place_count, stride_of}
-use Rattle.fabric_planes.specs.Laid.{IsWireOf}
-use Rattle.fabric_planes.specs.Tables.{IsFirstAt, AreFirsts, NO_WIRE}
+use Rattle.fabric_planes.proofs.Prelude.{◌≡◌, ℕ, ◌+◌, ◌<◌, ◌⊎◌, List, sym, ap, ◌∙◌, ◌*◌, subst, inl, inr, arith, slice_index, cases_eq, cases_lt, NodeKind, Node, IsWire, Basis, IsBasis, graph_of, make_node, offset_of, place_of, place_count, stride_of, IsWireOf, IsFirstAt, AreFirsts, NO_WIRE}
 use Rattle.fabric_planes.proofs.Consecutive.{first_of, wire_low}
 
 pub cases_wire : (kind : NodeKind) → IsWire kind ⊎ (IsWire kind → ⊥)
-cases_wire ChanX = inl tt
-cases_wire ChanY = inl tt
-cases_wire _ = inr (λ w. w)
+cases_wire kind = grind arith
 
 pub same_offset : (basis : Basis) (kind : NodeKind) (x y n m : ℕ) → IsWire kind → offset_of basis kind (make_node x kind y n) ≡ offset_of basis kind (make_node x kind y m)
-same_offset basis ChanX x y n m w = refl
-same_offset basis ChanY x y n m w = refl
-same_offset basis _ x y n m w = absurd w
+same_offset basis kind x y n m w = grind arith
 
 module _ {basis : Basis} (is : IsBasis basis) where
   abbrev node : ℕ → Node

@@ -1,22 +1,5 @@
 -- Of two paths, the one whose nodes come first leaves its start first.
-use Rattle.std.proofs.Common.{◌≡◌, ℕ, ◌+◌, ◌*◌, ◌<◌, ◌≤◌, ◌⊎◌, List, ◌∷◌, refl, sym, ap, ◌∙◌, subst, inl, inr, arith}
-use Rattle.std.specs.Ordering.{nat_cmp, ordering_then, MatchOrdering}
-use Rattle.std.specs.Cmp.Lexicographic.{slice_cmp}
-use Rattle.std.specs.declared.cmp.Ordering.{Ordering}
-use Rattle.std.specs.declared.cmp.Ordering.TheVariants.{Less, Equal, Greater}
-use Rattle.std.proofs.lemmas.Cmp.{ranked}
-use Rattle.rr_graph.specs.declared.node.NodeKind.{NodeKind}
-use Rattle.rr_graph.specs.declared.node.NodeKind.TheVariants.{Source, Opin, ChanX, ChanY}
-use Rattle.rr_graph.specs.declared.node.Node.{Node}
-use Rattle.rr_graph.specs.Node.{IsBefore}
-use Rattle.rr_graph.specs.Geometry.{IsWire}
-use Rattle.rr_graph.specs.Graph.{Basis, IsBasis, graph_of}
-use Rattle.rr_graph.proofs.Columns.{same_kind}
-use Rattle.fabric_planes.specs.declared.rivals.Head.{Head}
-use Rattle.fabric_planes.specs.Laid.{IsWireOf}
-use Rattle.fabric_planes.specs.Layout.{stride_of, offset_of, place_of}
-use Rattle.fabric_planes.specs.Rivals.{IsWireHead, IsPinHead, IsSourceHead, IsHeadOf, ComesFirst}
-use Rattle.fabric_planes.specs.Ways.{IsWireAt}
+use Rattle.fabric_planes.proofs.Prelude.{◌≡◌, ℕ, ◌+◌, ◌*◌, ◌<◌, ◌≤◌, ◌⊎◌, List, ◌∷◌, refl, sym, ap, ◌∙◌, subst, inl, inr, arith, nat_cmp, slice_cmp, Less, NodeKind, Source, Opin, Node, IsBefore, IsWire, Basis, IsBasis, graph_of, same_kind, Head, IsWireOf, stride_of, offset_of, place_of, IsWireHead, IsPinHead, IsSourceHead, IsHeadOf, ComesFirst, IsWireAt}
 use Rattle.fabric_planes.proofs.Offsets.{low_of, high_of, below_stride, kinds_apart, columns_apart}
 use Rattle.fabric_planes.proofs.Strips.{lawful, wire_row}
 
@@ -24,31 +7,20 @@ use Rattle.fabric_planes.proofs.Strips.{lawful, wire_row}
 
 -- the first numbers decide, or the others do
 first_less : (a b : ℕ) (xs ys : List ℕ) → slice_cmp nat_cmp (a ∷ xs) (b ∷ ys) ≡ Less → (a < b) ⊎ ((a ≡ b) × (slice_cmp nat_cmp xs ys ≡ Less))
-first_less a b xs ys h = by (nat_cmp a b) (ranked a b (nat_cmp a b) refl) h
-  where
-    by : (o : Ordering) → MatchOrdering o (a < b) (a ≡ b) (b < a) → ordering_then o (slice_cmp nat_cmp xs ys) ≡ Less → (a < b) ⊎ ((a ≡ b) × (slice_cmp nat_cmp xs ys ≡ Less))
-    by Less m e = inl m
-    by Equal m e = inr (m, e)
-    by Greater m e = cc
+first_less a b xs ys h = grind arith
 
 -- ---- wires
 
 -- the offset of a wire is among those of its kind
 wire_in : (basis : Basis) (kind : NodeKind) (v : Node) → IsWire kind → v.y ≤ basis.strip.rows → (low_of basis kind ≤ offset_of basis kind v) × (offset_of basis kind v < high_of basis kind)
-wire_in basis ChanX v w r = (omega arith, omega (arith, r))
-wire_in basis ChanY v w r = (omega arith, omega (arith, r))
-wire_in basis _ v w r = absurd w
+wire_in basis kind v w r = grind arith
 
 -- the offsets of wires of a kind are in the order of their rows
 row_less : (basis : Basis) (kind : NodeKind) (a b : Node) → IsWire kind → a.y < b.y → offset_of basis kind a < offset_of basis kind b
-row_less basis ChanX a b w l = omega (arith, l)
-row_less basis ChanY a b w l = omega (arith, l)
-row_less basis _ a b w l = absurd w
+row_less basis kind a b w l = grind arith
 
 row_same : (basis : Basis) (kind : NodeKind) (a b : Node) → IsWire kind → a.y ≡ b.y → offset_of basis kind a ≡ offset_of basis kind b
-row_same basis ChanX a b w e = omega (arith, e)
-row_same basis ChanY a b w e = omega (arith, e)
-row_same basis _ a b w e = absurd w
+row_same basis kind a b w e = grind arith
 
 module _ {basis : Basis} (is : IsBasis basis) where
   abbrev node : ℕ → Node

@@ -1,22 +1,5 @@
 -- How the paths of a track's plane leave their starts.
-use Rattle.std.proofs.Common.{◌≡◌, ℕ, ◌+◌, ◌<◌, List, [], ◌∷◌, map, refl, sym, ap, ◌∙◌, subst, inl, inr, true}
-use Rattle.std.specs.Prelude.{Contains, sum_by}
-use Rattle.std.proofs.lemmas.Bool.{eqb-true}
-use Rattle.std.proofs.lemmas.List.Sums.{sum_by-cons}
-use Rattle.grid.specs.declared.Strip.{Strip}
-use Rattle.rr_graph.specs.declared.node.NodeKind.{NodeKind}
-use Rattle.rr_graph.specs.declared.node.NodeKind.TheVariants.{Source, Sink, Opin, Ipin, ChanX, ChanY}
-use Rattle.rr_graph.specs.declared.node.Node.{Node}
-use Rattle.rr_graph.specs.Geometry.{IsWire}
-use Rattle.rr_graph.specs.Graph.{Basis, IsBasis, graph_of}
-use Rattle.least_path.specs.Path.{Leads, IsPath}
-use Rattle.plane_search.specs.Planes.{Family, IsPlane, IsPlace}
-use Rattle.fabric_planes.specs.Labels.{family_of}
-use Rattle.fabric_planes.specs.Laid.{IsWireOf}
-use Rattle.fabric_planes.specs.Layout.{Terminals, place_of, shows, labels_of, planes_of, IsNetSearch}
-use Rattle.fabric_planes.specs.declared.rivals.Head.{Head}
-use Rattle.fabric_planes.specs.Rivals.{IsWirePath, IsPinPath, IsSourcePath, IsPathFrom}
-use Rattle.fabric_planes.specs.Sides.{IsStartKind}
+use Rattle.fabric_planes.proofs.Prelude.{◌≡◌, ℕ, ◌+◌, ◌<◌, List, [], ◌∷◌, map, refl, sym, ap, ◌∙◌, subst, inl, inr, true, arith, Contains, sum_by, sum_by-cons, Strip, NodeKind, Source, Sink, Opin, Ipin, ChanX, ChanY, Node, IsWire, Basis, IsBasis, graph_of, Leads, IsPath, Family, IsPlane, IsPlace, family_of, IsWireOf, Terminals, place_of, shows, labels_of, planes_of, IsNetSearch, Head, IsWirePath, IsPinPath, IsSourcePath, IsPathFrom, IsStartKind}
 use Rattle.fabric_planes.proofs.Joins.{IsReached}
 use Rattle.fabric_planes.proofs.Labeled.{shown_at}
 use Rattle.fabric_planes.proofs.PinPaths.{from_output, from_source}
@@ -24,9 +7,7 @@ use Rattle.fabric_planes.proofs.Strips.{are_labels, strip_family, edge_reached}
 
 -- a wire is shown in its own track's plane alone
 wire_track : (strip : Strip) (t : Terminals) (track : ℕ) (kind : NodeKind) (v : Node) → IsWire kind → shows strip t track kind v ≡ true → v.n ≡ track
-wire_track strip t track ChanX v w s = eqb-true v.n track s
-wire_track strip t track ChanY v w s = eqb-true v.n track s
-wire_track strip t track _ v w s = absurd w
+wire_track strip t track kind v w s = grind arith
 
 opin_sink : Opin ≡ Sink → ⊥
 opin_sink e = cc

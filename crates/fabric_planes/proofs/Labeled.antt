@@ -1,15 +1,7 @@
 -- A graph with labeled nodes consists of the planes of its tracks.
-use Rattle.std.proofs.Common.{◌≡◌, ℕ, refl, ◌^◌, ◌<◌, ◌≤◌, List, [], ◌∷◌, length, get_or, arith, ◌∙◌, inl, inr, sym, ap, subst, Bool, true, ◌&&◌}
-use Rattle.std.specs.Prelude.{◌==◌, filter, Contains}
-use Rattle.std.specs.List.{range_with_len}
-use Rattle.std.proofs.lemmas.Bool.{and_parts, and_from, cases_Bool, cases_eq, cases_lt, eqb-true, eq-eqb, lt-ltb, ltb-true, false≢true}
-use Rattle.std.proofs.lemmas.List.{length-map}
-use Rattle.std.proofs.lemmas.List.Elements.{All-contains, All-contains_itself}
-use Rattle.std.proofs.lemmas.List.FromFn.{length-range_with_len, get_or-range_with_len}
-use Rattle.std.proofs.lemmas.List.Sums.{passes_at_first, position_or_len_is}
-use Rattle.least_path.specs.Graph.{IsLawful, AreNodes}
-use Rattle.plane_search.specs.Planes.{IsFamily, IsPlane, IsPlace}
-use Rattle.fabric_planes.specs.Labels.{Labels, AreLabels, node_at, is_there, places_of, plane_of, family_of}
+use Rattle.fabric_planes.proofs.Prelude.{◌≡◌, ℕ, refl, ◌^◌, ◌<◌, ◌≤◌, List, [], ◌∷◌, length, get_or, arith, ◌∙◌, inl, inr, sym, ap, subst, Bool, true, ◌&&◌, filter, Contains, range_with_len, and_parts, and_from, cases_Bool, cases_eq, cases_lt, eqb-true, eq-eqb, lt-ltb, ltb-true, false≢true, length-map, All-contains, All-contains_itself, length-range_with_len, get_or-range_with_len, passes_at_first, position_or_len_is, IsLawful, AreNodes, IsFamily, IsPlane, IsPlace, Labels, AreLabels, node_at, is_there, plane_of, family_of}
+use Rattle.std.specs.Prelude.{◌==◌}
+use Rattle.fabric_planes.specs.Labels.{places_of}
 use Rattle.fabric_planes.proofs.Members.{in_cases, in_first, in_further, in_none}
 
 -- the place of a node that is shown is among the places
@@ -48,10 +40,7 @@ place_has l track (x ∷ xs) place c = elim (cases_Bool (l.is_shown track x)) [
 
 filter_few : (test : ℕ → Bool) (xs : List ℕ) → length (filter test xs) ≤ length xs
 filter_few test [] = omega arith
-filter_few test (x ∷ xs) = elim (cases_Bool (test x)) [
-  | inl is ↦ rw is (omega (arith, filter_few test xs))
-  | inr isn't ↦ rw isn't (omega (arith, filter_few test xs))
-]
+filter_few test (x ∷ xs) = grind (arith, filter_few test xs)
 
 -- ---- nodes at places
 

@@ -1,3 +1,4 @@
+mod Prelude
 mod Labeled
 mod Joins
 mod Offsets

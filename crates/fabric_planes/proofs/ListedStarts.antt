@@ -1,22 +1,6 @@
 -- The starts that are in a track's plane.
-use Rattle.std.proofs.Common.{◌≡◌, ℕ, zero, suc, ◌+◌, ◌<◌, ◌⊎◌, List, [], ◌∷◌, ◌++◌, length, sym, ap, ◌∙◌, subst, inl, inr, arith, true}
-use Rattle.std.specs.Prelude.{Contains, slice_index_or, Some}
-use Rattle.std.proofs.lemmas.Bool.{cases_lt}
-use Rattle.std.proofs.lemmas.List.{map-append}
-use Rattle.std.proofs.lemmas.List.Elements.{Contains-append_left, Contains-append_right, Contains-append_cases}
-use Rattle.rr_graph.specs.declared.node.Node.{Node}
-use Rattle.rr_graph.specs.Geometry.{IsWire}
-use Rattle.rr_graph.specs.Graph.{Basis, IsBasis, graph_of}
-use Rattle.least_path.specs.LowerBound.{IsLowerBound}
-use Rattle.plane_search.specs.Planes.{Family, IsPlaneBound}
-use Rattle.plane_search.specs.Starts.{places_of}
-use Rattle.plane_search.specs.declared.planes.Start.{Start}
-use Rattle.fabric_planes.specs.declared.pins.PinAt.{PinAt}
-use Rattle.fabric_planes.specs.Labels.{node_at, family_of}
-use Rattle.fabric_planes.specs.Layout.{Terminals, place_of, shows, labels_of, planes_of, IsNetSearch}
-use Rattle.fabric_planes.specs.Pins.{IsShownPin, ArePins}
-use Rattle.fabric_planes.specs.Starts.{AreSomeStarts}
-use Rattle.fabric_planes.specs.Tables.{AreFirsts}
+use Rattle.fabric_planes.proofs.Prelude.{◌≡◌, ℕ, zero, suc, ◌+◌, ◌<◌, ◌⊎◌, List, [], ◌∷◌, ◌++◌, length, sym, ap, ◌∙◌, subst, inl, inr, arith, true, Contains, slice_index_or, map-append, Contains-append_left, Contains-append_right, Contains-append_cases, Node, IsWire, Basis, IsBasis, graph_of, IsLowerBound, Family, IsPlaneBound, places_of, Start, PinAt, node_at, family_of, Terminals, place_of, shows, labels_of, planes_of, IsNetSearch, IsShownPin, ArePins, AreSomeStarts, AreFirsts}
+use Rattle.std.specs.Prelude.{Some}
 use Rattle.fabric_planes.proofs.Labeled.{at_place, has_place, place_has}
 use Rattle.fabric_planes.proofs.Numbers.{same_shows, listed_there}
 use Rattle.fabric_planes.proofs.Strips.{are_labels}
@@ -112,7 +96,4 @@ pub place_last : (list : List Start) (start : Start) (place : ℕ) → start.pla
 place_last list start place e = subst (λ (xs : List ℕ). Contains xs place) (sym (places_more list start)) (Contains-append_right (places_of list) (start.place ∷ []) place (0, omega arith, e))
 
 pub below : (k count : ℕ) → k < count + 1 → (k < count) ⊎ (k ≡ count)
-below k count b = elim (cases_lt k count) [
-  | inl l ↦ inl l
-  | inr m ↦ inr (omega (arith, b, m))
-]
+below k count b = grind arith

@@ -1,6 +1,5 @@
 -- Members of lists.
-use Rattle.std.proofs.Common.{◌≡◌, ℕ, zero, suc, ◌⊎◌, List, [], ◌∷◌, map, refl, ap, subst, inl, inr, arith}
-use Rattle.std.specs.Prelude.{Contains}
+use Rattle.fabric_planes.proofs.Prelude.{◌≡◌, ℕ, suc, ◌⊎◌, List, [], ◌∷◌, map, refl, ap, subst, inl, inr, arith, Contains}
 
 pub in_first : {X : Type 0} (x : X) (xs : List X) → Contains (x ∷ xs) x
 in_first x xs = (0, omega arith, refl)
@@ -9,8 +8,7 @@ pub in_further : {X : Type 0} (x y : X) (xs : List X) → Contains xs y → Cont
 in_further x y xs c = (suc c.0, omega (arith, c.1), c.2)
 
 pub in_cases : {X : Type 0} (x y : X) (xs : List X) → Contains (x ∷ xs) y → (x ≡ y) ⊎ Contains xs y
-in_cases x y xs (zero, b, e) = inl e
-in_cases x y xs (suc k, b, e) = inr (k, omega arith, e)
+in_cases x y xs h1 = grind arith
 
 pub in_none : {X : Type 0} (y : X) → Contains [] y → ⊥
 in_none y (k, b, e) = omega (arith, b)

@@ -1,9 +1,5 @@
 -- A net's planes by the trait's names.
-use Rattle.std.proofs.Common.{◌≡◌, ℕ, ◌<◌, List, ap, sym, subst, refl, ◌∙◌}
-use Rattle.rr_graph.specs.Graph.{Basis}
-use Rattle.fabric_planes.specs.Labels.{family_of}
-use Rattle.fabric_planes.specs.Layout.{Terminals, place_of, place_count, labels_of, planes_of, IsNetSearch}
-use Rattle.rr_graph.specs.declared.node.Node.{Node}
+use Rattle.fabric_planes.proofs.Prelude.{◌≡◌, ℕ, ◌<◌, List, ap, sym, subst, refl, ◌∙◌, Basis, family_of, Terminals, place_of, place_count, labels_of, planes_of, IsNetSearch, Node}
 
 module _ (basis : Basis) (cost : ℕ → ℕ) (starts : List ℕ) (goal : ℕ) (t : Terminals) where
   pub places_are : (planes_of basis cost starts goal t).places ≡ place_count basis

@@ -1,15 +1,6 @@
 -- A search over a net's planes is one over the whole graph.
-use Rattle.std.proofs.Common.{ℕ, ◌<◌, List, [], ◌∷◌}
+use Rattle.fabric_planes.proofs.Prelude.{ℕ, ◌<◌, List, [], ◌∷◌, All-nil, All-cons, All-contains, Graph, AreNodes, IsLawful, Leads, IsPath, Path, IsFamily, IsKnown, Basis, graph_of, family_of, Terminals, graph_at, labels_of, planes_of, IsPathAt}
 use Rattle.std.specs.List.{All}
-use Rattle.std.proofs.lemmas.List.Elements.{All-nil, All-cons, All-contains}
-use Rattle.least_path.specs.Graph.{Graph, AreNodes, IsLawful}
-use Rattle.least_path.specs.Path.{Leads, IsPath}
-use Rattle.least_path.specs.declared.path.Path.{Path}
-use Rattle.plane_search.specs.Planes.{IsFamily, IsKnown}
-use Rattle.rr_graph.specs.Graph.{Basis, graph_of}
-use Rattle.fabric_planes.specs.Labels.{family_of}
-use Rattle.fabric_planes.specs.Layout.{Terminals, graph_at, labels_of, planes_of}
-use Rattle.fabric_planes.specs.NetSearches.{IsPathAt}
 
 -- the nodes of a path are nodes of the graph
 module _ (g : Graph) (lawful : IsLawful g) (goal : ℕ) where

@@ -1,24 +1,5 @@
 -- What is at a place of a plane, as the tables tell it.
-use Rattle.std.proofs.Common.{◌≡◌, ℕ, ◌+◌, ◌*◌, ◌<◌, ◌≤◌, ◌⊎◌, List, length, refl, sym, ap, ◌∙◌, subst, inl, inr, arith, true, false}
-use Rattle.std.specs.Prelude.{Contains, slice_index, slice_index_or}
-use Rattle.std.proofs.lemmas.Bool.{cases_Bool, cases_eq, cases_lt, false≢true}
-use Rattle.rr_graph.specs.declared.node.NodeKind.{NodeKind}
-use Rattle.rr_graph.specs.declared.node.NodeKind.TheVariants.{Source, Sink, Opin, Ipin, ChanX, ChanY}
-use Rattle.rr_graph.specs.declared.node.Node.{Node}
-use Rattle.rr_graph.specs.Geometry.{IsWire}
-use Rattle.rr_graph.specs.Graph.{Basis, IsBasis, graph_of, make_node}
-use Rattle.rr_graph.proofs.FewNodes.{few_nodes}
-use Rattle.plane_search.specs.Planes.{IsPlace}
-use Rattle.fabric_planes.specs.declared.pins.PinAt.{PinAt}
-use Rattle.fabric_planes.specs.declared.steps.Steps.{Steps}
-use Rattle.fabric_planes.specs.Differences.{IsPinPlace}
-use Rattle.fabric_planes.specs.Labels.{is_there, node_at, family_of}
-use Rattle.fabric_planes.specs.Laid.{IsWireOf}
-use Rattle.fabric_planes.specs.Layout.{Terminals, pins_of, level_at, stride_of, in_column, offset_of, place_of, place_count, shows, labels_of, planes_of, IsNetSearch}
-use Rattle.fabric_planes.specs.Pins.{IsShownPin, ArePins, ArePrices}
-use Rattle.fabric_planes.specs.Prices.{IsWireOn}
-use Rattle.fabric_planes.specs.Steps.{AreSteps, NO_CLASS}
-use Rattle.fabric_planes.specs.Tables.{IsFirstAt, AreFirsts, NO_WIRE}
+use Rattle.fabric_planes.proofs.Prelude.{◌≡◌, ℕ, ◌+◌, ◌*◌, ◌<◌, ◌≤◌, ◌⊎◌, List, length, refl, sym, ap, ◌∙◌, subst, inl, inr, arith, true, false, Contains, slice_index, slice_index_or, cases_Bool, cases_eq, cases_lt, false≢true, NodeKind, Source, Sink, Opin, Ipin, ChanX, ChanY, Node, IsWire, Basis, IsBasis, graph_of, make_node, few_nodes, IsPlace, PinAt, Steps, IsPinPlace, is_there, node_at, family_of, IsWireOf, Terminals, pins_of, level_at, stride_of, in_column, offset_of, place_of, place_count, shows, labels_of, planes_of, IsNetSearch, IsShownPin, ArePins, ArePrices, IsWireOn, AreSteps, NO_CLASS, IsFirstAt, AreFirsts, NO_WIRE}
 use Rattle.fabric_planes.proofs.Bounded.{IsShownThere, shown_there}
 use Rattle.fabric_planes.proofs.Wires.{each_track}
 use Rattle.fabric_planes.proofs.Found.{cases_wire, first_for, firsts_cases, told_at, same_offset}
@@ -28,15 +9,11 @@ use Rattle.fabric_planes.proofs.Strips.{lawful, are_labels, offset_few, wire_sho
 
 -- the offset of a wire is not one of a pin
 wire_offset : (basis : Basis) (kind : NodeKind) (v : Node) → IsWire kind → level_at basis ≤ offset_of basis kind v
-wire_offset basis ChanX v w = omega arith
-wire_offset basis ChanY v w = omega arith
-wire_offset basis _ v w = absurd w
+wire_offset basis kind v w = grind arith
 
 -- pins are shown in all planes, or in none
 pub same_shows : (strip : _) (t : Terminals) (track other : ℕ) (kind : NodeKind) (v : Node) → (IsWire kind → ⊥) → shows strip t track kind v ≡ true → shows strip t other kind v ≡ true
-same_shows strip t track other ChanX v n s = absurd (n tt)
-same_shows strip t track other ChanY v n s = absurd (n tt)
-same_shows strip t track other _ v n s = s
+same_shows strip t track other kind v n s = grind arith
 
 module _ {basis : Basis} (is : IsBasis basis) where
   abbrev node : ℕ → Node

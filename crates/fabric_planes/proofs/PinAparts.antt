@@ -1,22 +1,5 @@
 -- The tracks that an output pin meets on a side, as the table tells them.
-use Rattle.std.proofs.Common.{◌≡◌, ℕ, ◌+◌, ◌-◌, ◌*◌, ◌/◌, ◌%◌, ◌<◌, ◌≤◌, List, length, get_or, take, drop, refl, sym, ap, ◌∙◌, subst, inl, inr, arith, true, ◌==◌, ◌&&◌}
-use Rattle.std.specs.Prelude.{All, slice_index}
-use Rattle.std.specs.List.{range_with_len}
-use Rattle.std.proofs.lemmas.Bool.{and_parts, cases_Bool, eqb-true}
-use Rattle.std.proofs.lemmas.Nat.{div-mul-add, mod-mul-add, mul-add-lt, row_fits}
-use Rattle.std.proofs.lemmas.List.{get_or-take, get_or-drop}
-use Rattle.std.proofs.lemmas.List.Elements.{All-map, All-take, All-drop}
-use Rattle.std.proofs.lemmas.List.FromFn.{length-map-range_with_len, get_or-map-range_with_len}
-use Rattle.rr_graph.specs.declared.node.NodeKind.{NodeKind}
-use Rattle.rr_graph.specs.declared.node.NodeKind.TheVariants.{Opin, ChanX}
-use Rattle.rr_graph.specs.declared.node.Node.{Node}
-use Rattle.rr_graph.specs.Geometry.{IsWire, is_node, meets, node_at_offset}
-use Rattle.rr_graph.specs.Graph.{Basis, IsBasis, make_node}
-use Rattle.rr_graph.proofs.Moves.{joins_moved}
-use Rattle.fabric_planes.specs.ArrivalRows.{wire_beside}
-use Rattle.fabric_planes.specs.Layout.{pins_of, band_of}
-use Rattle.fabric_planes.specs.PinRows.{apart_at, apart_by, apart_count, aparts, pin_number}
-use Rattle.fabric_planes.specs.Sides.{IsAtSide, side_kind, rows_less, columns_less}
+use Rattle.fabric_planes.proofs.Prelude.{◌≡◌, ℕ, ◌+◌, ◌-◌, ◌*◌, ◌/◌, ◌%◌, ◌<◌, ◌≤◌, List, length, get_or, take, drop, refl, sym, ap, ◌∙◌, subst, inl, inr, arith, true, ◌==◌, ◌&&◌, All, slice_index, range_with_len, and_parts, cases_Bool, eqb-true, div-mul-add, mod-mul-add, mul-add-lt, row_fits, get_or-take, get_or-drop, All-map, All-take, All-drop, length-map-range_with_len, get_or-map-range_with_len, NodeKind, Opin, ChanX, Node, IsWire, is_node, meets, node_at_offset, Basis, IsBasis, make_node, joins_moved, wire_beside, pins_of, band_of, apart_at, apart_by, apart_count, aparts, pin_number, IsAtSide, side_kind, rows_less, columns_less}
 use Rattle.fabric_planes.proofs.ArrivalNumbers.{column_few}
 use Rattle.fabric_planes.proofs.PinsRowed.{IsPin, number_low, pin_facts}
 

@@ -1,18 +1,5 @@
 -- Paths lead over a wire beside the start's block or pad, and one beside the sink's.
-use Rattle.std.proofs.Common.{◌≡◌, ℕ, ◌+◌, ◌<◌, ◌⊎◌, List, [], ◌∷◌, refl, sym, ap, ◌∙◌, subst, inl, inr, arith}
-use Rattle.std.specs.Prelude.{Contains, sum_by, All}
-use Rattle.std.proofs.lemmas.List.Elements.{All-contains}
-use Rattle.std.proofs.lemmas.List.Sums.{sum_by-cons}
-use Rattle.grid.specs.declared.Strip.{Strip}
-use Rattle.rr_graph.specs.declared.node.NodeKind.{NodeKind}
-use Rattle.rr_graph.specs.declared.node.NodeKind.TheVariants.{Source, Sink, Opin, Ipin, ChanX, ChanY}
-use Rattle.rr_graph.specs.declared.node.Node.{Node}
-use Rattle.rr_graph.specs.Geometry.{IsWire}
-use Rattle.rr_graph.specs.Graph.{Basis, IsBasis, graph_of}
-use Rattle.least_path.specs.Path.{Leads, IsPath}
-use Rattle.fabric_planes.specs.Layout.{graph_at, AreCosts}
-use Rattle.fabric_planes.specs.Sides.{AreSideBounds, IsBySide, IsFromWire, IsFromPin, IsStartKind}
-use Rattle.fabric_planes.specs.Ways.{IsWireAt}
+use Rattle.fabric_planes.proofs.Prelude.{◌≡◌, ℕ, ◌+◌, ◌<◌, ◌⊎◌, List, [], ◌∷◌, refl, sym, ap, ◌∙◌, subst, inl, inr, arith, Contains, sum_by, All, All-contains, sum_by-cons, Strip, NodeKind, Source, Sink, Opin, Ipin, ChanX, ChanY, Node, IsWire, Basis, IsBasis, graph_of, Leads, IsPath, graph_at, AreCosts, AreSideBounds, IsBySide, IsFromWire, IsFromPin, IsStartKind, IsWireAt}
 use Rattle.fabric_planes.proofs.Joins.{IsReached}
 use Rattle.fabric_planes.proofs.SideWays.{by_side}
 use Rattle.fabric_planes.proofs.Strips.{edge_reached}
@@ -22,23 +9,11 @@ none_equal e = cc
 
 -- an output pin leads to wires
 pub from_output : (strip : Strip) (kb : NodeKind) (a b : Node) → IsReached strip Opin kb a b → IsWire kb
-from_output strip Source a b r = absurd r
-from_output strip Sink a b r = cc
-from_output strip Opin a b r = cc
-from_output strip Ipin a b r = absurd r
-from_output strip ChanX a b r = tt
-from_output strip ChanY a b r = tt
+from_output strip kb a b r = grind arith
 
 -- a source leads to output pins
 pub from_source : (strip : Strip) (kb : NodeKind) (a b : Node) → IsReached strip Source kb a b → kb ≡ Opin
-from_source strip Source a b r = absurd r
-from_source strip Sink a b r = cc
-from_source strip Opin a b r = refl
-from_source strip Ipin a b r = absurd r
-from_source strip ChanX a b (inl o) = cc
-from_source strip ChanX a b (inr w) = absurd w.0
-from_source strip ChanY a b (inl o) = cc
-from_source strip ChanY a b (inr w) = absurd w.0
+from_source strip kb a b r = grind arith
 
 module _ {basis : Basis} (is : IsBasis basis) {cost : ℕ → ℕ} (costs : AreCosts basis cost) (goal : ℕ) (within : goal < (graph_of basis).count) (kind : ((graph_of basis).node goal).kind ≡ Sink)
     (pins : ℕ → ℕ) (lasts : ℕ → ℕ → ℕ) (bounds : AreSideBounds basis cost ((graph_of basis).node goal) pins lasts) where

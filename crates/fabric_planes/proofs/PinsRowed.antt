@@ -1,26 +1,6 @@
 -- The rows of a pin are its ends in each plane.
-use Rattle.std.proofs.Common.{◌≡◌, ℕ, suc, ◌+◌, ◌-◌, ◌*◌, ◌%◌, ◌^◌, ◌<◌, ◌≤◌, List, [], ◌∷◌, length, map, refl, sym, ap, ◌∙◌, subst, inl, inr, arith, true, ◌==◌, ◌&&◌, ◌||◌, nat_le}
-use Rattle.std.specs.Prelude.{slice_index_or, nat_lt, if◌then◌else◌}
-use Rattle.std.proofs.lemmas.Bool.{and_parts, or_cases, cases_Bool, eqb-true, leb-true, ltb-true, false≢true}
-use Rattle.std.proofs.lemmas.Bool.Decides.{nat_tests}
-use Rattle.std.proofs.lemmas.Nat.{div-mul-add, mod-mul-add, mul-add-lt, mul-le}
-use Rattle.arch_file.proofs.FewPins.{few_pins}
-use Rattle.arch_file.specs.Arch.{clock_count}
-use Rattle.arch_file.specs.declared.arch.Pin.{Pin}
-use Rattle.rr_graph.specs.declared.node.NodeKind.{NodeKind}
-use Rattle.rr_graph.specs.declared.node.NodeKind.TheVariants.{Source, Sink, Opin, Ipin, ChanX, ChanY}
-use Rattle.rr_graph.specs.declared.node.Node.{Node}
-use Rattle.rr_graph.specs.Geometry.{IsWire, is_node, is_slot, is_chan_y, is_pad_row, is_block_row, is_together, joins, node_at_offset}
-use Rattle.rr_graph.specs.Graph.{Basis, IsBasis, graph_of, make_node}
-use Rattle.rr_graph.proofs.Columns.{member_bounds}
-use Rattle.fabric_planes.specs.declared.ends.Listed.{Listed}
-use Rattle.fabric_planes.specs.declared.ends.View.{View}
-use Rattle.fabric_planes.specs.declared.pins.PinAt.{PinAt}
-use Rattle.fabric_planes.specs.Ends.{AreRowsBelow, base_of, row_of, seen_from, shown_ends}
-use Rattle.fabric_planes.specs.Labels.{plane_of, family_of}
-use Rattle.fabric_planes.specs.Layout.{Terminals, pins_of, band_of, place_of, shows, labels_of, planes_of, AreTerminals, IsNetSearch}
-use Rattle.fabric_planes.specs.PinRows.{kind_at, index_of, rows_per_track, listed_by, listed_in, listed_at, row_count, pin_number, first_row}
-use Rattle.fabric_planes.specs.Pins.{IsShownPin, HasEnds, ends_in}
+use Rattle.fabric_planes.proofs.Prelude.{◌≡◌, ℕ, ◌+◌, ◌-◌, ◌*◌, ◌%◌, ◌^◌, ◌<◌, ◌≤◌, List, [], ◌∷◌, length, map, refl, sym, ap, ◌∙◌, subst, inl, inr, arith, true, ◌==◌, ◌&&◌, ◌||◌, nat_le, slice_index_or, nat_lt, if◌then◌else◌, and_parts, or_cases, cases_Bool, eqb-true, leb-true, ltb-true, nat_tests, div-mul-add, mod-mul-add, mul-add-lt, mul-le, few_pins, clock_count, Pin, NodeKind, Source, Sink, Opin, Ipin, ChanX, ChanY, Node, IsWire, is_node, is_slot, is_chan_y, is_pad_row, is_block_row, is_together, joins, node_at_offset, Basis, IsBasis, graph_of, make_node, member_bounds, Listed, View, PinAt, AreRowsBelow, base_of, row_of, seen_from, shown_ends, plane_of, family_of, Terminals, pins_of, band_of, place_of, shows, labels_of, planes_of, AreTerminals, IsNetSearch, kind_at, rows_per_track, listed_by, listed_in, listed_at, pin_number, IsShownPin, HasEnds, ends_in}
+use Rattle.fabric_planes.specs.PinRows.{index_of, row_count, first_row}
 use Rattle.fabric_planes.proofs.Alike.{node_moved, pins_alike, wire_row_moved}
 use Rattle.fabric_planes.proofs.Joins.{IsReached, reached}
 use Rattle.fabric_planes.proofs.Numbers.{same_shows}
@@ -30,32 +10,17 @@ use Rattle.fabric_planes.proofs.Strips.{lawful, node_column, node_slot, slot_fac
 -- ---- numbers of rows
 
 kind_back : (kind : NodeKind) (track : ℕ) → (IsWire kind → ⊥) → kind_at (index_of kind + rows_per_track kind * track) ≡ kind
-kind_back Source track pin = let e : 0 + 0 * track ≡ 0 = omega arith in ap kind_at e
-kind_back Sink track pin = let e : 1 + 0 * track ≡ 1 = omega arith in ap kind_at e
-kind_back Ipin track pin = let e : 2 + 0 * track ≡ 2 = omega arith in ap kind_at e
-kind_back Opin track pin = let e : 3 + 1 * track ≡ suc (suc (suc track)) = omega arith in ap kind_at e
-kind_back ChanX track pin = absurd (pin tt)
-kind_back ChanY track pin = absurd (pin tt)
+kind_back kind track pin = grind arith
 
 index_low : (kind : NodeKind) (track tracks : ℕ) → track < tracks → index_of kind + rows_per_track kind * track < tracks + 3
-index_low Opin track tracks low = omega (arith, low)
-index_low _ track tracks low = omega (arith, low)
+index_low kind track tracks low = grind arith
 
 per_track_few : (kind : NodeKind) → rows_per_track kind ≤ 1
-per_track_few Opin = omega arith
-per_track_few _ = omega arith
+per_track_few kind = grind arith
 
 -- a pin is not left of the first column
 pin_column : (kind : NodeKind) (x : ℕ) → (IsWire kind → ⊥) → (nat_le 1 x || is_chan_y kind) ≡ true → 1 ≤ x
-pin_column kind x pin h = elim (or_cases (nat_le 1 x) (is_chan_y kind) h) [
-  | inl some ↦ leb-true 1 x some
-  | inr up ↦ absurd (pin (upright kind up))
-]
-  where
-    upright : (kind : NodeKind) → is_chan_y kind ≡ true → IsWire kind
-    upright ChanX e = tt
-    upright ChanY e = tt
-    upright _ e = absurd (false≢true e)
+pin_column kind x pin h = grind arith
 
 pins_some : (pins : List Pin) → clock_count pins ≡ 1 → 1 ≤ length pins
 pins_some [] e = cc

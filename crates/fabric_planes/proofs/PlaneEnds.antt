@@ -1,19 +1,5 @@
 -- The ends of a node's edges in a track's plane.
-use Rattle.std.proofs.Common.{◌≡◌, ℕ, ◌+◌, ◌<◌, List, [], length, get_or, map, refl, sym, subst, arith, true, Bool, ◌&&◌}
-use Rattle.std.specs.Prelude.{Contains, filter}
-use Rattle.std.specs.List.Sorted.{IsStrictlyIncreasing}
-use Rattle.std.proofs.lemmas.Bool.{and_from}
-use Rattle.std.proofs.lemmas.List.{length-map, get_or-map}
-use Rattle.std.proofs.lemmas.List.Elements.{Contains-get_or}
-use Rattle.std.proofs.lemmas.List.Kept.{IsStrictlyIncreasing-filter}
-use Rattle.rr_graph.specs.declared.node.Node.{Node}
-use Rattle.rr_graph.specs.Geometry.{is_node, is_edge, joins}
-use Rattle.rr_graph.specs.Graph.{Basis, IsBasis, graph_of}
-use Rattle.rr_graph.proofs.GeometryLaws.{edge_joins}
-use Rattle.rr_graph.proofs.Listing.{filter_has, contains_has, has_contains}
-use Rattle.fabric_planes.specs.Ends.{shown_ends}
-use Rattle.fabric_planes.specs.Labels.{Labels, plane_of}
-use Rattle.fabric_planes.specs.Layout.{Terminals, place_of, shows, labels_of, IsNetSearch}
+use Rattle.fabric_planes.proofs.Prelude.{◌≡◌, ℕ, ◌+◌, ◌<◌, List, [], length, get_or, map, refl, sym, subst, arith, true, Bool, ◌&&◌, Contains, filter, IsStrictlyIncreasing, and_from, length-map, get_or-map, Contains-get_or, IsStrictlyIncreasing-filter, Node, is_node, is_edge, joins, Basis, IsBasis, graph_of, edge_joins, filter_has, contains_has, has_contains, shown_ends, Labels, plane_of, Terminals, place_of, shows, labels_of, IsNetSearch}
 use Rattle.fabric_planes.proofs.Labeled.{place_has, has_place, at_place, there_of}
 use Rattle.fabric_planes.proofs.Strips.{lawful, are_labels, place_order}
 

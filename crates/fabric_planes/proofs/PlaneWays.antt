@@ -1,17 +1,5 @@
 -- Ways in a plane are ways of the whole graph.
-use Rattle.std.proofs.Common.{◌≡◌, ℕ, ◌<◌, List, [], ◌∷◌, map, refl, sym, ap, ◌∙◌, subst, inl, inr, arith, true}
-use Rattle.std.specs.Prelude.{sum_by}
-use Rattle.std.proofs.lemmas.Bool.{cases_Bool}
-use Rattle.std.proofs.lemmas.List.Sums.{sum_by-cons}
-use Rattle.rr_graph.specs.declared.node.NodeKind.TheVariants.{Sink}
-use Rattle.rr_graph.specs.declared.node.Node.{Node}
-use Rattle.rr_graph.specs.Graph.{Basis, IsBasis, graph_of}
-use Rattle.least_path.specs.Path.{Leads}
-use Rattle.plane_search.specs.Planes.{Family, IsPlace, IsPlane, IsFamily}
-use Rattle.fabric_planes.specs.Labels.{Labels, AreLabels, is_there, plane_of, family_of}
-use Rattle.fabric_planes.specs.Layout.{Terminals, graph_at, labels_of, planes_of, place_of, IsNetSearch}
-use Rattle.fabric_planes.specs.Sides.{AreSideBounds, IsBySide}
-use Rattle.fabric_planes.specs.Ways.{IsWireAt}
+use Rattle.fabric_planes.proofs.Prelude.{◌≡◌, ℕ, ◌<◌, List, [], ◌∷◌, map, refl, sym, ap, ◌∙◌, subst, inl, inr, arith, true, sum_by, cases_Bool, sum_by-cons, Sink, Node, Basis, IsBasis, graph_of, Leads, Family, IsPlace, IsPlane, IsFamily, Labels, AreLabels, is_there, plane_of, family_of, Terminals, graph_at, labels_of, planes_of, place_of, IsNetSearch, AreSideBounds, IsBySide, IsWireAt}
 use Rattle.fabric_planes.proofs.Labeled.{is_family, at_place, there_of}
 use Rattle.fabric_planes.proofs.SideWays.{by_side}
 use Rattle.fabric_planes.proofs.Members.{in_none}

@@ -1,18 +1,5 @@
 -- Tables of prices while they are set.
-use Rattle.std.proofs.Common.{◌≡◌, ℕ, ◌+◌, ◌*◌, ◌<◌, ◌≤◌, ◌⊎◌, List, length, set, refl, sym, ap, ◌∙◌, subst, inl, inr, arith}
-use Rattle.std.specs.Prelude.{slice_index}
-use Rattle.std.proofs.lemmas.Bool.{cases_eq, cases_lt}
-use Rattle.std.proofs.lemmas.List.{get_or-set_same, get_or-set_other, length-set}
-use Rattle.std.proofs.lemmas.Nat.{mul-le}
-use Rattle.rr_graph.specs.declared.node.Node.{Node}
-use Rattle.rr_graph.specs.Geometry.{IsWire}
-use Rattle.rr_graph.specs.Graph.{Basis, IsBasis, graph_of}
-use Rattle.fabric_planes.specs.Laid.{IsWireOf}
-use Rattle.fabric_planes.specs.Layout.{place_of, place_count}
-use Rattle.fabric_planes.specs.declared.price_table.PriceAt.{PriceAt}
-use Rattle.fabric_planes.specs.Pins.{ArePrices, AreByPlace}
-use Rattle.fabric_planes.specs.Prices.{AreByPlaceBut, ComesFrom, IsSpot, IsRepriced, IsWireOn}
-use Rattle.fabric_planes.specs.Ways.{IsWireAt}
+use Rattle.fabric_planes.proofs.Prelude.{◌≡◌, ℕ, ◌+◌, ◌*◌, ◌<◌, ◌≤◌, ◌⊎◌, List, length, set, refl, sym, ap, ◌∙◌, subst, inl, inr, arith, slice_index, cases_eq, cases_lt, get_or-set_same, get_or-set_other, length-set, Node, IsWire, Basis, IsBasis, graph_of, IsWireOf, place_of, place_count, PriceAt, ArePrices, AreByPlace, AreByPlaceBut, ComesFrom, IsSpot, IsRepriced, IsWireOn, IsWireAt}
 use Rattle.fabric_planes.proofs.Consecutive.{wires_order}
 use Rattle.fabric_planes.proofs.Found.{place_low}
 use Rattle.fabric_planes.proofs.Strips.{track_low}
@@ -20,25 +7,11 @@ use Rattle.fabric_planes.proofs.Untold.{within}
 
 -- ---- an index tells the track and the place
 
-less_track : (places a b p q : ℕ) → p < places → a < b → a * places + p ≡ b * places + q → ⊥
-less_track places a b p q low less e =
-    let m : (a + 1) * places ≤ b * places = mul-le (a + 1) places b places (omega (arith, less)) (omega arith) in
-    let f : (a + 1) * places ≡ a * places + places = grind arith in
-    omega (arith, m, f, low, e)
-
 same_track : (places a b p q : ℕ) → p < places → q < places → a * places + p ≡ b * places + q → a ≡ b
-same_track places a b p q lp lq e = elim (cases_eq a b) [
-  | inl same ↦ same
-  | inr other ↦ elim (cases_lt a b) [
-    | inl less ↦ absurd (less_track places a b p q lp less e)
-    | inr more ↦ (let less : b < a = omega (arith, more, other) in absurd (less_track places b a q p lq less (sym e)))
-  ]
-]
+same_track places a b p q lp lq e = grind arith
 
 same_place : (places a b p q : ℕ) → p < places → q < places → a * places + p ≡ b * places + q → p ≡ q
-same_place places a b p q lp lq e =
-    let f : a * places ≡ b * places = ap (λ (n : ℕ). n * places) (same_track places a b p q lp lq e) in
-    omega (arith, e, f)
+same_place places a b p q lp lq e = grind (arith, same_track places a b p q lp lq e)
 
 -- the prices of all wires are those of these costs, except for some nodes
 pub record ArePricesBut (basis : Basis) (cost : ℕ → ℕ) (but : ℕ → Type 0) (prices : List ℕ) : Type 0 where
@@ -52,10 +25,7 @@ abbrev pub IsLeft : List ℕ → ℕ → ℕ → Type 0
 IsLeft nodes from number = (k : ℕ) × (from ≤ k) × (k < length nodes) × (slice_index nodes k ≡ number)
 
 pub next_left : (nodes : List ℕ) (from number node : ℕ) → slice_index nodes from ≡ node → IsLeft nodes from number → IsLeft nodes (from + 1) number ⊎ (number ≡ node)
-next_left nodes from number node at (k, l, b, e) = elim (cases_eq k from) [
-  | inl same ↦ inr (sym e ∙ (ap (slice_index nodes) same ∙ at))
-  | inr other ↦ inl (k, omega (arith, l, other), b, e)
-]
+next_left nodes from number node at h2 = grind arith
 
 pub none_left : (nodes : List ℕ) (from number : ℕ) → length nodes ≤ from → IsLeft nodes from number → ⊥
 none_left nodes from number past (k, l, b, e) = omega (arith, past, l, b)
@@ -188,26 +158,15 @@ module _ {basis : Basis} (is : IsBasis basis) where
 -- ---- from and to tables of all prices
 
 pub all_but : (basis : Basis) (cost : ℕ → ℕ) (but : ℕ → Type 0) (prices : List ℕ) → ArePrices basis cost prices → ArePricesBut basis cost but prices
-all_but basis cost but prices are = record {
-  long = are.long;
-  told = λ place number w not. are.told place number w;
-  others = are.others;
-}
+all_but basis cost but prices are = grind arith
 
 pub all_told : (basis : Basis) (cost : ℕ → ℕ) (but : ℕ → Type 0) (prices : List ℕ) → ((k : ℕ) → but k → ⊥) → ArePricesBut basis cost but prices → ArePrices basis cost prices
-all_told basis cost but prices none are = record {
-  long = are.long;
-  told = λ place number w. are.told place number w (none number);
-  others = are.others;
-}
+all_told basis cost but prices none are = grind arith
 
 -- ---- the same place by place
 
 pub all_by_place : (basis : Basis) (cost : ℕ → ℕ) (but : ℕ → Type 0) (prices : List ℕ) → ((number : ℕ) → number < (graph_of basis).count → but number → ⊥) → AreByPlaceBut basis cost but prices → AreByPlace basis cost prices
-all_by_place basis cost but prices none are = record {
-  long = are.long;
-  low = λ place number w. are.low place number w (none number w.wire.within);
-}
+all_by_place basis cost but prices none are = grind arith
 
 -- ---- the wires of one place after another
 

@@ -1,11 +1,5 @@
 -- Bounds of rivals, as they are lowered.
-use Rattle.std.proofs.Common.{◌≡◌, ℕ, ◌+◌, ◌<◌, ◌≤◌, List, ◌++◌, length, take, refl, ap, sym, ◌∙◌, subst, inl, inr, arith}
-use Rattle.std.proofs.Math.Seq.{take-append_seam}
-use Rattle.std.specs.Prelude.{slice_index, slice_set}
-use Rattle.std.proofs.lemmas.Bool.{cases_eq, cases_lt}
-use Rattle.std.proofs.lemmas.List.{get_or-set_same, get_or-set_other, length-set}
-use Rattle.fabric_planes.specs.Bounds.{AreLowered}
-use Rattle.fabric_planes.specs.RivalBounds.{AreLimited}
+use Rattle.fabric_planes.proofs.Prelude.{◌≡◌, ℕ, ◌+◌, ◌<◌, ◌≤◌, List, ◌++◌, length, take, refl, sym, ◌∙◌, subst, arith, take-append_seam, slice_index, slice_set, get_or-set_same, get_or-set_other, length-set, AreLowered, AreLimited}
 
 pub lowered_itself : (xs : List ℕ) → AreLowered xs xs
 lowered_itself xs = record { long = refl; falls = λ track. omega arith }
@@ -18,31 +12,15 @@ limited_then tracks most xs ys a b = record { long = b.long ∙ a.long; low = λ
 
 -- one number is no greater than before
 pub lowered_set : (old now : List ℕ) (k v : ℕ) → AreLowered old now → k < length now → v ≤ slice_index now k → AreLowered old (slice_set now k v)
-lowered_set old now k v a within less = record {
-  long = length-set now k v ∙ a.long;
-  falls = λ track. elim (cases_eq track k) [
-    | inl same ↦ (let e : slice_index (slice_set now k v) track ≡ v = ap (slice_index (slice_set now k v)) same ∙ get_or-set_same now k v 0 within in
-        let f : slice_index now track ≡ slice_index now k = ap (slice_index now) same in
-        omega (arith, e, f, less, a.falls track))
-    | inr other ↦ (let e : slice_index (slice_set now k v) track ≡ slice_index now track = get_or-set_other now k track v 0 other in omega (arith, e, a.falls track))
-  ];
-}
+lowered_set old now k v a within less = grind (arith, length-set, get_or-set_same, get_or-set_other)
 
 -- what holds of each of the first numbers holds of one more
 pub each_set : (P : ℕ → ℕ → Type 0) → (now : List ℕ) (k v : ℕ) → k < length now → ((i : ℕ) → i < k → P i (slice_index now i)) → P k v → (i : ℕ) → i < k + 1 → P i (slice_index (slice_set now k v) i)
-each_set P now k v within low here i b = elim (cases_eq i k) [
-  | inl same ↦ (let e : slice_index (slice_set now k v) i ≡ v = ap (slice_index (slice_set now k v)) same ∙ get_or-set_same now k v 0 within in
-      subst (λ (r : ℕ). P i r) (sym e) (subst (λ (j : ℕ). P j v) (sym same) here))
-  | inr other ↦ (let e : slice_index (slice_set now k v) i ≡ slice_index now i = get_or-set_other now k i v 0 other in
-      subst (λ (r : ℕ). P i r) (sym e) (low i (omega (arith, b, other))))
-]
+each_set P now k v within low here i b = grind (arith, get_or-set_same, get_or-set_other)
 
 -- what holds of the bounds for the first indices, and of lesser bounds too, holds for one more
 pub each_more : (P : ℕ → List ℕ → Type 0) → ((i : ℕ) (xs ys : List ℕ) → P i xs → AreLowered xs ys → P i ys) → (now new : List ℕ) (k : ℕ) → ((i : ℕ) → i < k → P i now) → AreLowered now new → P k new → (i : ℕ) → i < k + 1 → P i new
-each_more P still now new k low falls here i b = elim (cases_lt i k) [
-  | inl l ↦ still i now new (low i l) falls
-  | inr m ↦ (let e : k ≡ i = omega (arith, b, m) in subst (λ (j : ℕ). P j new) e here)
-]
+each_more P still now new k low falls here i b = grind arith
 
 -- a vector has what was written to its slice
 pub written : (xs ys : List ℕ) (n : ℕ) → n ≡ length xs → take n (xs ++ ys) ≡ xs

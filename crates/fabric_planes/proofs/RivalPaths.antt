@@ -1,29 +1,5 @@
 -- Paths that come before a known one cost at least the bounds.
-use Rattle.std.proofs.Common.{◌≡◌, ℕ, ◌+◌, ◌<◌, ◌≤◌, List, length, map, refl, sym, ap, ◌∙◌, subst, inl, inr, arith, true}
-use Rattle.std.specs.Prelude.{Contains, slice_index, sum_by}
-use Rattle.std.proofs.lemmas.Bool.{and_parts, cases_eq}
-use Rattle.std.proofs.lemmas.List.Elements.{All-contains}
-use Rattle.arch_file.specs.declared.arch.Arch.{Arch}
-use Rattle.grid.specs.declared.Strip.{Strip}
-use Rattle.rr_graph.specs.declared.node.NodeKind.{NodeKind}
-use Rattle.rr_graph.specs.declared.node.NodeKind.TheVariants.{Source, Opin, ChanX, ChanY}
-use Rattle.rr_graph.specs.declared.node.Node.{Node}
-use Rattle.rr_graph.specs.Geometry.{IsWire, joins, meets, meets_track, flexibility_of, runs_along, sides_at, is_together}
-use Rattle.rr_graph.specs.Graph.{Basis, IsBasis, graph_of}
-use Rattle.rr_graph.proofs.GeometryLaws.{edge_joins}
-use Rattle.least_path.specs.Path.{Leads}
-use Rattle.plane_search.specs.Planes.{Family, IsPlaneBound, IsRivalBound}
-use Rattle.fabric_planes.specs.Bounds.{IsMetAt}
-use Rattle.fabric_planes.specs.Layout.{Terminals, IsStart, IsNetSearch, place_of, planes_of, shows}
-use Rattle.fabric_planes.specs.Pins.{IsShownPin}
-use Rattle.fabric_planes.specs.PlaneBounds.{AreBounds, AreRivals}
-use Rattle.fabric_planes.specs.RivalBounds.{AreRivalsFrom, AreRivalsOver, head_over}
-use Rattle.fabric_planes.specs.Rivals.{ComesFirst, IsHeadOf}
-use Rattle.fabric_planes.specs.Starts.{HasStarts}
-use Rattle.fabric_planes.specs.Ways.{IsWireAt}
-use Rattle.fabric_planes.specs.declared.net_starts.NetStarts.{NetStarts}
-use Rattle.fabric_planes.specs.declared.net_starts.StartWire.{StartWire}
-use Rattle.fabric_planes.specs.declared.rivals.Head.{Head}
+use Rattle.fabric_planes.proofs.Prelude.{◌≡◌, ℕ, ◌+◌, ◌<◌, ◌≤◌, List, length, map, refl, sym, ap, ◌∙◌, subst, inl, inr, arith, true, Contains, slice_index, sum_by, and_parts, cases_eq, All-contains, Arch, Strip, NodeKind, Source, Opin, Node, IsWire, joins, meets, meets_track, flexibility_of, runs_along, sides_at, is_together, Basis, IsBasis, graph_of, edge_joins, Leads, Family, IsPlaneBound, IsRivalBound, IsMetAt, Terminals, IsStart, IsNetSearch, place_of, planes_of, shows, IsShownPin, AreBounds, AreRivals, AreRivalsFrom, AreRivalsOver, head_over, ComesFirst, IsHeadOf, HasStarts, IsWireAt, NetStarts, StartWire, Head}
 use Rattle.fabric_planes.proofs.HeadOrder.{heads_order, wire_first}
 use Rattle.fabric_planes.proofs.Heads.{plane_head}
 use Rattle.fabric_planes.proofs.Joins.{IsReached}
@@ -36,16 +12,11 @@ use Rattle.fabric_planes.proofs.Strips.{lawful, edge_reached, together_spot}
 
 -- a head in place of another with the same start, pin, place and track
 first_same : (q r h : Head) → q.start ≡ r.start → q.pin ≡ r.pin → q.place ≡ r.place → q.track ≡ r.track → ComesFirst q h → ComesFirst r h
-first_same q r h s p l t (inl a) = inl (omega (arith, a, s))
-first_same q r h s p l t (inr (e, inl a)) = inr (sym s ∙ e, inl (omega (arith, a, p)))
-first_same q r h s p l t (inr (e, inr (d, inl a))) = inr (sym s ∙ e, inr (sym p ∙ d, inl (omega (arith, a, l))))
-first_same q r h s p l t (inr (e, inr (d, inr (b, a)))) = inr (sym s ∙ e, inr (sym p ∙ d, inr (sym l ∙ b, omega (arith, a, t))))
+first_same q r h s p l t h5 = grind arith
 
 -- an output pin meets the wires that its edges lead to
 pin_meets : (arch : Arch) (strip : Strip) (kind : NodeKind) (pin wire : Node) → IsWire kind → joins arch strip Opin kind pin wire ≡ true → meets arch strip pin wire ≡ true
-pin_meets arch strip ChanX pin wire w h = h
-pin_meets arch strip ChanY pin wire w h = h
-pin_meets arch strip _ pin wire w h = absurd w
+pin_meets arch strip kind pin wire w h = grind arith
 
 module _ {basis : Basis} (is : IsBasis basis) where
   abbrev node : ℕ → Node

@@ -1,16 +1,5 @@
 -- Bounds of the paths over an output pin that come before a known path.
-use Rattle.std.proofs.Common.{◌≡◌, ℕ, ◌<◌, ◌≤◌, List, refl, sym, ◌∙◌, subst, arith}
-use Rattle.std.specs.Prelude.{slice_index}
-use Rattle.rr_graph.specs.declared.node.Node.{Node}
-use Rattle.rr_graph.specs.Graph.{Basis, IsBasis, graph_of}
-use Rattle.plane_search.specs.Planes.{Family}
-use Rattle.fabric_planes.specs.Aheads.{AreSides}
-use Rattle.fabric_planes.specs.Bounds.{IsMetAt, IsOutput, IsWireBound}
-use Rattle.fabric_planes.specs.Layout.{place_of}
-use Rattle.fabric_planes.specs.RivalBounds.{head_over, IsLead}
-use Rattle.fabric_planes.specs.Rivals.{ComesFirst}
-use Rattle.fabric_planes.specs.declared.rival_bounds.Lead.{Lead}
-use Rattle.fabric_planes.specs.declared.rivals.Head.{Head}
+use Rattle.fabric_planes.proofs.Prelude.{◌≡◌, ℕ, ◌<◌, ◌≤◌, List, refl, sym, ◌∙◌, subst, arith, slice_index, Node, Basis, IsBasis, graph_of, Family, AreSides, IsMetAt, IsOutput, IsWireBound, place_of, head_over, IsLead, ComesFirst, Lead, Head}
 use Rattle.fabric_planes.proofs.Strips.{together_parts, track_low}
 
 module _ {basis : Basis} (is : IsBasis basis) where

@@ -1,26 +1,5 @@
 -- Bounds of the paths from starts that come before a known path.
-use Rattle.std.proofs.Common.{◌≡◌, ℕ, zero, suc, ◌<◌, ◌≤◌, ◌⊎◌, List, [], ◌∷◌, length, get_or, set, Some, sym, ap, ◌∙◌, subst, inl, inr, arith}
-use Rattle.std.specs.Prelude.{Contains, slice_index, slice_index_or, sum_by}
-use Rattle.std.proofs.lemmas.Bool.{cases_eq}
-use Rattle.std.proofs.lemmas.List.{get_or_default, get_or-set_same}
-use Rattle.rr_graph.specs.declared.node.NodeKind.{NodeKind}
-use Rattle.rr_graph.specs.declared.node.NodeKind.TheVariants.{Source, Sink, Opin, Ipin, ChanX, ChanY}
-use Rattle.rr_graph.specs.declared.node.Node.{Node}
-use Rattle.rr_graph.specs.Geometry.{IsWire}
-use Rattle.rr_graph.specs.Graph.{Basis, IsBasis, graph_of}
-use Rattle.least_path.specs.LowerBound.{IsLowerBound}
-use Rattle.least_path.specs.Path.{Leads}
-use Rattle.plane_search.specs.Planes.{Family}
-use Rattle.fabric_planes.specs.Bounds.{AreLowered}
-use Rattle.fabric_planes.specs.Labels.{node_at}
-use Rattle.fabric_planes.specs.Layout.{Terminals, place_of, labels_of, IsNetSearch}
-use Rattle.fabric_planes.specs.Pins.{IsShownPin, ArePins}
-use Rattle.fabric_planes.specs.RivalBounds.{AreOverSide, AreOverPin, AreRivalsOver, AreFromSource, AreRivalsFrom, AreShownTo, AreWiresTo}
-use Rattle.fabric_planes.specs.Sides.{IsStartKind}
-use Rattle.fabric_planes.specs.declared.net_starts.StartWire.{StartWire}
-use Rattle.fabric_planes.specs.declared.pins.PinAt.{PinAt}
-use Rattle.fabric_planes.specs.declared.rival_bounds.Lead.{Lead}
-use Rattle.fabric_planes.specs.declared.rivals.Head.{Head}
+use Rattle.fabric_planes.proofs.Prelude.{◌≡◌, ℕ, zero, suc, ◌<◌, ◌≤◌, ◌⊎◌, List, [], ◌∷◌, length, get_or, set, Some, sym, ap, ◌∙◌, subst, inl, inr, arith, Contains, slice_index, slice_index_or, sum_by, cases_eq, get_or_default, get_or-set_same, NodeKind, Source, Sink, Opin, Ipin, ChanX, ChanY, Node, IsWire, Basis, IsBasis, graph_of, IsLowerBound, Leads, Family, AreLowered, node_at, Terminals, place_of, labels_of, IsNetSearch, IsShownPin, ArePins, AreOverSide, AreOverPin, AreRivalsOver, AreFromSource, AreRivalsFrom, AreShownTo, AreWiresTo, IsStartKind, StartWire, PinAt, Lead, Head}
 use Rattle.fabric_planes.proofs.Labeled.{at_place}
 use Rattle.fabric_planes.proofs.Strips.{are_labels}
 
@@ -175,9 +154,7 @@ contained_index xs x c = get_or_default xs c.0 0 x c.1 ∙ c.2
 
 pub shown_here : (basis : Basis) (cost : ℕ → ℕ) (f : Family) (head : Head) (start : ℕ) (pins : List PinAt) (k : ℕ) (d : PinAt) (bounds : List ℕ) → k < length pins
     → (((graph_of basis).node (slice_index_or pins k d).number).kind ≡ Opin → AreRivalsOver basis cost f head start (slice_index_or pins k d).number (cost (slice_index_or pins k d).number) bounds) → AreShownTo basis cost f head start pins k bounds
-shown_here basis cost f head start pins k d bounds b low pin e o =
-    let same : slice_index_or pins k d ≡ pin = get_or_default pins k d pin b ∙ e in
-    subst (λ (v : PinAt). AreRivalsOver basis cost f head start v.number (cost v.number) bounds) same (low (ap (λ (v : PinAt). ((graph_of basis).node v.number).kind) same ∙ o))
+shown_here basis cost f head start pins k d bounds b low pin e o = grind (arith, get_or_default)
 
 pub wires_here : (basis : Basis) (cost : ℕ → ℕ) (f : Family) (t : Terminals) (head : Head) (wires : List StartWire) (k : ℕ) (d : StartWire) (bounds : List ℕ) → k < length wires
     → AreRivalsFrom basis cost f t head (slice_index_or wires k d).number bounds → AreWiresTo basis cost f t head wires k bounds

@@ -1,19 +1,5 @@
 -- The pins that a net's planes show, as they are listed.
-use Rattle.std.proofs.Common.{◌≡◌, ℕ, ◌<◌, ◌⊎◌, true, List, [], ◌∷◌, ◌++◌, refl, sym, ap, subst, ◌∙◌, inl, inr, arith}
-use Rattle.std.specs.Prelude.{Contains, ◌==◌, ◌&&◌}
-use Rattle.std.proofs.lemmas.Bool.{and_parts, eqb-true, eq-eqb}
-use Rattle.std.proofs.lemmas.List.Elements.{Contains-append_left, Contains-push, Contains-push_cases}
-use Rattle.rr_graph.specs.declared.node.NodeKind.{NodeKind}
-use Rattle.rr_graph.specs.declared.node.NodeKind.TheVariants.{Source, Sink, Opin, Ipin, ChanX, ChanY}
-use Rattle.rr_graph.specs.declared.node.Node.{Node}
-use Rattle.rr_graph.specs.Geometry.{IsWire}
-use Rattle.rr_graph.specs.Graph.{Basis, IsBasis, graph_of, make_node}
-use Rattle.fabric_planes.specs.declared.pins.PinAt.{PinAt}
-use Rattle.fabric_planes.specs.Layout.{is_same_spot, place_of, shows}
-use Rattle.fabric_planes.specs.NetSearches.{terminals_of}
-use Rattle.fabric_planes.specs.Pins.{IsShownPin}
-use Rattle.fabric_planes.specs.Shown.{AddsPins, ArePinsFor, IsOutputOf, IsPinAt}
-use Rattle.fabric_planes.specs.Sides.{IsOwnPin}
+use Rattle.fabric_planes.proofs.Prelude.{◌≡◌, ℕ, ◌<◌, ◌⊎◌, true, List, [], ◌∷◌, ◌++◌, refl, sym, ap, subst, ◌∙◌, inl, inr, arith, Contains, eq-eqb, Contains-append_left, Contains-push, Contains-push_cases, NodeKind, Source, Sink, Opin, Ipin, ChanX, ChanY, Node, IsWire, Basis, IsBasis, graph_of, PinAt, is_same_spot, place_of, shows, terminals_of, IsShownPin, AddsPins, ArePinsFor, IsOutputOf, IsPinAt, IsOwnPin}
 use Rattle.fabric_planes.proofs.Consecutive.{same_number}
 
 -- ---- lists with more pins
@@ -58,14 +44,10 @@ module _ (basis : Basis) (rows : List (List ℕ)) where
 -- ---- the pins that are shown
 
 same_node : (a b : Node) → a.x ≡ b.x → a.kind ≡ b.kind → a.y ≡ b.y → a.n ≡ b.n → a ≡ b
-same_node a b x kind y n =
-    ap (λ (v : ℕ). make_node v a.kind a.y a.n) x ∙ (ap (λ (v : NodeKind). make_node b.x v a.y a.n) kind ∙ (ap (λ (v : ℕ). make_node b.x b.kind v a.n) y ∙ ap (λ (v : ℕ). make_node b.x b.kind b.y v) n))
+same_node a b x kind y n = grind arith
 
 same_spot : (a b : Node) → a.kind ≡ b.kind → is_same_spot a b ≡ true → a ≡ b
-same_spot a b kind h =
-    let x = and_parts (a.x == b.x) ((a.y == b.y) && (a.n == b.n)) h in
-    let y = and_parts (a.y == b.y) (a.n == b.n) x.1 in
-    same_node a b (eqb-true a.x b.x x.0) kind (eqb-true a.y b.y y.0) (eqb-true a.n b.n y.1)
+same_spot a b kind h = grind arith
 
 own_spot : (a : Node) → is_same_spot a a ≡ true
 own_spot a = rw (eq-eqb a.x a.x refl) (rw (eq-eqb a.y a.y refl) (eq-eqb a.n a.n refl))

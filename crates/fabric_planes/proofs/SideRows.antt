@@ -1,15 +1,5 @@
 -- Bounds of the ways from the wires that an output pin meets.
-use Rattle.std.proofs.Common.{◌≡◌, ℕ, ◌+◌, ◌-◌, ◌*◌, ◌<◌, ◌≤◌, List, [], ◌∷◌, length, take, drop, min, refl, sym, ◌∙◌, arith}
-use Rattle.std.specs.Prelude.{slice_index}
-use Rattle.std.proofs.lemmas.List.{get_or-take, get_or-drop, length-drop, length-take-le}
-use Rattle.std.proofs.Math.Nat.{mul-le-mul_left}
-use Rattle.rr_graph.specs.declared.node.Node.{Node}
-use Rattle.rr_graph.specs.Graph.{Basis, IsBasis, graph_of}
-use Rattle.fabric_planes.specs.Aheads.{AreAheads, AreFars, AreLeast, AreSides, HaveBounds}
-use Rattle.fabric_planes.specs.Bounds.{IsWireBound}
-use Rattle.fabric_planes.specs.Laid.{IsWireOf}
-use Rattle.fabric_planes.specs.Layout.{Terminals, place_of, planes_of, IsNetSearch}
-use Rattle.fabric_planes.specs.Ways.{IsWireAt}
+use Rattle.fabric_planes.proofs.Prelude.{◌≡◌, ℕ, ◌+◌, ◌-◌, ◌*◌, ◌<◌, ◌≤◌, List, [], ◌∷◌, length, take, drop, min, refl, sym, ◌∙◌, arith, slice_index, get_or-take, get_or-drop, length-drop, length-take-le, mul-le-mul_left, Node, Basis, IsBasis, graph_of, AreAheads, AreFars, AreLeast, AreSides, HaveBounds, IsWireBound, IsWireOf, Terminals, place_of, planes_of, IsNetSearch, IsWireAt}
 use Rattle.fabric_planes.proofs.Bounded.{far_low, side_low}
 use Rattle.fabric_planes.proofs.Strips.{track_low}
 use Rattle.fabric_planes.proofs.WireBounds.{By, fars_near, sharp_low, wire_bound}

@@ -1,18 +1,5 @@
 -- Ways end at a side of the sink's block or pad.
-use Rattle.std.proofs.Common.{◌≡◌, ℕ, ◌+◌, ◌<◌, ◌≤◌, List, refl, ◌∙◌, subst, inl, inr, arith, true, ◌==◌, ◌&&◌, ◌||◌}
-use Rattle.std.specs.Prelude.{sum_by}
-use Rattle.std.proofs.lemmas.Bool.{and_parts, or_cases, eqb-true, false≢true}
-use Rattle.arch_file.specs.declared.arch.Sides.{Sides}
-use Rattle.rr_graph.specs.declared.node.NodeKind.{NodeKind}
-use Rattle.rr_graph.specs.declared.node.NodeKind.TheVariants.{Sink, Ipin, ChanX, ChanY}
-use Rattle.rr_graph.specs.declared.node.Node.{Node}
-use Rattle.rr_graph.specs.Geometry.{IsWire, joins, meets, meets_track, flexibility_of, runs_along, sides_at}
-use Rattle.rr_graph.specs.Graph.{Basis, IsBasis, graph_of}
-use Rattle.rr_graph.proofs.GeometryLaws.{edge_joins}
-use Rattle.least_path.specs.Path.{Leads}
-use Rattle.fabric_planes.specs.Layout.{graph_at, AreCosts}
-use Rattle.fabric_planes.specs.Sides.{is_on_side, IsAtSide, IsOwnPin, AreSideBounds, IsBySide}
-use Rattle.fabric_planes.specs.Ways.{IsWireAt, IsEntry}
+use Rattle.fabric_planes.proofs.Prelude.{◌≡◌, ℕ, ◌+◌, ◌<◌, ◌≤◌, List, refl, ◌∙◌, subst, inl, inr, arith, true, ◌==◌, ◌&&◌, ◌||◌, sum_by, and_parts, or_cases, eqb-true, false≢true, Sides, NodeKind, Sink, Ipin, ChanX, ChanY, Node, IsWire, joins, meets, meets_track, flexibility_of, runs_along, sides_at, Basis, IsBasis, graph_of, edge_joins, Leads, graph_at, AreCosts, is_on_side, IsAtSide, IsOwnPin, AreSideBounds, IsBySide, IsWireAt, IsEntry}
 use Rattle.fabric_planes.proofs.Crossing.{way_over}
 use Rattle.fabric_planes.proofs.Strips.{lawful, together_parts}
 
@@ -41,9 +28,7 @@ along_side sides pin sink _ x y ex ey h = absurd (false≢true h)
 
 -- what a wire and a pin that join say
 pub wire_meets : (arch : _) (strip : _) (kind : NodeKind) (wire pin : Node) → IsWire kind → joins arch strip kind Ipin wire pin ≡ true → wire.kind ≡ kind → meets arch strip pin wire ≡ true
-wire_meets arch strip ChanX wire pin w h e = h
-wire_meets arch strip ChanY wire pin w h e = h
-wire_meets arch strip _ wire pin w h e = absurd w
+wire_meets arch strip kind wire pin w h e = grind arith
 
 module _ {basis : Basis} (is : IsBasis basis) {cost : ℕ → ℕ} (costs : AreCosts basis cost) (goal : ℕ) (within : goal < (graph_of basis).count) (kind : ((graph_of basis).node goal).kind ≡ Sink) where
   abbrev node : ℕ → Node

@@ -1,20 +1,5 @@
 -- The wires at the sides of a sink's block or pad, by place.
-use Rattle.std.proofs.Common.{◌≡◌, ℕ, ◌+◌, ◌-◌, ◌<◌, ◌≤◌, true, false, List, cond, refl, ap, subst, sym, ◌∙◌, inl, inr, arith, leb}
-use Rattle.std.specs.Prelude.{slice_index, nat_le, nat_lt, ◌&&◌, ◌||◌}
-use Rattle.std.proofs.lemmas.Bool.{cases_lt, and_parts, leb-true, le-leb}
-use Rattle.arch_file.specs.declared.arch.Arch.{Arch}
-use Rattle.grid.specs.declared.Strip.{Strip}
-use Rattle.rr_graph.specs.declared.node.NodeKind.{NodeKind}
-use Rattle.rr_graph.specs.declared.node.NodeKind.TheVariants.{ChanX, ChanY}
-use Rattle.rr_graph.specs.declared.node.Node.{Node}
-use Rattle.rr_graph.specs.Geometry.{IsWire, is_node, is_slot, is_chan_y, is_block_row}
-use Rattle.rr_graph.specs.Graph.{Basis, IsBasis, graph_of}
-use Rattle.fabric_planes.specs.Aheads.{AreSides}
-use Rattle.fabric_planes.specs.Differences.{IsPinPlace}
-use Rattle.fabric_planes.specs.Laid.{IsWireOf}
-use Rattle.fabric_planes.specs.Layout.{band_of, level_at, upright_at, stride_of, in_column, offset_of, place_of, place_count}
-use Rattle.fabric_planes.specs.SidePlaces.{IsInStrip, side_places}
-use Rattle.fabric_planes.specs.Sides.{IsAtSide}
+use Rattle.fabric_planes.proofs.Prelude.{◌≡◌, ℕ, ◌+◌, ◌-◌, ◌<◌, ◌≤◌, true, false, List, cond, refl, ap, subst, sym, ◌∙◌, inl, inr, arith, leb, slice_index, cases_lt, leb-true, le-leb, Arch, Strip, NodeKind, ChanX, ChanY, Node, IsWire, is_node, Basis, IsBasis, graph_of, AreSides, IsPinPlace, IsWireOf, band_of, level_at, upright_at, stride_of, in_column, offset_of, place_of, place_count, IsInStrip, side_places, IsAtSide}
 use Rattle.fabric_planes.proofs.Strips.{lawful}
 use Rattle.fabric_planes.proofs.Found.{place_low}
 use Rattle.fabric_planes.proofs.Lowered.{by_four}
@@ -35,15 +20,8 @@ parts_of basis x y p q few more e = elim (cases_lt x y) [
   ]
 ]
 
--- a wire's row is one of the strip's
-slot_row : (arch : Arch) (strip : Strip) (kind : NodeKind) (y n : ℕ) → IsWire kind → is_slot arch strip kind y n ≡ true → y ≤ strip.rows
-slot_row arch strip ChanX y n w h = leb-true y strip.rows (and_parts (nat_le y strip.rows) (nat_lt n arch.tracks) h).0
-slot_row arch strip ChanY y n w h = leb-true y strip.rows (and_parts (nat_le 1 y) (nat_le y strip.rows) (and_parts (is_block_row strip y) (nat_lt n arch.tracks) h).0).1
-slot_row arch strip _ y n w h = absurd w
-
 wire_row : (arch : Arch) (strip : Strip) (v : Node) → IsWire v.kind → is_node arch strip v ≡ true → v.y ≤ strip.rows
-wire_row arch strip v w there =
-    slot_row arch strip v.kind v.y v.n w (and_parts (nat_le 1 v.x || is_chan_y v.kind) (is_slot arch strip v.kind v.y v.n) (and_parts (nat_le v.x strip.width) ((nat_le 1 v.x || is_chan_y v.kind) && is_slot arch strip v.kind v.y v.n) there).1).1
+wire_row arch strip v w there = grind arith
 
 -- a horizontal wire, and a vertical one, by their places
 level_wire : (basis : Basis) (v : Node) (kind : NodeKind) → IsWire kind → v.y ≤ basis.strip.rows → (x r : ℕ) → r < band_of basis → in_column basis x (level_at basis + r) ≡ in_column basis v.x (offset_of basis kind v) → (kind ≡ ChanX) × (v.x ≡ x) × (v.y ≡ r)
@@ -73,9 +51,7 @@ same_place basis x y p q e f = ap (λ x. in_column basis x p) e ∙ ap (λ p. in
 
 -- a place of wires is not one of pins
 no_pin_at : (basis : Basis) (x p y q : ℕ) → level_at basis ≤ p → p < stride_of basis → IsPinPlace basis y q → in_column basis x p ≡ in_column basis y q → ⊥
-no_pin_at basis x p y q from few pin e =
-    let parts = parts_of basis x y p q few (omega (arith, pin.few)) e in
-    omega (arith, parts.1, from, pin.few)
+no_pin_at basis x p y q from few pin e = grind (arith, parts_of basis x y p q few (omega (arith, pin.few)) e)
 
 no_pin_past : (basis : Basis) (y q : ℕ) → IsPinPlace basis y q → place_count basis ≡ in_column basis y q → ⊥
 no_pin_past basis y q pin e = let l = place_below basis y q pin.column (omega (arith, pin.few)) in omega (arith, l, e)

@@ -1,41 +1,22 @@
 -- The starts that are wires, and the others.
-use Rattle.std.proofs.Common.{◌≡◌, ℕ, zero, suc, ◌⊎◌, List, [], ◌∷◌, ◌++◌, map, refl, sym, ap, ◌∙◌, subst, arith, inl, inr, Bool, true, false}
-use Rattle.std.specs.Prelude.{All, Contains, filter, if◌then◌else◌}
-use Rattle.std.proofs.lemmas.Bool.{cases_Bool, false≢true}
-use Rattle.std.proofs.lemmas.List.{map-append, append-nil}
-use Rattle.std.proofs.lemmas.List.Elements.{All-contains, All-append, All-nil, All-cons, filter-append}
-use Rattle.rr_graph.specs.declared.node.NodeKind.{NodeKind}
-use Rattle.rr_graph.specs.declared.node.NodeKind.TheVariants.{ChanX, ChanY}
-use Rattle.rr_graph.specs.Geometry.{IsWire, is_wire}
-use Rattle.rr_graph.specs.Graph.{Basis, graph_of}
-use Rattle.fabric_planes.specs.declared.net_starts.NetStarts.{NetStarts}
-use Rattle.fabric_planes.specs.declared.net_starts.StartWire.{StartWire}
-use Rattle.fabric_planes.specs.Starts.{HasStarts, IsStartWire, is_wire_number, is_pin_number}
-use Rattle.fabric_planes.specs.Ways.{IsWireAt}
+use Rattle.fabric_planes.proofs.Prelude.{◌≡◌, ℕ, suc, ◌⊎◌, List, [], ◌∷◌, ◌++◌, map, refl, sym, ap, ◌∙◌, subst, arith, inl, inr, Bool, true, false, All, Contains, filter, if◌then◌else◌, cases_Bool, false≢true, map-append, append-nil, All-contains, All-append, All-nil, All-cons, filter-append, NodeKind, IsWire, is_wire, Basis, graph_of, NetStarts, StartWire, HasStarts, IsStartWire, is_wire_number, is_pin_number, IsWireAt}
 use Rattle.fabric_planes.proofs.Members.{in_map, in_none, map_in}
 
 -- ---- kinds
 
 pub wire_true : (kind : NodeKind) → IsWire kind → is_wire kind ≡ true
-wire_true ChanX w = refl
-wire_true ChanY w = refl
-wire_true _ w = absurd w
+wire_true kind w = grind arith
 
 pub true_wire : (kind : NodeKind) → is_wire kind ≡ true → IsWire kind
-true_wire ChanX e = tt
-true_wire ChanY e = tt
-true_wire _ e = absurd (false≢true e)
+true_wire kind e = grind arith
 
 pub wire_false : (kind : NodeKind) → (IsWire kind → ⊥) → is_wire kind ≡ false
-wire_false ChanX n = absurd (n tt)
-wire_false ChanY n = absurd (n tt)
-wire_false _ n = refl
+wire_false kind n = grind arith
 
 -- ---- filtered lists
 
 cases_in : (x y : ℕ) (xs : List ℕ) → Contains (x ∷ xs) y → (x ≡ y) ⊎ Contains xs y
-cases_in x y xs (zero, b, e) = inl e
-cases_in x y xs (suc k, b, e) = inr (k, omega arith, e)
+cases_in x y xs h1 = grind arith
 
 further : (x y : ℕ) (xs : List ℕ) → Contains xs y → Contains (x ∷ xs) y
 further x y xs c = (suc c.0, omega (arith, c.1), c.2)

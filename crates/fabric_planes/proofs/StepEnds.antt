@@ -1,27 +1,6 @@
 -- The ends of the edges of the places of a net's planes, as the tables list them.
-use Rattle.std.proofs.Common.{◌≡◌, ℕ, ◌+◌, ◌-◌, ◌*◌, ◌<◌, ◌≤◌, List, [], length, get_or, map, refl, sym, ap, ◌∙◌, subst, inl, inr, arith, true}
-use Rattle.std.specs.Prelude.{slice_index, slice_index_or, slice_get, Some, Contains}
-use Rattle.std.proofs.lemmas.Option.{get_or_from_slice_get}
-use Rattle.std.specs.List.Sorted.{IsNonDecreasing, IsStrictlyIncreasing}
-use Rattle.std.proofs.lemmas.Bool.{and_parts, cases_Bool, cases_eq}
-use Rattle.std.proofs.lemmas.List.{length-map, get_or-map, get_or_default}
-use Rattle.std.proofs.lemmas.List.Kept.{AllPairs-from_increasing}
-use Rattle.rr_graph.specs.declared.node.NodeKind.{NodeKind}
-use Rattle.rr_graph.specs.declared.node.NodeKind.TheVariants.{Ipin}
-use Rattle.rr_graph.specs.declared.node.Node.{Node}
-use Rattle.rr_graph.specs.Geometry.{joins, sides_at, runs_along, meets_track, flexibility_of}
-use Rattle.rr_graph.specs.Graph.{Basis, IsBasis, graph_of, make_node}
-use Rattle.fabric_planes.specs.Aheads.{AreAheads}
-use Rattle.fabric_planes.specs.Ends.{shown_ends, row_of, base_of}
-use Rattle.fabric_planes.specs.Labels.{is_there, node_at, plane_of, family_of}
-use Rattle.fabric_planes.specs.Laid.{IsWireOf}
-use Rattle.fabric_planes.specs.Layout.{Terminals, place_of, place_count, stride_of, shows, labels_of, planes_of, IsNetSearch}
-use Rattle.fabric_planes.specs.Pins.{IsAside, ArePins, AreArrivals, HaveEnds}
-use Rattle.fabric_planes.specs.Sides.{IsAtSide}
-use Rattle.fabric_planes.specs.Steps.{AreSteps, NO_CLASS, step_view}
-use Rattle.fabric_planes.specs.declared.pins.PinAt.{PinAt}
-use Rattle.fabric_planes.specs.declared.steps.Steps.{Steps}
-use Rattle.fabric_planes.specs.Tables.{AreFirsts}
+use Rattle.fabric_planes.proofs.Prelude.{◌≡◌, ℕ, ◌+◌, ◌-◌, ◌*◌, ◌<◌, ◌≤◌, List, [], length, get_or, map, refl, sym, ap, ◌∙◌, subst, inl, inr, arith, true, slice_index, slice_index_or, slice_get, Contains, get_or_from_slice_get, IsNonDecreasing, IsStrictlyIncreasing, and_parts, cases_Bool, cases_eq, length-map, get_or-map, get_or_default, AllPairs-from_increasing, NodeKind, Ipin, Node, joins, sides_at, runs_along, meets_track, flexibility_of, Basis, IsBasis, graph_of, make_node, AreAheads, shown_ends, row_of, base_of, is_there, node_at, plane_of, family_of, IsWireOf, Terminals, place_of, place_count, stride_of, shows, labels_of, planes_of, IsNetSearch, IsAside, ArePins, AreArrivals, HaveEnds, IsAtSide, AreSteps, NO_CLASS, step_view, PinAt, Steps, AreFirsts}
+use Rattle.std.specs.Prelude.{Some}
 use Rattle.fabric_planes.proofs.Alike.{IsEnd, on_track, tracks_alike, wire_row_moved}
 use Rattle.fabric_planes.proofs.Found.{IsFirstFor, first_for}
 use Rattle.fabric_planes.proofs.Labeled.{shown_at}

@@ -1,20 +1,5 @@
 -- The classes of wires, place by place.
-use Rattle.std.proofs.Common.{◌≡◌, ℕ, ◌+◌, ◌-◌, ◌*◌, ◌<◌, ◌≤◌, List, Some, length, set, true, sym, ap, ◌∙◌, subst, inl, inr, arith}
-use Rattle.std.specs.Prelude.{slice_get, slice_index}
-use Rattle.std.proofs.lemmas.Bool.{cases_eq, cases_lt}
-use Rattle.std.proofs.lemmas.List.{get_or-set_same, get_or-set_other, length-set}
-use Rattle.std.proofs.lemmas.Nat.{mul-le}
-use Rattle.std.proofs.lemmas.Option.{slice_get_within}
-use Rattle.arch_file.proofs.FewPins.{few_pins}
-use Rattle.rr_graph.specs.declared.node.Node.{Node}
-use Rattle.rr_graph.specs.Geometry.{IsWire, is_node, node_at_offset}
-use Rattle.rr_graph.specs.Graph.{Basis, IsBasis, graph_of, make_node}
-use Rattle.rr_graph.proofs.FewNodes.{few_nodes}
-use Rattle.fabric_planes.specs.declared.steps.Steps.{Steps}
-use Rattle.fabric_planes.specs.Ends.{row_of, seen_from}
-use Rattle.fabric_planes.specs.Layout.{place_of, place_count, stride_of, offset_of}
-use Rattle.fabric_planes.specs.Steps.{AreSteps, AreStepsBelow, KeepsRows, NO_CLASS, most_rows, step_view}
-use Rattle.fabric_planes.specs.Tables.{AreFirsts, IsFirstAt, NO_WIRE}
+use Rattle.fabric_planes.proofs.Prelude.{◌≡◌, ℕ, ◌+◌, ◌-◌, ◌*◌, ◌<◌, ◌≤◌, List, Some, length, set, true, sym, ap, ◌∙◌, subst, inl, inr, arith, slice_get, slice_index, cases_eq, cases_lt, get_or-set_same, get_or-set_other, length-set, mul-le, slice_get_within, few_pins, Node, IsWire, is_node, node_at_offset, Basis, IsBasis, graph_of, make_node, few_nodes, Steps, row_of, seen_from, place_of, place_count, stride_of, offset_of, AreSteps, AreStepsBelow, KeepsRows, NO_CLASS, most_rows, step_view, AreFirsts, IsFirstAt, NO_WIRE}
 use Rattle.fabric_planes.proofs.Alike.{columns_alike, node_moved, place_moved, same_row}
 use Rattle.fabric_planes.proofs.Consecutive.{wire_low, wires_order}
 use Rattle.fabric_planes.proofs.Strips.{lawful, offset_few}

@@ -1,30 +1,5 @@
 -- A strip's routing graph consists of planes.
-use Rattle.std.proofs.Common.{◌≡◌, ℕ, ◌+◌, ◌*◌, ◌^◌, ◌<◌, ◌≤◌, ◌⊎◌, List, [], ◌∷◌, length, refl, sym, ap, ◌∙◌, subst, inl, inr, arith, true, Some, ◌==◌, ◌&&◌, ◌||◌, nat_le}
-use Rattle.std.specs.Prelude.{All, Contains, nat_lt}
-use Rattle.std.proofs.lemmas.Bool.{and_parts, and_from, or_cases, eqb-true, eq-eqb, leb-true, ltb-true}
-use Rattle.std.proofs.lemmas.Nat.{mul-le}
-use Rattle.std.proofs.lemmas.List.Elements.{All-contains, All-contains_itself, All-nil, All-cons}
-use Rattle.arch_file.proofs.FewPins.{few_pins}
-use Rattle.arch_file.specs.Arch.{is_input_class, is_output_class}
-use Rattle.grid.specs.declared.Strip.{Strip}
-use Rattle.rr_graph.specs.declared.node.NodeKind.{NodeKind}
-use Rattle.rr_graph.specs.declared.node.NodeKind.TheVariants.{Source, Sink, Opin, Ipin, ChanX, ChanY}
-use Rattle.rr_graph.specs.declared.node.Node.{Node}
-use Rattle.rr_graph.specs.Node.{IsBefore, rank_of}
-use Rattle.rr_graph.specs.Geometry.{IsWire, is_node, is_slot, is_chan_y, is_pad_row, is_block_row, is_block_number, is_together}
-use Rattle.rr_graph.specs.Graph.{Basis, IsBasis, IsRoutingGraph, graph_of}
-use Rattle.rr_graph.proofs.Columns.{get_within, same_kind, member_small, member_of}
-use Rattle.rr_graph.proofs.Definition.{definition_lawful}
-use Rattle.rr_graph.proofs.FewEnds.{ends_few}
-use Rattle.rr_graph.proofs.FewNodes.{few_nodes}
-use Rattle.rr_graph.proofs.GeometryLaws.{edge_joins}
-use Rattle.least_path.specs.Graph.{IsLawful}
-use Rattle.least_path.specs.Path.{Leads}
-use Rattle.plane_search.specs.Planes.{IsFamily}
-use Rattle.fabric_planes.specs.Labels.{AreLabels}
-use Rattle.fabric_planes.specs.Layout.{Terminals, pins_of, stride_of, place_count, offset_of, place_of, is_same_spot, shows, track_by, graph_at, labels_of, planes_of, AreCosts, IsStart, AreTerminals, IsNetSearch}
-use Rattle.fabric_planes.specs.Tables.{IsNearby}
-use Rattle.fabric_planes.specs.Ways.{IsWireAt}
+use Rattle.fabric_planes.proofs.Prelude.{◌≡◌, ℕ, ◌+◌, ◌*◌, ◌^◌, ◌<◌, ◌≤◌, ◌⊎◌, List, [], ◌∷◌, length, refl, sym, ap, ◌∙◌, subst, inl, inr, arith, true, Some, ◌==◌, ◌&&◌, ◌||◌, nat_le, All, Contains, and_parts, and_from, eqb-true, eq-eqb, leb-true, ltb-true, mul-le, All-contains, All-contains_itself, All-nil, All-cons, few_pins, Strip, NodeKind, Source, Sink, Opin, Ipin, ChanX, ChanY, Node, IsBefore, rank_of, IsWire, is_node, is_slot, is_chan_y, is_together, Basis, IsBasis, IsRoutingGraph, graph_of, get_within, same_kind, member_small, member_of, definition_lawful, ends_few, few_nodes, edge_joins, IsLawful, Leads, IsFamily, AreLabels, Terminals, pins_of, stride_of, place_count, offset_of, place_of, is_same_spot, shows, track_by, graph_at, labels_of, planes_of, AreCosts, IsStart, AreTerminals, IsNetSearch, IsNearby, IsWireAt}
 use Rattle.fabric_planes.proofs.Labeled.{is_family}
 use Rattle.fabric_planes.proofs.Joins.{IsReached, reached}
 use Rattle.fabric_planes.proofs.Offsets.{low_of, high_of, below_stride, kinds_apart, columns_apart, place_below}
@@ -32,18 +7,13 @@ use Rattle.fabric_planes.proofs.Offsets.{low_of, high_of, below_stride, kinds_ap
 -- ---- tests
 
 pub spot_parts : (a b : Node) → is_same_spot a b ≡ true → (a.x ≡ b.x) × (a.y ≡ b.y) × (a.n ≡ b.n)
-spot_parts a b h =
-    let parts = and_parts (a.x == b.x) ((a.y == b.y) && (a.n == b.n)) h in
-    let more = and_parts (a.y == b.y) (a.n == b.n) parts.1 in
-    (eqb-true a.x b.x parts.0, eqb-true a.y b.y more.0, eqb-true a.n b.n more.1)
+spot_parts a b h = grind arith
 
 pub spot_itself : (a b : Node) → a ≡ b → is_same_spot a b ≡ true
 spot_itself a b e = rw e (and_from (b.x == b.x) ((b.y == b.y) && (b.n == b.n)) (eq-eqb b.x b.x refl) (and_from (b.y == b.y) (b.n == b.n) (eq-eqb b.y b.y refl) (eq-eqb b.n b.n refl)))
 
 pub together_parts : (strip : Strip) (a b : Node) → is_together strip a b ≡ true → (a.x ≡ b.x) × (a.y ≡ b.y)
-together_parts strip a b h =
-    let parts = and_parts (a.x == b.x) ((a.y == b.y) && (is_block_row strip a.y || (a.n == b.n))) h in
-    (eqb-true a.x b.x parts.0, eqb-true a.y b.y (and_parts (a.y == b.y) (is_block_row strip a.y || (a.n == b.n)) parts.1).0)
+together_parts strip a b h = grind arith
 
 -- what is together with a node is together with one at the same spot
 pub together_spot : (strip : Strip) (a b c : Node) → is_same_spot a b ≡ true → is_together strip a c ≡ true → is_together strip b c ≡ true
@@ -51,9 +21,7 @@ together_spot strip a b c s h = let e = spot_parts a b s in rw (sym e.0, sym e.1
 
 -- the wires of a track are shown
 pub wire_shows : (strip : Strip) (t : Terminals) (track : ℕ) (kind : NodeKind) (v : Node) → IsWire kind → v.n ≡ track → shows strip t track kind v ≡ true
-wire_shows strip t track ChanX v w e = eq-eqb v.n track e
-wire_shows strip t track ChanY v w e = eq-eqb v.n track e
-wire_shows strip t track _ v w e = absurd w
+wire_shows strip t track kind v w e = grind arith
 
 -- ---- nodes
 
@@ -66,36 +34,17 @@ IsSlot basis ChanY node = (node.y ≤ basis.strip.rows) × (node.n < basis.arch.
 IsSlot basis _ node = Unit {0}
 
 pub slot_facts : (basis : Basis) (kind : NodeKind) (node : Node) → is_slot basis.arch basis.strip kind node.y node.n ≡ true → IsSlot basis kind node
-slot_facts basis Opin node h = elim (or_cases (is_pad_row basis.strip node.y && nat_lt node.n basis.strip.io_rat) (is_block_row basis.strip node.y && is_block_number basis.arch Opin node.n) h) [
-  | inl pad ↦ omega (arith, ltb-true node.n basis.strip.io_rat (and_parts (is_pad_row basis.strip node.y) (nat_lt node.n basis.strip.io_rat) pad).1)
-  | inr block ↦ omega (arith, get_within (λ pin. is_output_class pin.class) basis.arch.pins node.n (and_parts (is_block_row basis.strip node.y) (is_block_number basis.arch Opin node.n) block).1)
-]
-slot_facts basis Ipin node h = elim (or_cases (is_pad_row basis.strip node.y && nat_lt node.n basis.strip.io_rat) (is_block_row basis.strip node.y && is_block_number basis.arch Ipin node.n) h) [
-  | inl pad ↦ omega (arith, ltb-true node.n basis.strip.io_rat (and_parts (is_pad_row basis.strip node.y) (nat_lt node.n basis.strip.io_rat) pad).1)
-  | inr block ↦ omega (arith, get_within (λ pin. is_input_class pin.class) basis.arch.pins node.n (and_parts (is_block_row basis.strip node.y) (is_block_number basis.arch Ipin node.n) block).1)
-]
-slot_facts basis ChanX node h =
-    let parts = and_parts (nat_le node.y basis.strip.rows) (nat_lt node.n basis.arch.tracks) h in
-    (leb-true node.y basis.strip.rows parts.0, ltb-true node.n basis.arch.tracks parts.1)
-slot_facts basis ChanY node h =
-    let parts = and_parts (is_block_row basis.strip node.y) (nat_lt node.n basis.arch.tracks) h in
-    (leb-true node.y basis.strip.rows (and_parts (nat_le 1 node.y) (nat_le node.y basis.strip.rows) parts.0).1, ltb-true node.n basis.arch.tracks parts.1)
-slot_facts basis _ node h = tt
+slot_facts basis kind node h = grind (arith, ltb-true, and_parts, get_within, leb-true)
 
 pub node_column : (basis : Basis) (node : Node) → is_node basis.arch basis.strip node ≡ true → node.x ≤ basis.strip.width
 node_column basis node h = leb-true node.x basis.strip.width (and_parts (nat_le node.x basis.strip.width) ((nat_le 1 node.x || is_chan_y node.kind) && is_slot basis.arch basis.strip node.kind node.y node.n) h).0
 
 pub node_slot : (basis : Basis) (node : Node) → is_node basis.arch basis.strip node ≡ true → is_slot basis.arch basis.strip node.kind node.y node.n ≡ true
-node_slot basis node h =
-    (and_parts (nat_le 1 node.x || is_chan_y node.kind) (is_slot basis.arch basis.strip node.kind node.y node.n)
-    (and_parts (nat_le node.x basis.strip.width) ((nat_le 1 node.x || is_chan_y node.kind) && is_slot basis.arch basis.strip node.kind node.y node.n) h).1).1
+node_slot basis node h = grind arith
 
 -- of two nodes of a kind in a column and row the first one has the lesser number
 pub before_number : (a b : Node) → a.x ≡ b.x → rank_of a.kind ≡ rank_of b.kind → a.y ≡ b.y → IsBefore a b → a.n < b.n
-before_number a b x k y (inl l) = absurd (omega (arith, l, x))
-before_number a b x k y (inr (e, inl l)) = absurd (omega (arith, l, k))
-before_number a b x k y (inr (e, inr (f, inl l))) = absurd (omega (arith, l, y))
-before_number a b x k y (inr (e, inr (f, inr (g, l)))) = l
+before_number a b x k y h4 = grind arith
 
 -- ---- wires and ends
 
@@ -105,9 +54,7 @@ IsEnd Sink = Unit {0}
 IsEnd _ = ⊥
 
 wire_end : (kind : NodeKind) → IsWire kind → IsEnd kind → ⊥
-wire_end ChanX w e = e
-wire_end ChanY w e = e
-wire_end _ w e = w
+wire_end kind w e = grind arith
 
 -- an edge from a pin before a sink, or from a sink, leads to another such node
 end_next : (strip : Strip) (ka kb : NodeKind) (a b : Node) → IsEnd ka → IsReached strip ka kb a b → IsEnd kb
@@ -128,9 +75,7 @@ end_track _ n track other i e = absurd i
 
 -- the track of a wire is its number
 pub track_number : (kind : NodeKind) (n track : ℕ) → track_by kind n ≡ Some track → IsWire kind × (n ≡ track)
-track_number ChanX n track e = (tt, cc)
-track_number ChanY n track e = (tt, cc)
-track_number _ n track e = cc
+track_number kind n track e = grind arith
 
 module _ {basis : Basis} (is : IsBasis basis) where
   pub lawful : IsRoutingGraph basis (graph_of basis)
@@ -391,9 +336,7 @@ module _ {basis : Basis} (is : IsBasis basis) where
 
 -- a node's fields are within their limits
 pub node_fields : {basis : Basis} → IsBasis basis → (v : Node) → is_node basis.arch basis.strip v ≡ true → IsNearby v
-node_fields {basis} is v h =
-    let small = member_small basis.arch basis.strip is.arch is.strip (member_of v.kind v.y v.n) (node_slot basis v h) in
-    record { x = omega (arith, node_column basis v h, is.strip.width.1); y = omega (arith, small.0); n = omega (arith, small.1) }
+node_fields {basis} is v h = grind (arith, member_small basis.arch basis.strip is.arch is.strip (member_of v.kind v.y v.n) (node_slot basis v h))
 
 pub node_near : {basis : Basis} → IsBasis basis → (i : ℕ) → i < (graph_of basis).count → (v : Node) → v ≡ (graph_of basis).node i → IsNearby v
 node_near {basis} is i b v e = node_fields is v (subst (λ (v : Node). is_node basis.arch basis.strip v ≡ true) (sym e) ((lawful is).nodes i b))

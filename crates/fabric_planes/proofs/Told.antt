@@ -1,11 +1,5 @@
 -- The table of the first wires of places, one node after another.
-use Rattle.std.proofs.Common.{◌≡◌, ℕ, ◌+◌, ◌<◌, List, set, sym, ap, ◌∙◌, subst, inl, inr, arith}
-use Rattle.std.specs.Prelude.{slice_index}
-use Rattle.std.proofs.lemmas.Bool.{cases_eq}
-use Rattle.std.proofs.lemmas.List.{get_or-set_same, get_or-set_other, length-set}
-use Rattle.rr_graph.specs.Graph.{Basis, IsBasis, graph_of}
-use Rattle.fabric_planes.specs.Layout.{place_of, place_count}
-use Rattle.fabric_planes.specs.Tables.{IsFirstWire, IsFirstAt, AreFirstsBelow}
+use Rattle.fabric_planes.proofs.Prelude.{◌≡◌, ℕ, ◌+◌, ◌<◌, List, set, sym, ap, ◌∙◌, subst, inl, inr, arith, slice_index, cases_eq, get_or-set_same, get_or-set_other, length-set, Basis, IsBasis, graph_of, place_of, place_count, IsFirstWire, IsFirstAt, AreFirstsBelow}
 use Rattle.fabric_planes.proofs.Consecutive.{wires_order}
 
 module _ (basis : Basis) where

@@ -1,20 +1,5 @@
 -- Lists of the starts of a track.
-use Rattle.std.proofs.Common.{◌≡◌, ℕ, ◌+◌, ◌<◌, ◌⊎◌, List, [], ◌∷◌, ◌++◌, length, sym, ap, ◌∙◌, subst, inl, inr, true}
-use Rattle.std.specs.Prelude.{Contains, slice_index, slice_index_or}
-use Rattle.std.proofs.lemmas.Bool.{eqb-true}
-use Rattle.rr_graph.specs.declared.node.NodeKind.{NodeKind}
-use Rattle.rr_graph.specs.declared.node.NodeKind.TheVariants.{ChanX, ChanY}
-use Rattle.rr_graph.specs.declared.node.Node.{Node}
-use Rattle.rr_graph.specs.Geometry.{IsWire}
-use Rattle.rr_graph.specs.Graph.{Basis, IsBasis, graph_of}
-use Rattle.plane_search.specs.Planes.{Family}
-use Rattle.plane_search.specs.Starts.{AreStarts, IsTooFar, places_of}
-use Rattle.plane_search.specs.declared.planes.Start.{Start}
-use Rattle.fabric_planes.specs.declared.net_starts.NetStarts.{NetStarts}
-use Rattle.fabric_planes.specs.declared.net_starts.StartWire.{StartWire}
-use Rattle.fabric_planes.specs.Laid.{IsWireOf}
-use Rattle.fabric_planes.specs.Layout.{Terminals, place_of, shows, planes_of, IsNetSearch}
-use Rattle.fabric_planes.specs.Starts.{AddsWires, AreSomeStarts, HasStarts, IsStartOf, IsStartWire, KeepsStarts}
+use Rattle.fabric_planes.proofs.Prelude.{◌≡◌, ℕ, ◌+◌, ◌<◌, ◌⊎◌, List, [], ◌∷◌, ◌++◌, length, sym, ap, ◌∙◌, subst, inl, inr, true, arith, Contains, slice_index, slice_index_or, NodeKind, Node, IsWire, Basis, IsBasis, graph_of, Family, AreStarts, IsTooFar, places_of, Start, NetStarts, StartWire, IsWireOf, Terminals, place_of, shows, planes_of, IsNetSearch, AddsWires, AreSomeStarts, HasStarts, IsStartOf, IsStartWire, KeepsStarts}
 use Rattle.fabric_planes.proofs.ListedStarts.{IsShownIn, entry_of, entry_start, below, place_kept, place_last}
 use Rattle.fabric_planes.proofs.Found.{cases_wire}
 use Rattle.fabric_planes.proofs.StartLists.{pin_in, wire_from, wire_in, wire_of, wire_of_start}
@@ -22,9 +7,7 @@ use Rattle.fabric_planes.proofs.WireBounds.{wire_shown}
 
 -- a wire is shown in its own track's plane alone
 pub shown_track : (strip : _) (t : Terminals) (track : ℕ) (kind : NodeKind) (v : Node) → IsWire kind → shows strip t track kind v ≡ true → v.n ≡ track
-shown_track strip t track ChanX v w s = eqb-true v.n track s
-shown_track strip t track ChanY v w s = eqb-true v.n track s
-shown_track strip t track _ v w s = absurd w
+shown_track strip t track kind v w s = grind arith
 
 pub start_wire_of : (basis : Basis) (wire : StartWire) → IsStartWire basis wire → IsWireOf basis wire.place wire.number
 start_wire_of basis wire s = record { wire = wire_of_start basis wire s; is_at = sym s.place }

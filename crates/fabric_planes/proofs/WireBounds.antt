@@ -1,27 +1,12 @@
 -- Lower bounds of the ways from a wire in its track's plane.
-use Rattle.std.proofs.Common.{◌≡◌, ℕ, ◌+◌, ◌*◌, ◌<◌, ◌≤◌, List, [], ◌∷◌, sym, ap, subst, inl, inr, arith, true}
-use Rattle.std.specs.Prelude.{Some, slice_index, sum_by}
-use Rattle.std.proofs.lemmas.Bool.{eq-eqb}
-use Rattle.rr_graph.specs.declared.node.NodeKind.{NodeKind}
-use Rattle.rr_graph.specs.declared.node.NodeKind.TheVariants.{ChanX, ChanY}
-use Rattle.rr_graph.specs.declared.node.Node.{Node}
-use Rattle.rr_graph.specs.Geometry.{IsWire}
-use Rattle.rr_graph.specs.Graph.{Basis, IsBasis, graph_of}
-use Rattle.least_path.specs.LowerBound.{IsLowerBound}
-use Rattle.fabric_planes.specs.Aheads.{AreAheads, AreFars, HaveBounds}
-use Rattle.fabric_planes.specs.Distances.{wires_apart}
-use Rattle.fabric_planes.specs.Laid.{IsWireOf}
-use Rattle.fabric_planes.specs.Layout.{Terminals, shows, labels_of, planes_of, IsNetSearch}
-use Rattle.fabric_planes.specs.Sides.{IsAtSide, IsBySide}
-use Rattle.fabric_planes.specs.Ways.{IsWireAt}
+use Rattle.fabric_planes.proofs.Prelude.{◌≡◌, ℕ, ◌+◌, ◌*◌, ◌<◌, ◌≤◌, List, [], ◌∷◌, sym, ap, subst, inl, inr, arith, true, slice_index, sum_by, NodeKind, Node, IsWire, Basis, IsBasis, graph_of, IsLowerBound, AreAheads, AreFars, HaveBounds, wires_apart, IsWireOf, Terminals, shows, labels_of, planes_of, IsNetSearch, IsAtSide, IsBySide, IsWireAt}
+use Rattle.std.specs.Prelude.{Some}
 use Rattle.fabric_planes.proofs.Lowered.{by_four}
 use Rattle.fabric_planes.proofs.Nearer.{no_wires}
 use Rattle.fabric_planes.proofs.PlaneWays.{wire_way}
 
 pub wire_shown : (strip : _) (t : Terminals) (track : ℕ) (kind : NodeKind) (v : Node) → IsWire kind → v.n ≡ track → shows strip t track kind v ≡ true
-wire_shown strip t track ChanX v w e = eq-eqb v.n track e
-wire_shown strip t track ChanY v w e = eq-eqb v.n track e
-wire_shown strip t track _ v w e = absurd w
+wire_shown strip t track kind v w e = grind arith
 
 module _ (basis : Basis) (sink : Node) where
   abbrev node : ℕ → Node

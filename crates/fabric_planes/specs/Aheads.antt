@@ -1,12 +1,11 @@
 -- What is known of the places before a sink.
 use Rattle.std.specs.Prelude.{◌≡◌, ℕ, ◌+◌, ◌*◌, ◌<◌, ◌≤◌, List, length, slice_index}
-use Rattle.rr_graph.specs.declared.node.Node.{Node}
-use Rattle.rr_graph.specs.Graph.{Basis, graph_of}
+use Rattle.fabric_planes.specs.Prelude.{Node, Basis, graph_of}
 use Rattle.fabric_planes.specs.Differences.{IsPinPlace}
 use Rattle.fabric_planes.specs.Distances.{wires_apart}
 use Rattle.fabric_planes.specs.Laid.{IsWireOf}
 use Rattle.fabric_planes.specs.Layout.{in_column, place_count}
-use Rattle.fabric_planes.specs.Sides.{IsAtSide, AreSideBounds}
+use Rattle.fabric_planes.specs.Sides.{IsAtSide, IsBySide, AreSideBounds}
 use Rattle.fabric_planes.specs.Ways.{IsWireAt}
 
 -- for each place of a wire at most the distances from the wires at the sides of the sink's block or
@@ -42,3 +41,10 @@ pub record AreLeast (tracks : ℕ) (lasts least : List ℕ) : Type 0 where
 -- the bounds of pins by side, and those of last wires by side and track
 abbrev pub HaveBounds : Basis → (ℕ → ℕ) → Node → List ℕ → List ℕ → Type 0
 HaveBounds basis cost sink pins lasts = AreSideBounds basis cost sink (λ side. slice_index pins side) (λ side track. slice_index lasts (side * basis.arch.tracks + track))
+
+-- Each way from the wire of the track at the place costs at least this much, if it ends by a side.
+-- The bounds of the last wires are in one list, side by side.
+abbrev pub IsLeastBySide : Basis → Node → List ℕ → List ℕ → ℕ → ℕ → ℕ → Type 0
+IsLeastBySide basis sink pins lasts track place least =
+    (number sum : ℕ) → IsWireOf basis place number → ((graph_of basis).node number).n ≡ track
+    → IsBySide basis number sink (λ side. slice_index pins side) (λ side track. slice_index lasts (side * basis.arch.tracks + track)) sum → least ≤ sum

@@ -2,10 +2,7 @@
 -- the second and the last one have the same rows.
 use Rattle.std.specs.Prelude.{ℕ, ◌+◌, ◌-◌, ◌*◌, ◌/◌, ◌%◌, ◌==◌, min, Bool, List, map, if◌then◌else◌}
 use Rattle.std.specs.List.{range_with_len}
-use Rattle.rr_graph.specs.declared.node.NodeKind.TheVariants.{Sink}
-use Rattle.rr_graph.specs.declared.node.Node.{Node}
-use Rattle.rr_graph.specs.Geometry.{is_node}
-use Rattle.rr_graph.specs.Graph.{Basis, make_node}
+use Rattle.fabric_planes.specs.Prelude.{Sink, Node, is_node, Basis, make_node}
 use Rattle.fabric_planes.specs.declared.arrival_rows.ArrivalRows.{ArrivalRows}
 use Rattle.fabric_planes.specs.Ends.{AreRowsBelow}
 use Rattle.fabric_planes.specs.Layout.{band_of}

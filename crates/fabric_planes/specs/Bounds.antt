@@ -1,11 +1,6 @@
 -- Lower bounds of the paths in the planes of a net.
 use Rattle.std.specs.Prelude.{◌≡◌, ℕ, ◌+◌, ◌<◌, ◌≤◌, List, length, slice_index, sum_by, true}
-use Rattle.rr_graph.specs.declared.node.NodeKind.TheVariants.{Opin}
-use Rattle.rr_graph.specs.declared.node.Node.{Node}
-use Rattle.rr_graph.specs.Geometry.{is_node, is_together, meets}
-use Rattle.rr_graph.specs.Graph.{Basis, graph_of}
-use Rattle.least_path.specs.Path.{Leads}
-use Rattle.plane_search.specs.Planes.{Family}
+use Rattle.fabric_planes.specs.Prelude.{Opin, Node, is_node, is_together, meets, Basis, graph_of, Leads, Family}
 use Rattle.fabric_planes.specs.Layout.{place_of}
 use Rattle.fabric_planes.specs.Sides.{IsAtSide}
 use Rattle.fabric_planes.specs.Ways.{IsWireAt}

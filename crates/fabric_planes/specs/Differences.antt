@@ -1,9 +1,7 @@
 -- Private: tables of distances by difference of places.
 use Rattle.std.specs.Prelude.{◌≡◌, ℕ, ◌+◌, ◌-◌, ◌*◌, ◌/◌, ◌%◌, ◌<◌, ◌≤◌, min, nat_le, nat_lt, List, map, if◌then◌else◌}
 use Rattle.std.specs.List.{range_with_len}
-use Rattle.rr_graph.specs.declared.node.NodeKind.{NodeKind}
-use Rattle.rr_graph.specs.declared.node.NodeKind.TheVariants.{ChanX, ChanY}
-use Rattle.rr_graph.specs.Graph.{Basis}
+use Rattle.fabric_planes.specs.Prelude.{NodeKind, ChanX, ChanY, Basis}
 use Rattle.fabric_planes.specs.Layout.{band_of, level_at, upright_at, stride_of, in_column}
 use Rattle.fabric_planes.specs.declared.distances.Target.{Target}
 use Rattle.fabric_planes.specs.declared.distances.Target.TheVariants.{Level, Upright, Block}

@@ -1,9 +1,6 @@
 -- How many wires a way from one wire to another has at least.
 use Rattle.std.specs.Prelude.{ℕ, ◌+◌, ◌-◌, ◌==◌, ◌&&◌, Bool, if◌then◌else◌}
-use Rattle.rr_graph.specs.declared.node.NodeKind.{NodeKind}
-use Rattle.rr_graph.specs.declared.node.NodeKind.TheVariants.{ChanX, ChanY}
-use Rattle.rr_graph.specs.declared.node.Node.{Node}
-use Rattle.rr_graph.specs.Node.{rank_of}
+use Rattle.fabric_planes.specs.Prelude.{NodeKind, ChanX, ChanY, Node, rank_of}
 
 -- The points at which a wire ends: a horizontal one from the point to the left of its column to the
 -- one to the right of it, a vertical one from the point below its row to the one above it.

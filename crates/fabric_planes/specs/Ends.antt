@@ -1,7 +1,6 @@
 -- The ends of a node's edges, as a plane lists them.
 use Rattle.std.specs.Prelude.{◌≡◌, ℕ, ◌-◌, ◌*◌, ◌<◌, ◌++◌, List, [], ◌∷◌, length, slice_index_or, map, filter}
-use Rattle.rr_graph.specs.declared.node.Node.{Node}
-use Rattle.rr_graph.specs.Graph.{Basis, graph_of}
+use Rattle.fabric_planes.specs.Prelude.{Node, Basis, graph_of}
 use Rattle.fabric_planes.specs.declared.ends.Listed.{Listed}
 use Rattle.fabric_planes.specs.declared.ends.View.{View}
 use Rattle.fabric_planes.specs.Layout.{Terminals, place_of, shows, stride_of}

@@ -1,6 +1,6 @@
 -- Private: the distances from a target.
 use Rattle.std.specs.Prelude.{◌≡◌, ℕ, min, List, length, slice_index}
-use Rattle.rr_graph.specs.Graph.{Basis, graph_of}
+use Rattle.fabric_planes.specs.Prelude.{Basis, graph_of}
 use Rattle.fabric_planes.specs.Differences.{MOST_FAR, IsPinPlace, wires_to}
 use Rattle.fabric_planes.specs.Laid.{IsWireOf}
 use Rattle.fabric_planes.specs.Layout.{in_column, place_count}

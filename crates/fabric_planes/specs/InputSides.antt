@@ -1,9 +1,6 @@
 -- Private: the sides of the input pins of logic blocks.
 use Rattle.std.specs.Prelude.{ℕ, ◌≡◌, ◌+◌, ◌<◌, List, length, slice_index_or, true}
-use Rattle.arch_file.specs.declared.arch.Sides.{Sides}
-use Rattle.rr_graph.specs.declared.node.NodeKind.TheVariants.{Ipin}
-use Rattle.rr_graph.specs.Geometry.{is_block_row, sides_at}
-use Rattle.rr_graph.specs.Graph.{AreNumbersAt, Basis, graph_of}
+use Rattle.fabric_planes.specs.Prelude.{Sides, Ipin, is_block_row, sides_at, AreNumbersAt, Basis, graph_of}
 
 -- the list has the pin's sides at this index
 pub record HasSides (basis : Basis) (list : List Sides) (index pin : ℕ) : Type 0 where

@@ -1,6 +1,6 @@
 -- Private: the layout that is kept for later graphs.
 use Rattle.std.specs.Prelude.{◌≡◌, Option, Some, None}
-use Rattle.rr_graph.specs.Graph.{Basis}
+use Rattle.fabric_planes.specs.Prelude.{Basis}
 use Rattle.fabric_planes.specs.declared.made_layout.MadeLayout.{MadeLayout}
 
 -- a layout is kept, and it was made for this architecture and strip

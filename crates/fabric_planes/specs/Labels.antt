@@ -1,9 +1,7 @@
 -- Graphs whose nodes are labeled with places, track by track.
 use Rattle.std.specs.Prelude.{◌≡◌, ℕ, ◌^◌, ◌<◌, ◌≤◌, Bool, true, Option, Some, List, [], All, Contains, map, filter, ◌&&◌, ◌==◌, nat_lt, if◌then◌else◌}
 use Rattle.std.specs.List.{position_or_len, range_with_len}
-use Rattle.least_path.specs.Graph.{Graph, AreNodes, IsLawful}
-use Rattle.least_path.specs.Path.{Leads}
-use Rattle.plane_search.specs.Planes.{Family}
+use Rattle.fabric_planes.specs.Prelude.{Graph, AreNodes, IsLawful, Leads, Family}
 
 -- A graph with some starts and a goal; for each track the nodes that its plane shows, and for each
 -- node its place in each plane that shows it.

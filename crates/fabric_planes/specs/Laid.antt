@@ -1,6 +1,6 @@
 -- Private: the layout of a strip's graph.
 use Rattle.std.specs.Prelude.{◌≡◌, ℕ, ◌+◌}
-use Rattle.rr_graph.specs.Graph.{Basis, graph_of}
+use Rattle.fabric_planes.specs.Prelude.{Basis, graph_of}
 use Rattle.fabric_planes.specs.declared.layout.Layout.{Layout}
 use Rattle.fabric_planes.specs.ArrivalRows.{AreArrivalRows}
 use Rattle.fabric_planes.specs.InputSides.{AreInputSides}

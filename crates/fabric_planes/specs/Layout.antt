@@ -1,13 +1,6 @@
 -- The planes of a strip's routing graph: where nodes are in them, and what they show of a net.
 use Rattle.std.specs.Prelude.{◌≡◌, ℕ, ◌+◌, ◌*◌, ◌^◌, ◌<◌, ◌≤◌, Bool, true, Option, Some, None, List, length, All, ◌&&◌, ◌==◌}
-use Rattle.rr_graph.specs.declared.node.NodeKind.{NodeKind}
-use Rattle.rr_graph.specs.declared.node.NodeKind.TheVariants.{Source, Sink, Opin, Ipin, ChanX, ChanY}
-use Rattle.rr_graph.specs.declared.node.Node.{Node}
-use Rattle.grid.specs.declared.Strip.{Strip}
-use Rattle.rr_graph.specs.Geometry.{is_together}
-use Rattle.rr_graph.specs.Graph.{Basis, graph_of}
-use Rattle.least_path.specs.Graph.{Graph}
-use Rattle.plane_search.specs.Planes.{Family}
+use Rattle.fabric_planes.specs.Prelude.{NodeKind, Source, Sink, Opin, Ipin, ChanX, ChanY, Node, Strip, is_together, Basis, graph_of, Graph, Family}
 use Rattle.fabric_planes.specs.Labels.{Labels, family_of}
 
 -- ---- the places of a column

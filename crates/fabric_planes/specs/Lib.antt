@@ -1,3 +1,4 @@
+pub mod Prelude
 pub mod Labels
 pub mod Layout
 pub mod Distances

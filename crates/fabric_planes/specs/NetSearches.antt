@@ -1,8 +1,6 @@
 -- Searches of a net's paths.
 use Rattle.std.specs.Prelude.{◌≡◌, ℕ, List}
-use Rattle.rr_graph.specs.Graph.{Basis, graph_of}
-use Rattle.least_path.specs.Path.{IsPath, cost_of}
-use Rattle.least_path.specs.declared.path.Path.{Path}
+use Rattle.fabric_planes.specs.Prelude.{Basis, graph_of, IsPath, cost_of, Path}
 use Rattle.fabric_planes.specs.Layout.{Terminals, graph_at}
 
 -- the source of a net and one of its sinks

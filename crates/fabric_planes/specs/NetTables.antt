@@ -1,6 +1,6 @@
 -- The tables of a net's planes.
 use Rattle.std.specs.Prelude.{ℕ, List}
-use Rattle.rr_graph.specs.Graph.{Basis}
+use Rattle.fabric_planes.specs.Prelude.{Basis}
 use Rattle.fabric_planes.specs.declared.layout.Layout.{Layout}
 use Rattle.fabric_planes.specs.declared.net_tables.NetTables.{NetTables}
 use Rattle.fabric_planes.specs.Aheads.{AreSides}

@@ -1,12 +1,7 @@
 -- The rows of the ends of sources, sinks and pins: those of the first column.
 use Rattle.std.specs.Prelude.{◌≡◌, ℕ, zero, suc, ◌==◌, ◌+◌, ◌-◌, ◌*◌, ◌/◌, ◌%◌, ◌&&◌, List, map, if◌then◌else◌}
 use Rattle.std.specs.List.{range_with_len}
-use Rattle.grid.specs.declared.Strip.{Strip}
-use Rattle.rr_graph.specs.declared.node.NodeKind.{NodeKind}
-use Rattle.rr_graph.specs.declared.node.NodeKind.TheVariants.{Source, Sink, Opin, Ipin}
-use Rattle.rr_graph.specs.declared.node.Node.{Node}
-use Rattle.rr_graph.specs.Geometry.{is_block_row, meets}
-use Rattle.rr_graph.specs.Graph.{Basis, make_node}
+use Rattle.fabric_planes.specs.Prelude.{Strip, NodeKind, Source, Sink, Opin, Ipin, Node, is_block_row, meets, Basis, make_node}
 use Rattle.fabric_planes.specs.declared.ends.Listed.{Listed}
 use Rattle.fabric_planes.specs.declared.pin_rows.PinRows.{PinRows}
 use Rattle.fabric_planes.specs.ArrivalRows.{wire_beside}

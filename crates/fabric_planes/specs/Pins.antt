@@ -1,12 +1,9 @@
 -- The pins that the planes of a net show, and the prices of wires.
 use Rattle.std.specs.Prelude.{◌≡◌, ℕ, ◌+◌, ◌-◌, ◌*◌, ◌<◌, ◌≤◌, ◌^◌, List, [], map, length, slice_index, slice_index_or, Contains, true}
-use Rattle.rr_graph.specs.declared.node.Node.{Node}
-use Rattle.rr_graph.specs.Geometry.{IsWire}
-use Rattle.plane_search.specs.Planes.{Family}
+use Rattle.fabric_planes.specs.Prelude.{Node, IsWire, Family, Basis, graph_of}
 use Rattle.fabric_planes.specs.Sides.{IsAtSide}
 use Rattle.fabric_planes.specs.Ends.{shown_ends}
 use Rattle.fabric_planes.specs.Ways.{IsWireAt}
-use Rattle.rr_graph.specs.Graph.{Basis, graph_of}
 use Rattle.fabric_planes.specs.declared.pins.PinAt.{PinAt}
 use Rattle.fabric_planes.specs.Laid.{IsWireOf}
 use Rattle.fabric_planes.specs.Layout.{Terminals, place_of, place_count, shows, stride_of}

@@ -1,6 +1,6 @@
 -- Lists of lower bounds of the paths in planes, track by track.
 use Rattle.std.specs.Prelude.{◌≡◌, ℕ, ◌<◌, List, length, slice_index}
-use Rattle.plane_search.specs.Planes.{Family, IsPlaneBound, IsRivalBound}
+use Rattle.fabric_planes.specs.Prelude.{Family, IsPlaneBound, IsRivalBound}
 
 -- for each track a lower bound of the paths in its plane
 pub record AreBounds (f : Family) (bounds : List ℕ) : Type 0 where

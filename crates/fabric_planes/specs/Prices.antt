@@ -1,7 +1,6 @@
 -- Tables of the prices of a strip's wires, at costs that change.
 use Rattle.std.specs.Prelude.{◌≡◌, ℕ, ◌+◌, ◌*◌, ◌<◌, ◌≤◌, ◌⊎◌, List, length, slice_index, slice_set}
-use Rattle.rr_graph.specs.Geometry.{IsWire}
-use Rattle.rr_graph.specs.Graph.{Basis, graph_of}
+use Rattle.fabric_planes.specs.Prelude.{IsWire, Basis, graph_of}
 use Rattle.fabric_planes.specs.declared.price_table.PriceAt.{PriceAt}
 use Rattle.fabric_planes.specs.declared.price_table.PriceTable.{PriceTable}
 use Rattle.fabric_planes.specs.Laid.{IsWireOf}

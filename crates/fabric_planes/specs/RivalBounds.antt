@@ -1,11 +1,6 @@
 -- Private: bounds of the paths that come before a known one, as they are made.
 use Rattle.std.specs.Prelude.{◌≡◌, ℕ, ◌+◌, ◌<◌, ◌≤◌, List, length, slice_index, slice_index_or, sum_by}
-use Rattle.rr_graph.specs.declared.node.NodeKind.TheVariants.{Source, Opin}
-use Rattle.rr_graph.specs.declared.node.Node.{Node}
-use Rattle.rr_graph.specs.Geometry.{IsWire}
-use Rattle.rr_graph.specs.Graph.{Basis, graph_of}
-use Rattle.least_path.specs.Path.{Leads}
-use Rattle.plane_search.specs.Planes.{Family}
+use Rattle.fabric_planes.specs.Prelude.{Source, Opin, Node, IsWire, Basis, graph_of, Leads, Family}
 use Rattle.fabric_planes.specs.declared.net_starts.StartWire.{StartWire}
 use Rattle.fabric_planes.specs.declared.pins.PinAt.{PinAt}
 use Rattle.fabric_planes.specs.declared.rival_bounds.Lead.{Lead}

@@ -1,9 +1,6 @@
 -- How paths leave their starts, and which paths come before a known one.
 use Rattle.std.specs.Prelude.{◌≡◌, ℕ, ◌+◌, ◌<◌, ◌⊎◌, List, ◌∷◌, Contains, map, sum_by}
-use Rattle.least_path.specs.Path.{Leads, cost_of}
-use Rattle.plane_search.specs.Planes.{Family}
-use Rattle.rr_graph.specs.declared.node.NodeKind.TheVariants.{Source, Opin}
-use Rattle.rr_graph.specs.Graph.{Basis, graph_of}
+use Rattle.fabric_planes.specs.Prelude.{Leads, cost_of, Family, Source, Opin, Basis, graph_of}
 use Rattle.fabric_planes.specs.declared.rivals.Head.{Head}
 use Rattle.fabric_planes.specs.Laid.{IsWireOf}
 use Rattle.fabric_planes.specs.Sides.{IsStartKind}

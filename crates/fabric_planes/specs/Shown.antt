@@ -1,9 +1,6 @@
 -- Private: the list of the pins that a net's planes show, as it is made.
 use Rattle.std.specs.Prelude.{◌≡◌, ℕ, ◌<◌, ◌⊎◌, List, Contains, true}
-use Rattle.rr_graph.specs.declared.node.NodeKind.TheVariants.{Opin}
-use Rattle.rr_graph.specs.declared.node.Node.{Node}
-use Rattle.rr_graph.specs.Geometry.{is_together}
-use Rattle.rr_graph.specs.Graph.{Basis, graph_of}
+use Rattle.fabric_planes.specs.Prelude.{Opin, Node, is_together, Basis, graph_of}
 use Rattle.fabric_planes.specs.declared.pins.PinAt.{PinAt}
 use Rattle.fabric_planes.specs.Layout.{IsNetSearch, Terminals, place_of, planes_of}
 use Rattle.fabric_planes.specs.NetSearches.{terminals_of}

@@ -1,9 +1,6 @@
 -- Private: the bounds at the sides of a sink's block or pad, as they are made.
 use Rattle.std.specs.Prelude.{◌≡◌, ℕ, ◌+◌, ◌*◌, ◌<◌, ◌≤◌, List, [], ◌∷◌, All, length, slice_index, true}
-use Rattle.arch_file.specs.declared.arch.Sides.{Sides}
-use Rattle.rr_graph.specs.declared.node.Node.{Node}
-use Rattle.rr_graph.specs.Geometry.{is_together, sides_at}
-use Rattle.rr_graph.specs.Graph.{Basis, graph_of}
+use Rattle.fabric_planes.specs.Prelude.{Sides, Node, is_together, sides_at, Basis, graph_of}
 use Rattle.fabric_planes.specs.Aheads.{AreLeast, HaveBounds}
 use Rattle.fabric_planes.specs.Sides.{IsOwnPin}
 use Rattle.fabric_planes.specs.declared.pin_bounds.PinBounds.{PinBounds}

@@ -1,7 +1,6 @@
 -- Private: the places at the sides of a sink's block or pad.
 use Rattle.std.specs.Prelude.{ℕ, ◌+◌, ◌-◌, ◌≤◌, List, [], ◌∷◌, nat_le, if◌then◌else◌}
-use Rattle.rr_graph.specs.declared.node.Node.{Node}
-use Rattle.rr_graph.specs.Graph.{Basis}
+use Rattle.fabric_planes.specs.Prelude.{Node, Basis}
 use Rattle.fabric_planes.specs.Layout.{in_column, level_at, upright_at, place_count}
 
 -- the places of the wires above, below, to the right and to the left; where no wire can be, the

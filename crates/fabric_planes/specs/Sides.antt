@@ -1,11 +1,6 @@
 -- The sides of a sink's block or pad, and lower bounds of ways that end there.
 use Rattle.std.specs.Prelude.{◌≡◌, ℕ, zero, suc, ◌+◌, ◌<◌, ◌≤◌, ◌⊎◌, ◌==◌, nat_lt, Bool, true, false, List, [], ◌∷◌, Option, Some, None, Contains, sum_by, if◌then◌else◌}
-use Rattle.arch_file.specs.declared.arch.Sides.{Sides}
-use Rattle.rr_graph.specs.declared.node.NodeKind.{NodeKind}
-use Rattle.rr_graph.specs.declared.node.NodeKind.TheVariants.{Sink, Opin, Ipin, ChanX, ChanY}
-use Rattle.rr_graph.specs.declared.node.Node.{Node}
-use Rattle.rr_graph.specs.Geometry.{sides_at, is_together}
-use Rattle.rr_graph.specs.Graph.{Basis, graph_of}
+use Rattle.fabric_planes.specs.Prelude.{Sides, NodeKind, Sink, Opin, Ipin, ChanX, ChanY, Node, sides_at, is_together, Basis, graph_of}
 use Rattle.fabric_planes.specs.Distances.{wires_apart}
 use Rattle.fabric_planes.specs.Ways.{IsWireAt}
 

@@ -1,14 +1,9 @@
 -- The starts of a net's paths: pins, and wires by track.
 use Rattle.std.specs.Prelude.{◌≡◌, ℕ, ◌<◌, ◌⊎◌, Bool, true, false, List, All, Contains, Some, filter, map, slice_index_or, if◌then◌else◌}
-use Rattle.rr_graph.specs.Geometry.{is_wire}
-use Rattle.rr_graph.specs.Graph.{Basis, graph_of}
+use Rattle.fabric_planes.specs.Prelude.{is_wire, Basis, graph_of, IsLowerBound, Family, IsTooFar, places_of, Start}
 use Rattle.fabric_planes.specs.declared.net_starts.NetStarts.{NetStarts}
 use Rattle.fabric_planes.specs.declared.net_starts.StartWire.{StartWire}
 use Rattle.fabric_planes.specs.Layout.{place_of}
-use Rattle.least_path.specs.LowerBound.{IsLowerBound}
-use Rattle.plane_search.specs.Planes.{Family}
-use Rattle.plane_search.specs.Starts.{IsTooFar, places_of}
-use Rattle.plane_search.specs.declared.planes.Start.{Start}
 
 -- the wire has this number, and the track and the place are its own
 pub record IsStartWire (basis : Basis) (wire : StartWire) : Type 0 where

@@ -1,8 +1,6 @@
 -- Private: the steps of wires.
 use Rattle.std.specs.Prelude.{◌≡◌, ℕ, ◌+◌, ◌-◌, ◌*◌, ◌^◌, ◌<◌, ◌≤◌, min, Some, List, length, slice_get, slice_index}
-use Rattle.rr_graph.specs.declared.node.Node.{Node}
-use Rattle.rr_graph.specs.Geometry.{node_at_offset}
-use Rattle.rr_graph.specs.Graph.{Basis, graph_of}
+use Rattle.fabric_planes.specs.Prelude.{Node, node_at_offset, Basis, graph_of}
 use Rattle.fabric_planes.specs.declared.ends.View.{View}
 use Rattle.fabric_planes.specs.declared.steps.Steps.{Steps}
 use Rattle.fabric_planes.specs.Ends.{row_of}

@@ -1,8 +1,6 @@
 -- Private: the tables of a strip's planes.
 use Rattle.std.specs.Prelude.{◌≡◌, ℕ, ◌-◌, ◌^◌, ◌<◌, ◌≤◌, List, length, slice_index}
-use Rattle.rr_graph.specs.declared.node.Node.{Node}
-use Rattle.rr_graph.specs.Geometry.{IsWire}
-use Rattle.rr_graph.specs.Graph.{Basis, graph_of}
+use Rattle.fabric_planes.specs.Prelude.{Node, IsWire, Basis, graph_of}
 use Rattle.fabric_planes.specs.declared.shape.Shape.{Shape}
 use Rattle.fabric_planes.specs.Layout.{pins_of, place_of, place_count}
 

@@ -1,8 +1,6 @@
 -- Ways from a wire to a sink.
 use Rattle.std.specs.Prelude.{◌≡◌, ℕ, ◌+◌, ◌<◌, ◌≤◌, ◌⊎◌, List, Contains, sum_by, true}
-use Rattle.rr_graph.specs.declared.node.NodeKind.TheVariants.{Ipin}
-use Rattle.rr_graph.specs.Geometry.{IsWire, is_together}
-use Rattle.rr_graph.specs.Graph.{Basis, graph_of}
+use Rattle.fabric_planes.specs.Prelude.{Ipin, IsWire, is_together, Basis, graph_of}
 use Rattle.fabric_planes.specs.Distances.{wires_apart}
 
 -- the node is a wire of the graph

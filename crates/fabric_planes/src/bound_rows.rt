@@ -1,6 +1,6 @@
 //! Rows of lower bounds: for each track what ways from an output pin cost at least.
 ghost use Rattle.std.specs.Prelude.{◌≡◌, ◌+◌, ◌*◌, ◌<◌, ◌≤◌, ℕ, All, [], ◌∷◌, length, slice_index, true, false};
-ghost use Rattle.rr_graph.specs.declared.node.Node.{Node};
+ghost use Rattle.fabric_planes.specs.Prelude.{Node};
 ghost use Rattle.fabric_planes.specs.Bounds.{AreLimits, AreLowered, IsMetAt, IsOutput, IsWireBound};
 ghost use Rattle.fabric_planes.specs.RivalBounds.{AreOver, IsLead};
 ghost use Rattle.fabric_planes.specs.BoundRows.{AreFarSides, IsFarRow, IsNearRow, far_list};

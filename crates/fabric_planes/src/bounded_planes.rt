@@ -1,7 +1,6 @@
 //! A net's planes with bounds of the paths of each track, as a search uses them.
 ghost use Rattle.std.specs.Prelude.{◌≡◌, ◌<◌, ℕ, true, Some, Contains, length, IfSome, IfNone, OnOk};
-ghost use Rattle.plane_search.specs.Starts.{IsTooFar, places_of};
-ghost use Rattle.rr_graph.specs.Graph.{graph_of};
+ghost use Rattle.fabric_planes.specs.Prelude.{IsTooFar, places_of, graph_of};
 ghost use Rattle.fabric_planes.specs.Layout.{place_of, planes_of, shows};
 ghost use Rattle.fabric_planes.specs.PlaneBounds.{AreBounds, AreRivals};
 ghost use Rattle.fabric_planes.specs.Starts.{AddsWires, AreSomeStarts, HasStarts, IsStartOf, KeepsStarts};

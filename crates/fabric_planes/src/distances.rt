@@ -1,11 +1,11 @@
 //! Distances between wires, by the difference of their places.
 ghost use Rattle.std.specs.Prelude.{◌≡◌, ◌+◌, ◌*◌, ◌<◌, ◌≤◌, ◌^◌, IfOk, min};
-ghost use Rattle.rr_graph.specs.Node.{rank_of};
+ghost use Rattle.fabric_planes.specs.Prelude.{rank_of};
 ghost use Rattle.fabric_planes.specs.Differences.{wires_to, far_at, far_table};
 ghost use Rattle.fabric_planes.specs.Distances.{west_of, south_of, ends_apart, is_same_wire, wires_by};
 
 use crate::shape::Shape;
-use rr_graph::NodeKind;
+use rr_graph::{NodeKind, rank_of};
 use std::alloc::{AllocError, Global};
 
 /// What distances lead to: a horizontal wire, a vertical one, or the nearest wire of a block, which
@@ -28,20 +28,6 @@ struct Spot {
     y: u32,
     ghost few_columns: { x < 2 ^ 20 },
     ghost few_rows: { y < 2 ^ 20 },
-}
-
-/// The kind's rank in node order.
-fn rank_of(kind: NodeKind) -> u32
-    ensures { result ≡ rank_of kind }
-{
-    match kind {
-        NodeKind::Source => 0,
-        NodeKind::Sink => 1,
-        NodeKind::Opin => 2,
-        NodeKind::Ipin => 3,
-        NodeKind::ChanX => 4,
-        NodeKind::ChanY => 5,
-    }
 }
 
 impl Spot {

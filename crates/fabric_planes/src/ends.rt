@@ -1,6 +1,6 @@
 //! The ends of the edges of nodes, as planes list them.
 ghost use Rattle.std.specs.Prelude.{◌≡◌, ◌<◌, ◌++◌, [], ◌∷◌, IfOk};
-ghost use Rattle.rr_graph.specs.Graph.{Basis, graph_of};
+ghost use Rattle.fabric_planes.specs.Prelude.{Basis, graph_of};
 ghost use Rattle.fabric_planes.specs.Layout.{place_of, shows};
 ghost use Rattle.fabric_planes.specs.Ends.{AddsRow, base_of, row_from, row_of, seen_from};
 

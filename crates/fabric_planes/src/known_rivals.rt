@@ -1,6 +1,6 @@
 //! Lower bounds of the paths that come before a known one, for all tracks.
 ghost use Rattle.std.specs.Prelude.{◌≡◌, ◌<◌, ℕ, List, length, slice_index, IfSome, OnOk};
-ghost use Rattle.plane_search.specs.Planes.{IsRivalBound};
+ghost use Rattle.fabric_planes.specs.Prelude.{IsRivalBound};
 ghost use Rattle.fabric_planes.specs.PlaneBounds.{AreBounds, AreRivals};
 ghost use Rattle.fabric_planes.specs.Bounds.{AreLowered};
 ghost use Rattle.fabric_planes.specs.RivalBounds.{AreLimited};

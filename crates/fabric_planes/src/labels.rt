@@ -1,5 +1,5 @@
 //! Graphs whose nodes are labeled with places.
-ghost use Rattle.plane_search.specs.Planes.{IsFamily};
+ghost use Rattle.fabric_planes.specs.Prelude.{IsFamily};
 ghost use Rattle.fabric_planes.specs.Labels.{Labels, AreLabels, family_of};
 
 /// A graph with labeled nodes consists of the planes of its tracks.

@@ -1,10 +1,6 @@
 //! Laws of a strip's planes.
 ghost use Rattle.std.specs.Prelude.{◌≡◌, ◌<◌, ◌⊎◌, ℕ, List, All, sum_by};
-ghost use Rattle.rr_graph.specs.Graph.{Basis, IsBasis};
-ghost use Rattle.rr_graph.specs.Graph.{graph_of};
-ghost use Rattle.rr_graph.specs.declared.node.NodeKind.TheVariants.{Sink};
-ghost use Rattle.least_path.specs.Path.{IsPath, Leads};
-ghost use Rattle.plane_search.specs.Planes.{IsFamily};
+ghost use Rattle.fabric_planes.specs.Prelude.{Basis, IsBasis, graph_of, Sink, IsPath, Leads, IsFamily};
 ghost use Rattle.fabric_planes.specs.Layout.{Terminals, AreCosts, IsNetSearch, graph_at, planes_of};
 ghost use Rattle.fabric_planes.specs.Sides.{AreSideBounds, IsBySide, IsFromPin, IsFromWire, IsStartKind};
 ghost use Rattle.fabric_planes.specs.Ways.{IsWireAt, IsWayOver};

@@ -1,7 +1,7 @@
 //! Where the wires of a strip are in its planes.
 ghost use Rattle.std.specs.Prelude.{◌≡◌, ◌<◌, ◌≤◌, true, IfOk};
 ghost use Rattle.std.specs.Bool.{MatchBool};
-ghost use Rattle.rr_graph.specs.Graph.{graph_of};
+ghost use Rattle.fabric_planes.specs.Prelude.{graph_of};
 ghost use Rattle.fabric_planes.specs.Tables.{IsFirstWire, AreFirsts};
 
 use crate::arrival_rows::ArrivalRows;

@@ -3,31 +3,10 @@ ghost use Rattle.std.specs.Prelude.{◌≡◌, ◌↔◌, IsTrue, IfOk};
 ghost use Rattle.fabric_planes.specs.Laid.{IsLayout};
 
 use crate::layout::Layout;
-use arch_file::{Arch, Pin};
+use arch_file::Arch;
 use grid::Strip;
 use rr_graph::StripGraph;
 use std::alloc::{AllocError, Global};
-
-/// Returns whether both have the same pins, in order.
-fn same_pins(pins: &[Pin], others: &[Pin]) -> bool
-    ensures { IsTrue result ↔ (pins.now ≡ others.now) }
-{
-    pins == others
-}
-
-/// Returns whether both architectures have the same numbers and the same pins.
-fn same_arch(arch: &Arch, other: &Arch) -> bool
-    ensures { IsTrue result ↔ (arch.now ≡ other.now) }
-{
-    arch.io_rat == other.io_rat
-        && arch.cluster_size == other.cluster_size
-        && arch.lut_size == other.lut_size
-        && arch.tracks == other.tracks
-        && arch.fc_output == other.fc_output
-        && arch.fc_input == other.fc_input
-        && arch.fc_pad == other.fc_pad
-        && same_pins(arch.pins.as_slice(), other.pins.as_slice())
-}
 
 /// A layout, with the architecture and the strip that it was made for.
 #[derive(Drop)]
@@ -58,6 +37,6 @@ impl MadeLayout {
         ensures { IsTrue result ↔
             (G.basis graph.now ≡ record { arch = self.now.arch; strip = self.now.strip }) }
     {
-        self.strip == graph.strip() && same_arch(&self.arch, graph.arch())
+        self.strip == graph.strip() && self.arch.same(graph.arch())
     }
 }

@@ -1,10 +1,8 @@
 //! The planes of a strip's graph at current costs, from a net's starts towards one of its sinks.
 ghost use Rattle.std.specs.Prelude.{All, ◌≡◌, ◌+◌, ◌*◌, ◌<◌, ◌≤◌, ℕ, IfSome, IfNone, Contains, length, map, slice_index, slice_index_or};
 ghost use Rattle.std.specs.List.Sorted.{IsNonDecreasing};
-ghost use Rattle.rr_graph.specs.Graph.{graph_of};
+ghost use Rattle.fabric_planes.specs.Prelude.{graph_of, IsPlace, IsLowerBound};
 ghost use Rattle.fabric_planes.specs.Pins.{AreArrivals, AreByPlace, ArePins, ArePrices, HaveEnds, IsAside};
-ghost use Rattle.plane_search.specs.Planes.{IsPlace};
-ghost use Rattle.least_path.specs.LowerBound.{IsLowerBound};
 ghost use Rattle.fabric_planes.specs.Differences.{IsPinPlace};
 ghost use Rattle.fabric_planes.specs.Laid.{IsWireOf};
 ghost use Rattle.fabric_planes.specs.Steps.{NO_CLASS};

@@ -1,9 +1,6 @@
 //! Searches for the paths of nets.
 ghost use Rattle.std.specs.Prelude.{◌≡◌, ℕ, ◌<◌, true, Some, None, Ok, IfOk, OnOk, if◌then◌else◌};
-ghost use Rattle.least_path.specs.LeastPath.{HasNoPath, least_path};
-ghost use Rattle.plane_search.specs.Planes.{HoldsNothingLess, IsKnown, IsLeastOfTrack};
-ghost use Rattle.rr_graph.specs.Graph.{graph_of};
-ghost use Rattle.rr_graph.specs.declared.node.NodeKind.TheVariants.{Source};
+ghost use Rattle.fabric_planes.specs.Prelude.{HasNoPath, least_path, HoldsNothingLess, IsKnown, IsLeastOfTrack, graph_of, Source};
 ghost use Rattle.fabric_planes.specs.Layout.{IsNetSearch, graph_at};
 ghost use Rattle.fabric_planes.specs.NetSearches.{IsPathAt, terminals_of};
 ghost use Rattle.fabric_planes.specs.PlaneBounds.{AreBounds};

@@ -1,8 +1,7 @@
 //! The starts of a net's planes.
 ghost use Rattle.std.specs.Prelude.{◌≡◌, ◌<◌, ℕ, IfSome, IfNone, OnOk, List, [], ◌∷◌, ◌++◌};
 ghost use Rattle.std.specs.Bool.{MatchBool};
-ghost use Rattle.rr_graph.specs.Geometry.{IsWire};
-ghost use Rattle.rr_graph.specs.Graph.{graph_of};
+ghost use Rattle.fabric_planes.specs.Prelude.{IsWire, graph_of};
 ghost use Rattle.fabric_planes.specs.Layout.{place_of};
 ghost use Rattle.fabric_planes.specs.Pins.{IsShownPin};
 

@@ -1,8 +1,6 @@
 //! The rows of the ends of sources, sinks and pins.
 ghost use Rattle.std.specs.Prelude.{◌≡◌, ◌+◌, ◌*◌, ◌<◌, ◌≤◌, ℕ, List, All, length, slice_index, true, IfOk};
-ghost use Rattle.rr_graph.specs.declared.node.NodeKind.TheVariants.{Opin};
-ghost use Rattle.rr_graph.specs.Geometry.{IsWire, is_node, meets};
-ghost use Rattle.rr_graph.specs.Graph.{Basis, graph_of};
+ghost use Rattle.fabric_planes.specs.Prelude.{Opin, IsWire, is_node, meets, Basis, graph_of};
 ghost use Rattle.fabric_planes.specs.Layout.{Terminals, IsNetSearch, place_of, planes_of};
 ghost use Rattle.fabric_planes.specs.PinRows.{apart_at, aparts, first_row, index_of, kind_at, listed_at, pin_number, rows_per_track};
 ghost use Rattle.fabric_planes.specs.Pins.{HasEnds, IsShownPin};

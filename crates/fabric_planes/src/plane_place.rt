@@ -1,15 +1,12 @@
 //! The places in the planes of a net's tracks.
-ghost use Rattle.std.specs.Prelude.{◌≡◌, ◌+◌, ◌*◌, ◌<◌, ◌≤◌, ℕ, map, slice_index};
+ghost use Rattle.std.specs.Prelude.{◌≡◌, ◌+◌, ◌*◌, ◌<◌, ℕ, map, slice_index};
 ghost use Rattle.std.specs.List.Sorted.{IsNonDecreasing};
-ghost use Rattle.rr_graph.specs.Graph.{graph_of};
 ghost use Rattle.fabric_planes.specs.Pins.{IsAside};
-ghost use Rattle.plane_search.specs.Planes.{IsPlace};
-ghost use Rattle.least_path.specs.LowerBound.{IsLowerBound};
+ghost use Rattle.fabric_planes.specs.Prelude.{IsPlace, IsLowerBound};
 ghost use Rattle.fabric_planes.specs.Differences.{IsPinPlace};
-ghost use Rattle.fabric_planes.specs.Laid.{IsWireOf};
 ghost use Rattle.fabric_planes.specs.Steps.{NO_CLASS};
 ghost use Rattle.fabric_planes.specs.Layout.{in_column, place_count};
-ghost use Rattle.fabric_planes.specs.Sides.{IsBySide};
+ghost use Rattle.fabric_planes.specs.Aheads.{IsLeastBySide};
 
 use crate::costs::NodeCosts;
 use crate::layout::NO_WIRE;
@@ -31,15 +28,9 @@ impl<'a, G: StripGraph, C: NodeCosts> PlanePlace<'a, G, C> {
     /// A lower bound of the cost of a way from a place at a side, or from a pin.
     #[inline(never)]
     pub(crate) fn from_side(&self) -> u64
-        ensures wire { (number sum : ℕ) →
-            IsWireOf (G.basis self.now.planes.now.strip.graph.now) self.now.place number →
-            ((graph_of (G.basis self.now.planes.now.strip.graph.now)).node number).n ≡
-            self.now.track →
-            IsBySide (G.basis self.now.planes.now.strip.graph.now) number self.now.planes.now.sink
-            (λ side. slice_index self.now.planes.now.pins.now side)
-            (λ side track. slice_index self.now.planes.now.lasts.now
-            (side * (G.basis self.now.planes.now.strip.graph.now).arch.tracks + track)) sum →
-            result ≤ sum }
+        ensures wire { IsLeastBySide (G.basis self.now.planes.now.strip.graph.now)
+            self.now.planes.now.sink self.now.planes.now.pins.now self.now.planes.now.lasts.now
+            self.now.track self.now.place result }
         ensures pin { (x offset : ℕ) → IsPinPlace (G.basis self.now.planes.now.strip.graph.now) x
             offset →
             self.now.place ≡ in_column (G.basis self.now.planes.now.strip.graph.now) x offset →

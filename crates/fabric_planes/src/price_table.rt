@@ -1,7 +1,6 @@
 //! The prices of a strip's wires, track by track and place by place.
 ghost use Rattle.std.specs.Prelude.{◌≡◌, ◌+◌, ◌*◌, ◌<◌, ℕ, All, IfOk, IfSome, IfNone};
-ghost use Rattle.rr_graph.specs.Geometry.{IsWire};
-ghost use Rattle.rr_graph.specs.Graph.{Basis, graph_of};
+ghost use Rattle.fabric_planes.specs.Prelude.{IsWire, Basis, graph_of};
 ghost use Rattle.fabric_planes.specs.Laid.{IsLayout};
 ghost use Rattle.fabric_planes.specs.Pins.{ArePrices, AreByPlace};
 ghost use Rattle.fabric_planes.specs.Prices.{IsSpot, IsPrice, IsPriceSet, IsRepriced, IsWireOn, AgreeBut, AreByPlaceBut, ComesFrom, HasPrices, HasRoom, HasRoomByPlace};

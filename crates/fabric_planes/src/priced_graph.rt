@@ -1,6 +1,6 @@
 //! A strip's graph at current costs.
 ghost use Rattle.std.specs.Prelude.{◌≡◌};
-ghost use Rattle.rr_graph.specs.Graph.{graph_of};
+ghost use Rattle.fabric_planes.specs.Prelude.{graph_of};
 ghost use Rattle.fabric_planes.specs.Laid.{IsLayout};
 ghost use Rattle.fabric_planes.specs.Prices.{HasPrices};
 

@@ -1,7 +1,6 @@
 //! A search for a path of a net, as its tables are made for it.
 ghost use Rattle.std.specs.Prelude.{◌≡◌, ◌<◌};
-ghost use Rattle.rr_graph.specs.Graph.{graph_of};
-ghost use Rattle.rr_graph.specs.declared.node.NodeKind.TheVariants.{Source};
+ghost use Rattle.fabric_planes.specs.Prelude.{graph_of, Source};
 ghost use Rattle.fabric_planes.specs.Layout.{IsNetSearch};
 
 use crate::costs::NodeCosts;

@@ -1,7 +1,6 @@
 //! Lower bounds of the paths that come before a known one.
 ghost use Rattle.std.specs.Prelude.{◌≡◌, ◌+◌, ◌<◌, ◌≤◌, ℕ, Contains, length, slice_index};
-ghost use Rattle.rr_graph.specs.Graph.{graph_of};
-ghost use Rattle.rr_graph.specs.declared.node.NodeKind.TheVariants.{Opin};
+ghost use Rattle.fabric_planes.specs.Prelude.{graph_of, Opin};
 ghost use Rattle.fabric_planes.specs.Bounds.{AreLimits, AreLowered};
 ghost use Rattle.fabric_planes.specs.Pins.{IsShownPin};
 ghost use Rattle.fabric_planes.specs.RivalBounds.{AreFromSource, AreLimited, AreOverPin, AreOverSide, AreRivalsFrom, AreRivalsOver, IsLead};

@@ -3,8 +3,7 @@ ghost use Rattle.std.specs.Prelude.{◌≡◌, ◌<◌, ◌⊎◌, ℕ, List, Al
 ghost use Rattle.std.specs.Ordering.{nat_cmp};
 ghost use Rattle.std.specs.Cmp.Lexicographic.{slice_cmp};
 ghost use Rattle.std.specs.declared.cmp.Ordering.TheVariants.{Less};
-ghost use Rattle.least_path.specs.Path.{IsPath};
-ghost use Rattle.rr_graph.specs.Graph.{Basis, IsBasis, graph_of};
+ghost use Rattle.fabric_planes.specs.Prelude.{IsPath, Basis, IsBasis, graph_of};
 ghost use Rattle.fabric_planes.specs.Laid.{IsWireOf};
 ghost use Rattle.fabric_planes.specs.Layout.{Terminals, IsNetSearch, planes_of};
 ghost use Rattle.fabric_planes.specs.Rivals.{IsHeadOf, IsPathFrom, ComesFirst};

@@ -1,6 +1,6 @@
 //! The sizes on which the places of a strip's planes depend.
 ghost use Rattle.std.specs.Prelude.{◌≡◌, ◌+◌, ◌*◌, ◌<◌, ◌≤◌};
-ghost use Rattle.rr_graph.specs.Graph.{Basis};
+ghost use Rattle.fabric_planes.specs.Prelude.{Basis};
 ghost use Rattle.fabric_planes.specs.Layout.{band_of, level_at, upright_at, stride_of, in_column, offset_of, place_of, place_count};
 ghost use Rattle.fabric_planes.specs.Sizes.{IsSmall};
 

@@ -1,7 +1,6 @@
 //! The pins that a net's planes show.
 ghost use Rattle.std.specs.Prelude.{◌≡◌, ◌<◌, true, false, OnOk};
-ghost use Rattle.rr_graph.specs.Geometry.{IsWire};
-ghost use Rattle.rr_graph.specs.Graph.{graph_of};
+ghost use Rattle.fabric_planes.specs.Prelude.{IsWire, graph_of};
 ghost use Rattle.fabric_planes.specs.Shown.{AddsPins, ArePinsFor, IsOutputOf};
 ghost use Rattle.fabric_planes.specs.Sides.{IsOwnPin};
 

@@ -1,7 +1,6 @@
 //! Lower bounds of the costs of the last wires and the pins before a sink.
 ghost use Rattle.std.specs.Prelude.{All, ◌≡◌, ◌+◌, ◌*◌, ◌^◌, ◌<◌, ◌≤◌, ℕ, true, length, slice_index, OnOk};
-ghost use Rattle.rr_graph.specs.Geometry.{is_block_row};
-ghost use Rattle.rr_graph.specs.Graph.{graph_of};
+ghost use Rattle.fabric_planes.specs.Prelude.{is_block_row, graph_of};
 ghost use Rattle.fabric_planes.specs.Aheads.{AreLeast, AreSides};
 ghost use Rattle.fabric_planes.specs.SideBounds.{AreFew, AreLow, AreNoDearer, ArePinBounds, AreSidesBounded, AreWiresBounded, IsLowFor, IsSideBounded, by_side};
 

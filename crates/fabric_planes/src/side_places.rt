@@ -3,7 +3,7 @@ ghost use Rattle.std.specs.Prelude.{All, ◌≡◌, ◌^◌, ◌<◌, ◌≤◌,
 ghost use Rattle.fabric_planes.specs.Aheads.{AreSides};
 ghost use Rattle.fabric_planes.specs.SidePlaces.{IsInStrip, side_places};
 ghost use Rattle.fabric_planes.specs.Tables.{IsNearby, IsShapeOf};
-ghost use Rattle.rr_graph.specs.Graph.{Basis, IsBasis};
+ghost use Rattle.fabric_planes.specs.Prelude.{Basis, IsBasis};
 
 use crate::shape::Shape;
 use rr_graph::Node;

@@ -1,6 +1,6 @@
 //! The planes of a strip's graph, without a net.
 ghost use Rattle.std.specs.Prelude.{◌≡◌, ◌+◌, ◌<◌, ◌≤◌, ◌^◌, ℕ};
-ghost use Rattle.rr_graph.specs.Graph.{Basis, graph_of};
+ghost use Rattle.fabric_planes.specs.Prelude.{Basis, graph_of};
 ghost use Rattle.fabric_planes.specs.Layout.{band_of, stride_of, place_count};
 ghost use Rattle.fabric_planes.specs.Laid.{IsLayout, IsWireOf};
 ghost use Rattle.fabric_planes.specs.Differences.{IsTarget, far_table, shift_of, target_offset};

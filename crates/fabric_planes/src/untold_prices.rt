@@ -1,6 +1,6 @@
 //! Tables of prices that tell nothing yet.
 ghost use Rattle.std.specs.Prelude.{◌≡◌, ℕ, IfOk};
-ghost use Rattle.rr_graph.specs.Graph.{Basis, IsBasis};
+ghost use Rattle.fabric_planes.specs.Prelude.{Basis, IsBasis};
 ghost use Rattle.fabric_planes.specs.Pins.{ArePrices};
 ghost use Rattle.fabric_planes.specs.Tables.{IsShapeOf};
 

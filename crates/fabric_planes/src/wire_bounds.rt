@@ -1,10 +1,9 @@
 //! Lower bounds of the ways from a wire, by the sides at which they may end.
 ghost use Rattle.std.specs.Prelude.{◌≡◌, ◌+◌, ◌-◌, ◌*◌, ◌^◌, ◌<◌, ◌≤◌, ℕ, slice_index, Some, IfSome, IfNone, false};
-ghost use Rattle.least_path.specs.LowerBound.{IsLowerBound};
-ghost use Rattle.rr_graph.specs.Graph.{graph_of};
+ghost use Rattle.fabric_planes.specs.Prelude.{IsLowerBound, graph_of};
 ghost use Rattle.fabric_planes.specs.Laid.{IsWireOf};
 ghost use Rattle.fabric_planes.specs.Layout.{place_count};
-ghost use Rattle.fabric_planes.specs.Sides.{IsBySide};
+ghost use Rattle.fabric_planes.specs.Aheads.{IsLeastBySide};
 
 use crate::costs::NodeCosts;
 use crate::net_planes::{HasFamily, NetPlanes};
@@ -17,15 +16,9 @@ impl<'a, G: StripGraph, C: NodeCosts> PlanePlace<'a, G, C> {
     #[inline(always)]
     fn sharp(&self) -> u64
         requires far { slice_index self.now.planes.now.aheads.now self.now.place ≡ 0 → ⊥ }
-        ensures { (number sum : ℕ) → IsWireOf (G.basis self.now.planes.now.strip.graph.now)
-            self.now.place number →
-            ((graph_of (G.basis self.now.planes.now.strip.graph.now)).node number).n ≡
-            self.now.track →
-            IsBySide (G.basis self.now.planes.now.strip.graph.now) number self.now.planes.now.sink
-            (λ side. slice_index self.now.planes.now.pins.now side)
-            (λ side track. slice_index self.now.planes.now.lasts.now
-            (side * (G.basis self.now.planes.now.strip.graph.now).arch.tracks + track)) sum →
-            result ≤ sum }
+        ensures { IsLeastBySide (G.basis self.now.planes.now.strip.graph.now)
+            self.now.planes.now.sink self.now.planes.now.pins.now self.now.planes.now.lasts.now
+            self.now.track self.now.place result }
     {
         let planes = self.planes;
         let (track, place) = (self.track, self.place);
@@ -41,15 +34,9 @@ impl<'a, G: StripGraph, C: NodeCosts> PlanePlace<'a, G, C> {
     /// A lower bound of the cost of any way from a wire.
     #[inline(always)]
     pub(crate) fn from_wire(&self) -> u64
-        ensures side { (number sum : ℕ) →
-            IsWireOf (G.basis self.now.planes.now.strip.graph.now) self.now.place number →
-            ((graph_of (G.basis self.now.planes.now.strip.graph.now)).node number).n ≡
-            self.now.track →
-            IsBySide (G.basis self.now.planes.now.strip.graph.now) number self.now.planes.now.sink
-            (λ side. slice_index self.now.planes.now.pins.now side)
-            (λ side track. slice_index self.now.planes.now.lasts.now
-            (side * (G.basis self.now.planes.now.strip.graph.now).arch.tracks + track)) sum →
-            result ≤ sum }
+        ensures side { IsLeastBySide (G.basis self.now.planes.now.strip.graph.now)
+            self.now.planes.now.sink self.now.planes.now.pins.now self.now.planes.now.lasts.now
+            self.now.track self.now.place result }
         ensures bound { (number : ℕ) → IsWireOf (G.basis self.now.planes.now.strip.graph.now)
             self.now.place number →
             ((graph_of (G.basis self.now.planes.now.strip.graph.now)).node number).n ≡

@@ -1,18 +1,5 @@
 -- The two lanes are a family of planes.
-use Rattle.std.proofs.Common.{◌≡◌, ℕ, zero, suc, refl, ◌+◌, ◌*◌, ◌%◌, ◌/◌, ◌^◌, ◌<◌, ◌≤◌, ◌⊎◌, Some, List, [], ◌∷◌, length, map, get_or, arith, ◌∙◌, inl, inr, sym, ap, subst}
-use Rattle.std.specs.List.{All, Contains}
-use Rattle.std.proofs.lemmas.Bool.{cases_lt, cases_eq}
-use Rattle.std.proofs.lemmas.List.{length-map}
-use Rattle.std.proofs.lemmas.List.Sums.{sum_by-cons}
-use Rattle.std.proofs.lemmas.List.Elements.{All-nil, All-cons, Contains-get_or}
-use Rattle.least_path.specs.Graph.{IsLawful}
-use Rattle.least_path.specs.Path.{Leads, IsPath, cost_of}
-use Rattle.least_path.specs.LowerBound.{IsLowerBound}
-use Rattle.least_path.specs.declared.path.Path.{Path}
-use Rattle.plane_search.specs.Planes.{Family, IsOn, IsPlane, IsFamily, IsPlaneBound, IsKnown}
-use Rattle.plane_search.specs.Starts.{AreStarts}
-use Rattle.plane_search.specs.declared.planes.Start.{Start}
-use Rattle.flow_tests.specs.Lanes.{steps, number, track_of, lanes_graph, lane, lanes}
+use Rattle.flow_tests.proofs.Prelude.{◌≡◌, ℕ, zero, suc, refl, ◌+◌, ◌*◌, ◌%◌, ◌/◌, ◌^◌, ◌<◌, ◌≤◌, ◌⊎◌, Some, List, [], ◌∷◌, length, map, get_or, arith, ◌∙◌, inl, inr, sym, ap, subst, All, Contains, cases_lt, cases_eq, length-map, sum_by-cons, All-nil, All-cons, Contains-get_or, IsLawful, Leads, IsPath, cost_of, IsLowerBound, Path, Family, IsOn, IsPlane, IsFamily, IsPlaneBound, IsKnown, AreStarts, Start, steps, number, track_of, lanes_graph, lane, lanes}
 
 -- ---- members
 

@@ -1,3 +1,4 @@
+mod Prelude
 mod Examples
 mod SectionLemmas
 pub mod Telling

@@ -1,21 +1,6 @@
 -- Sections, kept as names and texts.
-use Rattle.std.proofs.Common.{◌≡◌, ℕ, ◌<◌, ◌≤◌, List, [], ◌∷◌, ◌++◌, true, false, if◌then◌else◌, Some, Result, Ok, Err, length-append, suc, zero, add-one, length, get_or, refl, sym, ap, ◌∙◌, arith}
-use Rattle.std.specs.Prelude.{slice_get, is_ok, map, IfOk, OnOk}
-use Rattle.std.proofs.lemmas.List.{length-map}
-use Rattle.std.specs.Str.{bytes_eq}
-use Rattle.std.proofs.Math.ListN.{set}
-use Rattle.line_text.specs.Names.{has_name, number_of, with_name}
-use Rattle.line_text.proofs.NameLemmas.{number_of-first, number_of-later, with_name-first, with_name-later}
-use Rattle.script_text.specs.declared.replies.SessionReplies.{SessionReplies}
-use Rattle.script_text.specs.Replies.{Section, section_of}
-use Rattle.fpgad_run.specs.Run.{with_text}
-use Rattle.line_text.specs.declared.memory_sink.MemorySink.{MemorySink}
-use Rattle.std.specs.declared.alloc.AllocError.{AllocError}
-use Rattle.std.proofs.lemmas.Bool.{false≢true}
-use Rattle.line_text.specs.declared.source.Failed.{Failed}
-use Rattle.line_text.specs.Writing.{Writes}
-use Rattle.operator.specs.Held.{sink_text}
-use Rattle.fpgad_run.specs.Zipped.{named_sections}
+use Rattle.fpgad_run.proofs.Prelude.{◌≡◌, ℕ, ◌<◌, ◌≤◌, List, [], ◌∷◌, ◌++◌, true, false, Some, Result, length-append, suc, zero, length, get_or, refl, sym, ap, ◌∙◌, arith, is_ok, map, IfOk, OnOk, length-map, bytes_eq, set, number_of, with_name, number_of-first, number_of-later, with_name-first, with_name-later, SessionReplies, Section, section_of, with_text, MemorySink, AllocError, Failed, Writes, sink_text, named_sections}
+use Rattle.std.specs.Prelude.{slice_get}
 
 abbrev pub Text : Type 0
 Text = MemorySink
@@ -84,8 +69,7 @@ no_texts (n ∷ names) = refl
 pub named_push : (names : List (List ℕ)) (texts : List Text) (text : Text) (name : List ℕ) → length texts < length names → slice_get names (length texts) ≡ Some name →
     named_sections names (texts ++ text ∷ []) ≡ named_sections names texts ++ section name (sink_text text) ∷ []
 named_push [] texts text name within at = absurd (omega arith)
-named_push (n ∷ names) [] text name within at =
-    let e : n ≡ name = cc in ap (λ m. section m (sink_text text) ∷ named_sections names []) e ∙ ap (λ ss. section name (sink_text text) ∷ ss) (no_texts names)
+named_push (n ∷ names) [] text name within at = grind (arith, no_texts)
 named_push (n ∷ names) (t ∷ texts) text name within at = ap (λ ss. section n (sink_text t) ∷ ss) (named_push names texts text name (omega arith) at)
 
 -- each text has a section
@@ -99,28 +83,20 @@ pub count_so_far : (names : List (List ℕ)) (texts : List Text) (replies : List
 count_so_far names texts replies are fits = sym (length-map replies section_of) ∙ (ap length are ∙ length-named names texts fits)
 
 pub on_value : {E A : Type 0} {P Q : A → Type 0} (r : Result A E) → ((a : A) → P a → Q a) → IfOk r P → IfOk r Q
-on_value (Ok a) f p = f a p
-on_value (Err e) f p = tt
+on_value r f p = grind arith
 
 -- the answer is written if the sink had enough memory
 pub on_told : {P : Type 0} (r : Result (Unit {0}) AllocError) (w : Result (Unit {0}) Failed) (old new : MemorySink) (text : List ℕ) → is_ok r ≡ is_ok w →
     Writes (λ (s : MemorySink). Some (sink_text s)) (λ (s : MemorySink). s.failed) old new text w → (sink_text new ≡ sink_text old ++ text → P) → OnOk r P
-on_told (Ok u) (Ok v) old new text same writes f = f writes.bytes
-on_told (Ok u) (Err e) old new text same writes f = absurd (false≢true (sym same))
-on_told (Err e) w old new text same writes f = tt
+on_told r w old new text same writes f = grind arith
 
 pub is_told : (w : Result (Unit {0}) Failed) (old new : MemorySink) (text : List ℕ) → is_ok w ≡ true →
     Writes (λ (s : MemorySink). Some (sink_text s)) (λ (s : MemorySink). s.failed) old new text w → sink_text new ≡ sink_text old ++ text
-is_told (Ok v) old new text same writes = writes.bytes
-is_told (Err e) old new text same writes = absurd (false≢true same)
+is_told w old new text same writes = grind arith
 
 -- a new name makes one more
 pub length-new : (names : List (List ℕ)) (name : List ℕ) (k : ℕ) → length names ≤ k → k < length (with_name names name) → length (with_name names name) ≡ suc (length names)
-length-new names name k past within =
-    elim (has_name names name) as (λ b. k < length (if b then names else names ++ name ∷ []) → length (if b then names else names ++ name ∷ []) ≡ suc (length names)) [
-      | true ↦ λ w. absurd (omega arith)
-      | false ↦ λ w. length-append names (name ∷ []) ∙ add-one (length names)
-    ] within
+length-new names name k past within = grind (arith, length-append)
 
 pub held_as : (sink : MemorySink) (bytes : List ℕ) → Some (sink_text sink) ≡ Some bytes → bytes ≡ sink_text sink
 held_as sink bytes same = cc

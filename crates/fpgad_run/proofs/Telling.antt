@@ -1,38 +1,5 @@
 -- The acts of a script that runs, answered one after another.
-use Rattle.std.proofs.Common.{◌≡◌, ℕ, List, [], ◌∷◌, ◌++◌, length, Ok, refl, sym, ap, ◌∙◌, subst, append-nil}
-use Rattle.std.specs.Prelude.{map}
-use Rattle.std.specs.List.{flat_map}
-use Rattle.std.proofs.lemmas.Grind.{flat_map-append}
-use Rattle.std.proofs.lemmas.List.{map_push}
-use Rattle.rr_graph.specs.Graph.{Basis}
-use Rattle.service_core.specs.declared.device.Device.{Device}
-use Rattle.service_core.specs.Headline.{AreOwnJournals, AreParted, EachIsAlone, IsBook}
-use Rattle.service_core.specs.Owners.{HasOneOwner}
-use Rattle.service_core.specs.Run.{Call, Run}
-use Rattle.service_core.specs.Service.{ServiceState, empty_service}
-use Rattle.fpgad_run.specs.declared.in_order.Running.{Running}
-use Rattle.sessions.specs.declared.line.SessionLine.{SessionLine}
-use Rattle.script_text.specs.declared.act.Act.{Act}
-use Rattle.script_text.specs.declared.act.Act.TheVariants.{Operator, Session}
-use Rattle.operator.specs.OperatorText.{last_id}
-use Rattle.sessions.specs.declared.told.Answer.{Answer}
-use Rattle.sessions.specs.Fitting.{own_graph}
-use Rattle.sessions.specs.SessionAnswer.{Asks, IsAnswer, LeavesNone}
-use Rattle.sessions.specs.EndToEnd.{LineIsToldAlone}
-use Rattle.fpgad_run.specs.EndToEnd.{AreToldAlone, IsToldAlone}
-use Rattle.sessions.specs.SessionText.{answer_text}
-use Rattle.operator.specs.Held.{sink_text}
-use Rattle.operator.specs.Serving.{Stage}
-use Rattle.script_text.specs.Replies.{Section, output_of}
-use Rattle.fpgad_run.specs.Run.{Telling, Tells, IsAnswered, calls_of, sections_after, told_operator, told_session}
-use Rattle.sessions.proofs.StepLemmas.{Run-append}
-use Rattle.operator.specs.HeldJobs.{HeldList}
-use Rattle.operator.proofs.Served.{served_runs}
-use Rattle.operator.proofs.Stepping.{lengths-run, steady_asks}
-use Rattle.fpgad_run.specs.Told.{Begins, IsEven, Serves, sections_of, stage_of, told_so_far}
-use Rattle.fpgad_run.specs.declared.options.Options.{Options}
-use Rattle.arch_file.specs.declared.arch.Arch.{Arch}
-use Rattle.fpgad_run.specs.Program.{IsReplies, device_of}
+use Rattle.fpgad_run.proofs.Prelude.{◌≡◌, ℕ, List, [], ◌∷◌, ◌++◌, length, Ok, refl, sym, ap, ◌∙◌, subst, append-nil, arith, map, flat_map, flat_map-append, map_push, Basis, Device, AreOwnJournals, AreParted, EachIsAlone, IsBook, HasOneOwner, Call, Run, ServiceState, empty_service, Running, SessionLine, Act, Session, last_id, Answer, own_graph, Asks, IsAnswer, LineIsToldAlone, AreToldAlone, answer_text, sink_text, Stage, Section, output_of, Telling, Tells, IsAnswered, calls_of, sections_after, told_operator, told_session, Run-append, HeldList, lengths-run, steady_asks, Begins, IsEven, Serves, sections_of, stage_of, told_so_far, Options, Arch, IsReplies, device_of}
 
 -- the answers to the operator's lines, one after another
 abbrev pub operator_texts : List Telling → List ℕ
@@ -60,9 +27,7 @@ progress_none graph core running b = record { tellings = []; all = refl; told = 
 
 -- a service that begins does so from its own core
 pub begins_own : (graph : Basis) (core : ServiceState) (running : Running) → Begins graph core running → Begins running.graph.now running.core running
-begins_own graph core running b =
-    let P : Stage → Type 0 = λ s. Begins s.graph s.service running in
-    subst P (sym b.stage) b
+begins_own graph core running b = grind arith
 
 pub progress_more : (start : Stage) (old new : Running) (acts : List (Act (List ℕ))) (act : Act (List ℕ)) → Progress start old acts → Serves old act new → Progress start new (acts ++ act ∷ [])
 progress_more start old new acts act p s =
@@ -79,8 +44,7 @@ progress_more start old new acts act p s =
 
 -- the calls are a run of the core
 pub answered_runs : (old : Stage) (act : Act (List ℕ)) (calls : List Call) (text : List ℕ) (new : Stage) → IsAnswered old act calls text new → Run old.service calls new.service
-answered_runs old (Operator line) calls text new is = served_runs old line calls text new is
-answered_runs old (Session name line) calls text new is = is.2
+answered_runs old act calls text new is = grind arith
 
 pub told_runs : (old : Stage) (ts : List Telling) (new : Stage) → Tells old ts new → Run old.service (calls_of ts) new.service
 told_runs old [] new is = ap (λ (s : Stage). s.service) is
@@ -89,10 +53,7 @@ told_runs old (t ∷ ts) new is = Run-append old.service t.calls (is.0).service 
 -- a session's line is answered by the core
 pub session_answers : (names : List (List ℕ)) (jobs : HeldList) (graph : Basis) (old new : ServiceState) (name : List ℕ) (id : ℕ) (line : SessionLine) (answer : Answer) → id ≡ last_id names name → IsAnswer graph old id line answer new →
     (calls : List Call) × IsAnswered (record { names = names; jobs = jobs; service = old; graph = graph }) (Session name line) calls (answer_text answer) (record { names = names; jobs = jobs; service = new; graph = graph })
-session_answers names jobs graph old new name id line answer at is =
-    let P : ℕ → Type 0 = λ n. Asks n line is.0 answer in
-    let Q : ℕ → Type 0 = λ n. graph ≡ own_graph old.device → LeavesNone n line is.0 answer new in
-    (is.0, (answer, subst P at is.1, is.2, refl, refl, refl, refl, subst Q at is.3))
+session_answers names jobs graph old new name id line answer at is = grind arith
 
 -- it admits and evicts no one
 pub lengths-answered : (graph : Basis) (old new : ServiceState) (id : ℕ) (line : SessionLine) (answer : Answer) → IsAnswer graph old id line answer new → length old.histories ≡ length new.histories
@@ -107,22 +68,9 @@ pub record IsHeadline : Type 0 where
   pub exact : (device : Device) (calls : List Call) (state : ServiceState) → Run (empty_service device) calls state → HasOneOwner state
   pub line : (device : Device) (before calls : List Call) (old new : ServiceState) (id : ℕ) (line : SessionLine) (answer : Answer) → Run (empty_service device) before old → Asks id line calls answer → Run old calls new → LineIsToldAlone device old id before calls line answer
 
-telling_alone : IsHeadline → (device : Device) (before : List Call) (old new : Stage) (act : Act (List ℕ)) (calls : List Call) (text : List ℕ) → Run (empty_service device) before old.service → IsAnswered old act calls text new → IsToldAlone device old before calls act text
-telling_alone headline device before old new (Operator line) calls text runs is = tt
-telling_alone headline device before old new (Session name line) calls text runs is =
-    (is.0, headline.line device before calls old.service new.service (last_id old.names name) line is.0 runs is.1 is.2, is.5)
-
 tellings_alone : IsHeadline → (device : Device) (before : List Call) (old : Stage) (ts : List Telling) (last : Stage) → Run (empty_service device) before old.service → Tells old ts last → AreToldAlone device old before ts
 tellings_alone headline device before old [] last runs told = tt
-tellings_alone headline device before old (t ∷ ts) last runs told = (
-  telling_alone headline device before old told.0 t.act t.calls t.text runs told.1,
-  (
-    told.0,
-    told.1,
-    tellings_alone headline device (before ++ t.calls) told.0 ts last
-        (Run-append (empty_service device) before old.service t.calls (told.0).service runs (answered_runs old t.act t.calls t.text told.0 told.1)) told.2,
-  ),
-)
+tellings_alone headline device before old (t ∷ ts) last runs told = grind (arith, tellings_alone headline device (before ++ t.calls) told.0 ts last (Run-append (empty_service device) before old.service t.calls (told.0).service runs (answered_runs old t.act t.calls t.text told.0 told.1)) told.2)
 
 -- all answers are written
 pub replies_all : (options : Options) (arch : Arch) (all : List (Act (List ℕ))) (running : Running) (acts : List (Act (List ℕ))) (output : List ℕ) → IsHeadline →

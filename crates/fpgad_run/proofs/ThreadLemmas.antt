@@ -1,8 +1,5 @@
 -- The start of a script.
-use Rattle.std.proofs.Common.{◌≡◌, ℕ, Result, Ok, ap, ◌∙◌}
-use Rattle.arch_file.specs.declared.arch.Arch.{Arch}
-use Rattle.arch_file.specs.declared.fault.ArchFault.{ArchFault}
-use Rattle.fpgad_run.specs.Program.{Start, checked_start}
+use Rattle.fpgad_run.proofs.Prelude.{◌≡◌, ℕ, Result, Ok, ap, ◌∙◌, Arch, ArchFault, Start, checked_start}
 
 -- neither the architecture nor the script is refused
 pub start_read : {A : Type 0} (start : Start A) (meant : Result Arch ArchFault) (said : Result A ℕ) (arch : Arch) (value : A) → start ≡ checked_start meant said → meant ≡ Ok arch → said ≡ Ok value → start ≡ Ok (arch, value)

@@ -1,7 +1,6 @@
 -- Which option gives which part of a command line.
 use Rattle.std.specs.Prelude.{◌≡◌, Some, codes, option_map}
-use Rattle.option_words.specs.declared.given.Given.{Given}
-use Rattle.option_words.specs.Values.{number_of, text_of}
+use Rattle.fpgad_run.specs.Prelude.{Given, number_of, text_of}
 use Rattle.fpgad_run.specs.declared.options.CommandLine.{CommandLine}
 
 -- each number, and the path if there is one, is that of its option

@@ -1,14 +1,6 @@
 -- The answers to each name's session, by the service for a single user.
 use Rattle.std.specs.Prelude.{ℕ, ◌≡◌, List, [], ◌∷◌, ◌++◌, ⊤}
-use Rattle.service_core.specs.declared.device.Device.{Device}
-use Rattle.service_core.specs.Run.{Call}
-use Rattle.sessions.specs.declared.told.Answer.{Answer}
-use Rattle.sessions.specs.EndToEnd.{LineIsToldAlone}
-use Rattle.sessions.specs.SessionText.{answer_text}
-use Rattle.script_text.specs.declared.act.Act.{Act}
-use Rattle.script_text.specs.declared.act.Act.TheVariants.{Operator, Session}
-use Rattle.operator.specs.OperatorText.{last_id}
-use Rattle.operator.specs.Serving.{Stage}
+use Rattle.fpgad_run.specs.Prelude.{Device, Call, Answer, LineIsToldAlone, answer_text, Act, Operator, Session, last_id, Stage}
 use Rattle.fpgad_run.specs.Run.{Telling, IsAnswered}
 
 -- a session's line that makes those calls is answered what its name's last tenancy is answered

@@ -3,9 +3,7 @@ use Rattle.std.specs.Prelude.{ℕ, ◌≡◌, ◌≢◌, List, take, Bool, true,
 use Rattle.std.specs.declared.vec.Vec.{Vec}
 use Rattle.std.specs.declared.alloc.Global.{Global}
 use Rattle.std.specs.Io.KnownBytes.{Appends}
-use Rattle.line_text.specs.declared.source.Failed.{Failed}
-use Rattle.script_text.specs.declared.replies.RunReplies.{RunReplies}
-use Rattle.script_text.specs.Replies.{run_text}
+use Rattle.fpgad_run.specs.Prelude.{Failed, RunReplies, run_text}
 use Rattle.fpgad_run.specs.declared.inputs.Architecture.{Architecture}
 use Rattle.fpgad_run.specs.declared.inputs.Architecture.TheVariants.{Unreadable}
 use Rattle.fpgad_run.specs.declared.outcome.Outcome.{Outcome}

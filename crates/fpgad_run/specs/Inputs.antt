@@ -1,10 +1,8 @@
 -- Private: the texts of a run.
 use Rattle.std.specs.Prelude.{ℕ, ◌≡◌, ◌+◌, ◌<◌, ◌^◌, List, length}
-use Rattle.arch_file.specs.Arch.{arch_of}
-use Rattle.script_text.specs.Script.{script_of}
+use Rattle.fpgad_run.specs.Prelude.{arch_of, script_of, threaded_of}
 use Rattle.fpgad_run.specs.declared.inputs.Architecture.{Architecture}
 use Rattle.fpgad_run.specs.declared.inputs.Texts.{Texts}
-use Rattle.script_text.specs.Threaded.{threaded_of}
 use Rattle.fpgad_run.specs.OnThreads.{threaded_start_of}
 use Rattle.fpgad_run.specs.Program.{checked_start, start_of}
 

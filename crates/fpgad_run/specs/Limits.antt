@@ -1,8 +1,6 @@
 -- The limits of a device, and of the number of workers.
 use Rattle.std.specs.Prelude.{ℕ, ◌≡◌, ◌≤◌}
-use Rattle.shared_core.specs.declared.shared.TheConstants.{MAX_WORKERS}
-use Rattle.arch_file.specs.declared.arch.TheConstants.{MAX_TRACKS}
-use Rattle.grid.specs.declared.TheConstants.{MAX_COLUMNS, MAX_ROWS}
+use Rattle.fpgad_run.specs.Prelude.{MAX_WORKERS, MAX_TRACKS, MAX_COLUMNS, MAX_ROWS}
 use Rattle.fpgad_run.specs.declared.options.Options.{Options}
 
 abbrev pub AreLawful : ℕ → ℕ → ℕ → ℕ → Type 0

@@ -1,11 +1,6 @@
 -- A script that is served on threads: what is known before anything runs, and what is written.
 use Rattle.std.specs.Prelude.{ℕ, ◌≡◌, Bool, true, false, List, Ok}
-use Rattle.arch_file.specs.declared.arch.Arch.{Arch}
-use Rattle.script_text.specs.Threaded.{Parts, Threaded, heard_so_far, nothing_said, threaded_from}
-use Rattle.script_text.specs.Threaded.Within.{Head, Script}
-use Rattle.script_text.specs.declared.replies.RunReplies.{RunReplies}
-use Rattle.script_text.specs.Replies.{run_text}
-use Rattle.script_threads.specs.Served.{IsServedOnThreads}
+use Rattle.fpgad_run.specs.Prelude.{Arch, Parts, Threaded, heard_so_far, nothing_said, threaded_from, Head, Script, RunReplies, run_text, IsServedOnThreads}
 use Rattle.fpgad_run.specs.declared.inputs.Architecture.{Architecture}
 use Rattle.fpgad_run.specs.declared.options.Options.{Options}
 use Rattle.fpgad_run.specs.Program.{Start, device_of, start_by}

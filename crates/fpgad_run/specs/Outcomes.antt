@@ -1,11 +1,7 @@
 -- How a run ends: its status, and its message for standard error, without the line's end.
 use Rattle.std.specs.Prelude.{ℕ, List, [], ◌++◌, codes, decimal}
-use Rattle.arch_file.specs.Faults.{printed_fault}
-use Rattle.arch_file.specs.declared.fault.ArchFault.{ArchFault}
-use Rattle.line_text.specs.declared.text_error.TextError.{TextError}
-use Rattle.line_text.specs.declared.text_error.TextError.TheVariants.{Fault, NoMemory as NoTextMemory}
-use Rattle.script_threads.specs.declared.unserved.Unserved.{Unserved}
-use Rattle.script_threads.specs.declared.unserved.Unserved.TheVariants.{NoMemory as UnservedMemory, NotSettled as Unsettled}
+use Rattle.fpgad_run.specs.Prelude.{printed_fault, ArchFault, TextError, Fault, NoMemory as NoTextMemory, Unserved, NotSettled as Unsettled}
+use Rattle.script_threads.specs.declared.unserved.Unserved.TheVariants.{NoMemory as UnservedMemory}
 use Rattle.fpgad_run.specs.declared.outcome.Outcome.{Outcome}
 use Rattle.fpgad_run.specs.declared.outcome.Outcome.TheVariants.{Done, ArchUnreadable, ArchRefused, InputFailed, OutputFailed, ScriptFault, NoMemory, NotSettled}
 

@@ -1,27 +1,13 @@
 -- What a script and an architecture give before anything runs, and how a run ends.
 use Rattle.std.specs.Prelude.{ℕ, ◌≡◌, Bool, true, false, List, [], map, take, Result, Ok, Err, Option, Some, None, unwrap_or, ⊤, IsOk, IfSome}
 use Rattle.std.specs.Io.KnownBytes.{Appends}
-use Rattle.arch_file.specs.declared.arch.Arch.{Arch}
-use Rattle.arch_file.specs.declared.fault.ArchFault.{ArchFault}
-use Rattle.arch_file.specs.Arch.{arch_of}
-use Rattle.service_core.specs.declared.device.Device.{Device}
-use Rattle.service_core.specs.declared.device.TheConstants.{NO_TEXT_LIMIT}
-use Rattle.service_core.specs.Service.{empty_service}
-use Rattle.service_core.specs.Headline.{AreOwnJournals, AreParted, EachIsAlone, IsBook}
-use Rattle.service_core.specs.Owners.{HasOneOwner}
-use Rattle.service_core.specs.Run.{Run}
-use Rattle.sessions.specs.Fitting.{own_graph}
+use Rattle.fpgad_run.specs.Prelude.{Arch, ArchFault, arch_of, Device, NO_TEXT_LIMIT, empty_service, AreOwnJournals, AreParted, EachIsAlone, IsBook, HasOneOwner, Run, own_graph, Act, physical_lines, bytes_ahead, acts_from, Stage}
 use Rattle.fpgad_run.specs.declared.options.Options.{Options}
 use Rattle.fpgad_run.specs.declared.outcome.Outcome.{Outcome}
 use Rattle.fpgad_run.specs.declared.outcome.Outcome.TheVariants.{Done, ArchUnreadable, ArchRefused, InputFailed, OutputFailed, ScriptFault, NoMemory, NotSettled}
 use Rattle.fpgad_run.specs.declared.inputs.Architecture.{Architecture}
 use Rattle.fpgad_run.specs.declared.inputs.Architecture.TheVariants.{InScript, Text, Unreadable}
-use Rattle.script_text.specs.declared.act.Act.{Act}
-use Rattle.line_text.specs.Lines.{physical_lines}
-use Rattle.script_text.specs.Texts.{bytes_ahead}
-use Rattle.script_text.specs.Script.{acts_from}
 use Rattle.fpgad_run.specs.EndToEnd.{AreToldAlone}
-use Rattle.operator.specs.Serving.{Stage}
 use Rattle.fpgad_run.specs.Run.{Telling, Tells, calls_of, replies_text}
 
 -- the architecture and what the script says; or a fault, the architecture's before the script's

@@ -2,15 +2,7 @@
 use Rattle.std.specs.Prelude.{ℕ, ◌≡◌, List, [], ◌∷◌, ◌++◌, if◌then◌else◌}
 use Rattle.std.specs.List.{flat_map}
 use Rattle.std.specs.Str.{bytes_eq}
-use Rattle.service_core.specs.Run.{Call, Run}
-use Rattle.sessions.specs.declared.told.Answer.{Answer}
-use Rattle.sessions.specs.SessionAnswer.{Asks, LeavesNone}
-use Rattle.sessions.specs.SessionText.{answer_text}
-use Rattle.script_text.specs.declared.act.Act.{Act}
-use Rattle.script_text.specs.declared.act.Act.TheVariants.{Operator, Session}
-use Rattle.script_text.specs.Replies.{Section, output_of}
-use Rattle.operator.specs.OperatorText.{last_id}
-use Rattle.operator.specs.Serving.{HasOwnGraph, Stage, IsServed}
+use Rattle.fpgad_run.specs.Prelude.{Call, Run, Answer, Asks, LeavesNone, answer_text, Act, Operator, Session, Section, output_of, last_id, HasOwnGraph, Stage, IsServed}
 
 -- an act makes those calls of the core and is answered that text; on the device's own graph a wait
 -- leaves no step undone

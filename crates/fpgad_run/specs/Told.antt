@@ -1,18 +1,8 @@
 -- Private: a script that runs, and its answers so far.
 use Rattle.std.specs.Prelude.{ℕ, ◌≡◌, List, [], ◌++◌, length}
-use Rattle.rr_graph.specs.Graph.{Basis}
-use Rattle.service_core.specs.Run.{Call}
-use Rattle.service_core.specs.Service.{ServiceState}
-use Rattle.sessions.specs.declared.line.SessionLine.{SessionLine}
-use Rattle.sessions.specs.declared.told.Answer.{Answer}
-use Rattle.sessions.specs.SessionAnswer.{IsAnswer}
-use Rattle.sessions.specs.SessionText.{answer_text}
+use Rattle.fpgad_run.specs.Prelude.{Basis, Call, ServiceState, SessionLine, Answer, IsAnswer, answer_text, sink_text, Act, Stage, Section, output_of}
 use Rattle.fpgad_run.specs.declared.in_order.Running.{Running}
 use Rattle.fpgad_run.specs.declared.sections.Sections.{Sections}
-use Rattle.operator.specs.Held.{sink_text}
-use Rattle.script_text.specs.declared.act.Act.{Act}
-use Rattle.operator.specs.Serving.{Stage}
-use Rattle.script_text.specs.Replies.{Section, output_of}
 use Rattle.fpgad_run.specs.Run.{IsAnswered, told_operator, told_session, with_text}
 use Rattle.fpgad_run.specs.Zipped.{named_sections}
 

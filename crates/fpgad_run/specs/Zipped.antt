@@ -1,8 +1,6 @@
 -- Private: how the sections are kept.
 use Rattle.std.specs.Prelude.{ℕ, List, [], ◌∷◌}
-use Rattle.line_text.specs.declared.memory_sink.MemorySink.{MemorySink}
-use Rattle.operator.specs.Held.{sink_text}
-use Rattle.script_text.specs.Replies.{Section}
+use Rattle.fpgad_run.specs.Prelude.{MemorySink, sink_text, Section}
 
 -- a name and a text each
 abbrev pub named_sections : List (List ℕ) → List MemorySink → List Section

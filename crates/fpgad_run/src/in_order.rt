@@ -1,8 +1,6 @@
 //! A script that is served in order, without workers.
 ghost use Rattle.std.specs.Prelude.{◌≡◌, ◌<◌, ◌^◌, [], Ok, length, IfErr, IfOk, OnOk};
-ghost use Rattle.arch_file.specs.Arch.{IsArch};
-ghost use Rattle.script_text.specs.Replies.{run_text};
-ghost use Rattle.script_text.specs.Script.{named_act};
+ghost use Rattle.fpgad_run.specs.Prelude.{IsArch, run_text, named_act};
 ghost use Rattle.fpgad_run.specs.Ends.{Replies};
 ghost use Rattle.fpgad_run.specs.Program.{IsReplies, start_of};
 

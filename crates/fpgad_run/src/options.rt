@@ -1,7 +1,5 @@
 ghost use Rattle.std.specs.Prelude.{◌≡◌, ◌≤◌, IfSome, IfNone};
-ghost use Rattle.shared_core.specs.declared.shared.TheConstants.{MAX_WORKERS};
-ghost use Rattle.arch_file.specs.declared.arch.TheConstants.{MAX_TRACKS};
-ghost use Rattle.grid.specs.declared.TheConstants.{MAX_COLUMNS, MAX_ROWS};
+ghost use Rattle.fpgad_run.specs.Prelude.{MAX_WORKERS, MAX_TRACKS, MAX_COLUMNS, MAX_ROWS};
 
 use arch_file::{Arch, MAX_TRACKS};
 use clap::Error;

@@ -1,5 +1,5 @@
 ghost use Rattle.std.specs.Prelude.{is_ok, ◌≡◌, [], length, map, IfOk, OnOk};
-ghost use Rattle.script_text.specs.Replies.{section_of};
+ghost use Rattle.fpgad_run.specs.Prelude.{section_of};
 ghost use Rattle.fpgad_run.specs.Zipped.{named_sections};
 
 use line_text::{Failed, MemorySink, NameSet};

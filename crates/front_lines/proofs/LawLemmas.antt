@@ -1,14 +1,5 @@
 -- Whose the lines are that are handed over.
-use Rattle.std.proofs.Common.{◌≡◌, ℕ, List, [], ◌∷◌, ◌++◌, Bool, true, false, ◌&&◌, ◌||◌, map, refl, sym, ap, ◌∙◌}
-use Rattle.std.specs.List.{list_all, list_any}
-use Rattle.std.specs.Str.{bytes_eq}
-use Rattle.line_text.specs.Lines.{physical_lines}
-use Rattle.tagged_lines.specs.Tags.{Tagged, are_of, have_tags, is_tag, is_whole, output_of, tag_of}
-use Rattle.tagged_lines.proofs.TagLemmas.{both, lines as lines_are, whole as whole_is}
-use Rattle.front_lines.specs.Speakers.{with_marks, tag_in}
-use Rattle.front_lines.specs.declared.speaker.Speaker.{Speaker}
-use Rattle.front_lines.specs.Commands.{ClientState, Item, handed, handed_for, item_of, state_after}
-use Rattle.front_lines.specs.Commands.Item.{HandOver, Nothing, Refuse}
+use Rattle.front_lines.proofs.Prelude.{◌≡◌, ℕ, List, [], ◌∷◌, ◌++◌, Bool, true, ◌&&◌, ◌||◌, map, refl, sym, ap, ◌∙◌, arith, list_all, list_any, bytes_eq, physical_lines, Tagged, are_of, have_tags, is_tag, is_whole, output_of, tag_of, both, lines as lines_are, whole as whole_is, with_marks, tag_in, Speaker, ClientState, Item, handed, handed_for, item_of, state_after, HandOver, Nothing, Refuse}
 
 abbrev commands_in : Speaker → Item → List (List ℕ)
 commands_in who Nothing = []
@@ -23,23 +14,18 @@ abbrev with_tag : List ℕ → List ℕ → Tagged
 with_tag tag command = record { tag = tag; text = command }
 
 item_is : (who : Speaker) (item : Item) (more : List (List ℕ)) → handed_for who item ++ output_of (map (with_tag (tag_in who)) more) ≡ output_of (map (with_tag (tag_in who)) (commands_in who item ++ more))
-item_is who Nothing more = refl
-item_is who (HandOver command) more = refl
-item_is who (Refuse refusal) more = refl
+item_is who item more = grind arith
 
 handed_is : (who : Speaker) (state : ClientState) (lines : List (List ℕ)) → handed who state lines ≡ output_of (map (with_tag (tag_in who)) (commands_of who state lines))
 handed_is who state [] = refl
-handed_is who state (line ∷ lines) =
-    ap (λ l. handed_for who (item_of state line) ++ l) (handed_is who (state_after state line) lines)
-    ∙ item_is who (item_of state line) (commands_of who (state_after state line) lines)
+handed_is who state (line ∷ lines) = grind (arith, handed_is who (state_after state line) lines)
 
 all_have : (tag : List ℕ) (commands : List (List ℕ)) → is_tag tag ≡ true → have_tags (map (with_tag tag) commands) ≡ true
 all_have tag [] ok = refl
 all_have tag (command ∷ commands) ok = ap (λ b. b && have_tags (map (with_tag tag) commands)) ok ∙ all_have tag commands ok
 
 or_same : (a b : Bool) → a || b ≡ true → (b ≡ true → a ≡ true) → a ≡ true
-or_same true b e more = refl
-or_same false b e more = more e
+or_same a b e more = grind arith
 
 any_own : (tag line : List ℕ) (commands : List (List ℕ)) → list_any (λ t. bytes_eq (tag_of line) t.tag) (map (with_tag tag) commands) ≡ true → bytes_eq (tag_of line) tag ≡ true
 any_own tag line [] e = absurd (cc)

@@ -1,3 +1,4 @@
+mod Prelude
 mod LawLemmas
 mod ReadLemmas
 mod ReplyLemmas

@@ -1,13 +1,5 @@
 -- An input that is read line by line.
-use Rattle.std.proofs.Common.{◌≡◌, ℕ, List, [], ◌∷◌, ◌++◌, Bool, true, false, Option, None, Some, refl, sym, ap, ◌∙◌, subst, append-nil, append_assoc}
-use Rattle.std.specs.Io.KnownBytes.{Appends, Consumes, IsAtEnd, prepend_known}
-use Rattle.std.proofs.KnownBytes.{Appends-trans, Consumes-trans, Keeps-refl, prepend_known-end}
-use Rattle.dialogue.specs.History.{View}
-use Rattle.line_feed.specs.Feed.{ReadsAhead}
-use Rattle.line_feed.specs.Pieces.{IsKept, TakesPiece, is_one_line}
-use Rattle.line_service.proofs.LineLemmas.{both_lines}
-use Rattle.tagged_lines.specs.Tags.{with_feed}
-use Rattle.front_lines.specs.LinesRead.{HasLine, HasPaused}
+use Rattle.front_lines.proofs.Prelude.{◌≡◌, ℕ, List, [], ◌∷◌, ◌++◌, Bool, true, false, Option, None, Some, refl, sym, ap, ◌∙◌, subst, append-nil, append_assoc, arith, Appends, Consumes, IsAtEnd, prepend_known, Appends-trans, Consumes-trans, View, ReadsAhead, IsKept, TakesPiece, is_one_line, both_lines, with_feed, HasLine, HasPaused}
 
 -- the line that had begun goes on with this part
 pub record Reading (old now : Option (List ℕ)) (kept kept_now : List ℕ) : Type 0 where
@@ -17,30 +9,17 @@ pub record Reading (old now : Option (List ℕ)) (kept kept_now : List ℕ) : Ty
   pub consumes : Consumes old now part
 
 and_piece : (old now next : Option (List ℕ)) (kept kept_now kept_next piece : List ℕ) → Reading old now kept kept_now → is_one_line piece ≡ true → ((line : List ℕ) → IsKept kept_now line → IsKept kept_next (line ++ piece)) → Consumes now next piece → Reading old next kept kept_next
-and_piece old now next kept kept_now kept_next piece r one more consumes = record {
-  part = r.part ++ piece;
-  one = both_lines r.part piece r.one one;
-  line = λ begun is. let P : List ℕ → Type 0 = λ line. IsKept kept_next line in subst P (append_assoc begun r.part piece) (more (begun ++ r.part) (r.line begun is));
-  consumes = Consumes-trans old now next r.part piece r.consumes consumes;
-}
+and_piece old now next kept kept_now kept_next piece r one more consumes = grind (arith, both_lines, append_assoc, Consumes-trans)
 
 pub and_line : (old now next : Option (List ℕ)) (kept kept_now kept_next : List ℕ) → Reading old now kept kept_now → HasLine now next kept_now kept_next → HasLine old next kept kept_next
-and_line old now next kept kept_now kept_next r h =
-    let C : List ℕ → Type 0 = λ bytes. Consumes old next bytes in
-    record {
-      part = r.part ++ h.part;
-      one = both_lines r.part h.part r.one h.one;
-      line = λ begun is. let P : List ℕ → Type 0 = λ line. IsKept kept_next line in subst P (append_assoc begun r.part h.part) (h.line (begun ++ r.part) (r.line begun is));
-      consumes = subst C (sym (append_assoc r.part h.part (10 ∷ []))) (Consumes-trans old now next r.part (with_feed h.part) r.consumes h.consumes);
-    }
+and_line old now next kept kept_now kept_next r h = grind (arith, append_assoc, Consumes-trans, both_lines r.part h.part r.one h.one, append_assoc r.part h.part (10 ∷ []), Consumes-trans old now next r.part (with_feed h.part) r.consumes h.consumes)
 
 pub and_pause : (old now next : Option (List ℕ)) (kept kept_now kept_next : List ℕ) → Reading old now kept kept_now → HasPaused now next kept_now kept_next → Reading old next kept kept_next
 and_pause old now next kept kept_now kept_next r h = and_piece old now next kept kept_now kept_next h.part r h.one h.line h.consumes
 
 -- what was read ahead is taken
 all_taken : (left : Option (List ℕ)) (ahead piece rest : List ℕ) → ahead ≡ piece → rest ≡ [] → Consumes (prepend_known ahead left) (prepend_known rest left) piece
-all_taken None ahead piece rest is none = tt
-all_taken (Some bytes) ahead piece rest is none = ap (λ a. a ++ bytes) is ∙ ap (λ r. piece ++ (r ++ bytes)) (sym none)
+all_taken left ahead piece rest is none = grind arith
 
 end_taken : (left : Option (List ℕ)) (ahead piece rest : List ℕ) → ahead ≡ piece ++ 10 ∷ rest → Consumes (prepend_known ahead left) (prepend_known rest left) (with_feed piece)
 end_taken None ahead piece rest is = tt
@@ -48,9 +27,7 @@ end_taken (Some bytes) ahead piece rest is = ap (λ a. a ++ bytes) is ∙ (appen
 
 -- more is read ahead
 more_ahead : (left then : Option (List ℕ)) (rest ahead : List ℕ) → rest ≡ [] → Consumes left then ahead → Consumes (prepend_known rest left) (prepend_known ahead then) []
-more_ahead None then rest ahead none read = tt
-more_ahead (Some bytes) None rest ahead none read = absurd read
-more_ahead (Some bytes) (Some others) rest ahead none read = ap (λ r. r ++ bytes) none ∙ read
+more_ahead left then rest ahead none read = grind arith
 
 -- a dialogue is read on, and nothing is written
 pub record ReadingOn (before : View) (ahead kept : List ℕ) (now : View) (ahead_now kept_now : List ℕ) : Type 0 where
@@ -59,9 +36,7 @@ pub record ReadingOn (before : View) (ahead kept : List ℕ) (now : View) (ahead
 
 pub line_ends : (before : View) (ahead kept : List ℕ) (now : View) (ahead_now kept_now rest after : List ℕ) → ReadingOn before ahead kept now ahead_now kept_now → TakesPiece ahead_now kept_now true rest after →
     HasLine (prepend_known ahead before.remaining) (prepend_known rest now.remaining) kept after
-line_ends before ahead kept now ahead_now kept_now rest after r p =
-    and_line (prepend_known ahead before.remaining) (prepend_known ahead_now now.remaining) (prepend_known rest now.remaining) kept kept_now after r.reading
-    (record { part = p.piece; one = p.one; line = p.kept; consumes = end_taken now.remaining ahead_now p.piece rest p.rest })
+line_ends before ahead kept now ahead_now kept_now rest after r p = grind (arith, and_line (prepend_known ahead before.remaining) (prepend_known ahead_now now.remaining) (prepend_known rest now.remaining) kept kept_now after r.reading (record { part = p.piece; one = p.one; line = p.kept; consumes = end_taken now.remaining ahead_now p.piece rest p.rest }))
 
 pub line_goes_on : (before : View) (ahead kept : List ℕ) (now : View) (ahead_now kept_now : List ℕ) (next : View) (rest after new : List ℕ) → ReadingOn before ahead kept now ahead_now kept_now → TakesPiece ahead_now kept_now false rest after → ReadsAhead now next new →
     ReadingOn before ahead kept next new after
@@ -76,10 +51,4 @@ line_goes_on before ahead kept now ahead_now kept_now next rest after new r p a 
     }
 
 pub line_pauses : (before : View) (ahead kept : List ℕ) (next : View) (new after : List ℕ) → ReadingOn before ahead kept next new after → new ≡ [] → IsAtEnd next.remaining → HasPaused (prepend_known ahead before.remaining) (prepend_known new next.remaining) kept after
-line_pauses before ahead kept next new after r none end = record {
-  part = r.reading.part;
-  one = r.reading.one;
-  line = r.reading.line;
-  consumes = r.reading.consumes;
-  end = prepend_known-end (prepend_known new next.remaining) next.remaining new (Keeps-refl (prepend_known new next.remaining)) none end;
-}
+line_pauses before ahead kept next new after r none end = grind arith

@@ -1,19 +1,5 @@
 -- A reply that is read line by line.
-use Rattle.std.proofs.Common.{◌≡◌, ℕ, List, [], ◌∷◌, ◌++◌, Bool, true, false, not, ◌&&◌, cond, map, Option, refl, sym, ap, ◌∙◌, subst}
-use Rattle.std.specs.List.{flat_map, list_all}
-use Rattle.std.specs.Io.KnownBytes.{Consumes}
-use Rattle.std.proofs.KnownBytes.{Consumes-trans}
-use Rattle.std.proofs.lemmas.List.Sums.{fold-append}
-use Rattle.line_feed.specs.Pieces.{IsKept, is_one_line, kept_of}
-use Rattle.line_service.proofs.LineLemmas.{lines_push, not_false}
-use Rattle.line_service.proofs.TalkLemmas.{whole_lines}
-use Rattle.tagged_lines.specs.Tags.{with_feed}
-use Rattle.tagged_lines.proofs.TagLemmas.{both}
-use Rattle.front_lines.specs.Speakers.{is_last, told_after, own_text}
-use Rattle.front_lines.specs.declared.speaker.Speaker.{Speaker}
-use Rattle.front_lines.specs.Exchanges.{ends_reply}
-use Rattle.front_lines.specs.LinesRead.{HasLine}
-use Rattle.front_lines.specs.Serving.{HasReply, HasSeen}
+use Rattle.front_lines.proofs.Prelude.{◌≡◌, ℕ, List, [], ◌∷◌, ◌++◌, Bool, true, false, not, ◌&&◌, cond, map, Option, refl, sym, ap, ◌∙◌, arith, list_all, Consumes-trans, fold-append, IsKept, is_one_line, kept_of, lines_push, not_false, whole_lines, both, is_last, told_after, own_text, Speaker, ends_reply, HasLine, HasReply, HasSeen}
 
 abbrev goes_on : Speaker → List ℕ → Bool
 goes_on who line = not (is_last who line)
@@ -33,13 +19,7 @@ pub own_push : (who : Speaker) (lines : List (List ℕ)) (line : List ℕ) → o
 own_push who lines line = fold-append (told_after who) [] lines (line ∷ [])
 
 pub saw_line : (old now next : Option (List ℕ)) (kept kept_then kept_next : List ℕ) (seen : List (List ℕ)) → HasSeen old now kept seen → (h : HasLine now next kept kept_then) → IsKept kept_next [] → HasSeen old next kept_next (seen ++ h.part ∷ [])
-saw_line old now next kept kept_then kept_next seen s h begins =
-    let C : List ℕ → Type 0 = λ bytes. Consumes old next bytes in
-    record {
-      are_lines = lines_push seen h.part s.are_lines h.one;
-      consumes = subst C (sym (whole_lines seen h.part)) (Consumes-trans old now next (flat_map with_feed seen) (with_feed h.part) s.consumes h.consumes);
-      begins = begins;
-    }
+saw_line old now next kept kept_then kept_next seen s h begins = grind (arith, lines_push, whole_lines, Consumes-trans)
 
 all_push : (p : List ℕ → Bool) (lines : List (List ℕ)) (line : List ℕ) → list_all p lines ≡ true → p line ≡ true → list_all p (lines ++ line ∷ []) ≡ true
 all_push p [] line are is = ap (λ b. b && true) is
@@ -60,9 +40,7 @@ abbrev grown : Speaker → List ℕ → List ℕ → List ℕ → Type 0
 grown who reply line reply_then = reply_then ≡ told_after who reply line
 
 text_grows : (who : Speaker) (reply reply_then line : List ℕ) (seen : List (List ℕ)) (part : List ℕ) → reply ≡ own_text who (map kept_of seen) → grown who reply line reply_then → line ≡ kept_of part → reply_then ≡ own_text who (map kept_of (seen ++ part ∷ []))
-text_grows who reply reply_then line seen part is more same =
-    more ∙ (ap (λ r. told_after who r line) is ∙ (ap (λ l. told_after who (own_text who (map kept_of seen)) l) same
-    ∙ (sym (own_push who (map kept_of seen) (kept_of part)) ∙ sym (ap (own_text who) (kept_push seen part)))))
+text_grows who reply reply_then line seen part is more same = grind (arith, own_push, kept_push)
 
 pub following_more : (who : Speaker) (old now next : Option (List ℕ)) (kept line kept_next reply reply_then : List ℕ) (last : Bool) → Following who old now kept reply → HasLine now next kept line → IsKept kept_next [] → grown who reply line reply_then → last ≡ is_last who line → last ≡ false → Following who old next kept_next reply_then
 following_more who old now next kept line kept_next reply reply_then last f h begins more is none =

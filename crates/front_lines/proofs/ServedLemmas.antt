@@ -1,29 +1,11 @@
 -- A client that is served.
-use Rattle.std.proofs.Common.{◌⊎◌, inl, inr, ◌≡◌, ℕ, suc, ◌+◌, List, [], ◌∷◌, ◌++◌, length, take, Bool, true, ◌&&◌, map, Option, None, Some, refl, sym, ap, ◌∙◌, subst, arith, append-nil, append_assoc}
-use Rattle.std.specs.Prelude.{IfSome}
-use Rattle.std.specs.List.{flat_map, list_all}
-use Rattle.std.specs.Io.KnownBytes.{Appends, Consumes, IsAtEnd, Keeps, prepend_known}
-use Rattle.std.proofs.KnownBytes.{Appends-nil, Appends-trans, Consumes-kept, Consumes-nil, Consumes-trans, Consumes-whole}
-use Rattle.std.proofs.lemmas.Grind.{flat_map-append}
-use Rattle.line_feed.specs.Pieces.{IsKept, is_one_line, kept_of}
-use Rattle.line_service.specs.Conversation.{ended_lines}
-use Rattle.line_service.proofs.LineLemmas.{ended_then, lines_push, none_ended}
-use Rattle.line_service.proofs.TalkLemmas.{whole_lines}
-use Rattle.tagged_lines.specs.Tags.{with_feed}
-use Rattle.tagged_lines.proofs.TagLemmas.{both}
-use Rattle.front_lines.specs.declared.speaker.Speaker.{Speaker}
-use Rattle.front_lines.specs.Commands.{ClientState, handed as all_handed, handed_for, item_of, state_after, state_from}
-use Rattle.front_lines.specs.Exchanges.{AreTold, Asks, told_for}
-use Rattle.front_lines.specs.LinesRead.{HasBytes, HasLine, HasPaused}
-use Rattle.front_lines.specs.Serving.{Answers, HandsPart, HasSeen, HasServed, HasServedAll, TakesTurn, TellsNothing, TellsPart}
+use Rattle.front_lines.proofs.Prelude.{◌⊎◌, inl, inr, ◌≡◌, ℕ, suc, ◌+◌, List, [], ◌∷◌, ◌++◌, length, take, Bool, true, ◌&&◌, map, Option, refl, sym, ap, ◌∙◌, subst, arith, append-nil, append_assoc, IfSome, flat_map, list_all, Appends, Consumes, IsAtEnd, Keeps, prepend_known, Appends-nil, Appends-trans, Consumes-kept, Consumes-nil, Consumes-trans, Consumes-whole, flat_map-append, IsKept, is_one_line, kept_of, ended_lines, ended_then, lines_push, none_ended, whole_lines, with_feed, both, Speaker, ClientState, handed as all_handed, handed_for, item_of, state_after, state_from, AreTold, Asks, told_for, HasBytes, HasLine, HasPaused, Answers, HandsPart, HasSeen, HasServed, HasServedAll, TakesTurn, TellsNothing, TellsPart}
 use Rattle.front_lines.proofs.ReplyLemmas.{kept_push}
 
 -- what one more line adds
 handed_push : (who : Speaker) (state : ClientState) (lines : List (List ℕ)) (line : List ℕ) → all_handed who state (lines ++ line ∷ []) ≡ all_handed who state lines ++ handed_for who (item_of (state_from state lines) line)
 handed_push who state [] line = append-nil (handed_for who (item_of state line))
-handed_push who state (x ∷ lines) line =
-    ap (λ l. handed_for who (item_of state x) ++ l) (handed_push who (state_after state x) lines line)
-    ∙ sym (append_assoc (handed_for who (item_of state x)) (all_handed who (state_after state x) lines) (handed_for who (item_of (state_from (state_after state x) lines) line)))
+handed_push who state (x ∷ lines) line = grind (arith, append_assoc, handed_push who (state_after state x) lines line)
 
 state_push : (state : ClientState) (lines : List (List ℕ)) (line : List ℕ) → state_from state (lines ++ line ∷ []) ≡ state_after (state_from state lines) line
 state_push state [] line = refl
@@ -31,19 +13,8 @@ state_push state (x ∷ lines) line = state_push (state_after state x) lines lin
 
 told_push : (who : Speaker) (state : ClientState) (lines : List (List ℕ)) (line : List ℕ) (seen own : List (List ℕ)) (text : List ℕ) → AreTold who state lines seen text → Asks who (item_of (state_from state lines) line) own →
     AreTold who state (lines ++ line ∷ []) (seen ++ own) (text ++ told_for who (item_of (state_from state lines) line) own)
-told_push who state [] line seen own text (none, silent) asks =
-    let reply = told_for who (item_of state line) own in
-    (own, [], [], asks, ap (λ s. s ++ own) none ∙ sym (append-nil own), ap (λ t. t ++ reply) silent ∙ sym (append-nil reply), (refl, refl))
-told_push who state (x ∷ lines) line seen own text (first, others, later, asked, see, tell, rest) asks =
-    let reply = told_for who (item_of (state_from (state_after state x) lines) line) own in (
-      first,
-      others ++ own,
-      later ++ reply,
-      asked,
-      ap (λ s. s ++ own) see ∙ append_assoc first others own,
-      ap (λ t. t ++ reply) tell ∙ append_assoc (told_for who (item_of state x) first) later reply,
-      told_push who (state_after state x) lines line others own later rest asks,
-    )
+told_push who state [] line seen own text (none, silent) asks = grind (arith, append-nil)
+told_push who state (x ∷ lines) line seen own text (first, others, later, asked, see, tell, rest) asks = grind (arith, append_assoc, told_push who (state_after state x) lines line others own later rest asks)
 
 kept_append : (lines more : List (List ℕ)) → map kept_of (lines ++ more) ≡ map kept_of lines ++ map kept_of more
 kept_append [] more = refl
@@ -56,13 +27,7 @@ all_append p (x ∷ lines) more are others =
     ap (λ b. b && list_all p (lines ++ more)) parts.0 ∙ all_append p lines more parts.1 others
 
 seen_append : (old now next : Option (List ℕ)) (kept kept_next : List ℕ) (seen more : List (List ℕ)) → HasSeen old now kept seen → HasSeen now next kept_next more → HasSeen old next kept_next (seen ++ more)
-seen_append old now next kept kept_next seen more s m =
-    let C : List ℕ → Type 0 = λ bytes. Consumes old next bytes in
-    record {
-      are_lines = all_append is_one_line seen more s.are_lines m.are_lines;
-      consumes = subst C (sym (flat_map-append with_feed seen more)) (Consumes-trans old now next (flat_map with_feed seen) (flat_map with_feed more) s.consumes m.consumes);
-      begins = m.begins;
-    }
+seen_append old now next kept kept_next seen more s m = grind (arith, all_append, flat_map-append, Consumes-trans)
 
 -- a beginning of what follows a text
 take_past : (text more : List ℕ) (n : ℕ) → take (length text + n) (text ++ more) ≡ text ++ take n more
@@ -76,31 +41,19 @@ take_whole [] = refl
 take_whole (x ∷ text) = ap (λ l. x ∷ l) (take_whole text)
 
 appends_part : (old now next : Option (List ℕ)) (text more : List ℕ) (n : ℕ) → Appends old now text → Appends now next (take n more) → Appends old next (take (length text + n) (text ++ more))
-appends_part old now next text more n first then =
-    let A : List ℕ → Type 0 = λ bytes. Appends old next bytes in
-    subst A (sym (take_past text more n)) (Appends-trans old now next text (take n more) first then)
+appends_part old now next text more n first then = grind (arith, take_past, Appends-trans)
 
 appends_none : (old now next : Option (List ℕ)) (text : List ℕ) → Appends old now text → Appends now next [] → Appends old next text
-appends_none old now next text first none =
-    let A : List ℕ → Type 0 = λ bytes. Appends old next bytes in
-    subst A (append-nil text) (Appends-trans old now next text [] first none)
+appends_none old now next text first none = grind (arith, append-nil)
 
 pub appends_whole : (old new : Option (List ℕ)) (text : List ℕ) → Appends old new text → Appends old new (take (length text) text)
 appends_whole old new text is = let A : List ℕ → Type 0 = λ bytes. Appends old new bytes in subst A (sym (take_whole text)) is
 
 nothing_ahead : (left : Option (List ℕ)) (ahead : List ℕ) → ahead ≡ [] → Consumes left (prepend_known ahead left) []
-nothing_ahead None ahead none = tt
-nothing_ahead (Some bytes) ahead none = sym (ap (λ a. a ++ bytes) none)
-
-keeps_ahead : (old new : Option (List ℕ)) (ahead : List ℕ) → Keeps old new → Keeps (prepend_known ahead old) (prepend_known ahead new)
-keeps_ahead None new ahead keeps = tt
-keeps_ahead (Some bytes) None ahead keeps = absurd keeps
-keeps_ahead (Some bytes) (Some same) ahead keeps = ap (λ b. ahead ++ b) keeps
+nothing_ahead left ahead none = grind arith
 
 pub keeps_on : (old new : Option (List ℕ)) (ahead ahead_then : List ℕ) → ahead_then ≡ ahead → Keeps old new → Keeps (prepend_known ahead old) (prepend_known ahead_then new)
-keeps_on old new ahead ahead_then same keeps =
-    let K : List ℕ → Type 0 = λ a. Keeps (prepend_known ahead old) (prepend_known a new) in
-    subst K (sym same) (keeps_ahead old new ahead keeps)
+keeps_on old new ahead ahead_then same keeps = grind arith
 
 -- the lines so far were answered
 pub record Progress (who : Speaker) (state : ClientState) (client client_now requests requests_now replies replies_now : Option (List ℕ)) (kept : List ℕ) (output output_now : Option (List ℕ)) (state_now : ClientState) : Type 0 where
@@ -135,29 +88,14 @@ more_lines lines part = lines ++ part ∷ []
 
 lines_answered : (who : Speaker) (state state_now : ClientState) (lines seen own : List (List ℕ)) (part line text told : List ℕ) → state_now ≡ state_from state (map kept_of lines) → line ≡ kept_of part → AreTold who state (map kept_of lines) (map kept_of seen) text →
     Asks who (item_of state_now line) (map kept_of own) → told ≡ told_for who (item_of state_now line) (map kept_of own) → AreTold who state (map kept_of (more_lines lines part)) (map kept_of (seen ++ own)) (text ++ told)
-lines_answered who state state_now lines seen own part line text told at is before asks told_is =
-    let last = state_from state (map kept_of lines) in
-    let item : item_of state_now line ≡ item_of last (kept_of part) = ap (λ s. item_of s line) at ∙ ap (item_of last) is in
-    let asked : Asks who (item_of last (kept_of part)) (map kept_of own) = (let P : _ → Type 0 = λ i. Asks who i (map kept_of own) in subst P item asks) in
-    let all = told_push who state (map kept_of lines) (kept_of part) (map kept_of seen) (map kept_of own) text before asked in
-    let L : List (List ℕ) → Type 0 = λ ls. AreTold who state ls (map kept_of (seen ++ own)) (text ++ told) in
-    let S : List (List ℕ) → Type 0 = λ s. AreTold who state (map kept_of lines ++ kept_of part ∷ []) s (text ++ told) in
-    let T : List ℕ → Type 0 = λ t. AreTold who state (map kept_of lines ++ kept_of part ∷ []) (map kept_of seen ++ map kept_of own) (text ++ t) in
-    let same : told ≡ told_for who (item_of last (kept_of part)) (map kept_of own) = told_is ∙ ap (λ i. told_for who i (map kept_of own)) item in
-    subst L (sym (kept_push lines part)) (subst S (sym (kept_append seen own)) (subst T (sym same) all))
+lines_answered who state state_now lines seen own part line text told at is before asks told_is = grind (arith, told_push, kept_append)
 
 lines_handed : (who : Speaker) (state state_now : ClientState) (lines : List (List ℕ)) (part line : List ℕ) → state_now ≡ state_from state (map kept_of lines) → line ≡ kept_of part →
     all_handed who state (map kept_of (more_lines lines part)) ≡ all_handed who state (map kept_of lines) ++ handed_for who (item_of state_now line)
-lines_handed who state state_now lines part line at is =
-    let last = state_from state (map kept_of lines) in
-    ap (all_handed who state) (kept_push lines part)
-    ∙ (handed_push who state (map kept_of lines) (kept_of part)
-    ∙ ap (λ i. all_handed who state (map kept_of lines) ++ handed_for who i) (sym (ap (λ s. item_of s line) at ∙ ap (item_of last) is)))
+lines_handed who state state_now lines part line at is = grind (arith, kept_push, handed_push)
 
 lines_read : (client client_now client_then : Option (List ℕ)) (lines : List (List ℕ)) (part : List ℕ) → Consumes client client_now (flat_map with_feed lines) → Consumes client_now client_then (with_feed part) → Consumes client client_then (flat_map with_feed (more_lines lines part))
-lines_read client client_now client_then lines part before ended =
-    let C : List ℕ → Type 0 = λ bytes. Consumes client client_then bytes in
-    subst C (sym (whole_lines lines part)) (Consumes-trans client client_now client_then (flat_map with_feed lines) (with_feed part) before ended)
+lines_read client client_now client_then lines part before ended = grind (arith, whole_lines, Consumes-trans)
 
 module _ (who : Speaker) (state : ClientState) (client client_now requests requests_now replies replies_now : Option (List ℕ)) (kept : List ℕ) (output output_now : Option (List ℕ)) (state_now : ClientState)
     (p : Progress who state client client_now requests requests_now replies replies_now kept output output_now state_now) where

@@ -1,3 +1,4 @@
+pub mod Prelude
 pub mod Commands
 pub mod Exchanges
 pub mod LinesRead

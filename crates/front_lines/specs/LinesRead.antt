@@ -2,12 +2,7 @@
 use Rattle.std.specs.Prelude.{ℕ, ◌≡◌, List, [], ◌∷◌, ◌++◌, Bool, true, false, Option, Result, Ok, Err, ⊤}
 use Rattle.std.specs.Io.KnownBytes.{Consumes, IsAtEnd, prepend_known}
 use Rattle.std.specs.List.{flat_map, list_all}
-use Rattle.dialogue.specs.declared.dialogue.FailedDevice.{FailedDevice}
-use Rattle.dialogue.specs.History.{View}
-use Rattle.line_feed.specs.declared.feed.LineFeed.{LineFeed as Feed}
-use Rattle.line_feed.specs.Feed.{ahead_of}
-use Rattle.line_feed.specs.Pieces.{IsKept, is_one_line}
-use Rattle.tagged_lines.specs.Tags.{with_feed}
+use Rattle.front_lines.specs.Prelude.{FailedDevice, View, LineFeed as Feed, ahead_of, IsKept, is_one_line, with_feed}
 
 -- the bytes that are to come: those that were read ahead, and those that are left
 abbrev pub to_come : Feed → View → Option (List ℕ)

@@ -2,9 +2,7 @@
 use Rattle.std.specs.Prelude.{ℕ, ◌≡◌, List, [], ◌∷◌, ◌++◌, take, map, true, Option, IfSome, Result, Ok, Err, ⊤}
 use Rattle.std.specs.Io.KnownBytes.{Appends, Consumes, Keeps}
 use Rattle.std.specs.List.{flat_map, list_all}
-use Rattle.line_feed.specs.Pieces.{IsKept, is_one_line, kept_of}
-use Rattle.line_service.specs.Conversation.{ended_lines}
-use Rattle.tagged_lines.specs.Tags.{with_feed}
+use Rattle.front_lines.specs.Prelude.{IsKept, is_one_line, kept_of, ended_lines, with_feed}
 use Rattle.front_lines.specs.declared.service.FrontStop.{FrontStop}
 use Rattle.front_lines.specs.declared.speaker.Speaker.{Speaker}
 use Rattle.front_lines.specs.Commands.{ClientState, handed, item_of, handed_for}

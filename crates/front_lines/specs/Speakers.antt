@@ -1,7 +1,7 @@
 -- Who speaks through a front, what is handed over for him, and what he is told.
 use Rattle.std.specs.Prelude.{ℕ, Bool, false, ◌&&◌, List, [], ◌∷◌, ◌++◌, codes, fold, if◌then◌else◌}
 use Rattle.std.specs.Str.{bytes_eq}
-use Rattle.tagged_lines.specs.Tags.{rest_of, tag_of, with_feed}
+use Rattle.front_lines.specs.Prelude.{rest_of, tag_of, with_feed}
 use Rattle.front_lines.specs.declared.speaker.Speaker.{Speaker}
 use Rattle.front_lines.specs.declared.speaker.Speaker.TheVariants.{Operator, Tenant}
 

@@ -1,7 +1,7 @@
 //! What a client says, separated into commands.
 ghost use Rattle.std.specs.Prelude.{◌≡◌, ◌++◌, IfOk, OnOk};
 ghost use Rattle.front_lines.specs.Commands.{after_outside, after_within, form_of, is_end, item_in, item_of, item_operator, item_outside, item_within, pushed, state_after};
-ghost use Rattle.tagged_lines.specs.Tags.{with_feed};
+ghost use Rattle.front_lines.specs.Prelude.{with_feed};
 
 use crate::refusal::Refusal;
 use crate::speaker::{Speaker, push_line};

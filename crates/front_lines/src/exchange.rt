@@ -1,7 +1,6 @@
 //! One line of a client, and what the client is answered.
 ghost use Rattle.std.specs.Prelude.{◌≡◌, ◌⊎◌, [], IfOk, OnErr, OnOk};
-ghost use Rattle.line_feed.specs.Feed.{line_of};
-ghost use Rattle.line_feed.specs.Pieces.{IsKept};
+ghost use Rattle.front_lines.specs.Prelude.{line_of, IsKept};
 ghost use Rattle.front_lines.specs.LinesRead.{to_come};
 ghost use Rattle.front_lines.specs.Commands.{handed_for, item_of, state_after};
 ghost use Rattle.front_lines.specs.Serving.{Answers, HandsPart, TakesTurn, TellsNothing, TellsPart};

@@ -4,8 +4,7 @@ ghost use Rattle.front_lines.specs.Speakers.{tag_in};
 ghost use Rattle.front_lines.specs.declared.speaker.Speaker.{Speaker};
 ghost use Rattle.std.specs.List.{list_all};
 ghost use Rattle.std.specs.Str.{bytes_eq};
-ghost use Rattle.line_text.specs.Lines.{physical_lines};
-ghost use Rattle.tagged_lines.specs.Tags.{is_tag, is_whole, tag_of};
+ghost use Rattle.front_lines.specs.Prelude.{physical_lines, is_tag, is_whole, tag_of};
 ghost use Rattle.front_lines.specs.Commands.{ClientState, handed};
 
 /// Whatever lines a client says, what is handed over is whole lines, and each has his tag.

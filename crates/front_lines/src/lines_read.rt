@@ -1,7 +1,7 @@
 //! The lines of an input, as they come.
 ghost use Rattle.std.specs.Prelude.{[], OnOk};
 ghost use Rattle.std.specs.Io.KnownBytes.{Appends};
-ghost use Rattle.line_feed.specs.Feed.{line_of};
+ghost use Rattle.front_lines.specs.Prelude.{line_of};
 ghost use Rattle.front_lines.specs.LinesRead.{HasLine, ReadsOn, to_come};
 
 use crate::service::FrontStop;

@@ -1,10 +1,7 @@
 //! A live service, as a front sees it.
 ghost use Rattle.std.specs.Prelude.{◌≡◌, [], IfOk, OnErr, OnOk};
-ghost use Rattle.line_feed.specs.Feed.{line_of};
-ghost use Rattle.line_feed.specs.Pieces.{IsKept};
+ghost use Rattle.front_lines.specs.Prelude.{line_of, IsKept, Writes, tagged_text};
 ghost use Rattle.front_lines.specs.LinesRead.{to_come};
-ghost use Rattle.line_text.specs.Writing.{Writes};
-ghost use Rattle.tagged_lines.specs.Tags.{tagged_text};
 ghost use Rattle.front_lines.specs.Speakers.{with_marks, tag_in};
 ghost use Rattle.front_lines.specs.Serving.{HasReply};
 

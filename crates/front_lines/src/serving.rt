@@ -1,7 +1,6 @@
 //! A client is served.
 ghost use Rattle.std.specs.Prelude.{◌≡◌, []};
-ghost use Rattle.line_feed.specs.Feed.{ahead_of, line_of};
-ghost use Rattle.line_feed.specs.Pieces.{IsKept};
+ghost use Rattle.front_lines.specs.Prelude.{ahead_of, line_of, IsKept};
 ghost use Rattle.front_lines.specs.Serving.{HasServed, ServesAll};
 
 use crate::client_text::ClientText;

@@ -1,7 +1,7 @@
 //! Who speaks through a front.
 ghost use Rattle.std.specs.Prelude.{◌≡◌, ◌++◌, IfOk, OnOk};
 ghost use Rattle.front_lines.specs.Speakers.{is_first, is_last, is_mark, mark_line, with_marks, told_after, own_line, tag_in};
-ghost use Rattle.tagged_lines.specs.Tags.{with_feed};
+ghost use Rattle.front_lines.specs.Prelude.{with_feed};
 
 use std::alloc::{AllocError, Global};
 use tagged_lines::split_tag;

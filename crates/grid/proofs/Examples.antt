@@ -1,8 +1,5 @@
 -- The places of small strips.
-use Rattle.std.proofs.Common.{◌≡◌, ℕ, [], ◌∷◌, refl}
-use Rattle.grid.specs.declared.Strip.{Strip}
-use Rattle.grid.specs.declared.place.Kind.TheVariants.{Logic, Pad}
-use Rattle.grid.specs.Places.{place_at, places_of}
+use Rattle.grid.proofs.Prelude.{◌≡◌, ℕ, [], ◌∷◌, refl, Strip, Logic, Pad, place_at, places_of}
 
 abbrev strip : ℕ → ℕ → ℕ → Strip
 strip width rows io_rat = record { width = width; rows = rows; io_rat = io_rat }

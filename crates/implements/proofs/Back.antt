@@ -1,25 +1,5 @@
 -- Traced back, the BLEs of a cluster are those that were packed.
-use Rattle.std.proofs.Common.{◌≡◌, ℕ, ◌<◌, ◌≤◌, Bool, true, false, not, List, [], ◌∷◌, ◌++◌, length, map, Option, Some, None, sym, ap, refl, ◌∙◌, inl, inr, ◌⊎◌, subst, arith, option_and_then}
-use Rattle.std.specs.Prelude.{Contains, count_by, is_some}
-use Rattle.std.specs.List.{flat_map}
-use Rattle.std.specs.Option.{option_to_list}
-use Rattle.std.proofs.lemmas.Bool.Decides.{nat_tests}
-use Rattle.std.proofs.lemmas.List.{length-map}
-use Rattle.arch_file.specs.declared.arch.Pin.{Pin as ArchPin}
-use Rattle.arch_file.specs.declared.arch.PinClass.TheVariants.{Input, Output, Clock}
-use Rattle.ble_cluster.specs.Nets.{distinct_nets, has}
-use Rattle.ble_cluster.specs.Clusters.{clocks_of, outside_inputs}
-use Rattle.ble_cluster.proofs.Outside.{has-distinct}
-use Rattle.ble_cluster.specs.Bles.{LogicElement}
-use Rattle.cluster.specs.Clusters.{PackedCircuit, outputs_of}
-use Rattle.cluster.specs.Blocks.{elements_in, is_same_class}
-use Rattle.cluster.specs.LawfulPackings.{IsPacked}
-use Rattle.cluster.specs.PackingLaws.{IsLawfulPacking}
-use Rattle.grid.specs.declared.place.Place.{Place}
-use Rattle.vpr_files.specs.NetFile.{pin_with}
-use Rattle.implements.specs.declared.feed.Feed.{Feed}
-use Rattle.implements.specs.LayoutOf.{feed_of, laid_ble}
-use Rattle.implements.specs.Layouts.{IsFed, LaidBlock, input_net, on_pin, traced_ble}
+use Rattle.implements.proofs.Prelude.{◌≡◌, ℕ, ◌<◌, ◌≤◌, Bool, true, false, not, List, [], ◌∷◌, ◌++◌, length, map, Option, Some, None, sym, ap, refl, ◌∙◌, inl, inr, ◌⊎◌, subst, arith, option_and_then, Contains, count_by, is_some, flat_map, option_to_list, nat_tests, length-map, Pin as ArchPin, Input, Output, Clock, distinct_nets, has, clocks_of, outside_inputs, has-distinct, LogicElement, PackedCircuit, outputs_of, elements_in, is_same_class, IsPacked, IsLawfulPacking, Place, pin_with, Feed, feed_of, laid_ble, IsFed, LaidBlock, input_net, on_pin, traced_ble}
 use Rattle.implements.proofs.Results.{IsTracedBack, laid_cluster}
 use Rattle.implements.proofs.Inside.{clock_there, feed_is, pin_is}
 use Rattle.implements.proofs.Members.{all_members, from_flat_map, from_has, from_map, in_first, in_later, one_only, only_one, to_filter, to_flat_map, to_has}

@@ -1,76 +1,23 @@
 -- Between blocks: at a block of the layout of results just those nets are wanted that the packing
 -- says it reads, and no node is in more trees than it carries.
-use Rattle.std.proofs.Common.{get_or, ◌≡◌, ℕ, ◌+◌, ◌-◌, ◌≤◌, Bool, true, false, ◌||◌, List, [], ◌∷◌, ◌++◌, cond, length, map, take, Option, Some, None, slice_get, sym, ap, refl, ◌∙◌, arith, option_and_then, option_map, append_assoc, length-append}
-use Rattle.std.specs.Prelude.{count_by}
-use Rattle.std.specs.List.{AllZip, enumerate_from, list_any, range_with_len}
-use Rattle.std.specs.Option.{option_map_or}
-use Rattle.std.proofs.lemmas.Bool.Decides.{nat_tests}
-use Rattle.std.proofs.lemmas.List.{get_or-append_right}
-use Rattle.std.proofs.lemmas.List.Sums.{sum_by-cons}
-use Rattle.std.proofs.lemmas.Option.{slice_get-map}
-use Rattle.arch_file.specs.declared.arch.Arch.{Arch}
-use Rattle.arch_file.specs.declared.arch.Pin.{Pin as ArchPin}
-use Rattle.arch_file.specs.declared.arch.PinClass.{PinClass}
-use Rattle.arch_file.specs.declared.arch.PinClass.TheVariants.{Input, Clock}
-use Rattle.ble_cluster.specs.Nets.{has}
-use Rattle.ble_cluster.specs.Clusters.{clocks_of, outside_inputs}
-use Rattle.cluster.specs.Clusters.{PackedCircuit}
-use Rattle.cluster.specs.Blocks.{BlockNet, block_nets, net_on_pin, elements_in, is_same_class, pins_of, reads_net}
-use Rattle.cluster.specs.LawfulPackings.{IsPacked}
-use Rattle.cluster.specs.PackingLaws.{IsLawfulPacking}
-use Rattle.cluster.specs.declared.block.Block.{Block}
-use Rattle.cluster.specs.declared.block.Block.TheVariants.{InputPad, OutputPad, Cluster}
-use Rattle.grid.specs.declared.Strip.{Strip}
-use Rattle.grid.specs.declared.place.Place.{Place}
-use Rattle.pathfinder.specs.LegalRoutes.{IsLegal, IsRouted, path_nodes}
-use Rattle.pathfinder.specs.Terminals.{is_same_node, net_sinks, net_source}
-use Rattle.rr_graph.specs.Geometry.{capacity_of}
-use Rattle.rr_graph.specs.declared.node.Node.{Node}
-use Rattle.vpr_files.specs.BlockClusters.{HasCluster}
-use Rattle.implements.specs.Implements.{has_on, is_net, wants}
-use Rattle.implements.specs.LayoutOf.{laid_block, laid_net, layout_of}
-use Rattle.implements.specs.Layouts.{LaidBlock, LaidNet, on_pin}
+use Rattle.implements.proofs.Prelude.{get_or, ◌≡◌, ℕ, ◌+◌, ◌-◌, ◌≤◌, Bool, true, false, ◌||◌, List, [], ◌∷◌, ◌++◌, cond, length, map, take, Some, slice_get, sym, ap, refl, ◌∙◌, arith, append_assoc, length-append, count_by, AllZip, enumerate_from, list_any, range_with_len, nat_tests, get_or-append_right, sum_by-cons, slice_get-map, Arch, Pin as ArchPin, PinClass, Input, Clock, has, clocks_of, outside_inputs, PackedCircuit, BlockNet, block_nets, net_on_pin, elements_in, is_same_class, pins_of, reads_net, IsPacked, IsLawfulPacking, Block, InputPad, OutputPad, Cluster, Strip, Place, IsLegal, IsRouted, path_nodes, is_same_node, net_sinks, net_source, capacity_of, Node, HasCluster, has_on, is_net, wants, laid_block, laid_net, layout_of, LaidBlock, LaidNet, on_pin}
 use Rattle.implements.proofs.Results.{laid_cluster}
 use Rattle.implements.proofs.Coming.{has_pin}
 use Rattle.implements.proofs.Inside.{at_member, enumerated, is_some_net, pin_is, pin_there, same_class}
 use Rattle.implements.proofs.Members.{from_any, from_get, from_has, to_has}
 
 pub same_truth : (a b : Bool) → (a ≡ true → b ≡ true) → (b ≡ true → a ≡ true) → a ≡ b
-same_truth true b f g = sym (f refl)
-same_truth false true f g = g refl
-same_truth false false f g = refl
+same_truth a b f g = grind arith
 
 -- a pin that has a net
 on_parts : (arch : Arch) (laid : LaidBlock) (class : PinClass) (pin net : ℕ) → on_pin arch laid class pin ≡ Some net →
     (p : ArchPin) × (slice_get arch.pins pin ≡ Some p) × (is_same_class class p.class ≡ true) × (slice_get laid.pins pin ≡ Some (Some net))
-on_parts arch laid class pin net h = by (slice_get arch.pins pin) refl
-  where
-    body : Option ArchPin → Option (Option ℕ) → Option ℕ
-    body o net_on_pin = cond (option_map_or (λ (found : ArchPin). is_same_class class found.class) o false) (option_and_then (λ (net : Option ℕ). net) net_on_pin) None
-
-    carries : (o : Option (Option ℕ)) → option_and_then (λ (net : Option ℕ). net) o ≡ Some net → o ≡ Some (Some net)
-    carries None e = absurd cc
-    carries (Some inner) e = ap (λ (x : Option ℕ). Some x) e
-
-    by : (o : Option ArchPin) → slice_get arch.pins pin ≡ o → (p : ArchPin) × (slice_get arch.pins pin ≡ Some p) × (is_same_class class p.class ≡ true) × (slice_get laid.pins pin ≡ Some (Some net))
-    by None is = let wrong : None ≡ Some net = sym (ap (λ (o : Option ArchPin). body o (slice_get laid.pins pin)) is) ∙ h in absurd cc
-    by (Some p) is = of_class (is_same_class class p.class) refl
-      where
-        here : body (Some p) (slice_get laid.pins pin) ≡ Some net
-        here = sym (ap (λ (o : Option ArchPin). body o (slice_get laid.pins pin)) is) ∙ h
-
-        of_class : (b : Bool) → is_same_class class p.class ≡ b → (q : ArchPin) × (slice_get arch.pins pin ≡ Some q) × (is_same_class class q.class ≡ true) × (slice_get laid.pins pin ≡ Some (Some net))
-        of_class true e = (p, is, e, carries (slice_get laid.pins pin) (sym (ap (λ (b : Bool). cond b (option_and_then (λ (net : Option ℕ). net) (slice_get laid.pins pin)) None) e) ∙ here))
-        of_class false e = let wrong : None ≡ Some net = sym (ap (λ (b : Bool). cond b (option_and_then (λ (net : Option ℕ). net) (slice_get laid.pins pin)) None) e) ∙ here in absurd cc
+on_parts arch laid class pin net h = grind arith
 
 module _ (packed : PackedCircuit) (cluster : ℕ) (place : Place) where
   -- what a pin carries
   pin_carries : (k : ℕ) (pin : ArchPin) → slice_get packed.arch.pins k ≡ Some pin → slice_get (pins_of packed cluster) k ≡ Some (net_on_pin packed cluster pin.class (count_by (λ (other : ArchPin). is_same_class pin.class other.class) (take k packed.arch.pins)))
-  pin_carries k pin at =
-      let pins = packed.arch.pins in
-      let f : ℕ × ArchPin → Option ℕ = λ pin. net_on_pin packed cluster pin.1.class (count_by (λ (other : ArchPin). is_same_class pin.1.class other.class) (take pin.0 pins)) in
-      let here : 0 + k ≡ k = omega arith in
-      slice_get-map f (enumerate_from 0 pins) k ∙ ap (option_map f) (enumerated 0 pins k pin at) ∙ ap (λ (n : ℕ). Some (f (n, pin))) here
+  pin_carries k pin at = grind (arith, slice_get-map, enumerated)
 
   -- the pins of a class have just the nets that are carried by rank
   has_just : (class : PinClass) (nets : List ℕ) → ((r : ℕ) → net_on_pin packed cluster class r ≡ slice_get nets r) → length nets ≤ count_by (λ (pin : ArchPin). is_same_class class pin.class) packed.arch.pins → (net : ℕ) →

@@ -1,17 +1,5 @@
 -- A BLE that holds a table or a latch is known by the net that it drives.
-use Rattle.std.proofs.Common.{◌≡◌, ◌≢◌, ℕ, ◌+◌, ◌≤◌, Bool, true, false, ◌&&◌, ◌||◌, ◌==◌, not, List, [], ◌∷◌, ◌++◌, cond, map, Option, Some, None, sym, ap, refl, ◌∙◌, inl, inr, ◌⊎◌, subst, arith}
-use Rattle.std.specs.Prelude.{Contains, count_by, find}
-use Rattle.std.specs.List.{flat_map, list_any}
-use Rattle.std.specs.Option.{option_to_list}
-use Rattle.std.proofs.lemmas.Bool.{eqb-true}
-use Rattle.std.proofs.lemmas.Bool.Decides.{nat_tests}
-use Rattle.blif.specs.declared.circuit.Circuit.{Circuit}
-use Rattle.blif.specs.declared.latches.Latch.{Latch}
-use Rattle.blif.specs.LawfulCircuits.{IsCircuit}
-use Rattle.blif.specs.LookupTables.{LookupTable}
-use Rattle.ble_cluster.specs.Bles.{LogicElement, bles_of, element_of_latch, element_of_table, is_read_once, latch_after, reads_of, stands_alone}
-use Rattle.cluster.proofs.Pairs.{pairs_back, pairs_front}
-use Rattle.implements.specs.Holding.{holds_latch, holds_table, is_latch, is_pair, is_table}
+use Rattle.implements.proofs.Prelude.{◌≡◌, ◌≢◌, ℕ, ◌+◌, ◌≤◌, Bool, true, false, ◌&&◌, ◌||◌, ◌==◌, not, List, [], ◌∷◌, ◌++◌, cond, map, Option, Some, None, sym, ap, refl, ◌∙◌, inl, inr, ◌⊎◌, subst, arith, Contains, count_by, find, flat_map, list_any, option_to_list, eqb-true, nat_tests, Circuit, Latch, IsCircuit, LookupTable, LogicElement, bles_of, element_of_latch, element_of_table, is_read_once, latch_after, reads_of, stands_alone, pairs_back, pairs_front, holds_latch, holds_table, is_pair, is_table}
 use Rattle.implements.proofs.BleMembers.{IsOneOf, alone, from_bles, latch_in_bles, of_table, table_in_bles}
 use Rattle.implements.proofs.BleKinds.{behind_is, latch_held, pair_held}
 use Rattle.implements.proofs.Members.{from_any, from_filter, in_cases, in_none, to_any, to_map}
@@ -30,11 +18,7 @@ find_some {X} test (first ∷ xs) x c passes = by (λ later. find_some test xs x
 -- latches that store a net, counted
 count_stored : (net : ℕ) (latches : List Latch) → count_by (λ (read : ℕ). read == net) (map (λ (latch : Latch). latch.input) latches) ≡ count_by (λ (latch : Latch). latch.input == net) latches
 count_stored net [] = refl
-count_stored net (latch ∷ latches) =
-    let rest = count_stored net latches in
-    let left = count-cons (λ (read : ℕ). read == net) latch.input (map (λ (latch : Latch). latch.input) latches) in
-    let right = count-cons (λ (latch : Latch). latch.input == net) latch latches in
-    omega (arith, rest, left, right)
+count_stored net (latch ∷ latches) = search (count-cons, count_stored net latches, arith)
 
 module _ (circuit : Circuit) where
   -- ---- what is read once
@@ -51,12 +35,7 @@ module _ (circuit : Circuit) where
   -- reads of a net, by where it is read
   count_reads : (net : ℕ) → count_by (λ (read : ℕ). read == net) (reads_of circuit)
       ≡ ((count_by (λ (read : ℕ). read == net) of_tables + count_by (λ (read : ℕ). read == net) of_latches) + count_by (λ (read : ℕ). read == net) of_controls) + count_by (λ (read : ℕ). read == net) circuit.outputs
-  count_reads net =
-      let test : ℕ → Bool = λ read. read == net in
-      let a = count-append test ((of_tables ++ of_latches) ++ of_controls) circuit.outputs in
-      let b = count-append test (of_tables ++ of_latches) of_controls in
-      let c = count-append test of_tables of_latches in
-      omega (arith, a, b, c)
+  count_reads net = grind (arith, count-append)
 
   read_count : (net : ℕ) → is_read_once circuit net ≡ true → count_by (λ (read : ℕ). read == net) (reads_of circuit) ≡ 1
   read_count net once = eqb-true (count_by (λ (read : ℕ). read == net) (reads_of circuit)) 1 once
@@ -151,16 +130,7 @@ module _ (circuit : Circuit) where
             pair q.0 q.1 q.2
 
   pub latch_out : (element : LogicElement) (latch : Latch) → holds_latch circuit element latch ≡ true → element.output ≡ latch.output
-  latch_out element latch holds = by (is_latch element latch) refl
-    where
-      by : (b : Bool) → is_latch element latch ≡ b → element.output ≡ latch.output
-      by true is = let out : (element.output == latch.output) ≡ true = grind (arith, is) in eqb-true element.output latch.output out
-      by false is =
-          let some : list_any (λ table. is_pair circuit element table latch) circuit.tables ≡ true = sym (ap (λ (b : Bool). b || list_any (λ table. is_pair circuit element table latch) circuit.tables) is) ∙ holds in
-          let q = from_any (λ table. is_pair circuit element table latch) circuit.tables some in
-          let pair = q.2 in
-          let out : (element.output == latch.output) ≡ true = grind (arith, pair) in
-          eqb-true element.output latch.output out
+  latch_out element latch holds = search (from_any, arith)
 
   -- the BLE that holds a latch
   pub latch_holder : (latch : Latch) → Contains circuit.latches latch → (element : LogicElement) × Contains (bles_of circuit) element × (holds_latch circuit element latch ≡ true)

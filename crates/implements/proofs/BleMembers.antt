@@ -1,13 +1,6 @@
 -- The BLEs of a circuit: one for each table, with the latch that alone reads it, and one for each
 -- latch that is left.
-use Rattle.std.proofs.Common.{ltb, ◌≡◌, ◌++◌, true, List, [], ◌∷◌, drop, filter, map, take, sym, inl, inr, ◌⊎◌, subst}
-use Rattle.std.specs.Prelude.{Contains}
-use Rattle.std.specs.List.{prefix_len, take_while}
-use Rattle.std.proofs.lemmas.List.{take-append-drop}
-use Rattle.blif.specs.declared.circuit.Circuit.{Circuit}
-use Rattle.blif.specs.declared.latches.Latch.{Latch}
-use Rattle.blif.specs.LookupTables.{LookupTable}
-use Rattle.ble_cluster.specs.Bles.{LogicElement, bles_of, element_of_latch, element_of_table, in_line_order, latch_after, stands_alone}
+use Rattle.implements.proofs.Prelude.{ltb, ◌≡◌, ◌++◌, true, List, [], ◌∷◌, drop, filter, map, take, sym, inl, inr, ◌⊎◌, subst, Contains, prefix_len, take_while, take-append-drop, Circuit, Latch, LookupTable, LogicElement, bles_of, element_of_latch, element_of_table, in_line_order, latch_after, stands_alone}
 use Rattle.implements.proofs.Members.{from_append, from_drop, from_map, from_take, in_cases, in_first, in_later, in_none, to_append_left, to_append_right, to_filter, to_map}
 
 module _ (circuit : Circuit) where

@@ -1,23 +1,5 @@
 -- The blocks of the layout of results: what is inside each.
-use Rattle.std.proofs.Common.{◌≡◌, ℕ, ◌+◌, ◌≤◌, List, [], ◌∷◌, ◌++◌, length, map, ap, refl, ◌∙◌, subst, arith}
-use Rattle.std.specs.Prelude.{All, Contains}
-use Rattle.std.specs.List.{enumerate_from, flat_map}
-use Rattle.std.proofs.lemmas.List.Elements.{All-nil}
-use Rattle.block_places.specs.Placed.{place_of}
-use Rattle.ble_cluster.specs.Bles.{LogicElement}
-use Rattle.cluster.specs.Clusters.{PackedCircuit}
-use Rattle.cluster.specs.Blocks.{blocks_of}
-use Rattle.cluster.specs.LawfulPackings.{IsPacked}
-use Rattle.cluster.specs.PackingLaws.{IsLawfulPacking}
-use Rattle.cluster.specs.declared.block.Block.{Block}
-use Rattle.cluster.specs.declared.block.Block.TheVariants.{InputPad, OutputPad, Cluster}
-use Rattle.grid.specs.declared.place.Place.{Place}
-use Rattle.rr_graph.specs.declared.node.Node.{Node}
-use Rattle.vpr_files.specs.BlockClusters.{HasCluster}
-use Rattle.vpr_files.proofs.ClusterLemmas.{block_is_there}
-use Rattle.implements.specs.Implements.{ble_places}
-use Rattle.implements.specs.LayoutOf.{laid_block, layout_of}
-use Rattle.implements.specs.Layouts.{IsFed, LaidBlock, traced_ble, traced_bles}
+use Rattle.implements.proofs.Prelude.{◌≡◌, ℕ, ◌+◌, ◌≤◌, List, [], ◌∷◌, ◌++◌, length, map, ap, refl, ◌∙◌, subst, arith, All, Contains, enumerate_from, flat_map, All-nil, place_of, LogicElement, PackedCircuit, blocks_of, IsPacked, IsLawfulPacking, Block, InputPad, OutputPad, Cluster, Place, Node, HasCluster, block_is_there, ble_places, laid_block, layout_of, IsFed, LaidBlock, traced_ble, traced_bles}
 use Rattle.implements.proofs.Results.{packed_bles}
 use Rattle.implements.proofs.Back.{traced_back}
 use Rattle.implements.proofs.Led.{block_number}

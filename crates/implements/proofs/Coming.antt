@@ -1,34 +1,6 @@
 -- A layout that implements a circuit connects it.
-use Rattle.std.proofs.Common.{get_or, ◌≡◌, ℕ, suc, zero, ◌<◌, ◌≤◌, Bool, true, false, ◌||◌, ◌==◌, List, [], ◌∷◌, cond, filter, length, map, Option, Some, None, slice_get, sym, ap, refl, ◌∙◌, inl, inr, ◌⊎◌, subst, arith, option_and_then, option_map}
-use Rattle.std.specs.Prelude.{Contains, count_by}
-use Rattle.std.specs.List.{list_all, list_any, range_with_len}
-use Rattle.std.specs.Option.{option_map_or, option_to_list}
-use Rattle.std.proofs.lemmas.Bool.{eqb-true}
-use Rattle.std.proofs.lemmas.Bool.Decides.{nat_tests}
-use Rattle.std.proofs.lemmas.List.Elements.{All-contains}
-use Rattle.arch_file.specs.declared.arch.Arch.{Arch}
-use Rattle.arch_file.specs.declared.arch.Pin.{Pin as ArchPin}
-use Rattle.arch_file.specs.declared.arch.PinClass.{PinClass}
-use Rattle.arch_file.specs.declared.arch.PinClass.TheVariants.{Input, Clock}
-use Rattle.blif.specs.declared.circuit.Circuit.{Circuit}
-use Rattle.blif.specs.declared.latches.Latch.{Latch}
-use Rattle.blif.specs.LookupTables.{LookupTable}
-use Rattle.ble_cluster.specs.Nets.{has}
-use Rattle.ble_cluster.specs.Bles.{LogicElement}
-use Rattle.cluster.specs.declared.block.Block.{Block}
-use Rattle.cluster.specs.declared.block.Block.TheVariants.{InputPad, OutputPad, Cluster}
-use Rattle.cluster.specs.Blocks.{is_global, is_same_class}
-use Rattle.grid.specs.declared.Strip.{Strip}
-use Rattle.pathfinder.specs.LegalRoutes.{IsRouted, LeadsOver, pairs_of}
-use Rattle.pathfinder.specs.Terminals.{sink_at, source_at}
-use Rattle.rr_graph.specs.Geometry.{is_edge}
-use Rattle.rr_graph.specs.declared.node.Node.{Node}
-use Rattle.implements.specs.declared.feed.Feed.{Feed}
-use Rattle.implements.specs.declared.feed.Feed.TheVariants.{Pin, Ble}
-use Rattle.implements.specs.Holding.{holds_latch, holds_table, is_latch, is_pair, is_same_net, is_table, receives}
-use Rattle.implements.specs.Implements.{Implements, IsLaid, ble_places, drives, has_on, is_net, output_at, sinks_of, wants, wants_as}
-use Rattle.implements.specs.Layouts.{LaidBle, LaidBlock, LaidNet, Layout, input_net, on_pin, traced_ble, traced_bles}
-use Rattle.implements.specs.Connects.{ComesIn, ComesTo, Connects, LeadsTo, Receives, Spot}
+use Rattle.implements.proofs.Prelude.{◌≡◌, ℕ, ◌<◌, Bool, true, false, ◌||◌, ◌==◌, List, [], ◌∷◌, cond, filter, length, map, Option, Some, None, slice_get, sym, ap, refl, ◌∙◌, inl, inr, ◌⊎◌, subst, arith, option_map, Contains, count_by, list_all, list_any, range_with_len, option_to_list, eqb-true, nat_tests, All-contains, Arch, PinClass, Input, Clock, Circuit, Latch, LookupTable, has, LogicElement, Block, OutputPad, is_global, Strip, IsRouted, LeadsOver, pairs_of, sink_at, source_at, is_edge, Node, Feed, Ble, holds_latch, holds_table, is_latch, is_pair, is_same_net, receives, Implements, IsLaid, ble_places, drives, has_on, is_net, output_at, sinks_of, wants, wants_as, LaidBle, LaidBlock, LaidNet, Layout, input_net, on_pin, traced_ble, traced_bles, ComesIn, ComesTo, Connects, LeadsTo, Receives, Spot}
+use Rattle.implements.specs.declared.feed.Feed.TheVariants.{Pin}
 use Rattle.implements.proofs.Members.{counted, from_all, from_any, from_flat_map, from_get, from_has, from_map, in_none, in_range, to_any, to_filter, to_map}
 
 -- a way to a sink of a routed net
@@ -39,11 +11,7 @@ led arch strip source sink (first ∷ sinks) paths routed c = (routed.is_tree.re
 
 -- the input of a pin or of a clock is wanted at the block
 on_some : (arch : Arch) (laid : LaidBlock) (class : PinClass) (pin net : ℕ) → on_pin arch laid class pin ≡ Some net → pin < length arch.pins
-on_some arch laid class pin net h = by (slice_get arch.pins pin) refl
-  where
-    by : (o : Option ArchPin) → slice_get arch.pins pin ≡ o → pin < length arch.pins
-    by None is = let wrong : None ≡ Some net = sym (ap (λ (o : Option ArchPin). cond (option_map_or (λ found. is_same_class class found.class) o false) (option_and_then (λ net. net) (slice_get laid.pins pin)) None) is) ∙ h in absurd cc
-    by (Some found) is = (from_get arch.pins pin found is).0
+on_some arch laid class pin net h = grind (arith, from_get)
 
 pub has_pin : (arch : Arch) (laid : LaidBlock) (class : PinClass) (pin net : ℕ) → on_pin arch laid class pin ≡ Some net → has_on arch laid class net ≡ true
 has_pin arch laid class pin net h =
@@ -52,33 +20,17 @@ has_pin arch laid class pin net h =
 
 -- a block that has a BLE is a cluster
 wanted_in : (arch : Arch) (laid : LaidBlock) (net : ℕ) (block : Block) → 0 < ble_places arch block → (has_on arch laid Input net || has_on arch laid Clock net) ≡ true → wants_as arch net laid block ≡ true
-wanted_in arch laid net (InputPad input) places h = absurd (omega (arith, places))
-wanted_in arch laid net (OutputPad output) places h = absurd (omega (arith, places))
-wanted_in arch laid net (Cluster number) places h = h
+wanted_in arch laid net block places h = grind arith
 
 is_output : (block : Block) (net : ℕ) → Contains (output_at block) net → block ≡ OutputPad net
-is_output (InputPad input) net c = absurd (in_none net c)
-is_output (OutputPad output) net c = ap OutputPad (eqb-true output net (has_one output net (c.0) (c.1) (c.2)))
-  where
-    has_one : (output net k : ℕ) → k < 1 → get_or (output ∷ []) k net ≡ net → (output == net) ≡ true
-    has_one output net zero small is = grind (arith, nat_tests, is)
-    has_one output net (suc k) small is = absurd (omega (arith, small))
-is_output (Cluster number) net c = absurd (in_none net c)
-
-both_none : {A : Type 0} (o : Option A) (x : A) → o ≡ Some x → Contains (option_to_list o) x
-both_none o x h = subst (λ o. Contains (option_to_list o) x) (sym h) (0, omega arith, refl)
+is_output block net c = grind arith
 
 -- an option that holds the number
 only : (o : Option ℕ) (net : ℕ) → Contains (option_to_list o) net → o ≡ Some net
-only None net c = absurd (in_none net c)
-only (Some other) net (zero, small, is) = ap Some is
-only (Some other) net (suc k, small, is) = absurd (omega (arith, small))
+only o net c = grind arith
 
 same_net : (a b : Option ℕ) → is_same_net a b ≡ true → a ≡ b
-same_net None None h = refl
-same_net None (Some y) h = absurd cc
-same_net (Some x) None h = absurd cc
-same_net (Some x) (Some y) h = ap Some (eqb-true x y h)
+same_net a b h = grind arith
 
 module _ (circuit : Circuit) (arch : Arch) (strip : Strip) (layout : Layout) (h : Implements circuit arch strip layout) where
   -- a net comes to each block at which it is wanted
@@ -109,9 +61,7 @@ module _ (circuit : Circuit) (arch : Arch) (strip : Strip) (layout : Layout) (h 
 
   -- a block with a BLE has places for one
   placed : (laid : LaidBlock) (ble : LaidBle) → Contains layout.blocks laid → Contains laid.bles ble → 0 < ble_places arch laid.block
-  placed laid ble there inside =
-      let few = All-contains (λ (laid : LaidBlock). length laid.bles ≤ ble_places arch laid.block) layout.blocks laid h.few_bles there in
-      omega (arith, few, inside.1)
+  placed laid ble there inside = grind arith
 
   -- the BLE of a traced one
   spotted : (element : LogicElement) → Contains (traced_bles arch layout) element → (spot : Spot layout) × (traced_ble arch spot.laid spot.ble ≡ element)
@@ -138,14 +88,7 @@ module _ (circuit : Circuit) (arch : Arch) (strip : Strip) (layout : Layout) (h 
 
   -- its clock too
   clocked : (spot : Spot layout) (net : ℕ) → (traced_ble arch spot.laid spot.ble).clock ≡ Some net → ComesTo circuit arch strip layout spot.laid net
-  clocked spot net is = by spot.ble.clock is
-    where
-      by : (o : Option ℕ) → option_and_then (on_pin arch spot.laid Clock) o ≡ Some net → ComesTo circuit arch strip layout spot.laid net
-      by None e = absurd cc
-      by (Some pin) e =
-          let has : has_on arch spot.laid Clock net ≡ true = has_pin arch spot.laid Clock pin net e in
-          let either : (has_on arch spot.laid Input net || has_on arch spot.laid Clock net) ≡ true = grind (arith, has) in
-          came spot.laid net spot.there (wanted_in arch spot.laid net spot.laid.block (placed spot.laid spot.ble spot.there spot.inside) either)
+  clocked spot net is = grind (arith, has_pin, came)
 
   -- what is asked of a BLE's inputs
   receives_all : (element : LogicElement) (nets : List ℕ) (net : ℕ) → receives element nets ≡ true → has nets net ≡ true → Contains element.inputs net
@@ -155,13 +98,7 @@ module _ (circuit : Circuit) (arch : Arch) (strip : Strip) (layout : Layout) (h 
 
   -- a BLE that holds the table reads all that it reads
   reads_table : (element : LogicElement) (table : LookupTable) → holds_table circuit element table ≡ true → receives element table.inputs ≡ true
-  reads_table element table holds = by (is_table element table) refl
-    where
-      by : (b : Bool) → is_table element table ≡ b → receives element table.inputs ≡ true
-      by true is = grind (arith, is)
-      by false is =
-          let pair = from_any (is_pair circuit element table) circuit.latches (sym (ap (λ (b : Bool). b || list_any (is_pair circuit element table) circuit.latches) is) ∙ holds) in
-          let both = pair.2 in grind (arith, both)
+  reads_table element table holds = search (from_any, arith)
 
   tables_connected : (table : LookupTable) → Contains circuit.tables table →
       (spot : Spot layout) × (holds_table circuit (traced_ble arch spot.laid spot.ble) table ≡ true) × ((net : ℕ) → has table.inputs net ≡ true → Receives circuit arch strip layout spot net)
@@ -214,8 +151,4 @@ module _ (circuit : Circuit) (arch : Arch) (strip : Strip) (layout : Layout) (h 
 
 -- the statement
 pub connects : (circuit : Circuit) (arch : Arch) (strip : Strip) (layout : Layout) → Implements circuit arch strip layout → Connects circuit arch strip layout
-connects circuit arch strip layout h = record {
-  tables = tables_connected circuit arch strip layout h;
-  latches = latches_connected circuit arch strip layout h;
-  outputs = outputs_connected circuit arch strip layout h;
-}
+connects circuit arch strip layout h = grind (arith, tables_connected, latches_connected, outputs_connected)

@@ -1,18 +1,5 @@
 -- What a net that is read is driven by: it is an input of the circuit, or a BLE drives it.
-use Rattle.std.proofs.Common.{◌≡◌, ℕ, Bool, true, false, ◌&&◌, ◌==◌, not, List, [], ◌∷◌, ◌++◌, map, nat_eq, Option, Some, None, sym, ap, refl, ◌∙◌, inl, inr, ◌⊎◌, subst, arith}
-use Rattle.std.specs.Prelude.{All, Contains}
-use Rattle.std.specs.List.{flat_map, list_any}
-use Rattle.std.specs.Option.{option_to_list}
-use Rattle.std.proofs.lemmas.Bool.{eqb-true}
-use Rattle.std.proofs.lemmas.Bool.Decides.{nat_tests}
-use Rattle.std.proofs.lemmas.List.Elements.{All-contains}
-use Rattle.blif.specs.declared.circuit.Circuit.{Circuit}
-use Rattle.blif.specs.declared.latches.Latch.{Latch}
-use Rattle.blif.specs.LawfulCircuits.{IsCircuit, IsLatchDriven, drivers_of, has_net}
-use Rattle.blif.specs.LookupTables.{LookupTable}
-use Rattle.ble_cluster.specs.Bles.{LogicElement, bles_of, element_of_latch, element_of_table, is_read_once, latch_after, stands_alone}
-use Rattle.ble_cluster.specs.Nets.{distinct_nets}
-use Rattle.ble_cluster.proofs.Outside.{has-distinct}
+use Rattle.implements.proofs.Prelude.{◌≡◌, ℕ, Bool, true, false, ◌&&◌, ◌==◌, not, List, [], ◌∷◌, ◌++◌, map, nat_eq, Option, Some, None, sym, ap, refl, ◌∙◌, inl, inr, ◌⊎◌, subst, arith, All, Contains, flat_map, list_any, option_to_list, eqb-true, nat_tests, All-contains, Circuit, Latch, IsCircuit, IsLatchDriven, drivers_of, has_net, LookupTable, LogicElement, bles_of, element_of_latch, element_of_table, is_read_once, latch_after, stands_alone, distinct_nets, has-distinct}
 use Rattle.implements.proofs.BleKinds.{behind_is}
 use Rattle.implements.proofs.BleHolders.{IsReadElsewhere, behind_there, read_by_latch}
 use Rattle.implements.proofs.BleMembers.{alone, from_bles, latch_in_bles, of_table, table_in_bles}

@@ -1,25 +1,7 @@
 -- The nets between blocks: each net that a block reads is one of them, and so is each that is
 -- global; no net is two of them.
-use Rattle.std.proofs.Common.{◌≡◌, ◌≢◌, ℕ, ◌+◌, Bool, true, false, ◌&&◌, ◌||◌, ◌==◌, not, ltb, List, [], ◌∷◌, ◌++◌, filter, length, map, Some, slice_get, sym, ap, refl, ◌∙◌, inl, inr, subst, arith, append-nil}
-use Rattle.std.specs.Prelude.{All, Contains}
-use Rattle.std.specs.List.{enumerate_from, flat_map, range_with_len}
-use Rattle.std.specs.Option.{option_to_list}
-use Rattle.std.proofs.lemmas.Bool.{eqb-true}
-use Rattle.std.proofs.lemmas.Bool.Decides.{nat_tests}
-use Rattle.std.proofs.lemmas.List.{map-append}
-use Rattle.blif.specs.declared.latches.Latch.{Latch}
-use Rattle.blif.specs.LookupTables.{LookupTable}
-use Rattle.ble_cluster.specs.Bles.{LogicElement}
-use Rattle.ble_cluster.specs.Clusters.{clocks_of, outputs_of, outside_inputs}
-use Rattle.ble_cluster.specs.Nets.{distinct_nets, has}
-use Rattle.ble_cluster.proofs.Outside.{has-distinct}
-use Rattle.cluster.specs.Clusters.{PackedCircuit}
-use Rattle.cluster.specs.Blocks.{BlockNet, block_net, block_nets, blocks_of, elements_in, is_global, leaves_block, nets_from, reads_net, readers_of}
-use Rattle.cluster.specs.LawfulPackings.{IsPacked}
-use Rattle.cluster.specs.PackingLaws.{IsLawfulPacking}
-use Rattle.cluster.specs.declared.block.Block.{Block}
-use Rattle.cluster.specs.declared.block.Block.TheVariants.{InputPad, OutputPad, Cluster}
-use Rattle.cluster.proofs.Pairs.{pairs_append, pairs_front}
+use Rattle.implements.proofs.Prelude.{◌≡◌, ◌≢◌, ℕ, ◌+◌, Bool, true, false, ◌&&◌, ◌||◌, ◌==◌, not, ltb, List, [], ◌∷◌, ◌++◌, filter, length, map, Some, slice_get, sym, ap, refl, ◌∙◌, inl, inr, subst, arith, append-nil, All, Contains, enumerate_from, flat_map, range_with_len, option_to_list, eqb-true, nat_tests, map-append, Latch, LookupTable, LogicElement, clocks_of, outside_inputs, distinct_nets, has, has-distinct, PackedCircuit, BlockNet, block_net, block_nets, blocks_of, elements_in, is_global, leaves_block, nets_from, reads_net, readers_of, IsPacked, IsLawfulPacking, Block, InputPad, OutputPad, Cluster, pairs_append, pairs_front, HasCluster, block_is_there}
+use Rattle.ble_cluster.specs.Clusters.{outputs_of}
 use Rattle.implements.proofs.Results.{packed_bles}
 use Rattle.implements.proofs.DrivenNets.{DrivingBle, IsReadOutside, bles_drive, driven_by, read_by_ble}
 use Rattle.implements.proofs.Inside.{at_member, enumerated}
@@ -27,8 +9,6 @@ use Rattle.implements.proofs.Members.{all_members, from_append, from_filter, fro
 use Rattle.implements.proofs.PackedBles.{by_kind, from_packed, in_clusters, packed_are, packed_apart, to_packed}
 use Rattle.implements.proofs.Trees.{clocks_global, own_reads_not}
 use Rattle.implements.proofs.Unique.{AreApart, apart_filtered, never_both}
-use Rattle.vpr_files.specs.BlockClusters.{HasCluster}
-use Rattle.vpr_files.proofs.ClusterLemmas.{block_is_there}
 
 -- what a block drives, also what doesn't leave it
 abbrev own_nets : PackedCircuit → Block → List ℕ
@@ -44,15 +24,11 @@ goes_out packed (driver, Cluster cluster) net = leaves_block packed driver net
 
 module _ (packed : PackedCircuit) where
   own_of : (driver : ℕ) (block : Block) → filter (goes_out packed (driver, block)) (own_nets packed block) ≡ nets_from packed driver block
-  own_of driver (InputPad net) = refl
-  own_of driver (OutputPad net) = refl
-  own_of driver (Cluster cluster) = refl
+  own_of driver block = grind arith
 
   out_of_all : (es : List (ℕ × Block)) → flat_map (λ (e : ℕ × Block). filter (goes_out packed e) (own_nets packed e.1)) es ≡ flat_map (λ (e : ℕ × Block). nets_from packed e.0 e.1) es
   out_of_all [] = refl
-  out_of_all (e ∷ es) =
-      ap (λ (l : List ℕ). l ++ flat_map (λ (e : ℕ × Block). filter (goes_out packed e) (own_nets packed e.1)) es) (own_of e.0 e.1)
-      ∙ ap (λ (l : List ℕ). nets_from packed e.0 e.1 ++ l) (out_of_all es)
+  out_of_all (e ∷ es) = grind (arith, out_of_all es)
 
   names_of : (driver : ℕ) (nets : List ℕ) → map (λ (between : BlockNet). between.net) (map (block_net packed driver) nets) ≡ nets
   names_of driver [] = refl
@@ -60,12 +36,7 @@ module _ (packed : PackedCircuit) where
 
   names_from : (es : List (ℕ × Block)) → map (λ (between : BlockNet). between.net) (flat_map (λ (e : ℕ × Block). map (block_net packed e.0) (nets_from packed e.0 e.1)) es) ≡ flat_map (λ (e : ℕ × Block). nets_from packed e.0 e.1) es
   names_from [] = refl
-  names_from (e ∷ es) =
-      let name : BlockNet → ℕ = λ between. between.net in
-      let rest = flat_map (λ (e : ℕ × Block). map (block_net packed e.0) (nets_from packed e.0 e.1)) es in
-      map-append name (map (block_net packed e.0) (nets_from packed e.0 e.1)) rest
-      ∙ ap (λ (l : List ℕ). l ++ map name rest) (names_of e.0 (nets_from packed e.0 e.1))
-      ∙ ap (λ (l : List ℕ). nets_from packed e.0 e.1 ++ l) (names_from es)
+  names_from (e ∷ es) = grind (arith, map-append, names_of, names_from es)
 
   of_block : (start : ℕ) (blocks : List Block) → flat_map (λ (e : ℕ × Block). own_nets packed e.1) (enumerate_from start blocks) ≡ flat_map (own_nets packed) blocks
   of_block start [] = refl
@@ -81,9 +52,7 @@ module _ (packed : PackedCircuit) where
 
   outputs_over : (numbers : List ℕ) → flat_map (λ (number : ℕ). outputs_of (elements_in packed number)) numbers ≡ outputs_of (flat_map (elements_in packed) numbers)
   outputs_over [] = refl
-  outputs_over (number ∷ numbers) =
-      let out : LogicElement → ℕ = λ element. element.output in
-      ap (λ (l : List ℕ). outputs_of (elements_in packed number) ++ l) (outputs_over numbers) ∙ sym (map-append out (elements_in packed number) (flat_map (elements_in packed) numbers))
+  outputs_over (number ∷ numbers) = grind (arith, map-append, outputs_over numbers)
 
   -- all that is driven: the inputs, and what the BLEs drive
   all_driven : flat_map (own_nets packed) (blocks_of packed) ≡ packed.circuit.inputs ++ outputs_of (flat_map (packed_bles packed) (blocks_of packed))
@@ -168,8 +137,7 @@ module _ (packed : PackedCircuit) where
 
     -- if it goes to another block, or is global
     leaving : (net : ℕ) (driver : HasDriver net) → leaves_block packed driver.number net ≡ true → HasEntry net
-    leaving net driver leaves =
-        entry_of driver.number (Cluster driver.cluster) net driver.listed (to_filter (leaves_block packed driver.number) (outputs_of (elements_in packed driver.cluster)) net driver.drives leaves)
+    leaving net driver leaves = search (entry_of, to_filter, arith)
 
     pub global_entry : (net : ℕ) → is_global packed.circuit net ≡ true → HasEntry net
     global_entry net is =

@@ -1,13 +1,5 @@
 -- Each table and each latch is in just one BLE of a packed circuit.
-use Rattle.std.proofs.Common.{◌≡◌, ℕ, true}
-use Rattle.std.specs.Prelude.{count_by}
-use Rattle.std.specs.List.{flat_map}
-use Rattle.ble_cluster.specs.Bles.{LogicElement}
-use Rattle.cluster.specs.Clusters.{PackedCircuit}
-use Rattle.cluster.specs.Blocks.{blocks_of}
-use Rattle.cluster.specs.LawfulPackings.{IsPacked}
-use Rattle.cluster.specs.PackingLaws.{IsLawfulPacking}
-use Rattle.implements.specs.Holding.{AreBlesOf, holds_latch, holds_table}
+use Rattle.implements.proofs.Prelude.{◌≡◌, ℕ, true, count_by, flat_map, LogicElement, PackedCircuit, blocks_of, IsPacked, IsLawfulPacking, AreBlesOf, holds_latch, holds_table}
 use Rattle.implements.proofs.Results.{packed_bles}
 use Rattle.implements.proofs.BleKinds.{ble_is, is_some_of, table_holds}
 use Rattle.implements.proofs.BleHolders.{latch_holder, latch_out, table_out}

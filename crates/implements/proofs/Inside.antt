@@ -1,30 +1,6 @@
 -- Inside a cluster of a packed circuit: traced back, each BLE is the one that was packed.
-use Rattle.std.proofs.Common.{get_or, ◌≡◌, ℕ, suc, zero, ◌+◌, ◌<◌, ◌≤◌, Bool, true, false, ◌&&◌, ◌==◌, List, [], ◌∷◌, cond, length, map, take, Option, Some, None, slice_get, sym, ap, refl, ◌∙◌, inl, inr, ◌⊎◌, arith, option_and_then, option_map, position}
-use Rattle.std.specs.Prelude.{Contains, count_by}
-use Rattle.std.specs.List.{enumerate_from, position_from, zip}
-use Rattle.std.specs.Option.{option_map_or}
-use Rattle.std.proofs.lemmas.Bool.{eqb-true}
-use Rattle.std.proofs.lemmas.Bool.Decides.{nat_tests}
-use Rattle.std.proofs.lemmas.Iterator.Adapters.{position_from-zero}
-use Rattle.std.proofs.lemmas.List.Quantifiers.{position-Some}
-use Rattle.std.proofs.lemmas.List.Sums.{sum_by-cons}
-use Rattle.std.proofs.lemmas.Option.{slice_get-get_or, slice_get-map}
-use Rattle.arch_file.specs.declared.arch.Pin.{Pin as ArchPin}
-use Rattle.arch_file.specs.declared.arch.PinClass.{PinClass}
-use Rattle.arch_file.specs.declared.arch.PinClass.TheVariants.{Input, Output, Clock}
-use Rattle.ble_cluster.specs.Clusters.{clocks_of, outside_inputs}
-use Rattle.ble_cluster.specs.Bles.{LogicElement}
-use Rattle.cluster.specs.Clusters.{PackedCircuit, outputs_of}
-use Rattle.cluster.specs.Blocks.{net_on_pin, elements_in, is_same_class, pins_of}
-use Rattle.cluster.specs.declared.block.Block.TheVariants.{Cluster}
-use Rattle.grid.specs.declared.place.Place.{Place}
-use Rattle.vpr_files.specs.NetFile.{driver_place, pin_with}
-use Rattle.vpr_files.proofs.ClusterLemmas.{pin_at}
-use Rattle.implements.specs.declared.feed.Feed.{Feed}
-use Rattle.implements.specs.declared.feed.Feed.TheVariants.{Pin, Ble}
-use Rattle.implements.specs.Implements.{is_net}
-use Rattle.implements.specs.LayoutOf.{feed_of, laid_ble, laid_block}
-use Rattle.implements.specs.Layouts.{LaidBle, LaidBlock, input_net, on_pin}
+use Rattle.implements.proofs.Prelude.{get_or, ◌≡◌, ℕ, suc, zero, ◌+◌, ◌<◌, ◌≤◌, Bool, true, false, ◌&&◌, ◌==◌, List, [], ◌∷◌, cond, length, map, take, Option, Some, None, slice_get, sym, ap, refl, ◌∙◌, inl, inr, ◌⊎◌, arith, option_and_then, option_map, position, Contains, count_by, enumerate_from, position_from, zip, option_map_or, eqb-true, nat_tests, position_from-zero, position-Some, sum_by-cons, slice_get-get_or, slice_get-map, Pin as ArchPin, PinClass, Input, Clock, clocks_of, outside_inputs, LogicElement, PackedCircuit, outputs_of, net_on_pin, elements_in, is_same_class, pins_of, Cluster, Place, driver_place, pin_with, pin_at, Feed, Ble, is_net, feed_of, laid_ble, laid_block, LaidBle, LaidBlock, input_net, on_pin}
+use Rattle.implements.specs.declared.feed.Feed.TheVariants.{Pin}
 
 -- ---- lists
 
@@ -79,19 +55,10 @@ at_member xs x (k, within, is) = (k, within, slice_get-get_or xs k x within ∙ 
 -- ---- pins
 
 pub same_class : (class other : PinClass) → is_same_class class other ≡ true → other ≡ class
-same_class Input Input h = refl
-same_class Input Output h = absurd cc
-same_class Input Clock h = absurd cc
-same_class Output Input h = absurd cc
-same_class Output Output h = refl
-same_class Output Clock h = absurd cc
-same_class Clock Input h = absurd cc
-same_class Clock Output h = absurd cc
-same_class Clock Clock h = refl
+same_class class other h = grind arith
 
 pub is_some_net : (o : Option ℕ) (net : ℕ) → is_net net o ≡ true → o ≡ Some net
-is_some_net None net h = absurd cc
-is_some_net (Some other) net h = ap Some (eqb-true other net h)
+is_some_net o net h = grind arith
 
 module _ (packed : PackedCircuit) (cluster : ℕ) (place : Place) where
   abbrev laid : LaidBlock

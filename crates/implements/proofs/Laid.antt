@@ -1,29 +1,5 @@
 -- Each net between blocks of the layout of results is laid.
-use Rattle.std.proofs.Common.{get_or, ◌≡◌, ℕ, suc, zero, ◌+◌, ◌-◌, ◌<◌, ◌≤◌, Bool, true, false, ◌&&◌, ◌==◌, not, List, [], ◌∷◌, ◌++◌, cond, filter, length, map, Option, Some, None, slice_get, sym, ap, refl, ◌∙◌, inl, inr, ◌⊎◌, subst, arith, option_and_then, option_map, length-append}
-use Rattle.std.specs.Prelude.{All, Contains, is_some}
-use Rattle.std.specs.List.{enumerate_from, range_with_len}
-use Rattle.std.proofs.lemmas.Bool.Decides.{nat_tests}
-use Rattle.std.proofs.lemmas.List.{get_or_default, length-map}
-use Rattle.std.proofs.lemmas.Option.{get_or_from_slice_get, slice_get-map}
-use Rattle.arch_file.specs.declared.arch.PinClass.TheVariants.{Output}
-use Rattle.block_places.specs.Placed.{block_at, place_of}
-use Rattle.ble_cluster.specs.Bles.{LogicElement}
-use Rattle.cluster.specs.Clusters.{PackedCircuit, outputs_of}
-use Rattle.cluster.specs.Blocks.{BlockNet, block_net, block_nets, blocks_of, net_on_pin, elements_in, is_global, leaves_block, nets_from, reads_net}
-use Rattle.cluster.specs.LawfulPackings.{IsPacked}
-use Rattle.cluster.specs.PackingLaws.{IsLawfulPacking}
-use Rattle.cluster.specs.declared.block.Block.{Block}
-use Rattle.cluster.specs.declared.block.Block.TheVariants.{InputPad, OutputPad, Cluster}
-use Rattle.grid.specs.declared.Strip.{Strip}
-use Rattle.grid.specs.declared.place.Place.{Place}
-use Rattle.pathfinder.specs.LegalRoutes.{IsLegal, IsRouted}
-use Rattle.pathfinder.specs.Terminals.{source_at}
-use Rattle.rr_graph.specs.declared.node.Node.{Node}
-use Rattle.vpr_files.specs.NetFile.{pin_with}
-use Rattle.vpr_files.proofs.ClusterLemmas.{block_is_there}
-use Rattle.implements.specs.Implements.{IsLaid, drives, leaves_as, sinks_of, wants}
-use Rattle.implements.specs.LayoutOf.{laid_ble, laid_block, laid_net, layout_of}
-use Rattle.implements.specs.Layouts.{LaidBlock, LaidNet}
+use Rattle.implements.proofs.Prelude.{get_or, ◌≡◌, ℕ, suc, zero, ◌+◌, ◌-◌, ◌<◌, ◌≤◌, Bool, true, false, ◌&&◌, ◌==◌, not, List, [], ◌∷◌, ◌++◌, cond, filter, length, map, Option, Some, None, slice_get, sym, ap, refl, ◌∙◌, inl, inr, ◌⊎◌, subst, arith, option_and_then, option_map, length-append, All, Contains, is_some, enumerate_from, range_with_len, nat_tests, get_or_default, length-map, get_or_from_slice_get, slice_get-map, Output, block_at, place_of, LogicElement, PackedCircuit, outputs_of, BlockNet, block_net, block_nets, blocks_of, net_on_pin, elements_in, is_global, leaves_block, nets_from, reads_net, IsPacked, IsLawfulPacking, Block, InputPad, OutputPad, Cluster, Strip, Place, IsLegal, IsRouted, source_at, Node, pin_with, block_is_there, IsLaid, drives, leaves_as, sinks_of, wants, laid_ble, laid_block, laid_net, layout_of, LaidBlock, LaidNet}
 use Rattle.implements.proofs.Between.{wanted_as_read}
 use Rattle.implements.proofs.Inside.{at_member, enumerated, pin_there}
 use Rattle.implements.proofs.Led.{led, block_number}
@@ -34,10 +10,7 @@ use Rattle.implements.proofs.Ports.{block_is, laid_at, numbered, place_is}
 get_append : {X : Type 0} (xs ys : List X) (k : ℕ) (x : X) → slice_get (xs ++ ys) k ≡ Some x → (slice_get xs k ≡ Some x) ⊎ ((length xs ≤ k) × (slice_get ys (k - length xs) ≡ Some x))
 get_append [] ys k x h = let at : k - 0 ≡ k = omega arith in inr (omega arith, ap (slice_get ys) at ∙ h)
 get_append (y ∷ xs) ys zero x h = inl h
-get_append (y ∷ xs) ys (suc k) x h = elim (get_append xs ys k x h) [
-  | inl e ↦ inl e
-  | inr e ↦ (let at : suc k - suc (length xs) ≡ k - length xs = omega arith in inr (omega (arith, e.0), ap (slice_get ys) at ∙ e.1))
-]
+get_append (y ∷ xs) ys (suc k) x h = grind (arith, get_append xs ys k x h)
 
 get_range : (start count k x : ℕ) → slice_get (range_with_len start count) k ≡ Some x → x ≡ start + k
 get_range start zero k x h = absurd cc
@@ -61,25 +34,12 @@ cluster_in (number ∷ numbers) (suc k) cluster h = cluster_in numbers k cluster
 
 -- the number of the block that is a cluster
 cluster_number : (packed : PackedCircuit) (k cluster : ℕ) → slice_get (blocks_of packed) k ≡ Some (Cluster cluster) → k ≡ length packed.circuit.inputs + length packed.circuit.outputs + cluster
-cluster_number packed k cluster h =
-    let ins = map InputPad packed.circuit.inputs in
-    let outs = map OutputPad packed.circuit.outputs in
-    let numbers = range_with_len 0 (length packed.clusters) in
-    let long_in = length-map packed.circuit.inputs InputPad in
-    let long_out = length-map packed.circuit.outputs OutputPad in
-    let both = length-append ins outs in
-    elim (get_append (ins ++ outs) (map Cluster numbers) k (Cluster cluster) h) [
-      | inl e ↦ absurd (elim (get_append ins outs k (Cluster cluster) e) [ inl f ↦ no_input packed.circuit.inputs k cluster f | inr f ↦ no_output packed.circuit.outputs (k - length ins) cluster f.1 ])
-      | inr e ↦ (let at = get_range 0 (length packed.clusters) (k - length (ins ++ outs)) cluster (cluster_in numbers (k - length (ins ++ outs)) cluster e.1) in omega (arith, at, e.0, both, long_in, long_out))
-    ]
+cluster_number packed k cluster h = grind (arith, length-map, length-append, get_append, no_input, no_output, get_range, cluster_in)
 
 -- a block drives the nets that are its own
 module _ (packed : PackedCircuit) (places : List Place) (lawful : IsPacked packed) (laws : IsLawfulPacking packed) where
   drives_own : (number net : ℕ) (block : Block) (place : Place) → slice_get (blocks_of packed) number ≡ Some block → Contains (nets_from packed number block) net → drives net (laid_block packed block place) ≡ true
-  drives_own number net (InputPad input) place at c = elim (in_cases input net [] c) [
-    | inl e ↦ grind (arith, nat_tests, e)
-    | inr d ↦ absurd (in_none net d)
-  ]
+  drives_own number net (InputPad input) place at c = grind (arith, in_cases, nat_tests, in_none)
   drives_own number net (OutputPad output) place at c = absurd (in_none net c)
   drives_own number net (Cluster cluster) place at c =
       let elements = elements_in packed cluster in

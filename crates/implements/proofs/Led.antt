@@ -1,27 +1,6 @@
 -- Each tree of the layout of results leads from the source of the block that drives its net to the
 -- sinks of just the blocks at which the net is wanted.
-use Rattle.std.proofs.Common.{get_or, ◌≡◌, ℕ, suc, zero, ◌<◌, Bool, true, false, ◌&&◌, ◌==◌, not, List, [], ◌∷◌, cond, filter, length, map, Some, slice_get, sym, ap, refl, ◌∙◌, subst, arith}
-use Rattle.std.specs.Prelude.{Contains}
-use Rattle.std.specs.List.{AllZip, enumerate_from}
-use Rattle.std.proofs.lemmas.Bool.{eqb-true}
-use Rattle.std.proofs.lemmas.List.{get_or_default}
-use Rattle.std.proofs.lemmas.Option.{get_or_from_slice_get}
-use Rattle.block_places.specs.Placed.{block_at, place_of}
-use Rattle.cluster.specs.Clusters.{PackedCircuit}
-use Rattle.cluster.specs.Blocks.{BlockNet, block_net, block_nets, blocks_of, is_global, nets_from, reads_net, readers_of}
-use Rattle.cluster.specs.LawfulPackings.{IsPacked}
-use Rattle.cluster.specs.PackingLaws.{IsLawfulPacking}
-use Rattle.cluster.specs.declared.block.Block.{Block}
-use Rattle.cluster.specs.declared.block.Block.TheVariants.{Cluster}
-use Rattle.grid.specs.declared.Strip.{Strip}
-use Rattle.grid.specs.declared.place.Place.{Place}
-use Rattle.pathfinder.specs.LegalRoutes.{IsLegal, IsRouted}
-use Rattle.pathfinder.specs.Terminals.{net_sinks, net_source, sink_at}
-use Rattle.rr_graph.specs.declared.node.Node.{Node}
-use Rattle.vpr_files.proofs.ClusterLemmas.{block_is_there}
-use Rattle.implements.specs.Implements.{sinks_of, wants}
-use Rattle.implements.specs.LayoutOf.{laid_net, layout_of}
-use Rattle.implements.specs.Layouts.{LaidBlock}
+use Rattle.implements.proofs.Prelude.{get_or, ◌≡◌, ℕ, suc, zero, ◌<◌, Bool, true, false, ◌&&◌, ◌==◌, not, List, [], ◌∷◌, cond, filter, length, map, Some, slice_get, sym, ap, refl, ◌∙◌, subst, arith, Contains, AllZip, enumerate_from, eqb-true, get_or_default, get_or_from_slice_get, block_at, place_of, PackedCircuit, BlockNet, block_net, block_nets, blocks_of, is_global, nets_from, reads_net, readers_of, IsPacked, IsLawfulPacking, Block, Cluster, Strip, Place, IsLegal, IsRouted, net_sinks, net_source, sink_at, Node, block_is_there, sinks_of, wants, laid_net, layout_of, LaidBlock}
 use Rattle.implements.proofs.Between.{wanted_as_read}
 use Rattle.implements.proofs.Members.{from_flat_map, from_map, in_first, in_later}
 use Rattle.implements.proofs.Ports.{block_is, laid_at, numbered, place_is}
@@ -67,11 +46,7 @@ module _ (packed : PackedCircuit) (places : List Place) (lawful : IsPacked packe
 
   -- a block by its number
   pub block_number : (e : ℕ × Block) → Contains (enumerate_from 0 (blocks_of packed)) e → (slice_get (blocks_of packed) e.0 ≡ Some e.1) × (block_at packed e.0 ≡ e.1)
-  block_number e c =
-      let n = numbered 0 (blocks_of packed) e.0 e.1 c in
-      let number : e.0 ≡ n.0 = omega (arith, n.1) in
-      let at : slice_get (blocks_of packed) e.0 ≡ Some e.1 = ap (slice_get (blocks_of packed)) number ∙ n.2 in
-      (at, get_or_from_slice_get (blocks_of packed) e.0 e.1 (Cluster 0) at)
+  block_number e c = grind (arith, numbered 0 (blocks_of packed) e.0 e.1 c, get_or_from_slice_get (blocks_of packed) e.0 e.1 (Cluster 0))
 
   -- a net that is not global
   fabric_sinks : (driver : ℕ × Block) (net : ℕ) → Contains (enumerate_from 0 (blocks_of packed)) driver → Contains (nets_from packed driver.0 driver.1) net → is_global packed.circuit net ≡ false →

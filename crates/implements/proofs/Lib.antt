@@ -1,3 +1,4 @@
+mod Prelude
 pub mod Members
 pub mod Unique
 pub mod Results

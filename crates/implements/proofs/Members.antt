@@ -1,12 +1,5 @@
 -- Members of lists.
-use Rattle.std.proofs.Common.{get_or, ◌≡◌, ℕ, suc, zero, ◌+◌, ◌<◌, ◌≤◌, ◌==◌, Bool, true, false, ◌||◌, List, [], ◌∷◌, ◌++◌, cond, drop, filter, length, map, take, Option, Some, None, slice_get, sym, ap, refl, ◌∙◌, inl, inr, ◌⊎◌, subst, arith}
-use Rattle.std.specs.Prelude.{All, Contains, count_by}
-use Rattle.std.specs.List.{flat_map, list_all, list_any, range_with_len}
-use Rattle.std.specs.Option.{option_to_list}
-use Rattle.std.proofs.lemmas.Bool.{eqb-true}
-use Rattle.std.proofs.lemmas.List.{get_or_default}
-use Rattle.std.proofs.lemmas.Bool.Decides.{nat_tests}
-use Rattle.ble_cluster.specs.Nets.{has}
+use Rattle.implements.proofs.Prelude.{get_or, ◌≡◌, ℕ, suc, zero, ◌+◌, ◌<◌, ◌≤◌, ◌==◌, Bool, true, false, ◌||◌, List, [], ◌∷◌, ◌++◌, cond, drop, filter, length, map, take, Option, Some, slice_get, sym, ap, refl, ◌∙◌, inl, inr, ◌⊎◌, subst, arith, All, Contains, count_by, flat_map, list_all, list_any, range_with_len, option_to_list, eqb-true, get_or_default, nat_tests, has}
 
 pub in_none : {X : Type 0} (x : X) → Contains [] x → ⊥
 in_none x c = omega (arith, c.1)
@@ -18,8 +11,7 @@ pub in_later : {X : Type 0} (x y : X) (xs : List X) → Contains xs y → Contai
 in_later x y xs c = (suc c.0, omega arith, c.2)
 
 pub in_cases : {X : Type 0} (x y : X) (xs : List X) → Contains (x ∷ xs) y → (x ≡ y) ⊎ Contains xs y
-in_cases x y xs (zero, b, e) = inl e
-in_cases x y xs (suc k, b, e) = inr (k, omega arith, e)
+in_cases x y xs h1 = grind arith
 
 pub from_map : {X Y : Type 0} (f : X → Y) (xs : List X) (y : Y) → Contains (map f xs) y → (x : X) × Contains xs x × (f x ≡ y)
 from_map f [] y c = absurd (in_none y c)
@@ -69,11 +61,7 @@ all_members P xs h = λ k d lt. h (get_or xs k d) (k, lt, get_or_default xs k (g
 
 -- an option that holds something
 pub only_one : {X : Type 0} (o : Option X) (x : X) → Contains (option_to_list o) x → o ≡ Some x
-only_one None x c = absurd (in_none x c)
-only_one (Some other) x c = elim (in_cases other x [] c) [
-  | inl e ↦ ap (λ y. Some y) e
-  | inr d ↦ absurd (in_none x d)
-]
+only_one o x c = grind arith
 
 pub one_only : {X : Type 0} (o : Option X) (x : X) → o ≡ Some x → Contains (option_to_list o) x
 one_only o x is = subst (λ o. Contains (option_to_list o) x) (sym is) (in_first x [])
@@ -99,11 +87,7 @@ to_filter {X} test (y ∷ xs) x c passes = elim (in_cases y x xs c) [
 -- some member passes the test
 pub from_any : {X : Type 0} (test : X → Bool) (xs : List X) → list_any test xs ≡ true → (x : X) × Contains xs x × (test x ≡ true)
 from_any test [] h = absurd cc
-from_any {X} test (x ∷ xs) h = by (test x) refl (from_any test xs)
-  where
-    by : (b : Bool) → test x ≡ b → (list_any test xs ≡ true → (y : X) × Contains xs y × (test y ≡ true)) → (y : X) × Contains (x ∷ xs) y × (test y ≡ true)
-    by true is rest = (x, in_first x xs, is)
-    by false is rest = let q = rest (sym (ap (λ (b : Bool). b || list_any test xs) is) ∙ h) in (q.0, in_later x q.0 xs q.1, q.2)
+from_any {X} test (x ∷ xs) h = grind (arith, in_later, from_any test xs)
 
 pub to_any : {X : Type 0} (test : X → Bool) (xs : List X) (x : X) → Contains xs x → test x ≡ true → list_any test xs ≡ true
 to_any test [] x c passes = absurd (in_none x c)
@@ -184,11 +168,4 @@ from_drop (suc n) (y ∷ xs) x c = in_later y x xs (from_drop n xs x c)
 
 pub from_filter : {X : Type 0} (test : X → Bool) (xs : List X) (x : X) → Contains (filter test xs) x → Contains xs x × (test x ≡ true)
 from_filter test [] x c = absurd (in_none x c)
-from_filter {X} test (y ∷ xs) x c = by (test y) refl (from_filter test xs x) c
-  where
-    by : (b : Bool) → test y ≡ b → (Contains (filter test xs) x → Contains xs x × (test x ≡ true)) → Contains (cond b (y ∷ filter test xs) (filter test xs)) x → Contains (y ∷ xs) x × (test x ≡ true)
-    by true is rest c = elim (in_cases y x (filter test xs) c) [
-      | inl e ↦ (subst (λ z. Contains (y ∷ xs) z) e (in_first y xs), sym (ap test e) ∙ is)
-      | inr d ↦ (let q = rest d in (in_later y x xs q.0, q.1))
-    ]
-    by false is rest c = let q = rest c in (in_later y x xs q.0, q.1)
+from_filter {X} test (y ∷ xs) x c = search (in_later, from_filter test xs x, arith)

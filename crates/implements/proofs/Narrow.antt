@@ -1,59 +1,23 @@
 -- No BLE of the layout of results has more inputs than a table.
-use Rattle.std.proofs.Common.{get_or, ℕ, ◌+◌, ◌<◌, ◌≤◌, Bool, true, false, List, [], ◌∷◌, ◌++◌, cond, length, map, Option, Some, None, inl, inr, subst, arith, length-append}
-use Rattle.std.specs.Prelude.{All, Contains}
-use Rattle.std.specs.List.{flat_map}
-use Rattle.std.specs.Option.{option_to_list}
-use Rattle.std.proofs.lemmas.List.{get_or_default}
-use Rattle.std.proofs.lemmas.List.Elements.{All-contains, All-nil}
-use Rattle.blif.specs.declared.circuit.Circuit.{Circuit}
-use Rattle.blif.specs.declared.latches.Latch.{Latch}
-use Rattle.blif.specs.LawfulCircuits.{IsNarrow}
-use Rattle.blif.specs.LookupTables.{LookupTable}
-use Rattle.ble_cluster.specs.Nets.{has, with_nets}
-use Rattle.ble_cluster.specs.Bles.{LogicElement, bles_of, element_at, element_of_table, latch_after}
-use Rattle.cluster.specs.Clusters.{PackedCircuit}
-use Rattle.cluster.specs.Blocks.{elements_in}
-use Rattle.cluster.specs.LawfulPackings.{IsPacked}
-use Rattle.cluster.specs.PackingLaws.{IsLawfulPacking}
-use Rattle.cluster.specs.declared.block.Block.{Block}
-use Rattle.cluster.specs.declared.block.Block.TheVariants.{InputPad, OutputPad, Cluster}
-use Rattle.grid.specs.declared.place.Place.{Place}
-use Rattle.rr_graph.specs.declared.node.Node.{Node}
-use Rattle.vpr_files.specs.BlockClusters.{HasCluster}
-use Rattle.implements.specs.declared.feed.Feed.{Feed}
-use Rattle.implements.specs.Implements.{IsNarrowBle}
-use Rattle.implements.specs.LayoutOf.{feed_of, laid_ble, laid_block, layout_of}
-use Rattle.implements.specs.Layouts.{LaidBlock}
+use Rattle.implements.proofs.Prelude.{get_or, ℕ, ◌+◌, ◌<◌, ◌≤◌, List, [], ◌∷◌, ◌++◌, length, map, Option, None, subst, arith, length-append, All, Contains, flat_map, option_to_list, get_or_default, All-nil, Circuit, Latch, IsNarrow, LookupTable, with_nets, LogicElement, bles_of, element_at, element_of_table, PackedCircuit, elements_in, IsPacked, IsLawfulPacking, Block, InputPad, OutputPad, Cluster, Place, Node, HasCluster, Feed, IsNarrowBle, feed_of, laid_ble, laid_block, layout_of, LaidBlock}
 use Rattle.implements.proofs.Blocks.{each_block}
 use Rattle.implements.proofs.BleMembers.{from_bles}
 use Rattle.implements.proofs.Members.{all_members, from_map}
 
 few_with_nets : (seen nets : List ℕ) → length (with_nets seen nets) ≤ length seen + length nets
 few_with_nets seen [] = omega arith
-few_with_nets seen (net ∷ nets) = by (has seen net) (few_with_nets seen nets) (few_with_nets (seen ++ net ∷ []) nets)
-  where
-    by : (b : Bool) → length (with_nets seen nets) ≤ length seen + length nets → length (with_nets (seen ++ net ∷ []) nets) ≤ length (seen ++ net ∷ []) + length nets → length (with_nets (cond b seen (seen ++ net ∷ [])) nets) ≤ length seen + length (net ∷ nets)
-    by true same more = omega (arith, same)
-    by false same more = let long = length-append seen (net ∷ []) in omega (arith, more, long)
+few_with_nets seen (net ∷ nets) = grind (arith, length-append, few_with_nets seen nets, few_with_nets (seen ++ net ∷ []) nets)
 
 few_feeds : (f : ℕ → Option Feed) (nets : List ℕ) → length (flat_map (λ net. option_to_list (f net)) nets) ≤ length nets
 few_feeds f [] = omega arith
-few_feeds f (net ∷ nets) = by (f net) (few_feeds f nets)
-  where
-    by : (o : Option Feed) → length (flat_map (λ net. option_to_list (f net)) nets) ≤ length nets → length (option_to_list o ++ flat_map (λ net. option_to_list (f net)) nets) ≤ length (net ∷ nets)
-    by None rest = omega (arith, rest)
-    by (Some feed) rest = omega (arith, rest)
+few_feeds f (net ∷ nets) = grind (arith, few_feeds f nets)
 
 module _ (circuit : Circuit) (lut_size : ℕ) (one : 1 ≤ lut_size) (narrow : IsNarrow lut_size circuit) where
   of_table : (table : LookupTable) (o : Option Latch) → Contains circuit.tables table → length (element_of_table table o).inputs ≤ lut_size
-  of_table table None c = let few = few_with_nets [] table.inputs in let short = All-contains (λ (table : LookupTable). length table.inputs ≤ lut_size) circuit.tables table narrow c in omega (arith, few, short)
-  of_table table (Some latch) c = let few = few_with_nets [] table.inputs in let short = All-contains (λ (table : LookupTable). length table.inputs ≤ lut_size) circuit.tables table narrow c in omega (arith, few, short)
+  of_table table o c = grind (arith, few_with_nets)
 
   ble_few : (element : LogicElement) → Contains (bles_of circuit) element → length element.inputs ≤ lut_size
-  ble_few element c = elim (from_bles circuit element c) [
-    | inl t ↦ subst (λ (e : LogicElement). length e.inputs ≤ lut_size) t.2 (of_table t.0 (latch_after circuit t.0.output) t.1)
-    | inr l ↦ subst (λ (e : LogicElement). length e.inputs ≤ lut_size) l.2 (omega (arith, one))
-  ]
+  ble_few element c = grind (arith, of_table, from_bles circuit element c)
 
 pub all_narrow : (packed : PackedCircuit) (places : List Place) (routes : List (List (List Node))) → IsPacked packed → IsLawfulPacking packed → IsNarrow packed.arch.lut_size packed.circuit →
     All (λ (laid : LaidBlock). All (IsNarrowBle packed.arch) laid.bles) (layout_of packed places routes).blocks

@@ -1,21 +1,7 @@
 -- The BLEs of a packed circuit's blocks: each BLE of the circuit is in one of them, and no two
 -- drive the same net.
-use Rattle.std.proofs.Common.{◌≡◌, ◌≢◌, ℕ, ◌+◌, ◌<◌, List, [], ◌∷◌, ◌++◌, length, map, None, sym, ap, refl, ◌∙◌, subst, arith}
-use Rattle.std.specs.Prelude.{All, AllPairs, Contains}
-use Rattle.std.specs.List.{concat, flat_map, range_with_len}
-use Rattle.std.proofs.lemmas.List.{get_or_default, map-append}
-use Rattle.std.proofs.lemmas.List.Concat.{concat_is, flat_map-append}
-use Rattle.std.proofs.lemmas.List.Elements.{All-contains}
-use Rattle.ble_cluster.specs.Bles.{LogicElement, bles_of, element_at}
-use Rattle.ble_cluster.specs.Clusters.{elements_at, outputs_of}
-use Rattle.cluster.specs.Clusters.{PackedCircuit}
-use Rattle.cluster.specs.Blocks.{blocks_of, elements_in}
-use Rattle.cluster.specs.LawfulPackings.{IsPacked}
-use Rattle.cluster.specs.PackingLaws.{IsLawfulPacking}
-use Rattle.cluster.specs.declared.block.Block.{Block}
-use Rattle.cluster.specs.declared.block.Block.TheVariants.{InputPad, OutputPad, Cluster}
-use Rattle.cluster.proofs.Outputs.{outputs_apart}
-use Rattle.cluster.proofs.Pairs.{pairs_map, pairs_with}
+use Rattle.implements.proofs.Prelude.{◌≡◌, ◌≢◌, ℕ, ◌+◌, ◌<◌, List, [], ◌∷◌, ◌++◌, length, map, None, sym, ap, refl, ◌∙◌, subst, arith, All, AllPairs, Contains, concat, flat_map, range_with_len, get_or_default, map-append, concat_is, flat_map-append, All-contains, LogicElement, bles_of, element_at, elements_at, PackedCircuit, blocks_of, elements_in, IsPacked, IsLawfulPacking, Block, InputPad, OutputPad, Cluster, outputs_apart, pairs_map, pairs_with}
+use Rattle.ble_cluster.specs.Clusters.{outputs_of}
 use Rattle.implements.proofs.Results.{packed_bles}
 use Rattle.implements.proofs.Members.{all_members, from_flat_map, from_map, to_map}
 use Rattle.implements.proofs.Unique.{AreApart, apart_at, by_number}
@@ -32,13 +18,7 @@ module _ {Y : Type 0} (f : Block → List Y) where
 
   pub by_kind : (packed : PackedCircuit) → flat_map f (blocks_of packed)
       ≡ (flat_map f (map InputPad packed.circuit.inputs) ++ flat_map f (map OutputPad packed.circuit.outputs)) ++ flat_map (λ (number : ℕ). f (Cluster number)) (range_with_len 0 (length packed.clusters))
-  by_kind packed =
-      let ins = map InputPad packed.circuit.inputs in
-      let outs = map OutputPad packed.circuit.outputs in
-      let numbers = range_with_len 0 (length packed.clusters) in
-      flat_map-append f (ins ++ outs) (map Cluster numbers)
-      ∙ ap (λ (front : List Y). front ++ flat_map f (map Cluster numbers)) (flat_map-append f ins outs)
-      ∙ ap (λ (back : List Y). (flat_map f ins ++ flat_map f outs) ++ back) (over_clusters numbers)
+  by_kind packed = grind (arith, flat_map-append, over_clusters)
 
 module _ (packed : PackedCircuit) where
   abbrev pub bles : List LogicElement
@@ -49,8 +29,7 @@ module _ (packed : PackedCircuit) where
 
   members_at : (clusters : List (List ℕ)) → flat_map (elements_at bles) clusters ≡ map (element_at bles) (concat clusters)
   members_at [] = refl
-  members_at (members ∷ clusters) =
-      ap (λ (rest : List LogicElement). elements_at bles members ++ rest) (members_at clusters) ∙ sym (map-append (element_at bles) members (concat clusters))
+  members_at (members ∷ clusters) = grind (arith, map-append, members_at clusters)
 
   -- cluster by cluster
   pub in_clusters : flat_map (elements_in packed) (range_with_len 0 (length packed.clusters)) ≡ map (element_at bles) (concat packed.clusters)
@@ -60,12 +39,7 @@ module _ (packed : PackedCircuit) where
 
   -- the BLEs of all blocks are those of the clusters' members
   pub packed_are : flat_map (packed_bles packed) (blocks_of packed) ≡ map (element_at bles) (concat packed.clusters)
-  packed_are =
-      let numbers = range_with_len 0 (length packed.clusters) in
-      by_kind (packed_bles packed) packed
-      ∙ ap (λ (l : List LogicElement). (l ++ flat_map (packed_bles packed) (map OutputPad packed.circuit.outputs)) ++ flat_map (elements_in packed) numbers) (no_pads (packed_bles packed) InputPad (λ net. refl) packed.circuit.inputs)
-      ∙ ap (λ (l : List LogicElement). ([] ++ l) ++ flat_map (elements_in packed) numbers) (no_pads (packed_bles packed) OutputPad (λ net. refl) packed.circuit.outputs)
-      ∙ in_clusters
+  packed_are = grind (arith, by_kind, no_pads, in_clusters)
 
   module _ (lawful : IsPacked packed) (laws : IsLawfulPacking packed) where
     members_within : All (λ number. number < length bles) (concat packed.clusters)
@@ -96,7 +70,4 @@ module _ (packed : PackedCircuit) where
 
     -- and each of the circuit is one of them
     pub to_packed : (element : LogicElement) → Contains bles element → Contains (flat_map (packed_bles packed) (blocks_of packed)) element
-    to_packed element (number, small, is) =
-        let there = to_map (element_at bles) (concat packed.clusters) number (laws.whole number small) in
-        let same : element_at bles number ≡ element = get_or_default bles number none element small ∙ is in
-        subst (λ (l : List LogicElement). Contains l element) (sym packed_are) (subst (λ (e : LogicElement). Contains (map (element_at bles) (concat packed.clusters)) e) same there)
+    to_packed element (number, small, is) = grind (arith, packed_are, to_map (element_at bles) (concat packed.clusters) number (laws.whole number small), get_or_default bles number none element small)

@@ -1,36 +1,13 @@
 -- The ports of the layout of results, and its places.
-use Rattle.std.proofs.Common.{get_or, ◌≡◌, ℕ, suc, ◌+◌, ◌<◌, List, [], ◌∷◌, ◌++◌, length, map, Some, slice_get, sym, ap, refl, ◌∙◌, inl, inr, subst, arith, append-nil}
-use Rattle.std.specs.Prelude.{Contains}
-use Rattle.std.specs.List.{enumerate_from, flat_map, range_with_len}
-use Rattle.std.proofs.lemmas.List.{get_or-map, length-map}
-use Rattle.std.proofs.lemmas.List.Concat.{flat_map-append}
-use Rattle.std.proofs.lemmas.List.FromFn.{get_or-enumerate_from, length-enumerate_from}
-use Rattle.std.proofs.lemmas.Option.{get_or_from_slice_get}
-use Rattle.block_places.specs.Fits.{kind_of}
-use Rattle.block_places.specs.Placed.{ArePlaced, block_at, place_of}
-use Rattle.cluster.specs.Clusters.{PackedCircuit}
-use Rattle.cluster.specs.Blocks.{blocks_of}
-use Rattle.cluster.specs.declared.block.Block.{Block}
-use Rattle.cluster.specs.declared.block.Block.TheVariants.{InputPad, OutputPad, Cluster}
-use Rattle.grid.specs.declared.Strip.{Strip}
-use Rattle.grid.specs.declared.place.Place.{Place}
-use Rattle.grid.specs.Places.{places_of}
-use Rattle.rr_graph.specs.declared.node.Node.{Node}
-use Rattle.implements.specs.Implements.{input_at, output_at}
-use Rattle.implements.specs.LayoutOf.{laid_block, layout_of}
-use Rattle.implements.specs.Layouts.{LaidBlock}
+use Rattle.implements.proofs.Prelude.{get_or, ◌≡◌, ℕ, suc, ◌+◌, ◌<◌, List, [], ◌∷◌, ◌++◌, length, map, Some, slice_get, sym, ap, refl, ◌∙◌, inl, inr, subst, arith, append-nil, Contains, enumerate_from, flat_map, range_with_len, get_or-map, length-map, flat_map-append, get_or-enumerate_from, length-enumerate_from, get_or_from_slice_get, kind_of, ArePlaced, block_at, place_of, PackedCircuit, blocks_of, Block, InputPad, OutputPad, Cluster, Strip, Place, places_of, Node, input_at, output_at, laid_block, layout_of, LaidBlock}
 use Rattle.implements.proofs.Results.{HasPorts}
 use Rattle.implements.proofs.Members.{all_members, from_get, from_map, in_cases, in_none}
 
 pub block_is : (packed : PackedCircuit) (block : Block) (place : Place) → (laid_block packed block place).block ≡ block
-block_is packed (InputPad net) place = refl
-block_is packed (OutputPad net) place = refl
-block_is packed (Cluster cluster) place = refl
+block_is packed block place = grind arith
 
 pub place_is : (packed : PackedCircuit) (block : Block) (place : Place) → (laid_block packed block place).place ≡ place
-place_is packed (InputPad net) place = refl
-place_is packed (OutputPad net) place = refl
-place_is packed (Cluster cluster) place = refl
+place_is packed block place = grind arith
 
 -- a member of a numbered list
 pub numbered : {X : Type 0} (start : ℕ) (xs : List X) (number : ℕ) (x : X) → Contains (enumerate_from start xs) (number, x) → (i : ℕ) × (number ≡ start + i) × (slice_get xs i ≡ Some x)
@@ -46,9 +23,7 @@ module _ (packed : PackedCircuit) (places : List Place) where
 
   by_block : (f : Block → List ℕ) (start : ℕ) (blocks : List Block) → flat_map (λ (laid : LaidBlock). f laid.block) (map laid_at (enumerate_from start blocks)) ≡ flat_map f blocks
   by_block f start [] = refl
-  by_block f start (block ∷ blocks) =
-      ap (λ (b : Block). f b ++ flat_map (λ (laid : LaidBlock). f laid.block) (map laid_at (enumerate_from (start + 1) blocks))) (block_is packed block (place_of places start))
-      ∙ ap (λ (rest : List ℕ). f block ++ rest) (by_block f (start + 1) blocks)
+  by_block f start (block ∷ blocks) = grind (arith, by_block f (start + 1) blocks)
 
   ins_in : (nets : List ℕ) → flat_map input_at (map InputPad nets) ≡ nets
   ins_in [] = refl
@@ -75,32 +50,13 @@ module _ (packed : PackedCircuit) (places : List Place) where
   outs_clusters (number ∷ numbers) = outs_clusters numbers
 
   in_parts : (f : Block → List ℕ) → flat_map f (blocks_of packed) ≡ (flat_map f (map InputPad packed.circuit.inputs) ++ flat_map f (map OutputPad packed.circuit.outputs)) ++ flat_map f (map Cluster (range_with_len 0 (length packed.clusters)))
-  in_parts f =
-      flat_map-append f (map InputPad packed.circuit.inputs ++ map OutputPad packed.circuit.outputs) (map Cluster (range_with_len 0 (length packed.clusters)))
-      ∙ ap (λ (front : List ℕ). front ++ flat_map f (map Cluster (range_with_len 0 (length packed.clusters)))) (flat_map-append f (map InputPad packed.circuit.inputs) (map OutputPad packed.circuit.outputs))
+  in_parts f = grind (arith, flat_map-append)
 
   inputs_are : flat_map input_at (blocks_of packed) ≡ packed.circuit.inputs
-  inputs_are =
-      let a = ins_in packed.circuit.inputs in
-      let b = ins_out packed.circuit.outputs in
-      let c = ins_clusters (range_with_len 0 (length packed.clusters)) in
-      in_parts input_at
-      ∙ ap (λ (l : List ℕ). (l ++ flat_map input_at (map OutputPad packed.circuit.outputs)) ++ flat_map input_at (map Cluster (range_with_len 0 (length packed.clusters)))) a
-      ∙ ap (λ (l : List ℕ). (packed.circuit.inputs ++ l) ++ flat_map input_at (map Cluster (range_with_len 0 (length packed.clusters)))) b
-      ∙ ap (λ (l : List ℕ). (packed.circuit.inputs ++ []) ++ l) c
-      ∙ append-nil (packed.circuit.inputs ++ [])
-      ∙ append-nil packed.circuit.inputs
+  inputs_are = grind (arith, ins_in, ins_out, ins_clusters, in_parts, append-nil)
 
   outputs_are : flat_map output_at (blocks_of packed) ≡ packed.circuit.outputs
-  outputs_are =
-      let a = outs_in packed.circuit.inputs in
-      let b = outs_out packed.circuit.outputs in
-      let c = outs_clusters (range_with_len 0 (length packed.clusters)) in
-      in_parts output_at
-      ∙ ap (λ (l : List ℕ). (l ++ flat_map output_at (map OutputPad packed.circuit.outputs)) ++ flat_map output_at (map Cluster (range_with_len 0 (length packed.clusters)))) a
-      ∙ ap (λ (l : List ℕ). l ++ flat_map output_at (map Cluster (range_with_len 0 (length packed.clusters)))) b
-      ∙ ap (λ (l : List ℕ). packed.circuit.outputs ++ l) c
-      ∙ append-nil packed.circuit.outputs
+  outputs_are = grind (arith, outs_in, outs_out, outs_clusters, in_parts, append-nil)
 
   pub ports : (strip : Strip) (routes : List (List (List Node))) → ArePlaced strip packed places → HasPorts packed.circuit strip (layout_of packed places routes)
   unfolding layout_of

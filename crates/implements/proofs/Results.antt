@@ -1,19 +1,6 @@
 -- Parts of what the layout of results keeps: inside a cluster, and at its ports.
-use Rattle.std.specs.Prelude.{ℕ, ◌≡◌, ◌≢◌, ◌≤◌, List, [], All, AllPairs, Contains, length, map}
-use Rattle.std.specs.List.{flat_map}
-use Rattle.blif.specs.declared.circuit.Circuit.{Circuit}
-use Rattle.block_places.specs.Fits.{kind_of}
-use Rattle.cluster.specs.Clusters.{PackedCircuit}
-use Rattle.cluster.specs.Blocks.{elements_in}
-use Rattle.ble_cluster.specs.Bles.{LogicElement}
-use Rattle.cluster.specs.declared.block.Block.{Block}
-use Rattle.cluster.specs.declared.block.Block.TheVariants.{Cluster}
-use Rattle.grid.specs.declared.Strip.{Strip}
-use Rattle.grid.specs.declared.place.Place.{Place}
-use Rattle.grid.specs.Places.{places_of}
-use Rattle.implements.specs.Implements.{input_at, output_at}
-use Rattle.implements.specs.Layouts.{IsFed, LaidBlock, Layout, traced_ble}
-use Rattle.implements.specs.LayoutOf.{laid_block}
+use Rattle.implements.proofs.Prelude.{All, AllPairs, Contains, flat_map, Circuit, kind_of, PackedCircuit, elements_in, LogicElement, Block, Cluster, Strip, Place, places_of, input_at, output_at, IsFed, LaidBlock, Layout, traced_ble, laid_block}
+use Rattle.std.specs.Prelude.{ℕ, ◌≡◌, ◌≢◌, ◌≤◌, List, [], length, map}
 
 -- the block of that cluster on its place
 abbrev pub laid_cluster : PackedCircuit → ℕ → Place → LaidBlock

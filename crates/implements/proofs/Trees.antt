@@ -1,22 +1,5 @@
 -- The trees of the layout of results lead to just the blocks at which their nets are wanted.
-use Rattle.std.proofs.Common.{get_or, ◌≡◌, ℕ, ◌<◌, Bool, true, false, ◌||◌, not, [], length, Option, Some, None, sym, ap, refl, ◌∙◌, inl, inr, subst}
-use Rattle.std.specs.Prelude.{Contains}
-use Rattle.std.specs.List.{flat_map}
-use Rattle.std.specs.Option.{option_to_list}
-use Rattle.std.proofs.lemmas.List.{get_or_default}
-use Rattle.blif.specs.declared.circuit.Circuit.{Circuit}
-use Rattle.blif.specs.declared.latches.Latch.{Latch}
-use Rattle.blif.specs.LookupTables.{LookupTable}
-use Rattle.ble_cluster.specs.Nets.{distinct_nets, has}
-use Rattle.ble_cluster.specs.Clusters.{clocks_of, outside_inputs}
-use Rattle.ble_cluster.proofs.Outside.{has-distinct}
-use Rattle.ble_cluster.specs.Bles.{LogicElement, bles_of, element_at, element_of_table, latch_after, stands_alone}
-use Rattle.cluster.specs.Clusters.{PackedCircuit, outputs_of}
-use Rattle.cluster.specs.Blocks.{elements_in, is_global, leaves_block, nets_from, reads_net}
-use Rattle.cluster.specs.LawfulPackings.{IsPacked}
-use Rattle.cluster.specs.declared.block.Block.{Block}
-use Rattle.cluster.specs.declared.block.Block.TheVariants.{InputPad, OutputPad, Cluster}
-use Rattle.vpr_files.specs.BlockClusters.{HasCluster}
+use Rattle.implements.proofs.Prelude.{get_or, ◌≡◌, ℕ, ◌<◌, Bool, true, false, ◌||◌, not, [], length, Option, Some, None, sym, ap, refl, ◌∙◌, inl, inr, subst, Contains, flat_map, option_to_list, get_or_default, Circuit, Latch, LookupTable, distinct_nets, has, clocks_of, outside_inputs, has-distinct, LogicElement, bles_of, element_at, element_of_table, latch_after, stands_alone, PackedCircuit, outputs_of, elements_in, is_global, leaves_block, nets_from, reads_net, IsPacked, Block, InputPad, OutputPad, Cluster, HasCluster}
 use Rattle.implements.proofs.BleKinds.{behind_is}
 use Rattle.implements.proofs.BleMembers.{from_bles}
 use Rattle.implements.proofs.Members.{from_filter, from_flat_map, from_has, from_map, in_none, only_one, one_only, to_flat_map, to_has}

@@ -1,13 +1,5 @@
 -- Lists whose members differ.
-use Rattle.std.proofs.Common.{get_or, ◌≡◌, ◌≢◌, ℕ, suc, ◌+◌, ◌<◌, ◌≤◌, Bool, true, false, List, [], ◌∷◌, ◌++◌, cond, filter, length, map, sym, ap, refl, ◌∙◌, inl, inr, ◌⊎◌, subst, arith}
-use Rattle.std.specs.Prelude.{All, AllPairs, Contains, count_by}
-use Rattle.std.specs.List.{flat_map, range_with_len}
-use Rattle.std.proofs.lemmas.Bool.{cases_order}
-use Rattle.std.proofs.lemmas.List.{get_or-map, length-map}
-use Rattle.std.proofs.lemmas.List.Elements.{All-contains}
-use Rattle.std.proofs.lemmas.List.Kept.{AllPairs-filter}
-use Rattle.std.proofs.lemmas.List.Sums.{sum_by-append, sum_by-cons}
-use Rattle.cluster.proofs.Pairs.{pairs_across, pairs_append, pairs_back, pairs_front, pairs_head, pairs_tail}
+use Rattle.implements.proofs.Prelude.{get_or, ◌≡◌, ◌≢◌, ℕ, suc, ◌+◌, ◌<◌, ◌≤◌, Bool, true, false, List, [], ◌∷◌, ◌++◌, cond, filter, length, map, sym, ap, refl, ◌∙◌, inl, inr, ◌⊎◌, subst, arith, All, AllPairs, Contains, count_by, flat_map, range_with_len, cases_order, get_or-map, length-map, All-contains, AllPairs-filter, sum_by-append, sum_by-cons, pairs_across, pairs_append, pairs_back, pairs_front, pairs_head, pairs_tail}
 use Rattle.implements.proofs.Members.{all_members, from_filter, from_flat_map, in_cases, in_first, in_later, in_none, to_flat_map, to_map}
 
 -- no two of the nets are the same

@@ -1,22 +1,6 @@
 -- The layout of results lists each net that is wanted somewhere, and once; the nets on the global
 -- network are those that control latches.
-use Rattle.std.proofs.Common.{get_or, ◌≡◌, ◌≢◌, ℕ, ◌+◌, true, List, [], ◌∷◌, filter, map, sym, ap, refl, ◌∙◌, subst}
-use Rattle.std.specs.Prelude.{All, AllPairs, Contains}
-use Rattle.std.specs.List.{enumerate_from}
-use Rattle.ble_cluster.specs.Nets.{has}
-use Rattle.block_places.specs.Placed.{place_of}
-use Rattle.cluster.specs.Clusters.{PackedCircuit}
-use Rattle.cluster.specs.Blocks.{BlockNet, block_net, block_nets, blocks_of, is_global, nets_from}
-use Rattle.cluster.specs.LawfulPackings.{IsPacked}
-use Rattle.cluster.specs.PackingLaws.{IsLawfulPacking}
-use Rattle.cluster.specs.declared.block.Block.{Block}
-use Rattle.cluster.proofs.Pairs.{pairs_of_map}
-use Rattle.grid.specs.declared.place.Place.{Place}
-use Rattle.rr_graph.specs.declared.node.Node.{Node}
-use Rattle.vpr_files.proofs.ClusterLemmas.{block_is_there}
-use Rattle.implements.specs.Implements.{wants}
-use Rattle.implements.specs.LayoutOf.{laid_net, layout_of}
-use Rattle.implements.specs.Layouts.{LaidBlock, LaidNet}
+use Rattle.implements.proofs.Prelude.{get_or, ◌≡◌, ◌≢◌, ℕ, ◌+◌, true, List, [], ◌∷◌, filter, map, sym, ap, refl, ◌∙◌, subst, All, AllPairs, Contains, enumerate_from, has, place_of, PackedCircuit, BlockNet, block_net, block_nets, blocks_of, is_global, nets_from, IsPacked, IsLawfulPacking, Block, pairs_of_map, Place, Node, block_is_there, wants, laid_net, layout_of, LaidBlock, LaidNet}
 use Rattle.implements.proofs.Between.{same_truth, wanted_as_read}
 use Rattle.implements.proofs.Entries.{global_entry, names_apart, read_entry}
 use Rattle.implements.proofs.Led.{block_number}

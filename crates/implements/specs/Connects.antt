@@ -1,18 +1,7 @@
 -- What users quote: walking back from a reader over what is configured finds the driver that the
 -- netlist names.
 use Rattle.std.specs.Prelude.{ℕ, ◌≡◌, ◌⊎◌, true, List, Contains, Some, slice_get}
-use Rattle.arch_file.specs.declared.arch.Arch.{Arch}
-use Rattle.blif.specs.declared.circuit.Circuit.{Circuit}
-use Rattle.blif.specs.declared.latches.Latch.{Latch}
-use Rattle.blif.specs.LookupTables.{LookupTable}
-use Rattle.ble_cluster.specs.Nets.{has}
-use Rattle.cluster.specs.declared.block.Block.TheVariants.{OutputPad}
-use Rattle.cluster.specs.Blocks.{is_global}
-use Rattle.grid.specs.declared.Strip.{Strip}
-use Rattle.pathfinder.specs.LegalRoutes.{LeadsOver, pairs_of}
-use Rattle.pathfinder.specs.Terminals.{sink_at, source_at}
-use Rattle.rr_graph.specs.Geometry.{is_edge}
-use Rattle.rr_graph.specs.declared.node.Node.{Node}
+use Rattle.implements.specs.Prelude.{Arch, Circuit, Latch, LookupTable, has, OutputPad, is_global, Strip, LeadsOver, pairs_of, sink_at, source_at, is_edge, Node}
 use Rattle.implements.specs.declared.feed.Feed.{Feed}
 use Rattle.implements.specs.declared.feed.Feed.TheVariants.{Pin, Ble}
 use Rattle.implements.specs.Holding.{holds_latch, holds_table}

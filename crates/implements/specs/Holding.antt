@@ -1,11 +1,7 @@
 -- When logic elements (BLEs) are the tables and latches of a circuit.
 use Rattle.std.specs.Prelude.{ℕ, ◌≡◌, Bool, true, false, ◌&&◌, ◌||◌, ◌==◌, List, [], ◌∷◌, All, Option, Some, None, count_by, length}
 use Rattle.std.specs.List.{list_all, list_any}
-use Rattle.blif.specs.declared.circuit.Circuit.{Circuit}
-use Rattle.blif.specs.declared.latches.Latch.{Latch}
-use Rattle.blif.specs.LookupTables.{LookupTable}
-use Rattle.ble_cluster.specs.Nets.{distinct_nets, has}
-use Rattle.ble_cluster.specs.Bles.{LogicElement, is_read_once}
+use Rattle.implements.specs.Prelude.{Circuit, Latch, LookupTable, distinct_nets, has, LogicElement, is_read_once}
 
 -- the BLE receives these nets, each once, and no others
 abbrev pub receives : LogicElement → List ℕ → Bool

@@ -3,21 +3,7 @@
 use Rattle.std.specs.Prelude.{ℕ, ◌≡◌, ◌≢◌, ◌≤◌, Bool, true, false, ◌&&◌, ◌||◌, ◌==◌, List, [], ◌∷◌, All, AllPairs, Contains, Option, Some, count_by, filter, is_some, length, map, not, slice_get, if◌then◌else◌}
 use Rattle.std.specs.List.{enumerate_from, flat_map, list_any, range_with_len}
 use Rattle.std.specs.Option.{option_map_or}
-use Rattle.arch_file.specs.declared.arch.Arch.{Arch}
-use Rattle.arch_file.specs.declared.arch.PinClass.{PinClass}
-use Rattle.arch_file.specs.declared.arch.PinClass.TheVariants.{Input, Clock}
-use Rattle.blif.specs.declared.circuit.Circuit.{Circuit}
-use Rattle.ble_cluster.specs.Nets.{has}
-use Rattle.block_places.specs.Fits.{kind_of}
-use Rattle.cluster.specs.declared.block.Block.{Block}
-use Rattle.cluster.specs.declared.block.Block.TheVariants.{InputPad, OutputPad, Cluster}
-use Rattle.cluster.specs.Blocks.{is_global}
-use Rattle.grid.specs.declared.Strip.{Strip}
-use Rattle.grid.specs.Places.{places_of}
-use Rattle.pathfinder.specs.LegalRoutes.{IsRouted, path_nodes}
-use Rattle.pathfinder.specs.Terminals.{is_same_node, sink_at, source_at}
-use Rattle.rr_graph.specs.Geometry.{capacity_of}
-use Rattle.rr_graph.specs.declared.node.Node.{Node}
+use Rattle.implements.specs.Prelude.{Arch, PinClass, Input, Clock, Circuit, has, kind_of, Block, InputPad, OutputPad, Cluster, is_global, Strip, places_of, IsRouted, path_nodes, is_same_node, sink_at, source_at, capacity_of, Node}
 use Rattle.implements.specs.Holding.{AreBlesOf}
 use Rattle.implements.specs.Layouts.{IsFed, LaidBle, LaidBlock, LaidNet, Layout, on_pin, traced_bles}
 

@@ -2,16 +2,7 @@
 use Rattle.std.specs.Prelude.{ℕ, List, [], ◌∷◌, Option, Some, map, option_and_then, option_map, slice_index_or, filter, if◌then◌else◌}
 use Rattle.std.specs.List.{enumerate_from, flat_map}
 use Rattle.std.specs.Option.{option_map_or, option_to_list}
-use Rattle.arch_file.specs.declared.arch.PinClass.TheVariants.{Input, Output, Clock}
-use Rattle.block_places.specs.Placed.{place_of}
-use Rattle.ble_cluster.specs.Bles.{LogicElement}
-use Rattle.cluster.specs.Clusters.{PackedCircuit}
-use Rattle.cluster.specs.Blocks.{BlockNet, block_nets, blocks_of, elements_in, pins_of}
-use Rattle.cluster.specs.declared.block.Block.{Block}
-use Rattle.cluster.specs.declared.block.Block.TheVariants.{Cluster}
-use Rattle.grid.specs.declared.place.Place.{Place}
-use Rattle.rr_graph.specs.declared.node.Node.{Node}
-use Rattle.vpr_files.specs.NetFile.{driver_place, pin_with}
+use Rattle.implements.specs.Prelude.{Input, Output, Clock, place_of, LogicElement, PackedCircuit, BlockNet, block_nets, blocks_of, elements_in, pins_of, Block, Cluster, Place, Node, driver_place, pin_with}
 use Rattle.implements.specs.declared.feed.Feed.{Feed}
 use Rattle.implements.specs.declared.feed.Feed.TheVariants.{Pin, Ble}
 use Rattle.implements.specs.Layouts.{LaidBle, LaidBlock, LaidNet, Layout}

@@ -2,14 +2,7 @@
 use Rattle.std.specs.Prelude.{ℕ, true, false, map, List, All, Option, Some, None, ◌≡◌, option_and_then, option_map, is_some, slice_get, if◌then◌else◌}
 use Rattle.std.specs.List.{flat_map}
 use Rattle.std.specs.Option.{ForSome, option_map_or, option_to_list}
-use Rattle.arch_file.specs.declared.arch.Arch.{Arch}
-use Rattle.arch_file.specs.declared.arch.PinClass.{PinClass}
-use Rattle.arch_file.specs.declared.arch.PinClass.TheVariants.{Input, Output, Clock}
-use Rattle.cluster.specs.declared.block.Block.{Block}
-use Rattle.ble_cluster.specs.Bles.{LogicElement}
-use Rattle.cluster.specs.Blocks.{is_same_class}
-use Rattle.grid.specs.declared.place.Place.{Place}
-use Rattle.rr_graph.specs.declared.node.Node.{Node}
+use Rattle.implements.specs.Prelude.{Arch, PinClass, Input, Output, Clock, Block, LogicElement, is_same_class, Place, Node}
 use Rattle.implements.specs.declared.feed.Feed.{Feed}
 use Rattle.implements.specs.declared.feed.Feed.TheVariants.{Pin, Ble}
 

@@ -1,3 +1,4 @@
+pub mod Prelude
 pub mod Layouts
 pub mod Holding
 pub mod Implements

@@ -1,19 +1,9 @@
 //! What layouts keep.
-ghost use Rattle.arch_file.specs.declared.arch.Arch.{Arch};
-ghost use Rattle.blif.specs.LawfulCircuits.{IsNarrow};
-ghost use Rattle.blif.specs.declared.circuit.Circuit.{Circuit};
-ghost use Rattle.block_places.specs.Placed.{ArePlaced};
-ghost use Rattle.cluster.specs.Clusters.{PackedCircuit};
-ghost use Rattle.cluster.specs.LawfulPackings.{IsPacked};
-ghost use Rattle.cluster.specs.PackingLaws.{IsLawfulPacking};
-ghost use Rattle.grid.specs.declared.Strip.{Strip};
-ghost use Rattle.grid.specs.declared.place.Place.{Place};
+ghost use Rattle.implements.specs.Prelude.{Arch, IsNarrow, Circuit, ArePlaced, PackedCircuit, IsPacked, IsLawfulPacking, Strip, Place, IsLegal, Node};
 ghost use Rattle.implements.specs.Connects.{Connects};
 ghost use Rattle.implements.specs.Implements.{Implements};
 ghost use Rattle.implements.specs.LayoutOf.{layout_of};
 ghost use Rattle.implements.specs.Layouts.{Layout};
-ghost use Rattle.pathfinder.specs.LegalRoutes.{IsLegal};
-ghost use Rattle.rr_graph.specs.declared.node.Node.{Node};
 ghost use Rattle.std.specs.Prelude.{List};
 
 /// A layout that implements a circuit connects each reader in the netlist with the driver that the

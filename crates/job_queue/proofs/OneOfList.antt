@@ -1,7 +1,5 @@
 -- One of the seats or passes of a queue.
-use Rattle.std.proofs.Common.{◌≡◌, ◌++◌, List, Option}
-use Rattle.std.specs.Prelude.{All, IfSome, option_to_list}
-use Rattle.std.proofs.lemmas.List.Elements.{All-pop}
+use Rattle.job_queue.proofs.Prelude.{◌≡◌, ◌++◌, List, Option, All, IfSome, option_to_list, All-pop}
 
 pub rest_of : {X I : Type 0} (of : X → I) (id : I) (xs ys : List X) (r : Option X) → xs ≡ ys ++ option_to_list r → All (λ x. of x ≡ id) xs → All (λ x. of x ≡ id) ys
 rest_of of id xs ys r was all = (All-pop (λ x. of x ≡ id) xs ys r was all).0

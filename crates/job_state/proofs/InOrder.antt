@@ -1,43 +1,8 @@
 -- Resources in node order, each once.
-use Rattle.std.proofs.Common.{ℕ, ◌≡◌, ◌+◌, ◌-◌, ◌<◌, ◌≤◌, inl, inr, Bool, true, false, ◌||◌, List, [], ◌∷◌, ◌++◌, length, take, get_or, arith, refl, sym, ap, subst, ◌∙◌}
-use Rattle.std.specs.Prelude.{AllPairs}
-use Rattle.std.proofs.lemmas.Bool.{cases_lt, cases_eq}
-use Rattle.std.proofs.lemmas.Bool.Decides.{nat_tests}
-use Rattle.std.proofs.lemmas.List.{length_push, get_or_push, get_or_default, take_all}
-use Rattle.std.proofs.lemmas.List.Folds.{list_any_more, list_any-append, list_any_at}
-use Rattle.std.proofs.lemmas.List.Quantifiers.{all_pairs_push}
-use Rattle.rr_graph.specs.declared.resource.ResourceKind.{ResourceKind}
-use Rattle.rr_graph.specs.declared.resource.ResourceKind.TheVariants.{Opin, Ipin, ChanX, ChanY, Pad}
-use Rattle.rr_graph.specs.declared.resource.Resource.{Resource}
-use Rattle.rr_graph.specs.Resources.{IsEarlier, has, is_same, resource_rank}
-use Rattle.job_state.specs.RoutedCircuits.{IsInOrder, ListsAll}
+use Rattle.job_state.proofs.Prelude.{ℕ, ◌≡◌, ◌+◌, ◌-◌, ◌<◌, ◌≤◌, inl, inr, Bool, true, false, ◌||◌, List, [], ◌∷◌, ◌++◌, length, take, get_or, arith, refl, sym, ap, subst, ◌∙◌, AllPairs, cases_eq, nat_tests, length_push, get_or_push, get_or_default, take_all, list_any_more, list_any-append, list_any_at, all_pairs_push, ResourceKind, Resource, IsEarlier, has, is_same, resource_rank, IsInOrder, ListsAll}
 
 same_kind : (a b : ResourceKind) → resource_rank a ≡ resource_rank b → a ≡ b
-same_kind Opin Opin e = refl
-same_kind Opin Ipin e = absurd (omega (arith, e))
-same_kind Opin ChanX e = absurd (omega (arith, e))
-same_kind Opin ChanY e = absurd (omega (arith, e))
-same_kind Opin Pad e = absurd (omega (arith, e))
-same_kind Ipin Opin e = absurd (omega (arith, e))
-same_kind Ipin Ipin e = refl
-same_kind Ipin ChanX e = absurd (omega (arith, e))
-same_kind Ipin ChanY e = absurd (omega (arith, e))
-same_kind Ipin Pad e = absurd (omega (arith, e))
-same_kind ChanX Opin e = absurd (omega (arith, e))
-same_kind ChanX Ipin e = absurd (omega (arith, e))
-same_kind ChanX ChanX e = refl
-same_kind ChanX ChanY e = absurd (omega (arith, e))
-same_kind ChanX Pad e = absurd (omega (arith, e))
-same_kind ChanY Opin e = absurd (omega (arith, e))
-same_kind ChanY Ipin e = absurd (omega (arith, e))
-same_kind ChanY ChanX e = absurd (omega (arith, e))
-same_kind ChanY ChanY e = refl
-same_kind ChanY Pad e = absurd (omega (arith, e))
-same_kind Pad Opin e = absurd (omega (arith, e))
-same_kind Pad Ipin e = absurd (omega (arith, e))
-same_kind Pad ChanX e = absurd (omega (arith, e))
-same_kind Pad ChanY e = absurd (omega (arith, e))
-same_kind Pad Pad e = refl
+same_kind a b e = grind arith
 
 abbrev make : ℕ → ResourceKind → ℕ → ℕ → Resource
 make x kind y n = record { x = x; kind = kind; y = y; n = n }
@@ -57,14 +22,7 @@ earlier_trans a b c p q = grind (arith, p, q)
 
 -- of two resources, neither of which is before the other: they are equal
 pub neither : (a b : Resource) → (IsEarlier a b → ⊥) → (IsEarlier b a → ⊥) → a ≡ b
-neither a b p q =
-    let x : a.x ≡ b.x = elim (cases_lt a.x b.x) [ inl l ↦ absurd (p (inl l)) | inr g ↦ elim (cases_lt b.x a.x) [ inl l ↦ absurd (q (inl l)) | inr h ↦ omega (arith, g, h) ] ] in
-    let kind : resource_rank a.kind ≡ resource_rank b.kind =
-    elim (cases_lt (resource_rank a.kind) (resource_rank b.kind)) [ inl l ↦ absurd (p (inr (x, inl l))) | inr g ↦ elim (cases_lt (resource_rank b.kind) (resource_rank a.kind)) [ inl l ↦ absurd (q (inr (sym x, inl l))) | inr h ↦ omega (arith, g, h) ] ] in
-    let y : a.y ≡ b.y = elim (cases_lt a.y b.y) [ inl l ↦ absurd (p (inr (x, inr (kind, inl l)))) | inr g ↦ elim (cases_lt b.y a.y) [ inl l ↦ absurd (q (inr (sym x, inr (sym kind, inl l)))) | inr h ↦ omega (arith, g, h) ] ] in
-    let n : a.n ≡ b.n =
-    elim (cases_lt a.n b.n) [ inl l ↦ absurd (p (inr (x, inr (kind, inr (y, l))))) | inr g ↦ elim (cases_lt b.n a.n) [ inl l ↦ absurd (q (inr (sym x, inr (sym kind, inr (sym y, l))))) | inr h ↦ omega (arith, g, h) ] ] in
-    of_parts a b x kind y n
+neither a b p q = search arith
 
 -- the part of the resources that is listed so far
 pub record ListsBelow (sorted : List Resource) (index : ℕ) (list : List Resource) : Type 0 where
@@ -78,9 +36,7 @@ pub lists_none : (sorted : List Resource) → ListsBelow sorted 0 []
 lists_none sorted = record { in_order = λ i j d less below. absurd (omega (arith, below)); exact = λ resource. refl; some = λ less. absurd (omega (arith, less)); few = omega arith; last = λ d less. absurd (omega (arith, less)) }
 
 pub lists_all : (sorted list : List Resource) → ListsBelow sorted (length sorted) list → ListsAll sorted list
-lists_all sorted list below =
-    let all : take (length sorted) sorted ≡ sorted = take_all (length sorted) sorted (omega arith) in
-    record { in_order = below.in_order; exact = λ resource. below.exact resource ∙ ap (λ t. has t resource) all }
+lists_all sorted list below = grind (arith, take_all)
 
 -- all of a list in order are before whatever is after its last
 before_next : (list : List Resource) (next : Resource) → AllPairs IsEarlier list → ((d : Resource) → 0 < length list → IsEarlier (get_or list (length list - 1) d) next) → (k : ℕ) (d : Resource) → k < length list → IsEarlier (get_or list k d) next
@@ -91,15 +47,11 @@ before_next list next pairs last k d less =
     ]
 
 or_none : (b c : Bool) → (b || (c || false)) ≡ (b || c)
-or_none true c = refl
-or_none false true = refl
-or_none false false = refl
+or_none b c = grind arith
 
 -- one more resource is listed, and one more is passed
 has_more : (sorted list : List Resource) (index : ℕ) (d resource : Resource) → index < length sorted → has list resource ≡ has (take index sorted) resource → has (list ++ get_or sorted index d ∷ []) resource ≡ has (take (index + 1) sorted) resource
-has_more sorted list index d resource less e =
-    let pushed : has (list ++ get_or sorted index d ∷ []) resource ≡ (has list resource || (is_same resource (get_or sorted index d) || false)) = list_any-append (is_same resource) list (get_or sorted index d ∷ []) in
-    pushed ∙ (or_none (has list resource) (is_same resource (get_or sorted index d)) ∙ (ap (λ t. t || is_same resource (get_or sorted index d)) e ∙ sym (list_any_more (is_same resource) sorted index d less)))
+has_more sorted list index d resource less e = grind (arith, list_any-append, list_any_more (is_same resource) sorted index d less)
 
 -- the next one is listed if it is the first, or if it is after the last
 pub lists_more : (sorted list : List Resource) (index : ℕ) (d : Resource) → ListsBelow sorted index list → index < length sorted →
@@ -119,9 +71,7 @@ lists_more sorted list index d below less behind =
 
 -- `or` with something already true changes nothing
 or_there : (b c : Bool) → (c ≡ true → b ≡ true) → (b || c) ≡ b
-or_there true c there = refl
-or_there false true there = sym (there refl)
-or_there false false there = refl
+or_there b c there = grind arith
 
 -- and it is left out if it equals the last one listed
 pub lists_same : (sorted list : List Resource) (index : ℕ) (d : Resource) → IsInOrder sorted → ListsBelow sorted index list → index < length sorted → 0 < index →

@@ -1,9 +1,6 @@
 -- The state of a routing after a number of iterations.
-use Rattle.std.proofs.Common.{ℕ, zero, suc, ◌≡◌, ◌+◌, ◌<◌, ◌==◌, true, false, List, [], ◌∷◌, ◌++◌, length, drop, Some, None, Result, Ok, Err, if◌then◌else◌, arith, refl, subst, eq-eqb, length-append}
-use Rattle.std.proofs.lemmas.List.{length-map}
-use Rattle.std.specs.Option.{option_map_or}
-use Rattle.pathfinder.specs.Negotiation.{Tree, Routed, Standing, More, Done, GaveUp, NoPath, grown_tree, is_feasible, next_routing, routing_with_trees, rerouted_trees, accumulated_overuse, routed_after}
-use Rattle.pathfinder.specs.Wiring.{Wiring, Net}
+use Rattle.job_state.proofs.Prelude.{ℕ, zero, suc, ◌≡◌, ◌+◌, ◌<◌, List, [], ◌∷◌, ◌++◌, length, drop, Some, None, Result, Ok, Err, arith, refl, subst, length-append, length-map, option_map_or, Tree, Standing, More, Done, GaveUp, NoPath, grown_tree, next_routing, routing_with_trees, rerouted_trees, routed_after, Wiring, Net}
+use Rattle.pathfinder.specs.Negotiation.{Routed}
 
 -- one tree for each net, or the number of one of the nets
 abbrev AreOf : ℕ → Result (List Tree) ℕ → Type 0
@@ -25,12 +22,7 @@ pub record IsOfNets (many : ℕ) (routed : Routed) : Type 0 where
   pub named : (net : ℕ) → routed.standing ≡ NoPath net → net < many
 
 judged_is : (w : Wiring) (iterations : ℕ) (routed : Routed) (many : ℕ) → length routed.trees ≡ many → (end : Result (List Tree) ℕ) → AreOf many end → IsOfNets many (routing_with_trees w iterations routed end)
-judged_is w iterations routed many long (Err net) is = record { long = long; named = λ other e. (let same : net ≡ other = cc in subst (λ number. number < many) same is) }
-judged_is w iterations routed many long (Ok trees) is =
-    elim (is_feasible w trees) as (λ fair. IsOfNets many (if fair then record { trees = trees; history = routed.history; standing = Done } else record { trees = trees; history = accumulated_overuse w routed.history trees; standing = if iterations + 1 == 30 then GaveUp else More })) [
-      | true ↦ record { long = is; named = λ net e. absurd (cc) }
-      | false ↦ record { long = is; named = λ net e. absurd (elim (iterations + 1 == 30) as (λ last. (if last then GaveUp else More) ≡ NoPath net → ⊥) [ true ↦ λ f. cc | false ↦ λ f. cc ] e) }
-    ]
+judged_is w iterations routed many long end is = grind arith
 
 iterated_is : (w : Wiring) (nets : List Net) (iterations : ℕ) (routed : Routed) (standing : Standing) → routed.standing ≡ standing → IsOfNets (length nets) routed → IsOfNets (length nets) (next_routing w nets iterations routed standing)
 iterated_is w nets iterations routed More e is = judged_is w iterations routed (length nets) is.long _ (all_rerouted w iterations routed.history nets [] routed.trees (length nets) (omega arith))
@@ -44,19 +36,8 @@ unfolding routed_after
 of_nets w nets zero = record { long = length-map nets _; named = λ net e. absurd (cc) }
 of_nets w nets (suc iterations) = iterated_is w nets iterations (routed_after w nets iterations) _ refl (of_nets w nets iterations)
 
-judged_last : (w : Wiring) (iterations : ℕ) (routed : Routed) → iterations + 1 ≡ 30 → (end : Result (List Tree) ℕ) → (routing_with_trees w iterations routed end).standing ≡ More → ⊥
-judged_last w iterations routed last (Err net) e = absurd (cc)
-judged_last w iterations routed last (Ok trees) e =
-    elim (is_feasible w trees) as (λ fair. let end : Routed = if fair then record { trees = trees; history = routed.history; standing = Done } else record { trees = trees; history = accumulated_overuse w routed.history trees; standing = if iterations + 1 == 30 then GaveUp else More } in end.standing ≡ More → ⊥) [
-      | true ↦ λ f. cc
-      | false ↦ λ f. (let given : GaveUp ≡ More = (rw (eq-eqb (iterations + 1) 30 last) at f) in cc)
-    ] e
-
 iterated_last : (w : Wiring) (nets : List Net) (iterations : ℕ) (routed : Routed) (standing : Standing) → iterations + 1 ≡ 30 → routed.standing ≡ standing → (next_routing w nets iterations routed standing).standing ≡ More → ⊥
-iterated_last w nets iterations routed More last is = judged_last w iterations routed last _
-iterated_last w nets iterations routed Done last is = λ e. cc
-iterated_last w nets iterations routed GaveUp last is = λ e. cc
-iterated_last w nets iterations routed (NoPath net) last is = λ e. cc
+iterated_last w nets iterations routed standing last is h3 = grind arith
 
 after_last : (w : Wiring) (nets : List Net) (iterations : ℕ) → iterations + 1 ≡ 30 → (routed_after w nets (suc iterations)).standing ≡ More → ⊥
 unfolding routed_after

@@ -1,52 +1,22 @@
 -- What a job keeps from step to step.
-use Rattle.std.proofs.Common.{ℕ, ◌≡◌, ◌+◌, ◌-◌, ◌≤◌, Bool, true, false, eqb, Ok, IfOk, arith, refl, sym, ap, subst, ◌∙◌, eqb-true}
-use Rattle.std.proofs.lemmas.Bool.{eqb-false}
-use Rattle.strip_place.specs.Anneal.{PlacingUnderWay}
-use Rattle.job_state.specs.declared.sources.JobKind.TheVariants.{Placing as PlacingJob}
-use Rattle.job_state.specs.declared.sources.Sources.{Sources}
-use Rattle.job_state.specs.declared.step.JobStep.{JobStep}
-use Rattle.job_state.specs.declared.work.Work.{Work}
-use Rattle.job_state.specs.declared.work.Work.TheVariants.{Placed}
-use Rattle.job_state.specs.Held.{HasMade, IsNotOverBefore, steps_made}
-use Rattle.job_state.specs.Job.{JobState, is_over}
-use Rattle.job_state.specs.JobValue.{circuit_in, end_value, pass_count, placing_at, is_last, job_value}
-use Rattle.job_state.specs.Steps.{IsLeft, next_work}
+use Rattle.job_state.proofs.Prelude.{ℕ, ◌≡◌, ◌+◌, ◌-◌, ◌≤◌, Bool, true, false, Ok, IfOk, arith, PlacingUnderWay, Placing as PlacingJob, Sources, JobStep, Work, Placed, HasMade, IsNotOverBefore, steps_made, JobState, is_over, circuit_in, end_value, pass_count, placing_at, is_last, IsLeft, next_work}
 use Rattle.job_state.proofs.Ended.{made_at_end, placed_made}
-use Rattle.job_state.proofs.NextStep.{as_value}
 use Rattle.job_state.proofs.Stands.{as_stands, stands_left, stands_next, stands_over}
-use Rattle.job_state.proofs.StepCounts.{few_made}
 
 one_more : (number : ℕ) → 1 ≤ number → number - 1 + 1 ≡ number
 one_more number from_one = omega (arith, from_one)
 
 -- a job that wasn't over before a step, nor with the one before it, isn't over before the next
 pub not_before : (sources : Sources) (number : ℕ) → 1 ≤ number → IsNotOverBefore sources (number - 1) → is_last sources (number - 1) ≡ false → IsNotOverBefore sources number
-not_before sources number from_one before at fewer less =
-    elim (eqb fewer (number - 1)) as (λ same. eqb fewer (number - 1) ≡ same → is_last sources fewer ≡ false) [
-      | true ↦ λ e. ap (λ steps. is_last sources steps) (eqb-true fewer (number - 1) e) ∙ at
-      | false ↦ λ e. before fewer (let other = eqb-false fewer (number - 1) e in omega (arith, less, from_one, other))
-    ] refl
+not_before sources number from_one before at fewer less = grind arith
 
 -- the step is made
 pub stepped : (step : JobStep) (work new : Work) → HasMade step work (step.number - 1) → is_last step.sources (step.number - 1) ≡ false → new ≡ next_work work → HasMade step new step.number
-stepped step work new holds going is =
-    let next : job_value step.sources (step.number - 1 + 1) ≡ Ok (next_work work) = stands_next step.sources (step.number - 1) work holds.value going in
-    let made : job_value step.sources step.number ≡ Ok new = ap (λ steps. job_value step.sources steps) (sym (one_more step.number holds.from_one)) ∙ (next ∙ ap as_value (sym is)) in
-    record {
-      value = as_stands step.sources step.number new made;
-      exact = λ same. made;
-      from_one = holds.from_one;
-      few = holds.few;
-      going = not_before step.sources step.number holds.from_one holds.going going;
-    }
+stepped step work new holds going is = grind (arith, stands_next, as_stands, not_before step.sources step.number holds.from_one holds.going going)
 
 -- the state that a step leaves if memory runs out
 pub left : (step : JobStep) (work new : Work) (steps : ℕ) → (steps ≡ step.number → ⊥) → HasMade step work steps → is_last step.sources steps ≡ false → IsLeft work new → HasMade step new steps
 left step work new steps apart holds going is = record { value = stands_left step.sources steps work new holds.value going is; exact = λ same. absurd (apart same); from_one = holds.from_one; few = holds.few; going = holds.going }
-
--- at most 8,192 steps are made
-pub few_steps_made : (step : JobStep) (work : Work) (steps : ℕ) → HasMade step work steps → steps ≤ 8192
-few_steps_made step work steps holds = few_made step.sources steps holds.few.0 holds.going holds.few.2 holds.few.1
 
 -- what is made when the job is over
 pub made_last : (step : JobStep) (work : Work) (steps : ℕ) → HasMade step work steps → is_last step.sources steps ≡ true → end_value step.sources ≡ Ok work
@@ -54,9 +24,7 @@ made_last step work steps holds at = made_at_end step.sources steps work holds.f
 
 -- the state of a job as its holder sees it, after its last step was put
 pub kept_over : (job : JobState) (step : JobStep) (work : Work) (made : Bool) → record { step = step; made = made } ≡ job → HasMade step work (steps_made step made) → job.made ≡ false → HasMade job.step work (job.step.number - 1)
-kept_over job step work made view holds put =
-    let seen = subst (λ (other : JobState). HasMade other.step work (steps_made other.step other.made)) view holds in
-    subst (λ made. HasMade job.step work (steps_made job.step made)) put seen
+kept_over job step work made view holds put = grind arith
 
 pub ended : (job : JobState) (step : JobStep) (work : Work) (made : Bool) → record { step = step; made = made } ≡ job → HasMade step work (steps_made step made) → is_over job ≡ true → job.made ≡ false →
     end_value job.step.sources ≡ Ok work

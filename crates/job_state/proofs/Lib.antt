@@ -1,3 +1,4 @@
+mod Prelude
 pub mod Gathered
 pub mod InOrder
 pub mod Sorted

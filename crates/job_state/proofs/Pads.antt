@@ -1,26 +1,7 @@
 -- The pads of placed blocks are on the strip.
-use Rattle.std.proofs.Common.{ℕ, suc, zero, ◌≡◌, ◌+◌, ◌≤◌, inl, inr, Bool, true, false, ◌||◌, List, [], length, arith, refl, ap, subst, le-leb, lt-ltb, eq-eqb}
-use Rattle.std.specs.Prelude.{All}
-use Rattle.std.proofs.lemmas.Bool.{and_from}
-use Rattle.std.proofs.lemmas.List.Elements.{All-append, All-cons, All-contains, All-nil}
-use Rattle.arch_file.specs.declared.arch.Arch.{Arch}
-use Rattle.cluster.specs.declared.block.Block.{Block}
-use Rattle.cluster.specs.declared.block.Block.TheVariants.{InputPad, OutputPad, Cluster}
-use Rattle.cluster.specs.Blocks.{blocks_of}
-use Rattle.cluster.specs.Clusters.{PackedCircuit}
-use Rattle.grid.specs.declared.Strip.{Strip}
-use Rattle.grid.specs.declared.place.Place.{Place}
-use Rattle.grid.specs.declared.place.Kind.{Kind}
-use Rattle.grid.specs.declared.place.Kind.TheVariants.{Pad}
+use Rattle.job_state.proofs.Prelude.{ℕ, suc, zero, ◌≡◌, ◌+◌, ◌≤◌, inl, inr, Bool, true, ◌||◌, List, [], length, arith, ap, subst, le-leb, lt-ltb, eq-eqb, All, and_from, All-append, All-cons, All-contains, All-nil, Arch, Block, InputPad, OutputPad, Cluster, blocks_of, PackedCircuit, Strip, Place, Kind, Pad, places_of, IsPlaceIn, Resource, is_there, ArePlaced, block_at, place_of, pad_of, pads_of, pads_below}
 use Rattle.block_places.specs.Fits.{kind_of}
-use Rattle.grid.specs.Places.{places_of}
-use Rattle.grid.specs.PlaceLaws.{IsPlaceIn}
-use Rattle.rr_graph.specs.declared.resource.Resource.{Resource}
 use Rattle.rr_graph.specs.declared.resource.ResourceKind.TheVariants.{Pad as PadResource}
-use Rattle.rr_graph.specs.Resources.{is_there}
-use Rattle.block_places.specs.Placed.{ArePlaced, block_at, place_of}
-use Rattle.job_state.specs.RoutedCircuits.{pad_of, pads_of}
-use Rattle.job_state.specs.Gathered.{pads_below}
 use Rattle.job_state.proofs.Gathered.{gathered_to}
 
 -- the rows of a strip's places
@@ -35,8 +16,7 @@ or_left : (a b : Bool) → a ≡ true → (a || b) ≡ true
 or_left a b is = ap (λ t. t || b) is
 
 or_right : (a b : Bool) → b ≡ true → (a || b) ≡ true
-or_right true b is = refl
-or_right false b is = is
+or_right a b is = grind arith
 
 module _ (arch : Arch) (strip : Strip) where
   abbrev IsThere : Resource → Type 0

@@ -1,22 +1,8 @@
 -- What a routing that is over has made.
-use Rattle.std.proofs.Common.{ℕ, ◌≡◌, ◌<◌, true, List, length, Result, Ok, Err, IfOk, refl, sym, ap, subst, ◌∙◌}
-use Rattle.std.proofs.lemmas.List.{length-map}
-use Rattle.blif.specs.declared.circuit.Circuit.{Circuit}
-use Rattle.blif.specs.declared.fault.BlifFault.{BlifFault}
-use Rattle.cluster.specs.Blocks.{block_nets}
-use Rattle.cluster.specs.Clusters.{packed_of}
-use Rattle.pathfinder.specs.Negotiation.{Routed as RoutedTrees, Standing, More, Done, GaveUp as GivenUp, NoPath as WithoutPath, routed_after}
-use Rattle.pathfinder.specs.PlacedNets.{nets_to_route, wiring_of}
-use Rattle.pathfinder.specs.Routings.{routes_by_node}
-use Rattle.pathfinder.specs.Wiring.{Net}
-use Rattle.rr_graph.specs.Graph.{Basis, graph_of}
-use Rattle.rr_graph.specs.declared.resource.Resource.{Resource}
-use Rattle.job_state.specs.declared.sources.JobKind.{JobKind}
-use Rattle.job_state.specs.declared.sources.JobKind.TheVariants.{Packing as PackingJob, Placing as PlacingJob, Routing as RoutingJob}
-use Rattle.job_state.specs.declared.sources.Sources.{Sources}
-use Rattle.job_state.specs.declared.work.Work.TheVariants.{Routed, NoPath}
-use Rattle.job_state.specs.JobValue.{basis_in, circuit_in, is_last, is_whole, is_whole_value, job_value, nets_in, pads_in, routing_stands, value_of, work_of}
-use Rattle.job_state.specs.RoutedCircuits.{RoutedCircuit}
+use Rattle.job_state.proofs.Prelude.{ℕ, ◌≡◌, ◌<◌, true, List, length, Result, Ok, Err, IfOk, refl, sym, ap, subst, ◌∙◌, length-map, Circuit, BlifFault, block_nets, packed_of, Standing, More, Done, GaveUp as GivenUp, NoPath as WithoutPath, routed_after, nets_to_route, wiring_of, routes_by_node, Net, Basis, graph_of, Resource, JobKind, Packing as PackingJob, Placing as PlacingJob, Sources, Routed, basis_in, circuit_in, is_last, is_whole, is_whole_value, job_value, nets_in, pads_in, routing_stands, value_of, work_of, RoutedCircuit}
+use Rattle.pathfinder.specs.Negotiation.{Routed as RoutedTrees}
+use Rattle.job_state.specs.declared.sources.JobKind.TheVariants.{Routing as RoutingJob}
+use Rattle.job_state.specs.declared.work.Work.TheVariants.{NoPath}
 use Rattle.job_state.proofs.Iterations.{ends_by_thirty, of_nets}
 
 module _ (sources : Sources) (circuit : Circuit) where

@@ -1,9 +1,5 @@
 -- A whole packing for which memory ran out when it was to be shared.
-use Rattle.std.proofs.Common.{ℕ, ◌≡◌, ◌+◌, ◌-◌, arith, ap, ◌∙◌}
-use Rattle.arch_file.specs.declared.arch.Arch.{Arch}
-use Rattle.blif.specs.declared.circuit.Circuit.{Circuit}
-use Rattle.cluster.specs.Clusters.{PackedCircuit, PackingUnderWay, packed_of, packing_steps}
-use Rattle.job_state.specs.Unshared.{before_last}
+use Rattle.job_state.proofs.Prelude.{ℕ, ◌≡◌, ◌+◌, arith, Arch, Circuit, PackedCircuit, PackingUnderWay, packed_of, packing_steps, before_last}
 
 abbrev under_way : Circuit → Arch → ℕ → PackingUnderWay
 under_way circuit arch made = record { circuit = circuit; arch = arch; made = made }
@@ -11,6 +7,4 @@ under_way circuit arch made = record { circuit = circuit; arch = arch; made = ma
 -- it counts as the packing before its last step
 pub before_last_is : (old : PackingUnderWay) (packed : PackedCircuit) → packed ≡ packed_of old.circuit old.arch → old.made + 1 ≡ packing_steps old.circuit old.arch → before_last packed ≡ old
 unfolding packed_of
-before_last_is old packed same last =
-    let made : packing_steps old.circuit old.arch - 1 ≡ old.made = omega (arith, last) in
-    ap before_last same ∙ ap (under_way old.circuit old.arch) made
+before_last_is old packed same last = grind arith

@@ -1,20 +1,9 @@
 -- How many steps a job makes.
-use Rattle.std.proofs.Common.{ℕ, ◌≡◌, ◌≤◌, ◌<◌, Bool, true, false, arith, ap, ◌∙◌}
-use Rattle.std.specs.List.{position_or_len, range_with_len}
-use Rattle.std.proofs.lemmas.List.FromFn.{get_or-range_with_len, length-range_with_len}
-use Rattle.std.proofs.lemmas.List.Sums.{position_or_len_is}
-use Rattle.grid.specs.declared.Strip.{Strip}
-use Rattle.strip_place.specs.Anneal.{is_past_last}
-use Rattle.job_state.specs.declared.sources.Sources.{Sources}
-use Rattle.job_state.specs.Held.{HasFewSteps, IsNotOverBefore}
-use Rattle.job_state.specs.JobValue.{is_last, pass_count, step_count, step_limit}
+use Rattle.job_state.proofs.Prelude.{ℕ, ◌≡◌, ◌≤◌, ◌<◌, Bool, true, false, arith, position_or_len, range_with_len, get_or-range_with_len, length-range_with_len, position_or_len_is, Strip, is_past_last, Sources, HasFewSteps, IsNotOverBefore, is_last, pass_count, step_count, step_limit}
 
 -- the least number that passes the test
 least_is : (test : ℕ → Bool) (limit least : ℕ) → least < limit → ((fewer : ℕ) → fewer < least → test fewer ≡ false) → test least ≡ true → position_or_len test (range_with_len 0 limit) ≡ least
-least_is test limit least within before at =
-    position_or_len_is test (range_with_len 0 limit) least 0 (omega (arith, length-range_with_len 0 limit))
-    (λ k h. ap test (get_or-range_with_len 0 limit k 0 (omega (arith, h, within)) ∙ omega arith) ∙ before k h)
-    (λ h. ap test (get_or-range_with_len 0 limit least 0 within ∙ omega arith) ∙ at)
+least_is test limit least within before at = grind (arith, position_or_len_is, get_or-range_with_len, length-range_with_len 0 limit, get_or-range_with_len 0 limit least 0 within)
 
 below_limit : (least : ℕ) → least ≤ 8192 → least < step_limit
 unfolding step_limit
@@ -30,5 +19,4 @@ few_made sources steps most before at few = grind (arith, before most, at, few)
 
 pub step_count_is : (sources : Sources) (steps : ℕ) → HasFewSteps sources → IsNotOverBefore sources steps → is_last sources steps ≡ true → step_count sources ≡ steps
 unfolding step_count
-step_count_is sources steps few before at =
-    least_is (is_last sources) step_limit steps (below_limit steps (few_made sources steps few.0 before few.2 few.1)) before at
+step_count_is sources steps few before at = search (least_is, below_limit, few_made, arith)

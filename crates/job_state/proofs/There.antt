@@ -1,22 +1,5 @@
 -- What routes occupy is on the strip, and so is a list of it.
-use Rattle.std.proofs.Common.{ℕ, ◌≡◌, inl, inr, true, List, [], ◌∷◌, ◌++◌, get_or, arith, sym, subst, ◌∙◌}
-use Rattle.std.specs.Prelude.{All}
-use Rattle.std.specs.Option.{option_to_list}
-use Rattle.std.proofs.lemmas.Bool.{false≢true, or_cases}
-use Rattle.std.proofs.lemmas.List.Elements.{All-append, All-cons, All-nil, All-tail}
-use Rattle.std.proofs.lemmas.List.Folds.{list_any_at}
-use Rattle.rr_graph.specs.declared.node.Node.{Node}
-use Rattle.rr_graph.specs.declared.node.NodeKind.{NodeKind}
-use Rattle.rr_graph.specs.declared.node.NodeKind.TheVariants.{Source, Sink, Opin, Ipin, ChanX, ChanY}
-use Rattle.rr_graph.specs.declared.resource.Resource.{Resource}
-use Rattle.rr_graph.specs.Geometry.{is_node}
-use Rattle.rr_graph.specs.Graph.{Basis}
-use Rattle.rr_graph.specs.Resources.{has, is_same, is_there, resource_of}
-use Rattle.arch_file.specs.declared.arch.Arch.{Arch}
-use Rattle.grid.specs.declared.Strip.{Strip}
-use Rattle.pathfinder.specs.Routings.{IsDone, RoutingState}
-use Rattle.job_state.specs.RoutedCircuits.{AreThere, ListsAll}
-use Rattle.job_state.specs.Gathered.{on_path, on_tree, on_trees}
+use Rattle.job_state.proofs.Prelude.{ℕ, ◌≡◌, inl, inr, true, List, [], ◌∷◌, ◌++◌, get_or, arith, sym, subst, ◌∙◌, All, option_to_list, false≢true, or_cases, All-append, All-cons, All-nil, All-tail, list_any_at, Node, NodeKind, Source, Sink, Opin, Ipin, ChanX, ChanY, Resource, is_node, Basis, has, is_same, is_there, resource_of, Arch, Strip, IsDone, RoutingState, AreThere, ListsAll, on_path, on_tree, on_trees}
 use Rattle.job_state.proofs.InOrder.{is_itself, same_is}
 
 -- what holds of all resources in a list holds of one that the list has

@@ -1,12 +1,6 @@
 -- When a job may begin.
 use Rattle.std.specs.Prelude.{◌≡◌, ◌≤◌, true, false, None, Ok}
-use Rattle.strip_place.specs.declared.placing.TheConstants.{MAX_EFFORT}
-use Rattle.blif.specs.declared.circuit.Circuit.{Circuit}
-use Rattle.cluster.specs.Clusters.{PackedCircuit, unfit_of}
-use Rattle.block_places.specs.Fits.{fit_of}
-use Rattle.grid.specs.Sizes.{IsStripSize}
-use Rattle.block_places.specs.declared.fit.Fit.TheVariants.{Fits}
-use Rattle.strip_place.specs.Keeping.{AreKeptOn}
+use Rattle.job_state.specs.Prelude.{MAX_EFFORT, Circuit, PackedCircuit, unfit_of, fit_of, IsStripSize, Fits, AreKeptOn}
 use Rattle.job_state.specs.declared.sources.JobKind.TheVariants.{Placing as PlacingJob, Routing as RoutingJob}
 use Rattle.job_state.specs.declared.sources.Sources.{Sources}
 use Rattle.job_state.specs.declared.work.Work.TheVariants.{Packed}

@@ -1,7 +1,6 @@
 -- How a routing ended.
 use Rattle.std.specs.Prelude.{◌≡◌, ◌<◌, ⊤, Ok, length}
-use Rattle.cluster.specs.Blocks.{block_nets}
-use Rattle.cluster.specs.Clusters.{PackedCircuit}
+use Rattle.job_state.specs.Prelude.{block_nets, PackedCircuit}
 use Rattle.job_state.specs.declared.ending.RoutingEnd.{RoutingEnd}
 use Rattle.job_state.specs.declared.ending.RoutingEnd.TheVariants.{Routed, GaveUp, NoPath}
 use Rattle.job_state.specs.declared.sources.Sources.{Sources}

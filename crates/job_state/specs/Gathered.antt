@@ -2,12 +2,7 @@
 use Rattle.std.specs.Prelude.{ℕ, List}
 use Rattle.std.specs.List.{flat_map, range_with_len}
 use Rattle.std.specs.Option.{option_to_list}
-use Rattle.cluster.specs.Clusters.{PackedCircuit}
-use Rattle.grid.specs.declared.place.Place.{Place}
-use Rattle.rr_graph.specs.declared.node.Node.{Node}
-use Rattle.rr_graph.specs.declared.resource.Resource.{Resource}
-use Rattle.rr_graph.specs.Resources.{resource_of}
-use Rattle.block_places.specs.Placed.{block_at, place_of}
+use Rattle.job_state.specs.Prelude.{PackedCircuit, Place, Node, Resource, resource_of, block_at, place_of}
 use Rattle.job_state.specs.RoutedCircuits.{pad_of}
 
 -- the pads of the blocks below a number

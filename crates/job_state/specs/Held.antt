@@ -1,6 +1,6 @@
 -- Private: what a job carries, and that this is the job's value.
 use Rattle.std.specs.Prelude.{ℕ, ◌≡◌, ◌+◌, ◌-◌, ◌<◌, ◌≤◌, Bool, true, false, Ok, if◌then◌else◌}
-use Rattle.blif.specs.declared.circuit.TheConstants.{MAX_NETS}
+use Rattle.job_state.specs.Prelude.{MAX_NETS}
 use Rattle.job_state.specs.declared.step.JobStep.{JobStep}
 use Rattle.job_state.specs.declared.sources.Sources.{Sources}
 use Rattle.job_state.specs.declared.work.Work.{Work}

@@ -1,20 +1,7 @@
 -- The value of a job: what it has made after a number of its steps, as a function of its sources.
 use Rattle.std.specs.Prelude.{ℕ, Bool, true, false, List, [], Result, Ok, Err, nat_lt, if◌then◌else◌}
 use Rattle.std.specs.List.{position_or_len, range_with_len}
-use Rattle.arch_file.specs.declared.arch.Arch.{Arch}
-use Rattle.blif.specs.CircuitOf.{circuit_of}
-use Rattle.blif.specs.declared.circuit.Circuit.{Circuit}
-use Rattle.blif.specs.declared.fault.BlifFault.{BlifFault}
-use Rattle.cluster.specs.Clusters.{packed_of, packing_steps}
-use Rattle.grid.specs.declared.Strip.{Strip}
-use Rattle.kept_places.specs.Kept.{KeptPlaces}
-use Rattle.pathfinder.specs.Negotiation.{Routed as RoutedTrees, Standing, More, Done, GaveUp as GivenUp, NoPath as WithoutPath, routed_after}
-use Rattle.pathfinder.specs.PlacedNets.{nets_to_route, wiring_of}
-use Rattle.pathfinder.specs.Routings.{routes_by_node}
-use Rattle.pathfinder.specs.Wiring.{Net}
-use Rattle.rr_graph.specs.Graph.{Basis, graph_of}
-use Rattle.rr_graph.specs.declared.resource.Resource.{Resource}
-use Rattle.strip_place.specs.Anneal.{PlacingUnderWay, is_past_last, places_by_block}
+use Rattle.job_state.specs.Prelude.{Arch, circuit_of, Circuit, BlifFault, packed_of, packing_steps, Strip, KeptPlaces, Routed as RoutedTrees, Standing, More, Done, GaveUp as GivenUp, NoPath as WithoutPath, routed_after, nets_to_route, wiring_of, routes_by_node, Net, Basis, graph_of, Resource, PlacingUnderWay, is_past_last, places_by_block}
 use Rattle.job_state.specs.declared.sources.JobKind.{JobKind}
 use Rattle.job_state.specs.declared.sources.JobKind.TheVariants.{Packing as PackingJob, Placing as PlacingJob, Routing as RoutingJob}
 use Rattle.job_state.specs.declared.sources.Sources.{Sources}

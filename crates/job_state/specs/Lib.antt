@@ -1,3 +1,4 @@
+pub mod Prelude
 pub mod UnderWay
 pub mod Unshared
 pub mod JobValue

@@ -1,10 +1,6 @@
 -- How far a job is, by what it has made.
 use Rattle.std.specs.Prelude.{◌≡◌, ◌+◌, ⊤, length}
-use Rattle.cluster.specs.Blocks.{block_nets}
-use Rattle.pathfinder.specs.Overuse.{IsOveruse}
-use Rattle.strip_place.specs.Anneal.{places_by_block}
-use Rattle.strip_place.specs.Pass.{cost_of}
-use Rattle.strip_place.specs.Task.{task_of}
+use Rattle.job_state.specs.Prelude.{block_nets, IsOveruse, places_by_block, cost_of, task_of}
 use Rattle.job_state.specs.declared.progress.Progress.{Progress}
 use Rattle.job_state.specs.declared.progress.Progress.TheVariants as told
 use Rattle.job_state.specs.declared.work.Work.{Work}

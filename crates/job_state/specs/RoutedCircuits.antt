@@ -2,19 +2,7 @@
 use Rattle.std.specs.Prelude.{ℕ, ◌≡◌, ◌+◌, ◌<◌, List, [], ◌∷◌, ◌++◌, length, slice_index_or, true, All, AllPairs}
 use Rattle.std.specs.List.{flat_map, range_with_len}
 use Rattle.std.specs.Option.{option_to_list}
-use Rattle.arch_file.specs.declared.arch.Arch.{Arch}
-use Rattle.cluster.specs.declared.block.Block.{Block}
-use Rattle.cluster.specs.declared.block.Block.TheVariants.{Cluster}
-use Rattle.cluster.specs.Blocks.{blocks_of}
-use Rattle.cluster.specs.Clusters.{PackedCircuit}
-use Rattle.grid.specs.declared.Strip.{Strip}
-use Rattle.grid.specs.declared.place.Place.{Place}
-use Rattle.rr_graph.specs.declared.node.Node.{Node}
-use Rattle.rr_graph.specs.declared.resource.ResourceKind.TheVariants.{Pad}
-use Rattle.rr_graph.specs.declared.resource.Resource.{Resource}
-use Rattle.rr_graph.specs.Graph.{Basis}
-use Rattle.rr_graph.specs.Resources.{IsEarlier, has, is_there, resource_of}
-use Rattle.block_places.specs.Placed.{block_at, place_of}
+use Rattle.job_state.specs.Prelude.{Arch, Block, Cluster, blocks_of, PackedCircuit, Strip, Place, Node, Pad, Resource, Basis, IsEarlier, has, is_there, resource_of, block_at, place_of}
 
 -- the basis of its strip's graph, the paths of each net's tree by node, and the pads of its blocks
 pub record RoutedCircuit : Type 0 where

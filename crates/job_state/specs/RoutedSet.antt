@@ -1,8 +1,7 @@
 -- What the circuit of a finished routing occupies of its strip, as a function of the routing's
 -- sources.
 use Rattle.std.specs.Prelude.{List, [], Result, Ok}
-use Rattle.blif.specs.declared.fault.BlifFault.{BlifFault}
-use Rattle.rr_graph.specs.declared.resource.Resource.{Resource}
+use Rattle.job_state.specs.Prelude.{BlifFault, Resource}
 use Rattle.job_state.specs.declared.sources.Sources.{Sources}
 use Rattle.job_state.specs.declared.work.Work.{Work}
 use Rattle.job_state.specs.declared.work.Work.TheVariants.{Routed}

@@ -1,8 +1,6 @@
 -- Private: a routing before its first iteration, and after it.
 use Rattle.std.specs.Prelude.{◌≡◌}
-use Rattle.pathfinder.specs.Routings.{RoutingState}
-use Rattle.rr_graph.specs.Graph.{Basis}
-use Rattle.block_places.specs.Placed.{ArePlaced}
+use Rattle.job_state.specs.Prelude.{RoutingState, Basis, ArePlaced}
 use Rattle.job_state.specs.declared.stage.Stage.{Stage}
 use Rattle.job_state.specs.declared.stage.Stage.TheVariants.{Begun, Going}
 use Rattle.job_state.specs.UnderWay.{GoesOn, begun_state}

@@ -1,10 +1,6 @@
 -- Private: a work after one more step, and the kind of job that it belongs to.
 use Rattle.std.specs.Prelude.{ℕ, ◌≡◌, ◌+◌, nat_lt, if◌then◌else◌}
-use Rattle.arch_file.specs.declared.arch.Arch.{Arch}
-use Rattle.blif.specs.declared.circuit.Circuit.{Circuit}
-use Rattle.cluster.specs.Clusters.{packed_of, packing_steps}
-use Rattle.rr_graph.specs.Graph.{Basis}
-use Rattle.strip_place.specs.Anneal.{PlacingUnderWay, is_past_last, one_more}
+use Rattle.job_state.specs.Prelude.{Arch, Circuit, packed_of, packing_steps, Basis, PlacingUnderWay, is_past_last, one_more}
 use Rattle.job_state.specs.declared.sources.JobKind.{JobKind}
 use Rattle.job_state.specs.declared.sources.JobKind.TheVariants.{Packing as PackingJob, Placing as PlacingJob, Routing as RoutingJob}
 use Rattle.job_state.specs.declared.work.Work.{Work}

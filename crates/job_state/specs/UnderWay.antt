@@ -1,13 +1,6 @@
 -- A routing under way, as its job sees it.
-use Rattle.cluster.specs.Clusters.{PackedCircuit}
-use Rattle.grid.specs.declared.place.Place.{Place}
-use Rattle.pathfinder.specs.Negotiation.{More, Routed, routed_after}
-use Rattle.pathfinder.specs.PlacedNets.{nets_to_route, wiring_of}
-use Rattle.pathfinder.specs.Wiring.{Net}
-use Rattle.pathfinder.specs.Routings.{RoutingState, IsAfter}
+use Rattle.job_state.specs.Prelude.{PackedCircuit, Place, More, Routed, routed_after, nets_to_route, wiring_of, Net, RoutingState, IsAfter, Basis, Resource}
 use Rattle.std.specs.Prelude.{ℕ, List}
-use Rattle.rr_graph.specs.Graph.{Basis}
-use Rattle.rr_graph.specs.declared.resource.Resource.{Resource}
 
 -- a routing between two iterations, with the basis of its strip's graph and the pads of its blocks
 pub record RoutingUnderWay : Type 0 where

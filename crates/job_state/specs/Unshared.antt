@@ -1,7 +1,7 @@
 -- Private: a packing, and one whose last step has made its clusters but ran out of memory to share
 -- them.
 use Rattle.std.specs.Prelude.{◌≡◌, ◌-◌}
-use Rattle.cluster.specs.Clusters.{PackedCircuit, PackingUnderWay, packed_of, packing_steps}
+use Rattle.job_state.specs.Prelude.{PackedCircuit, PackingUnderWay, packed_of, packing_steps}
 use Rattle.job_state.specs.declared.packing.Made.{Made}
 use Rattle.job_state.specs.declared.packing.Made.TheVariants.{Growing, Whole}
 

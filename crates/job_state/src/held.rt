@@ -1,10 +1,9 @@
 //! The list of what a routed circuit occupies of its strip.
 ghost use Rattle.std.specs.Prelude.{◌≡◌, ◌++◌, ◌<◌, IfOk, [], length, slice_index_or};
 ghost use Rattle.std.specs.Option.{option_to_list};
-ghost use Rattle.rr_graph.specs.Resources.{resource_of};
+ghost use Rattle.job_state.specs.Prelude.{resource_of, places_by_block};
 ghost use Rattle.job_state.specs.RoutedCircuits.{AreThere, IsInOrder, ListsAll, pad_of, pads_of};
 ghost use Rattle.job_state.specs.Gathered.{on_path, on_tree, on_trees};
-ghost use Rattle.strip_place.specs.Anneal.{places_by_block};
 
 use cluster::Block;
 use grid::{Place, laws_of_places};

@@ -1,6 +1,6 @@
 //! A job that is out of its slot: before its step, after it, and without it.
 ghost use Rattle.std.specs.Prelude.{◌≡◌, ◌↔◌, ◌≤◌, IsTrue, Ok, true};
-ghost use Rattle.blif.specs.declared.circuit.TheConstants.{MAX_NETS};
+ghost use Rattle.job_state.specs.Prelude.{MAX_NETS};
 ghost use Rattle.job_state.specs.Job.{Steps, next_step};
 ghost use Rattle.job_state.specs.declared.work.Work.{Work};
 ghost use Rattle.job_state.specs.JobValue.{basis_in, is_last, job_value, step_count};
@@ -8,7 +8,7 @@ ghost use Rattle.job_state.specs.Progress.{IsProgress};
 
 use crate::parked::Parked;
 use crate::progress::Progress;
-use crate::sources::{Sources, same_arch};
+use crate::sources::Sources;
 use crate::step::JobStep;
 use crate::work::Work;
 use rr_graph::StripGraph;
@@ -98,7 +98,7 @@ impl AnyJob {
         ensures { IsTrue result ↔ (G.basis graph.now ≡ basis_in self.now.step.sources) }
     {
         let sources = &self.step.sources;
-        sources.strip == graph.strip() && same_arch(sources.arch.arch(), graph.arch())
+        sources.strip == graph.strip() && sources.arch.arch().same(graph.arch())
     }
 
     /// Makes the step; a routing's step works on its strip's graph. If memory runs out, the job

@@ -1,6 +1,6 @@
 //! A packing under way, as its job keeps it.
 ghost use Rattle.std.specs.Prelude.{◌≡◌, ◌+◌, IfErr, IfOk, length};
-ghost use Rattle.cluster.specs.Clusters.{packed_of};
+ghost use Rattle.job_state.specs.Prelude.{packed_of};
 ghost use Rattle.job_state.specs.declared.progress.Progress.{Progress};
 ghost use Rattle.job_state.specs.declared.work.Work.{Work};
 ghost use Rattle.job_state.specs.Progress.{IsProgress};

@@ -1,7 +1,6 @@
 //! A job as its slot keeps it.
 ghost use Rattle.std.specs.Prelude.{◌≡◌, ◌≤◌, All, AllPairs, IfOk, Ok, false, true};
-ghost use Rattle.blif.specs.declared.circuit.TheConstants.{MAX_NETS};
-ghost use Rattle.cluster.specs.Clusters.{packed_of, packing_steps};
+ghost use Rattle.job_state.specs.Prelude.{MAX_NETS, packed_of, packing_steps, Resource, IsEarlier, has, is_there};
 ghost use Rattle.job_state.specs.declared.sources.JobKind.{JobKind};
 ghost use Rattle.job_state.specs.declared.work.Work.{Work};
 ghost use Rattle.job_state.specs.Beginnings.{CanPack, CanPlace, CanRoute};
@@ -9,8 +8,6 @@ ghost use Rattle.job_state.specs.Ends.{IsEndOf, IsOfNets};
 ghost use Rattle.job_state.specs.Held.{HasFewSteps};
 ghost use Rattle.job_state.specs.Job.{IsFinished, first_step, is_over};
 ghost use Rattle.job_state.specs.RoutedSet.{resources_of};
-ghost use Rattle.rr_graph.specs.declared.resource.Resource.{Resource};
-ghost use Rattle.rr_graph.specs.Resources.{IsEarlier, has, is_there};
 ghost use Rattle.job_state.specs.JobValue.{circuit_in, end_value, is_whole, job_value, pass_count, placing_at};
 
 use crate::ending::RoutingEnd;

@@ -7,7 +7,7 @@ ghost use Rattle.job_state.specs.RoutedCircuits.{AreThere, on_strip};
 ghost use Rattle.job_state.specs.Gathered.{on_trees};
 ghost use Rattle.job_state.specs.Stages.{IsOf, state_at};
 ghost use Rattle.job_state.specs.Steps.{IsLeft};
-ghost use Rattle.pathfinder.specs.Overuse.{IsOveruse};
+ghost use Rattle.job_state.specs.Prelude.{IsOveruse};
 ghost use Rattle.job_state.specs.UnderWay.{GoesOn};
 
 use crate::routed::Routed;

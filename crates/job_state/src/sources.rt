@@ -3,7 +3,7 @@ ghost use Rattle.std.specs.Prelude.{◌≡◌, ◌↔◌, IfOk, IsTrue};
 ghost use Rattle.job_state.specs.JobValue.{packing_sources, placing_sources, routing_sources};
 
 use crate::shared_text::SharedText;
-use arch_file::{Arch, Pin, SharedArch};
+use arch_file::SharedArch;
 use grid::Strip;
 use std::alloc::AllocError;
 use strip_place::Kept;
@@ -104,7 +104,7 @@ impl Sources {
             && self.strip == other.strip
             && self.seed == other.seed
             && self.effort == other.effort
-            && same_arch(self.arch.arch(), other.arch.arch())
+            && self.arch.arch().same(other.arch.arch())
             && self.kept.same(&other.kept)
             && self.text.same(&other.text)
     }
@@ -116,35 +116,11 @@ impl Clone for Sources {
     /// Returns one more owner of the architecture, the netlist and the kept places. Copies none of
     /// them.
     fn clone(&self) -> Result<Self, AllocError> {
-        Ok(Sources {
-            kind: self.kind,
-            arch: self.arch.clone()?,
-            strip: self.strip,
-            text: self.text.clone()?,
-            kept: self.kept.clone()?,
-            seed: self.seed,
-            effort: self.effort,
-        })
+        let (seed, effort) = (self.seed, self.effort);
+        let mut copy = Sources::placing(
+            &self.arch, self.strip, &self.text, &self.kept, seed, effort,
+        )?;
+        copy.kind = self.kind;
+        Ok(copy)
     }
-}
-
-/// Returns whether both architectures have the same numbers and the same pins.
-pub(crate) fn same_arch(arch: &Arch, other: &Arch) -> bool
-    ensures { IsTrue result ↔ (arch.now ≡ other.now) }
-{
-    arch.io_rat == other.io_rat
-        && arch.cluster_size == other.cluster_size
-        && arch.lut_size == other.lut_size
-        && arch.tracks == other.tracks
-        && arch.fc_output == other.fc_output
-        && arch.fc_input == other.fc_input
-        && arch.fc_pad == other.fc_pad
-        && same_pins(arch.pins.as_slice(), other.pins.as_slice())
-}
-
-/// Returns whether both have the same pins, in order.
-fn same_pins(pins: &[Pin], others: &[Pin]) -> bool
-    ensures { IsTrue result ↔ (pins.now ≡ others.now) }
-{
-    pins == others
 }

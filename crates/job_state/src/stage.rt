@@ -1,6 +1,6 @@
 //! The stage of a routing: before its first iteration, or between two.
 ghost use Rattle.std.specs.Prelude.{◌≡◌, IfErr, IfOk};
-ghost use Rattle.rr_graph.specs.Graph.{Basis};
+ghost use Rattle.job_state.specs.Prelude.{Basis};
 ghost use Rattle.job_state.specs.UnderWay.{GoesOn};
 
 use cluster::SharedPacked;

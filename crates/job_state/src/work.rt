@@ -5,7 +5,7 @@ ghost use Rattle.job_state.specs.JobValue.{is_whole};
 ghost use Rattle.job_state.specs.declared.work.Work.{Work};
 ghost use Rattle.job_state.specs.Progress.{IsProgress};
 ghost use Rattle.job_state.specs.Steps.{IsLeft, graph_for, kind_of, next_work, placing_stands};
-ghost use Rattle.strip_place.specs.Anneal.{one_more};
+ghost use Rattle.job_state.specs.Prelude.{one_more};
 
 use crate::packing::PackingJob;
 use crate::progress::Progress;

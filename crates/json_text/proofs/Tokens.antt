@@ -1,14 +1,5 @@
 -- The tokens of lists and objects.
-use Rattle.std.proofs.Common.{◌≡◌, ◌∙◌, ℕ, List, [], ◌∷◌, ◌++◌, ◌+◌, Result, Ok, Err, Some, map, get_or, take, refl, ap, sym, append_assoc, append-nil}
-use Rattle.std.proofs.lemmas.Grind.{flat_map-append}
-use Rattle.std.proofs.lemmas.List.{take_more}
-use Rattle.std.proofs.lemmas.Option.{get_or_from_slice_get, slice_get_within}
-use Rattle.std.specs.Prelude.{OnOk}
-use Rattle.std.specs.List.{flat_map, slice_get}
-use Rattle.json.specs.Json.{Json}
-use Rattle.json.specs.Token.{Token, begin_array, begin_object, end_array, end_object, key}
-use Rattle.json.specs.Tree.{items_tokens, json_tokens, members_tokens}
-use Rattle.json_text.specs.Values.{items_of, list_of, member_tokens, members_of, object_of}
+use Rattle.json_text.proofs.Prelude.{◌≡◌, ◌∙◌, ℕ, List, [], ◌∷◌, ◌++◌, ◌+◌, Result, Ok, Err, Some, map, get_or, take, refl, ap, sym, append_assoc, append-nil, flat_map-append, take_more, get_or_from_slice_get, slice_get_within, OnOk, flat_map, slice_get, Json, Token, begin_array, begin_object, end_array, end_object, key, items_tokens, json_tokens, members_tokens, items_of, list_of, member_tokens, members_of, object_of}
 
 items_end : (values : List Json) → items_tokens (items_of values) ≡ flat_map json_tokens values ++ end_array ∷ []
 items_end [] = refl

@@ -1,11 +1,11 @@
 -- Values of JSON by lists of members and items, and their text.
 use Rattle.std.specs.Prelude.{ℕ, List, [], ◌∷◌, ◌++◌, Option, Some, None, codes, decimal, if◌then◌else◌}
+use Rattle.std.specs.Borrow.{Bor}
 use Rattle.std.specs.Str.{is_utf8}
 use Rattle.json.specs.Json.{Json, null, number, string, array, object, Items, no_items, item, Members, no_members, member}
 use Rattle.json.specs.Layout.{pretty}
 use Rattle.json.specs.Token.{Token, key}
 use Rattle.json.specs.Tree.{json_tokens}
-use Rattle.json_text.specs.declared.pen.Member.{Member}
 use Rattle.json_text.specs.declared.pen.Scalar.{Scalar}
 use Rattle.json_text.specs.declared.pen.Scalar.TheVariants.{Null, Number, Known, Text, Name}
 
@@ -47,8 +47,8 @@ scalar_json (Known count) = known_number count
 scalar_json (Text text) = string text.now
 scalar_json (Name bytes) = name_of bytes.now
 
-abbrev pub member_of : Member → List ℕ × Json
-member_of one = (one.name.now, scalar_json one.value)
+abbrev pub member_of : Bor (List ℕ) × Scalar → List ℕ × Json
+member_of one = (one.0.now, scalar_json one.1)
 
 -- the tokens of a member
 abbrev pub member_tokens : List ℕ × Json → List Token

@@ -1,5 +1,5 @@
 //! A pen for the tokens of JSON.
-ghost use Rattle.std.specs.Prelude.{◌≡◌, ◌++◌, ◌∷◌, [], IfOk, OnOk};
+ghost use Rattle.std.specs.Prelude.{◌≡◌, ◌++◌, ◌∷◌, [], IfOk, MatchResult, OnOk};
 ghost use Rattle.std.specs.List.{flat_map};
 ghost use Rattle.json.specs.Token.{begin_array, begin_object, end_array, end_object, key};
 ghost use Rattle.json.specs.Tree.{json_tokens};
@@ -25,12 +25,8 @@ pub enum Scalar<'a> {
     Name(&'a [u8]),
 }
 
-/// A member of an object.
-#[derive(Clone, Copy)]
-pub struct Member<'a> {
-    pub name: &'a str,
-    pub value: Scalar<'a>,
-}
+/// A member of an object: its name and its value.
+pub type Member<'a> = (&'a str, Scalar<'a>);
 
 /// Writes JSON into memory, token by token. Its value is the list of the tokens. Commas and lines
 /// are the pen's; that brackets match is its user's concern.
@@ -60,12 +56,20 @@ impl JsonPen {
         }
     }
 
-    /// The text of the tokens, with a line feed at its end. Fails if memory runs out.
-    pub fn into_text(self) -> Result<Vec<u8>, AllocError>
-        ensures { IfOk result (λ text. text.items ≡ tokens_text self) }
+    /// The text of the tokens, with a line feed at its end, if all of them were written: `written`
+    /// is how that ended. Fails if memory runs out.
+    pub fn into_text(self, written: Result<(), AllocError>) -> Result<Vec<u8>, AllocError>
+        ensures { IfOk result (λ text.
+            MatchResult written (λ _. text.items ≡ tokens_text self) (λ _. ⊥)) }
     {
         let JsonPen { out } = self;
-        with_line_feed(out.into_inner())
+        match written {
+            Ok(()) => with_line_feed(out.into_inner()),
+            Err(error) => {
+                drop(out);
+                Err(error)
+            }
+        }
     }
 
     /// Begins an object.
@@ -140,8 +144,9 @@ impl JsonPen {
     fn member(&mut self, one: Member<'_>) -> Result<(), AllocError>
         ensures { OnOk result (self.new ≡ self.old ++ member_tokens (member_of one.entry)) }
     {
-        self.key(one.name)?;
-        self.scalar(one.value)
+        let (name, value) = one;
+        self.key(name)?;
+        self.scalar(value)
     }
 
     /// Writes an object with these members.

@@ -1,25 +1,5 @@
 -- Entries by key.
-use Rattle.std.proofs.Common.{ℕ, ◌≡◌, ◌+◌, ◌<◌, Bool, true, false, cond, T, ◌&&◌, ◌≤◌, ◌⊎◌, inl, inr, List, [], ◌∷◌, Option, Some, None, length, get_or, slice_get, refl, sym, ap, subst, ◌∙◌, arith, map}
-use Rattle.std.specs.declared.cmp.Ordering.{Ordering}
-use Rattle.std.specs.declared.cmp.Ordering.TheVariants.{Less, Equal, Greater}
-use Rattle.std.specs.Ordering.{is_lt, is_eq, eq_by_cmp, ordering_reverse}
-use Rattle.std.specs.Cmp.{IsTotalOrder, eq_by_cmp_equiv}
-use Rattle.std.specs.Bool.{IsTrue}
-use Rattle.std.specs.List.{AllByRecursion, IsDistinct, Contains}
-use Rattle.std.specs.List.Sorted.{IsPermutation, IsStrictlySortedBy}
-use Rattle.std.specs.Map.{keys_of, lookup}
-use Rattle.std.specs.FinMap.{find, put, is_sorted}
-use Rattle.std.specs.FinMap.Entries.{is_sorted-put, find-put, same_entries, below_all}
-use Rattle.std.proofs.lemmas.List.Sorted.{Contains-permutation, IsPermutation-sym, IsPermutation-map}
-use Rattle.std.proofs.lemmas.Map.Keys.{IsDistinct-IsPermutation, IsDistinct-from_sorted, Less-from_sorted}
-use Rattle.std.proofs.lemmas.Bool.{cases_eq}
-use Rattle.std.proofs.lemmas.List.{get_or-map, length-map}
-use Rattle.std.proofs.lemmas.Option.{get_or_from_slice_get, slice_get_within}
-use Rattle.std.proofs.lemmas.Map.Entries.{lookup_at_gap, lookup_from_place}
-use Rattle.std.proofs.lemmas.Map.Views.{Contains-from_lookup, lookup-from_Contains}
-use Rattle.cluster.specs.Keys.{BlockKey, key_order}
-use Rattle.grid.specs.declared.place.Place.{Place}
-use Rattle.kept_places.specs.Kept.{KeptPlaces, in_order}
+use Rattle.kept_places.proofs.Prelude.{ℕ, ◌≡◌, ◌+◌, ◌<◌, Bool, true, cond, T, ◌&&◌, ◌≤◌, ◌⊎◌, inl, inr, List, [], ◌∷◌, Option, Some, None, length, get_or, slice_get, refl, sym, ap, subst, ◌∙◌, arith, map, Ordering, Less, Equal, Greater, is_lt, is_eq, eq_by_cmp, ordering_reverse, IsTotalOrder, eq_by_cmp_equiv, IsTrue, AllByRecursion, IsDistinct, Contains, IsPermutation, IsStrictlySortedBy, keys_of, lookup, find, put, is_sorted, is_sorted-put, find-put, same_entries, below_all, Contains-permutation, IsPermutation-sym, IsPermutation-map, IsDistinct-IsPermutation, IsDistinct-from_sorted, Less-from_sorted, cases_eq, get_or-map, length-map, get_or_from_slice_get, slice_get_within, lookup_at_gap, lookup_from_place, Contains-from_lookup, lookup-from_Contains, BlockKey, key_order, Place, KeptPlaces, in_order}
 use Rattle.kept_places.proofs.Orders.{key_total, key_same}
 
 abbrev Entry : Type 0
@@ -40,39 +20,28 @@ in_order-sorted [] = tt
 in_order-sorted (e ∷ es) = is_sorted-put key_order key_total e.0 e.1 (in_order es) (in_order-sorted es)
 
 both : (a b : Bool) → T a → T b → T (a && b)
-both true b p q = q
-both false b p q = absurd p
+both a b p q = grind arith
 
 first : (a b : Bool) → T (a && b) → T a
-first true b p = tt
-first false b p = absurd p
+first a b p = grind arith
 
 second : (a b : Bool) → T (a && b) → T b
-second true b p = p
-second false b p = absurd p
+second a b p = grind arith
 
 less : (o : Ordering) → T (is_lt o) → o ≡ Less
-less Less p = refl
-less Equal p = absurd p
-less Greater p = absurd p
+less o p = grind arith
 
 is_less : (o : Ordering) → o ≡ Less → T (is_lt o)
-is_less Less e = tt
-is_less Equal e = absurd cc
-is_less Greater e = absurd cc
+is_less o e = grind arith
 
 equal : (o : Ordering) → is_eq o ≡ true → o ≡ Equal
-equal Less e = absurd cc
-equal Equal e = refl
-equal Greater e = absurd cc
+equal o e = grind arith
 
 pub holds : (b : Bool) → IsTrue b → T b
-holds true e = tt
-holds false e = absurd cc
+holds b e = grind arith
 
 pub told : (b : Bool) → T b → IsTrue b
-told true e = refl
-told false e = absurd e
+told b e = grind arith
 
 -- in the order of the keys, as a test and as a property
 below-from_all : (k : BlockKey) (es : List Entry) → AllByRecursion (λ y. key_order k y ≡ Less) (keys_of es) → T (below_all key_order k es)
@@ -86,14 +55,12 @@ is_sorted-from (e ∷ es) up = both (below_all key_order e.0 es) (is_sorted key_
 
 all-from_below : (k : BlockKey) (es : List Entry) → T (below_all key_order k es) → AllByRecursion (λ y. key_order k y ≡ Less) (keys_of es)
 all-from_below k [] below = tt
-all-from_below k (e ∷ es) below =
-    (less (key_order k e.0) (first (is_lt (key_order k e.0)) (below_all key_order k es) below), all-from_below k es (second (is_lt (key_order k e.0)) (below_all key_order k es) below))
+all-from_below k (e ∷ es) below = grind (arith, all-from_below k es (second (is_lt (key_order k e.0)) (below_all key_order k es) below))
 
 pub rises : (es : List Entry) → T (is_sorted key_order es) → IsStrictlySortedBy key_order (keys_of es)
 unfolding IsStrictlySortedBy
 rises [] up = tt
-rises (e ∷ es) up =
-    (all-from_below e.0 es (first (below_all key_order e.0 es) (is_sorted key_order es) up), rises es (second (below_all key_order e.0 es) (is_sorted key_order es) up))
+rises (e ∷ es) up = grind (arith, all-from_below, rises es (second (below_all key_order e.0 es) (is_sorted key_order es) up))
 
 pub distinct : (es : List Entry) → T (is_sorted key_order es) → IsDistinct (eq_by_cmp key_order) (keys_of es)
 distinct es up = IsDistinct-from_sorted key_order (keys_of es) (rises es up)
@@ -131,8 +98,7 @@ as_they_stand es fs moved apart up = same fs (in_order es) up (told (is_sorted k
 
 -- the entry that a search finds
 pub found : (es : List Entry) (q : BlockKey) (at : ℕ) (k : BlockKey) (place : Place) → IsTrue (is_sorted key_order es) → slice_get es at ≡ Some (k, place) → key_order q k ≡ Equal → find key_order q es ≡ Some place
-found es q at k place up is tie =
-    find-lookup q es ∙ lookup_from_place (eq_by_cmp_equiv key_total) es at q place (distinct es (holds (is_sorted key_order es) up)) (is ∙ ap (λ (key : BlockKey). let e : Option Entry = Some (key, place) in e) (sym (key_same q k tie)))
+found es q at k place up is tie = grind (arith, lookup_from_place, key_total, distinct, holds, key_same, find-lookup q es, lookup_from_place (eq_by_cmp_equiv key_total) es, distinct es (holds (is_sorted key_order es) up), holds (is_sorted key_order es) up, key_same q k tie)
 
 -- the entries before `low` have lesser keys, and those from `high` on have greater ones
 pub record IsBetween (es : List Entry) (q : BlockKey) (low high : ℕ) : Type 0 where
@@ -144,9 +110,6 @@ pub record IsBetween (es : List Entry) (q : BlockKey) (low high : ℕ) : Type 0 
 pub missed : (es : List Entry) (q : BlockKey) (low high : ℕ) → IsTrue (is_sorted key_order es) → high ≤ low → IsBetween es q low high → find key_order q es ≡ None
 missed es q low high up met between =
     find-lookup q es ∙ lookup_at_gap key_total q es low (rises es (holds (is_sorted key_order es) up)) between.before (λ e is. between.behind low e met is)
-
-pub between_all : (es : List Entry) (q : BlockKey) → IsBetween es q 0 (length es)
-between_all es q = record { ordered = omega arith; within = omega arith; before = λ j e lt is. absurd (omega (arith, lt)); behind = λ j e past is. absurd (let w = slice_get_within es j e is in omega (arith, w, past)) }
 
 -- of two entries of a list in order, the first has the lesser key
 rising : (es : List Entry) (i j : ℕ) (e f : Entry) → IsTrue (is_sorted key_order es) → i < j → slice_get es i ≡ Some e → slice_get es j ≡ Some f → key_order e.0 f.0 ≡ Less

@@ -1,13 +1,5 @@
 -- A table that is filled entry by entry.
-use Rattle.std.proofs.Common.{ℕ, ◌≡◌, ◌+◌, ◌<◌, ◌≤◌, List, [], ◌∷◌, ◌++◌, length, take, map, get_or, refl, sym, ap, ◌∙◌, arith, length-append}
-use Rattle.std.proofs.lemmas.List.{get_or_default, map_push, map_more, take_all}
-use Rattle.cluster.specs.Keys.{BlockKey}
-use Rattle.grid.specs.declared.place.Place.{Place}
-use Rattle.rows.proofs.Growing.{part_of-append, part_of-added}
-use Rattle.kept_places.specs.declared.table.KeptPlace.{KeptPlace}
-use Rattle.kept_places.specs.declared.table.Row.{Row}
-use Rattle.kept_places.specs.Table.{entries_of, entry_of}
-use Rattle.kept_places.specs.Rows.{AreNamed, entries_at, entry_at}
+use Rattle.kept_places.proofs.Prelude.{ℕ, ◌≡◌, ◌+◌, ◌<◌, ◌≤◌, List, [], ◌∷◌, ◌++◌, length, take, map, get_or, refl, ap, ◌∙◌, arith, length-append, get_or_default, map_push, map_more, take_all, part_of-append, part_of-added, KeptPlace, Row, entries_of, entry_of, AreNamed, entries_at}
 
 -- the rows of the first `index` entries
 pub record IsFilling (entries : List KeptPlace) (index : ℕ) (names : List ℕ) (rows : List Row) : Type 0 where
@@ -24,34 +16,18 @@ named_push count more (first ∷ rows) row named grows ordered within = ((named.
 -- rows keep their entries when more names are appended
 entries_stay : (names more : List ℕ) (rows : List Row) → AreNamed (length names) rows → entries_at (names ++ more) rows ≡ entries_at names rows
 entries_stay names more [] named = refl
-entries_stay names more (row ∷ rows) named =
-    let name = part_of-append names more row.name named.0.0 named.0.1 in
-    ap (λ (bytes : List ℕ). let e : BlockKey × Place = (record { kind = row.kind; name = bytes }, row.place) in e ∷ entries_at (names ++ more) rows) name
-    ∙ ap (λ rest. entry_at names row ∷ rest) (entries_stay names more rows named.1)
+entries_stay names more (row ∷ rows) named = grind (arith, part_of-append, entries_stay names more rows named.1)
 
 abbrev row_of : KeptPlace → ℕ → ℕ → Row
 row_of entry start end = record { kind = entry.key.kind; name = record { start = start; end = end }; place = entry.place }
 
 pub filling_more : (entries : List KeptPlace) (index : ℕ) (names : List ℕ) (rows : List Row) (entry : KeptPlace) (start end : ℕ) → index < length entries → get_or entries index entry ≡ entry → start ≡ length names → end ≡ length (names ++ entry.key.name.now) →
     IsFilling entries index names rows → IsFilling entries (index + 1) (names ++ entry.key.name.now) (rows ++ row_of entry start end ∷ [])
-filling_more entries index names rows entry start end lt is starts ends filling =
-    let name = entry.key.name.now in
-    let row = row_of entry start end in
-    let longer = length-append names name in
-    let last : entry_at (names ++ name) row ≡ entry_of entry = ap (λ (bytes : List ℕ). let e : BlockKey × Place = (record { kind = entry.key.kind; name = bytes }, entry.place) in e) (part_of-added names name start end starts ends) in
-    record {
-      named = named_push (length names) (length (names ++ name)) rows row filling.named (omega (arith, longer)) (omega (arith, longer, starts, ends)) (omega (arith, ends));
-      listed =
-          map_push (entry_at (names ++ name)) rows row
-          ∙ ap (λ front. front ++ entry_at (names ++ name) row ∷ []) (entries_stay names name rows filling.named ∙ filling.listed)
-          ∙ ap (λ e. map entry_of (take index entries) ++ e ∷ []) last
-          ∙ sym (map_more entry_of entries index entry lt ∙ ap (λ (e : KeptPlace). map entry_of (take index entries) ++ entry_of e ∷ []) is);
-    }
+filling_more entries index names rows entry start end lt is starts ends filling = grind (arith, length-append, part_of-added, named_push, map_push, entries_stay, map_more entry_of entries index entry lt)
 
 pub filling_next : (entries : List KeptPlace) (index : ℕ) (names : List ℕ) (rows : List Row) (d : KeptPlace) (start end : ℕ) → index < length entries → start ≡ length names → end ≡ length (names ++ (get_or entries index d).key.name.now) →
     IsFilling entries index names rows → IsFilling entries (index + 1) (names ++ (get_or entries index d).key.name.now) (rows ++ row_of (get_or entries index d) start end ∷ [])
-filling_next entries index names rows d start end lt starts ends filling =
-    filling_more entries index names rows (get_or entries index d) start end lt (get_or_default entries index (get_or entries index d) d lt) starts ends filling
+filling_next entries index names rows d start end lt starts ends filling = grind (arith, filling_more entries index names rows (get_or entries index d) start end lt (get_or_default entries index (get_or entries index d) d lt) starts ends filling)
 
 pub filling_all : (entries : List KeptPlace) (index : ℕ) (names : List ℕ) (rows : List Row) → length entries ≤ index → IsFilling entries index names rows → entries_at names rows ≡ entries_of entries
 filling_all entries index names rows past filling = filling.listed ∙ ap (map entry_of) (take_all index entries past)

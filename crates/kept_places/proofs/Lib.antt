@@ -1,3 +1,4 @@
+mod Prelude
 pub mod Orders
 pub mod Entries
 pub mod Filling

@@ -1,19 +1,5 @@
 -- The BLEs of all blocks by place, and by the numbers of their blocks and their own.
-use Rattle.std.proofs.Common.{◌≡◌, ◌≢◌, ℕ, zero, suc, ◌+◌, ◌<◌, ◌≤◌, Bool, true, List, [], ◌∷◌, Some, get_or, length, map, slice_get, take, sym, ap, refl, ◌∙◌, subst, arith, inl, inr, ◌⊎◌, length-append}
-use Rattle.std.specs.Prelude.{Contains, count_by}
-use Rattle.std.specs.List.{flat_map}
-use Rattle.std.proofs.lemmas.Bool.{cases_eq}
-use Rattle.std.proofs.lemmas.List.{length-map}
-use Rattle.std.proofs.lemmas.List.Concat.{get_or-flat_map}
-use Rattle.std.proofs.lemmas.Option.{get_or_from_slice_get, slice_get-get_or}
-use Rattle.arch_file.specs.declared.arch.Arch.{Arch}
-use Rattle.ble_cluster.specs.Bles.{LogicElement}
-use Rattle.implements.specs.Layouts.{LaidBle, LaidBlock, traced_ble}
-use Rattle.implements.proofs.Members.{from_get, to_flat_map, to_map}
-use Rattle.implements.proofs.Unique.{count-append, count-cons, count-yes, some_counted}
-use Rattle.layout_check.specs.declared.fault.BleNumber.{BleNumber}
-use Rattle.layout_check.specs.Helds.{IsNumberOf}
-use Rattle.layout_check.specs.Wrongs.{IsBleAt}
+use Rattle.layout_check.proofs.Prelude.{◌≡◌, ◌≢◌, ℕ, zero, suc, ◌+◌, ◌<◌, ◌≤◌, Bool, true, List, [], ◌∷◌, Some, get_or, length, map, slice_get, take, sym, ap, refl, ◌∙◌, subst, arith, inl, inr, ◌⊎◌, length-append, Contains, count_by, flat_map, cases_eq, length-map, get_or-flat_map, get_or_from_slice_get, slice_get-get_or, Arch, LogicElement, LaidBle, LaidBlock, traced_ble, from_get, to_flat_map, to_map, count-append, count-cons, count-yes, some_counted, BleNumber, IsNumberOf, IsBleAt}
 use Rattle.layout_check.proofs.OneDriver.{two_counted}
 
 abbrev pub bles_in : List LaidBlock → List LaidBle
@@ -31,26 +17,16 @@ get_some (x ∷ xs) (suc k) less = get_some xs k (omega (arith, less))
 
 pub number_found : (blocks : List LaidBlock) (place k left : ℕ) (block : LaidBlock) → k < length blocks → get_or blocks k block ≡ block → place ≡ length (bles_in (take k blocks)) + left → left < length block.bles →
     IsNumberOf blocks place (record { block = k; ble = left })
-number_found blocks place k left block small is at within =
-    let some = get_some block.bles left within in
-    record { laid = block; at_block = slice_get-get_or blocks k block small ∙ ap (λ b. Some b) is; ble = some.0; at_ble = some.1; offset = at }
+number_found blocks place k left block small is at within = grind (arith, get_some block.bles left within, slice_get-get_or blocks k block small)
 
 -- places that differ have numbers that differ
 pub numbers_differ : (blocks : List LaidBlock) (place other : ℕ) (number second : BleNumber) → place < other → IsNumberOf blocks place number → IsNumberOf blocks other second → number ≢ second
-numbers_differ blocks place other number second less a b same =
-    let first : place ≡ length (bles_in (take second.block blocks)) + second.ble = subst (λ (n : BleNumber). place ≡ length (bles_in (take n.block blocks)) + n.ble) same a.offset in
-    let last = b.offset in
-    omega (arith, first, last, less)
+numbers_differ blocks place other number second less a b same = grind arith
 
 -- tracing keeps places
 traced_length : (arch : Arch) (blocks : List LaidBlock) → length (flat_map (traced_in arch) blocks) ≡ length (bles_in blocks)
 traced_length arch [] = refl
-traced_length arch (block ∷ blocks) =
-    let rest = traced_length arch blocks in
-    let a = length-append (traced_in arch block) (flat_map (traced_in arch) blocks) in
-    let b = length-append block.bles (bles_in blocks) in
-    let c = length-map block.bles (traced_ble arch block) in
-    omega (arith, rest, a, b, c)
+traced_length arch (block ∷ blocks) = grind (arith, length-append, length-map, traced_length arch blocks)
 
 pub place_within : (arch : Arch) (blocks : List LaidBlock) (place : ℕ) (element : LogicElement) → slice_get (flat_map (traced_in arch) blocks) place ≡ Some element → place < length (bles_in blocks)
 place_within arch blocks place element at = let small = (from_get (flat_map (traced_in arch) blocks) place element at).0 in omega (arith, small, traced_length arch blocks)
@@ -94,16 +70,8 @@ in_traced arch blocks number element so =
 two_at : {X : Type 0} (test : X → Bool) (xs : List X) (i j : ℕ) (x y : X) → i ≢ j → slice_get xs i ≡ Some x → slice_get xs j ≡ Some y → test x ≡ true → test y ≡ true → 2 ≤ count_by test xs
 two_at test [] i j x y differ a b one two = absurd cc
 two_at test (z ∷ xs) zero zero x y differ a b one two = absurd (differ refl)
-two_at test (z ∷ xs) zero (suc j) x y differ a b one two =
-    let same : z ≡ x = cc in
-    let first = count-yes test z xs (ap test same ∙ one) in
-    let rest = some_counted test xs y (from_get xs j y b).1 two in
-    omega (arith, first, rest)
-two_at test (z ∷ xs) (suc i) zero x y differ a b one two =
-    let same : z ≡ y = cc in
-    let first = count-yes test z xs (ap test same ∙ two) in
-    let rest = some_counted test xs x (from_get xs i x a).1 one in
-    omega (arith, first, rest)
+two_at test (z ∷ xs) zero (suc j) x y differ a b one two = grind (arith, count-yes, some_counted, from_get, some_counted test xs y (from_get xs j y b).1 two, from_get xs j y b)
+two_at test (z ∷ xs) (suc i) zero x y differ a b one two = grind (arith, count-yes, some_counted, from_get, some_counted test xs x (from_get xs i x a).1 one, from_get xs i x a)
 two_at test (z ∷ xs) (suc i) (suc j) x y differ a b one two =
     let rest = two_at test xs i j x y (λ e. differ (ap (λ n. suc n) e)) a b one two in
     let all = count-cons test z xs in
@@ -111,15 +79,8 @@ two_at test (z ∷ xs) (suc i) (suc j) x y differ a b one two =
 
 part_below : {X Y : Type 0} (f : X → List Y) (test : Y → Bool) (xs : List X) (j : ℕ) (y : X) → slice_get xs j ≡ Some y → count_by test (f y) ≤ count_by test (flat_map f xs)
 part_below f test [] j y at = absurd cc
-part_below f test (x ∷ xs) zero y at =
-    let same : x ≡ y = cc in
-    let first : count_by test (f y) ≡ count_by test (f x) = ap (λ z. count_by test (f z)) (sym same) in
-    let all = count-append test (f x) (flat_map f xs) in
-    omega (arith, first, all)
-part_below f test (x ∷ xs) (suc j) y at =
-    let rest = part_below f test xs j y at in
-    let all = count-append test (f x) (flat_map f xs) in
-    omega (arith, rest, all)
+part_below f test (x ∷ xs) zero y at = grind (arith, count-append)
+part_below f test (x ∷ xs) (suc j) y at = grind (arith, count-append, part_below f test xs j y)
 
 abbrev numbered : ℕ → ℕ → BleNumber
 numbered m n = record { block = m; ble = n }

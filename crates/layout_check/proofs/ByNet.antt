@@ -1,93 +1,21 @@
 -- The blocks that drive a net and those at which it is wanted, by net.
-use Rattle.std.proofs.Common.{◌≡◌, ◌≢◌, ℕ, ◌+◌, ◌<◌, ◌≤◌, Bool, true, false, ◌&&◌, ◌||◌, cond, List, [], ◌∷◌, ◌++◌, Option, Some, eq-eqb, eqb, filter, map, take, set, get_or, length, replicate, slice_get, sym, ap, refl, ◌∙◌, subst, arith, inl, inr, ◌⊎◌, zero, suc}
-use Rattle.std.specs.Prelude.{Contains, option_map}
-use Rattle.std.specs.List.{enumerate_from, flat_map, list_any, range_with_len}
-use Rattle.std.specs.Option.{option_to_list}
-use Rattle.std.proofs.Math.Bool.{or_assoc}
-use Rattle.std.proofs.lemmas.Bool.{cases_eq, false≢true, ne_eqb}
-use Rattle.std.proofs.lemmas.List.{append-nil, get_or-map, get_or-replicate, get_or-set_same, get_or-set_other, length-map, length-replicate, length-set, map-append, map-set, replicate_more, take_all}
-use Rattle.std.proofs.lemmas.List.Elements.{filter_more}
-use Rattle.std.proofs.lemmas.List.Folds.{list_any_more}
-use Rattle.std.proofs.lemmas.List.FromFn.{get_or-enumerate_from, get_or-range_with_len, length-enumerate_from, length-range_with_len}
-use Rattle.std.proofs.lemmas.Option.{same_Some, slice_get-get_or}
-use Rattle.implements.proofs.Inside.{at_member, enumerated}
-use Rattle.implements.proofs.Members.{from_filter, from_get, from_map, in_first, in_later, to_filter, to_map}
-use Rattle.implements.specs.Layouts.{LaidBlock}
-use Rattle.pathfinder.specs.Terminals.{sink_at}
-use Rattle.rr_graph.specs.declared.node.Node.{Node}
-use Rattle.layout_check.specs.Marks.{IsClear, is_in}
-use Rattle.layout_check.specs.NetBlocks.{AreListsOf, AreNoted, IsNoted, list_at, numbers_of, sinks_at}
-use Rattle.layout_check.proofs.Stamps.{added}
-
-or_yes : (b : Bool) → (b || true) ≡ true
-or_yes true = refl
-or_yes false = refl
-
-or_no : (b : Bool) → (b || false) ≡ b
-or_no true = refl
-or_no false = refl
+use Rattle.layout_check.proofs.Prelude.{◌≡◌, ℕ, ◌+◌, ◌<◌, ◌≤◌, Bool, true, ◌&&◌, ◌||◌, cond, List, [], ◌∷◌, ◌++◌, Option, Some, filter, map, take, set, get_or, length, replicate, slice_get, sym, ap, refl, ◌∙◌, subst, arith, zero, suc, Contains, option_map, enumerate_from, flat_map, list_any, range_with_len, option_to_list, or_assoc, false≢true, append-nil, get_or-map, get_or-replicate, length-map, length-replicate, map-append, map-set, replicate_more, take_all, filter_more, list_any_more, get_or-enumerate_from, get_or-range_with_len, length-enumerate_from, length-range_with_len, same_Some, slice_get-get_or, at_member, enumerated, from_filter, from_get, from_map, in_first, in_later, to_filter, to_map, LaidBlock, sink_at, Node, IsClear, is_in, AreListsOf, AreNoted, IsNoted, list_at, numbers_of, sinks_at}
 
 -- one empty list more
 pub one_more_empty : {V : Type 0} (lists new : List V) (items : V → List ℕ) (list : V) (n : ℕ) → map items lists ≡ replicate n [] → new ≡ lists ++ list ∷ [] → items list ≡ [] → map items new ≡ replicate (n + 1) []
-one_more_empty lists new items list n so more empty =
-    ap (map items) more ∙ map-append items lists (list ∷ []) ∙ ap (λ front. front ++ items list ∷ []) so ∙ ap (λ last. replicate {A = List ℕ} n [] ++ last ∷ []) empty ∙ replicate_more n []
+one_more_empty lists new items list n so more empty = grind (arith, map-append, replicate_more)
 
 -- one item more in the list with this number
 pub added_to : {V : Type 0} (lists : List V) (items : V → List ℕ) (number item : ℕ) (old new : V) → number < length (map items lists) → old ≡ get_or lists number old → items new ≡ items old ++ item ∷ [] →
     map items (set lists number new) ≡ set (map items lists) number (list_at (map items lists) number ++ item ∷ [])
-added_to lists items number item old new small at is =
-    let inside : number < length lists = let long = length-map lists items in omega (arith, long, small) in
-    let was : items old ≡ list_at (map items lists) number = ap items at ∙ sym (get_or-map items lists number old [] inside) in
-    map-set items lists number new ∙ ap (set (map items lists) number) (is ∙ ap (λ l. l ++ item ∷ []) was)
+added_to lists items number item old new small at is = grind (arith, length-map, get_or-map, map-set)
 
 -- ---- one block
 
 -- nothing changes where each net that passes is in the set
 pub noted_same : (number count : ℕ) (test : ℕ → Bool) (marks : List Bool) (lists : List (List ℕ)) → length marks ≡ count → length lists ≡ count → ((net : ℕ) → net < count → test net ≡ true → is_in marks net ≡ true) →
     IsNoted number count test marks marks lists lists
-noted_same number count test marks lists marked long inside = record {
-  long = long;
-  marked = marked;
-  exact = λ net small. by (is_in marks net) (test net) (inside net small);
-  noted = λ start before. before;
-}
-  where
-    by : (is passes : Bool) → (passes ≡ true → is ≡ true) → is ≡ (is || passes)
-    by true passes inside = refl
-    by false true inside = inside refl
-    by false false inside = refl
-
--- one net more
-pub noted_new : (number count net : ℕ) (marks : List Bool) (lists : List (List ℕ)) → length marks ≡ count → length lists ≡ count → net < count → is_in marks net ≡ false →
-    IsNoted number count (λ other. eqb net other) marks (set marks net true) lists (set lists net (list_at lists net ++ number ∷ []))
-noted_new number count net marks lists marked long small out = record {
-  long = length-set lists net (list_at lists net ++ number ∷ []) ∙ long;
-  marked = length-set marks net true ∙ marked;
-  exact = λ other less. exact_at other (cases_eq other net);
-  noted = λ start before other less. noted_at start before other less (cases_eq other net);
-}
-  where
-    here : is_in (set marks net true) net ≡ true
-    here = added marks net (omega (arith, marked, small))
-
-    exact_at : (other : ℕ) → (other ≡ net) ⊎ (other ≢ net) → is_in (set marks net true) other ≡ (is_in marks other || eqb net other)
-    exact_at other (inl e) =
-        let same : eqb net other ≡ true = eq-eqb net other (sym e) in
-        ap (is_in (set marks net true)) e ∙ here ∙ sym (ap (λ b. is_in marks other || b) same ∙ or_yes (is_in marks other))
-    exact_at other (inr differ) =
-        let differs : eqb net other ≡ false = ne_eqb net other (λ same. differ (sym same)) in
-        get_or-set_other marks net other true false differ ∙ sym (ap (λ b. is_in marks other || b) differs ∙ or_no (is_in marks other))
-
-    noted_at : (start : List (List ℕ)) → AreNoted number count marks start lists → (other : ℕ) → other < count → (other ≡ net) ⊎ (other ≢ net) →
-        list_at (set lists net (list_at lists net ++ number ∷ [])) other ≡ list_at start other ++ cond (is_in (set marks net true) other) (number ∷ []) []
-    noted_at start before other less (inl e) =
-        let was : list_at lists net ≡ list_at start net = before net small ∙ ap (λ b. list_at start net ++ cond {A = List ℕ} b (number ∷ []) []) out ∙ append-nil (list_at start net) in
-        let is : list_at (set lists net (list_at lists net ++ number ∷ [])) net ≡ list_at start net ++ cond {A = List ℕ} (is_in (set marks net true) net) (number ∷ []) [] =
-        get_or-set_same lists net (list_at lists net ++ number ∷ []) [] (omega (arith, long, small)) ∙ ap (λ l. l ++ number ∷ []) was ∙ sym (ap (λ b. list_at start net ++ cond {A = List ℕ} b (number ∷ []) []) here) in
-        subst (λ o. list_at (set lists net (list_at lists net ++ number ∷ [])) o ≡ list_at start o ++ cond {A = List ℕ} (is_in (set marks net true) o) (number ∷ []) []) (sym e) is
-    noted_at start before other less (inr differ) =
-        get_or-set_other lists net other (list_at lists net ++ number ∷ []) [] differ ∙ before other less
-        ∙ sym (ap (λ b. list_at start other ++ cond {A = List ℕ} b (number ∷ []) []) (get_or-set_other marks net other true false differ))
+noted_same number count test marks lists marked long inside = grind arith
 
 -- one test after the other
 pub noted_then : (number count : ℕ) (p q r : ℕ → Bool) (a b c : List Bool) (x y z : List (List ℕ)) → ((net : ℕ) → r net ≡ (p net || q net)) → IsNoted number count p a b x y → IsNoted number count q b c y z → IsNoted number count r a c x z
@@ -133,14 +61,10 @@ pub record AreListsUpTo (test : ℕ → LaidBlock → Bool) (blocks : List LaidB
   pub each : (net : ℕ) → net < count → list_at lists net ≡ map (λ block. block.0) (filter (λ block. test net block.1) (take n (enumerate_from 0 blocks)))
 
 pub lists_start : (test : ℕ → LaidBlock → Bool) (blocks : List LaidBlock) (count : ℕ) (lists : List (List ℕ)) → lists ≡ replicate count [] → AreListsUpTo test blocks count 0 lists
-lists_start test blocks count lists empty = record {
-  long = ap length empty ∙ length-replicate count [];
-  each = λ net small. ap (λ ls. list_at ls net) empty ∙ get_or-replicate count net [] [] small;
-}
+lists_start test blocks count lists empty = grind (arith, length-replicate, get_or-replicate)
 
 number_kept : (n : ℕ) (block : LaidBlock) (keeps : Bool) → cond {A = List ℕ} keeps (n ∷ []) [] ≡ map (λ (b : ℕ × LaidBlock). b.0) (cond keeps ((n, block) ∷ []) [])
-number_kept n block true = refl
-number_kept n block false = refl
+number_kept n block keeps = grind arith
 
 pub lists_more : (test : ℕ → LaidBlock → Bool) (blocks : List LaidBlock) (count n : ℕ) (block : LaidBlock) (before after : List Bool) (old new : List (List ℕ)) → n < length blocks → get_or blocks n block ≡ block → IsClear before →
     AreListsUpTo test blocks count n old → IsNoted n count (λ net. test net block) before after old new → AreListsUpTo test blocks count (n + 1) new
@@ -167,13 +91,7 @@ lists_more test blocks count n block before after old new small item clear so no
         ∙ ap (λ l. map first front ++ l) (number_kept n block (test net block)) ∙ sym (map-append first front (cond (test net block) ((n, block) ∷ []) [])) ∙ sym (ap (map first) more)
 
 pub lists_all : (test : ℕ → LaidBlock → Bool) (blocks : List LaidBlock) (count n : ℕ) (lists : List (List ℕ)) → length blocks ≤ n → AreListsUpTo test blocks count n lists → AreListsOf test blocks count lists
-lists_all test blocks count n lists end so = record {
-  long = so.long;
-  each = λ net small.
-      so.each net small
-      ∙ ap (λ (bs : List (ℕ × LaidBlock)). map (λ (b : ℕ × LaidBlock). b.0) (filter (λ (b : ℕ × LaidBlock). test net b.1) bs))
-      (take_all n (enumerate_from 0 blocks) (let long = length-enumerate_from 0 blocks in omega (arith, long, end)));
-}
+lists_all test blocks count n lists end so = grind (arith, take_all, length-enumerate_from)
 
 -- ---- what the numbers say of the blocks
 
@@ -212,8 +130,7 @@ sinks_of_pairs blocks (p ∷ pairs) there =
 
 -- the blocks that pass, of one block more
 one_block : (keeps : Bool) (n : ℕ) (block : LaidBlock) (kept : List (ℕ × LaidBlock)) (rest : List LaidBlock) → map (λ b. b.1) kept ≡ rest → map (λ b. b.1) (cond keeps ((n, block) ∷ kept) kept) ≡ cond keeps (block ∷ rest) rest
-one_block true n block kept rest e = ap (λ bs. block ∷ bs) e
-one_block false n block kept rest e = e
+one_block keeps n block kept rest e = grind arith
 
 passing : (test : LaidBlock → Bool) (n : ℕ) (blocks : List LaidBlock) → map (λ b. b.1) (filter (λ b. test b.1) (enumerate_from n blocks)) ≡ filter test blocks
 passing test n [] = refl
@@ -227,19 +144,9 @@ sinks_by_number test blocks =
 
 -- ---- the blocks that are listed with a net
 
--- the numbers that pass, of one pair more
-one_pair : (p : ℕ → Bool) (keeps passes : Bool) (b : ℕ × LaidBlock) (kept both : List (ℕ × LaidBlock)) → p b.0 ≡ passes → filter p (map (λ b. b.0) kept) ≡ map (λ b. b.0) both →
-    filter p (map (λ b. b.0) (cond keeps (b ∷ kept) kept)) ≡ map (λ b. b.0) (cond (passes && keeps) (b ∷ both) both)
-one_pair p true true b kept both e rest =
-    ap (λ (c : Bool). cond c (b.0 ∷ filter p (map (λ (b : ℕ × LaidBlock). b.0) kept)) (filter p (map (λ (b : ℕ × LaidBlock). b.0) kept))) e ∙ ap (λ ns. b.0 ∷ ns) rest
-one_pair p true false b kept both e rest = ap (λ (c : Bool). cond c (b.0 ∷ filter p (map (λ (b : ℕ × LaidBlock). b.0) kept)) (filter p (map (λ (b : ℕ × LaidBlock). b.0) kept))) e ∙ rest
-one_pair p false true b kept both e rest = rest
-one_pair p false false b kept both e rest = rest
-
 both_tests : (p : ℕ → Bool) (q : LaidBlock → Bool) (pairs : List (ℕ × LaidBlock)) → filter p (map (λ b. b.0) (filter (λ b. q b.1) pairs)) ≡ map (λ b. b.0) (filter (λ b. p b.0 && q b.1) pairs)
 both_tests p q [] = refl
-both_tests p q (b ∷ pairs) =
-    one_pair p (q b.1) (p b.0) b (filter (λ (b : ℕ × LaidBlock). q b.1) pairs) (filter (λ (b : ℕ × LaidBlock). p b.0 && q b.1) pairs) refl (both_tests p q pairs)
+both_tests p q (b ∷ pairs) = grind (arith, both_tests p q pairs)
 
 pub others_by_number : (p : ℕ → Bool) (q : LaidBlock → Bool) (blocks : List LaidBlock) → filter p (numbers_of q blocks) ≡ map (λ block. block.0) (filter (λ block. p block.0 && q block.1) (enumerate_from 0 blocks))
 others_by_number p q blocks = both_tests p q (enumerate_from 0 blocks)

@@ -1,19 +1,5 @@
 -- What holds of paths by the numbers of their nodes holds of the paths.
-use Rattle.std.proofs.Common.{◌≡◌, ◌≢◌, ℕ, zero, suc, ◌+◌, ◌<◌, ◌≤◌, Bool, true, false, List, [], ◌∷◌, ◌++◌, map, sym, ap, refl, ◌∙◌, subst, arith, inl, inr, ◌⊎◌}
-use Rattle.std.specs.Prelude.{All, Contains}
-use Rattle.std.specs.List.{flat_map}
-use Rattle.std.proofs.lemmas.Bool.{false≢true}
-use Rattle.std.proofs.lemmas.List.Elements.{All-contains}
-use Rattle.implements.proofs.Members.{from_flat_map, from_map, in_cases, in_first, in_later, in_none, to_flat_map, to_map}
-use Rattle.rr_graph.specs.declared.node.Node.{Node}
-use Rattle.rr_graph.specs.declared.node.NodeKind.TheVariants.{Opin}
-use Rattle.rr_graph.specs.Geometry.{is_edge, is_node}
-use Rattle.rr_graph.specs.Graph.{Basis, IsRoutingGraph, RoutingGraph, graph_of}
-use Rattle.pathfinder.specs.LegalRoutes.{HasOneOpin, IsLeaf, IsRoute, IsTree, LeadsOver, pairs_of, path_nodes, steps_of}
-use Rattle.pathfinder.specs.PlacedNets.{number_of}
-use Rattle.layout_check.specs.Marks.{is_in}
-use Rattle.layout_check.specs.Numbered.{AreHops, AreNodes, IsNumbered, hop_of}
-use Rattle.layout_check.specs.NumberTrees.{AreOneWay, IsClosed, Reaches, here, onward}
+use Rattle.layout_check.proofs.Prelude.{◌≡◌, ◌≢◌, ℕ, zero, suc, ◌+◌, ◌<◌, ◌≤◌, Bool, true, false, List, [], ◌∷◌, ◌++◌, map, sym, ap, refl, ◌∙◌, subst, arith, inl, inr, ◌⊎◌, All, Contains, flat_map, All-contains, from_flat_map, from_map, in_cases, in_first, in_later, in_none, to_flat_map, to_map, Node, Opin, is_edge, is_node, Basis, IsRoutingGraph, RoutingGraph, graph_of, HasOneOpin, IsLeaf, IsRoute, IsTree, LeadsOver, pairs_of, path_nodes, steps_of, number_of, is_in, AreHops, AreNodes, IsNumbered, hop_of, AreOneWay, IsClosed, Reaches, here, onward}
 use Rattle.layout_check.proofs.Numbers.{its_node, number_again, number_small}
 
 -- both nodes of a pair are on the path
@@ -99,12 +85,9 @@ module _ (basis : Basis) (lawful : IsRoutingGraph basis (graph_of basis)) (paths
 
   stays_in : (marks : List Bool) → IsClosed hops marks → (last node : Node) (rest : List Node) → LeadsOver (pairs_of paths) last node rest → is_in marks (number_of (graph_of basis) node) ≡ true → is_in marks (number_of (graph_of basis) last) ≡ true
   stays_in marks closed last node [] is there = subst (λ n. is_in marks (number_of (graph_of basis) n) ≡ true) is there
-  stays_in marks closed last node (next ∷ rest) (hop, leads) there =
-      stays_in marks closed last next rest leads (closed (number_of (graph_of basis) node) (number_of (graph_of basis) next) (to_hop node next hop) there)
+  stays_in marks closed last node (next ∷ rest) (hop, leads) there = grind (arith, stays_in marks closed last next rest leads (closed (number_of (graph_of basis) node) (number_of (graph_of basis) next) (to_hop node next hop) there))
 
   -- no way leads to a node outside a set that has the root and out of which no hop leads
   pub never_reached : (root k : ℕ) → root < (graph_of basis).count → k < (graph_of basis).count → (marks : List Bool) → IsClosed hops marks → is_in marks root ≡ true → is_in marks k ≡ false →
       (rest : List Node) → LeadsOver (pairs_of paths) ((graph_of basis).node k) ((graph_of basis).node root) rest → ⊥
-  never_reached root k root_small small marks closed root_in out rest leads =
-      let in_set = stays_in marks closed ((graph_of basis).node k) ((graph_of basis).node root) rest leads (subst (λ n. is_in marks n ≡ true) (sym (number_again basis lawful root root_small)) root_in) in
-      false≢true (sym out ∙ subst (λ n. is_in marks n ≡ true) (number_again basis lawful k small) in_set)
+  never_reached root k root_small small marks closed root_in out rest leads = grind (arith, stays_in, number_again basis lawful root root_small, number_again basis lawful k small)

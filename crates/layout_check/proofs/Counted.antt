@@ -1,25 +1,5 @@
 -- How many nets use each node.
-use Rattle.std.proofs.Common.{◌≡◌, ℕ, ◌+◌, ◌-◌, ◌^◌, ◌<◌, ◌≤◌, Bool, true, false, List, [], ◌∷◌, ◌++◌, cond, take, get_or, length, replicate, slice_get, Some, sym, ap, refl, ◌∙◌, subst, arith, inl, inr, ◌⊎◌}
-use Rattle.std.specs.Prelude.{All, Contains, count_by}
-use Rattle.std.specs.List.{list_any}
-use Rattle.std.proofs.lemmas.Bool.{cases_lt, false≢true}
-use Rattle.std.proofs.lemmas.List.{get_or-replicate, get_or_past, length-take, take_all, take_more}
-use Rattle.std.proofs.lemmas.List.Elements.{All-contains, All-more}
-use Rattle.std.proofs.lemmas.List.Sums.{count_by-le-length, count_by_more_no, count_by_more_yes}
-use Rattle.implements.proofs.Members.{from_any, in_first, in_later, in_none}
-use Rattle.implements.proofs.Unique.{count-no}
-use Rattle.blif.specs.declared.circuit.Circuit.{Circuit}
-use Rattle.implements.specs.Implements.{IsLaid, sinks_of}
-use Rattle.implements.specs.Layouts.{LaidNet, Layout}
-use Rattle.pathfinder.specs.LegalRoutes.{IsRouted, path_nodes}
-use Rattle.pathfinder.specs.Terminals.{is_same_node, source_at}
-use Rattle.pathfinder.proofs.NodeNumbers.{same_node}
-use Rattle.rr_graph.specs.declared.node.Node.{Node}
-use Rattle.rr_graph.specs.declared.node.NodeKind.TheVariants.{Source}
-use Rattle.rr_graph.specs.Geometry.{capacity_of, is_node}
-use Rattle.rr_graph.specs.Graph.{Basis, IsRoutingGraph, graph_of}
-use Rattle.layout_check.specs.EntryFaults.{AreUsedBy, is_on}
-use Rattle.layout_check.specs.NetFaults.{AreCarried, AreUses, uses_of}
+use Rattle.layout_check.proofs.Prelude.{◌≡◌, ℕ, ◌+◌, ◌-◌, ◌<◌, ◌≤◌, Bool, true, false, List, [], ◌∷◌, ◌++◌, cond, take, get_or, length, replicate, slice_get, Some, sym, ap, refl, ◌∙◌, subst, arith, All, Contains, count_by, list_any, false≢true, get_or-replicate, take_all, take_more, All-contains, All-more, count_by_more_no, count_by_more_yes, from_any, in_first, in_later, in_none, count-no, Circuit, IsLaid, sinks_of, LaidNet, Layout, IsRouted, path_nodes, is_same_node, source_at, same_node, Node, Source, capacity_of, is_node, Basis, IsRoutingGraph, graph_of, AreUsedBy, is_on, AreCarried, AreUses, uses_of}
 use Rattle.layout_check.proofs.Refute.{route_inside}
 
 none_counted : {X : Type 0} (test : X → Bool) (xs : List X) → ((x : X) → Contains xs x → test x ≡ true → ⊥) → count_by test xs ≡ 0
@@ -37,23 +17,7 @@ pub record AreChecked (circuit : Circuit) (basis : Basis) (layout : Layout) (n :
   pub counted : AreUses basis (take n layout.nets) uses
 
 pub unused : (circuit : Circuit) (basis : Basis) (layout : Layout) (uses : List ℕ) → uses ≡ replicate (graph_of basis).count 0 → length uses ≡ (graph_of basis).count → AreChecked circuit basis layout 0 uses
-unused circuit basis layout uses none long = record {
-  long = long;
-  all = λ k d small. absurd (omega (arith, small));
-  counted = λ node k small e. ap (λ us. get_or us k 0) none ∙ get_or-replicate (graph_of basis).count k 0 0 small;
-}
-
--- a count so far is small
-pub few_uses : (circuit : Circuit) (basis : Basis) (layout : Layout) (n : ℕ) (uses : List ℕ) → AreChecked circuit basis layout n uses → n < length layout.nets → length layout.nets < 2 ^ 64 → (k : ℕ) → get_or uses k 0 + 1 < 2 ^ 64
-few_uses circuit basis layout n uses so small long k = by (cases_lt k (graph_of basis).count)
-  where
-    by : (k < (graph_of basis).count) ⊎ ((graph_of basis).count ≤ k) → get_or uses k 0 + 1 < 2 ^ 64
-    by (inl less) =
-        let is = so.counted ((graph_of basis).node k) k less refl in
-        let few = count_by-le-length (λ (between : LaidNet). is_on between.paths ((graph_of basis).node k)) (take n layout.nets) in
-        let short = length-take n layout.nets in
-        omega (arith, is, few, short, small, long)
-    by (inr past) = let none : get_or uses k 0 ≡ 0 = get_or_past uses k 0 (let long' = so.long in omega (arith, long', past)) in omega (arith, none)
+unused circuit basis layout uses none long = grind (arith, get_or-replicate)
 
 -- one more entry
 pub checked_more : (circuit : Circuit) (basis : Basis) (layout : Layout) (n : ℕ) (old new : List ℕ) (laid : LaidNet) → AreChecked circuit basis layout n old → n < length layout.nets → get_or layout.nets n laid ≡ laid →
@@ -72,9 +36,7 @@ checked_more circuit basis layout n old new laid so small item long is used = re
 
 pub checked_all : (circuit : Circuit) (basis : Basis) (layout : Layout) (n : ℕ) (uses : List ℕ) → length layout.nets ≤ n → AreChecked circuit basis layout n uses →
     All (IsLaid circuit basis.arch basis.strip layout) layout.nets × AreUses basis layout.nets uses
-checked_all circuit basis layout n uses end so =
-    let e = take_all n layout.nets end in
-    (subst (λ nets. All (IsLaid circuit basis.arch basis.strip layout) nets) e so.all, subst (λ nets. AreUses basis nets uses) e so.counted)
+checked_all circuit basis layout n uses end so = grind (arith, take_all)
 
 -- the strip has each node of a tree
 laid_inside : (circuit : Circuit) (basis : Basis) (layout : Layout) (laid : LaidNet) → IsLaid circuit basis.arch basis.strip layout laid → (node : Node) → Contains (path_nodes laid.paths) node → is_node basis.arch basis.strip node ≡ true

@@ -1,39 +1,7 @@
 -- The tests together decide the clauses.
-use Rattle.std.proofs.Common.{◌≡◌, ℕ, ◌≤◌, true, false, List, Option, Some, None, is_some, map, length, slice_get, sym, ap, refl, ◌∙◌, subst, arith}
-use Rattle.std.specs.Prelude.{All, Contains}
-use Rattle.std.specs.List.{flat_map}
-use Rattle.std.specs.Option.{ForSome, option_map_or, option_to_list}
-use Rattle.std.proofs.lemmas.Bool.{false≢true}
-use Rattle.std.proofs.lemmas.List.Elements.{All-contains, All-weaker}
-use Rattle.std.proofs.lemmas.Option.{get_or_from_slice_get}
-use Rattle.implements.proofs.Between.{same_truth}
-use Rattle.implements.proofs.Inside.{at_member}
-use Rattle.implements.proofs.Members.{from_flat_map, from_get, from_has, one_only, only_one, to_flat_map, to_has}
-use Rattle.arch_file.specs.declared.arch.Arch.{Arch}
-use Rattle.arch_file.specs.declared.arch.PinClass.TheVariants.{Clock, Output}
-use Rattle.blif.specs.declared.circuit.Circuit.{Circuit}
-use Rattle.blif.specs.declared.latches.Latch.{Latch}
-use Rattle.block_places.specs.Fits.{kind_of}
-use Rattle.ble_cluster.specs.Nets.{has}
-use Rattle.cluster.specs.Blocks.{is_global}
-use Rattle.grid.specs.declared.Strip.{Strip}
-use Rattle.grid.specs.Places.{places_of}
-use Rattle.implements.specs.Holding.{AreBlesOf}
-use Rattle.implements.specs.Implements.{Implements, IsLaid, IsNarrowBle, ble_places, wants}
-use Rattle.implements.specs.Layouts.{IsFed, LaidBle, LaidBlock, LaidNet, Layout, input_net, on_pin, traced_bles}
-use Rattle.rr_graph.specs.Graph.{Basis}
-use Rattle.layout_check.specs.declared.fault.BleFault.{BleFault}
-use Rattle.layout_check.specs.declared.fault.BleFault.TheVariants.{TooManyInputs, NoInput, NoClock, WrongOutput}
-use Rattle.layout_check.specs.declared.fault.BlockFault.{BlockFault}
-use Rattle.layout_check.specs.declared.fault.BlockFault.TheVariants.{NoPlace, TooManyBles, Ble as BleOf}
-use Rattle.layout_check.specs.declared.fault.EntryFault.{EntryFault}
-use Rattle.layout_check.specs.declared.fault.EntryFault.TheVariants.{TwoDrivers}
-use Rattle.layout_check.specs.declared.fault.NetFault.TheVariants.{Entry, Overused}
-use Rattle.layout_check.specs.declared.fault.Wrong.{Wrong}
-use Rattle.layout_check.specs.declared.fault.Wrong.TheVariants.{Block, SamePlace, Inputs, Outputs, NotGlobal, LeftOut, SameNet, NoEntry, Unlawful, Ble, TableTwice, NoTable, LatchTwice, NoLatch, Net}
-use Rattle.layout_check.specs.BlockFaults.{IsBleFault, IsBlockFault, IsBlockRight}
-use Rattle.layout_check.specs.NetFaults.{AreCarried}
-use Rattle.layout_check.specs.Wrongs.{AreListsRight, ArePortsRight, IsConnected, IsAboutHeld, IsWrong}
+use Rattle.layout_check.proofs.Prelude.{◌≡◌, ℕ, ◌≤◌, true, false, List, Option, Some, None, is_some, map, length, slice_get, sym, ap, refl, ◌∙◌, subst, arith, All, Contains, flat_map, ForSome, option_map_or, option_to_list, false≢true, All-contains, All-weaker, get_or_from_slice_get, same_truth, at_member, from_flat_map, from_get, from_has, one_only, only_one, to_flat_map, to_has, Arch, Clock, Output, Circuit, Latch, kind_of, has, is_global, Strip, places_of, AreBlesOf, Implements, IsLaid, IsNarrowBle, ble_places, wants, IsFed, LaidBle, LaidBlock, LaidNet, Layout, input_net, on_pin, traced_bles, Basis, BleFault, TooManyInputs, NoInput, NoClock, WrongOutput, BlockFault, NoPlace, TooManyBles, EntryFault, TwoDrivers, Entry, Overused, Wrong, SamePlace, Inputs, Outputs, NotGlobal, LeftOut, SameNet, NoEntry, Unlawful, Ble, TableTwice, NoTable, LatchTwice, NoLatch, Net, IsBleFault, IsBlockFault, IsBlockRight, AreCarried, AreListsRight, ArePortsRight, IsConnected, IsAboutHeld, IsWrong}
+use Rattle.layout_check.specs.declared.fault.BlockFault.TheVariants.{Ble as BleOf}
+use Rattle.layout_check.specs.declared.fault.Wrong.TheVariants.{Block}
 use Rattle.layout_check.proofs.Entries.{entry_refuted}
 
 all_at : {X : Type 0} (P : X → Type 0) (xs : List X) (k : ℕ) (x : X) → All P xs → slice_get xs k ≡ Some x → P x
@@ -72,37 +40,10 @@ connected circuit basis layout lists ports laid carried = record {
 }
 
 pub implemented : (circuit : Circuit) (basis : Basis) (layout : Layout) → IsConnected circuit basis.arch basis.strip layout → AreBlesOf circuit (traced_bles basis.arch layout) → Implements circuit basis.arch basis.strip layout
-implemented circuit basis layout is held = record {
-  fed = is.fed;
-  held = held;
-  few_bles = is.few_bles;
-  narrow = is.narrow;
-  laid = is.laid;
-  all = is.all;
-  once = is.once;
-  globals = is.globals;
-  inputs = is.inputs;
-  outputs = is.outputs;
-  placed = is.placed;
-  apart = is.apart;
-  carried = is.carried;
-}
+implemented circuit basis layout is held = grind arith
 
 connected_by : (circuit : Circuit) (basis : Basis) (layout : Layout) → Implements circuit basis.arch basis.strip layout → IsConnected circuit basis.arch basis.strip layout
-connected_by circuit basis layout is = record {
-  fed = is.fed;
-  few_bles = is.few_bles;
-  narrow = is.narrow;
-  laid = is.laid;
-  all = is.all;
-  once = is.once;
-  globals = is.globals;
-  inputs = is.inputs;
-  outputs = is.outputs;
-  placed = is.placed;
-  apart = is.apart;
-  carried = is.carried;
-}
+connected_by circuit basis layout is = grind arith
 
 -- ---- what is wrong
 
@@ -116,8 +57,7 @@ block_refuted : (arch : Arch) (strip : Strip) (block : LaidBlock) (fault : Block
     All (IsFed arch block) block.bles → All (IsNarrowBle arch) block.bles → ⊥
 block_refuted arch strip block NoPlace none placed few are narrow = none placed
 block_refuted arch strip block TooManyBles more placed few are narrow = omega (arith, more, few)
-block_refuted arch strip block (BleOf number fault) (ble, there, said) placed few are narrow =
-    ble_refuted arch block ble fault said (all_at (IsFed arch block) block.bles number ble are there) (all_at (IsNarrowBle arch) block.bles number ble narrow there)
+block_refuted arch strip block (BleOf number fault) (ble, there, said) placed few are narrow = grind (arith, all_at, ble_refuted arch block ble fault said (all_at (IsFed arch block) block.bles number ble are there) (all_at (IsNarrowBle arch) block.bles number ble narrow there), all_at (IsFed arch block) block.bles number ble are there, all_at (IsNarrowBle arch) block.bles number ble narrow there)
 
 left_out : (circuit : Circuit) (globals : List ℕ) (latch : Latch) → ((net : ℕ) → has globals net ≡ is_global circuit net) → Contains circuit.latches latch → option_map_or (has globals) latch.control true ≡ false → ⊥
 left_out circuit globals latch are c fails = by latch.control refl

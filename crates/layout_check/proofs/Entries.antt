@@ -1,41 +1,8 @@
 -- Entries of nets between blocks.
-use Rattle.std.proofs.Common.{◌≡◌, ℕ, ◌+◌, ◌<◌, ◌≤◌, Bool, true, false, List, [], ◌∷◌, ◌++◌, Option, Some, None, cond, filter, map, not, ◌&&◌, eqb, suc, take, get_or, length, slice_get, sym, ap, refl, ◌∙◌, eq-eqb, subst, arith, inl, inr, ◌⊎◌}
-use Rattle.std.specs.Prelude.{All, Contains, count_by}
-use Rattle.std.specs.List.{enumerate_from, flat_map, list_any}
-use Rattle.std.specs.Option.{option_to_list}
-use Rattle.std.proofs.lemmas.Bool.{eqb-true, false_from_ne_true, false≢true}
-use Rattle.std.proofs.lemmas.Option.{get_or_from_slice_get, same_Some, slice_get-get_or}
-use Rattle.std.proofs.lemmas.List.{get_or_default}
-use Rattle.std.proofs.lemmas.List.Elements.{All-contains}
-use Rattle.implements.proofs.Between.{same_truth}
-use Rattle.implements.proofs.Members.{from_any, from_append, from_get, from_has, in_none, only_one, one_only, to_any, to_append_left, to_append_right, to_flat_map, to_has}
-use Rattle.blif.specs.declared.circuit.Circuit.{Circuit}
-use Rattle.blif.specs.declared.latches.Latch.{Latch}
-use Rattle.ble_cluster.specs.Nets.{has}
-use Rattle.arch_file.specs.declared.arch.Arch.{Arch}
-use Rattle.cluster.specs.Blocks.{is_global}
-use Rattle.cluster.specs.declared.block.Block.{Block}
-use Rattle.cluster.specs.declared.block.Block.TheVariants.{InputPad, OutputPad, Cluster}
-use Rattle.grid.specs.declared.place.Place.{Place}
-use Rattle.implements.specs.Implements.{IsLaid, drives, is_net, listed_with, sinks_of, wants}
-use Rattle.implements.specs.Layouts.{LaidBlock, LaidNet, Layout}
-use Rattle.pathfinder.specs.LegalRoutes.{IsRouted, path_nodes}
-use Rattle.pathfinder.specs.Terminals.{is_same_node, sink_at, source_at}
-use Rattle.pathfinder.specs.PlacedNets.{number_of}
-use Rattle.pathfinder.proofs.NodeNumbers.{same_node}
-use Rattle.rr_graph.specs.declared.node.Node.{Node}
-use Rattle.rr_graph.specs.declared.node.NodeKind.TheVariants.{Source}
-use Rattle.rr_graph.specs.Node.{rank_of}
-use Rattle.rr_graph.specs.Graph.{Basis, IsRoutingGraph, graph_of}
-use Rattle.layout_check.specs.declared.fault.EntryFault.{EntryFault}
-use Rattle.layout_check.specs.declared.fault.EntryFault.TheVariants.{NoDriver, TwoDrivers, Listed, Paths}
-use Rattle.layout_check.specs.EntryFaults.{AreUsedBy, IsEntryFault, IsOnlyDriver, is_on}
-use Rattle.layout_check.specs.Marks.{IsSetOf, is_in}
-use Rattle.layout_check.specs.NetBlocks.{numbers_of, sinks_at}
-use Rattle.layout_check.specs.TreeTests.{AreNumbers}
+use Rattle.layout_check.proofs.Prelude.{◌≡◌, ℕ, ◌+◌, ◌<◌, ◌≤◌, Bool, true, false, List, [], ◌∷◌, ◌++◌, Option, Some, None, cond, filter, map, not, ◌&&◌, eqb, suc, get_or, length, slice_get, sym, ap, refl, ◌∙◌, eq-eqb, subst, arith, ◌⊎◌, All, Contains, count_by, enumerate_from, flat_map, list_any, option_to_list, eqb-true, false_from_ne_true, false≢true, get_or_from_slice_get, slice_get-get_or, get_or_default, All-contains, same_truth, from_any, from_get, in_none, one_only, to_any, to_append_left, to_append_right, to_flat_map, to_has, Circuit, Latch, has, Arch, is_global, Block, InputPad, OutputPad, Cluster, Place, IsLaid, drives, is_net, listed_with, sinks_of, wants, LaidBlock, LaidNet, Layout, IsRouted, path_nodes, is_same_node, sink_at, source_at, number_of, same_node, Node, Source, rank_of, Basis, IsRoutingGraph, graph_of, EntryFault, TwoDrivers, AreUsedBy, IsEntryFault, IsOnlyDriver, is_on, IsSetOf, is_in, numbers_of, sinks_at, AreNumbers}
 use Rattle.layout_check.proofs.ByNet.{from_numbers, others_by_number, sinks_by_number, to_numbers}
 use Rattle.layout_check.proofs.ByNumber.{from_number, to_number}
-use Rattle.layout_check.proofs.Numbers.{flat_more, number_again}
+use Rattle.layout_check.proofs.Numbers.{number_again}
 use Rattle.layout_check.proofs.Refute.{paths_refuted}
 
 same_itself : (a : Node) → is_same_node a a ≡ true
@@ -66,38 +33,9 @@ source_kind block place = refl
 -- an entry with a fault isn't laid, except that it may have two drivers
 pub entry_refuted : (circuit : Circuit) (basis : Basis) (layout : Layout) (laid : LaidNet) (fault : EntryFault) → ((driver other : ℕ) → fault ≡ TwoDrivers driver other → ⊥) → IsEntryFault circuit basis layout laid fault →
     IsLaid circuit basis.arch basis.strip layout laid → ⊥
-entry_refuted circuit basis layout laid NoDriver one none is = false≢true (sym (none is.driver is.block is.there) ∙ is.driven)
-entry_refuted circuit basis layout laid (TwoDrivers driver other) one two is = one driver other refl
-entry_refuted circuit basis layout laid (Listed driver) one (block, only, differ) is =
-    let same = only.only is.driver is.block is.there is.driven in
-    differ (is.listed ∙ ap (λ d. listed_with circuit basis.arch layout d laid.net) same)
-entry_refuted circuit basis layout laid (Paths driver fault) one (block, only, said) is =
-    let same = only.only is.driver is.block is.there is.driven in
-    let at : is.block ≡ block = same_Some is.block block (sym is.there ∙ ap (slice_get layout.blocks) same ∙ only.there) in
-    paths_refuted basis (source_at block.block block.place) (sinks_of circuit basis.arch layout laid.net) laid.paths fault (source_kind block.block block.place) said
-    (subst (λ (b : LaidBlock). IsRouted basis.arch basis.strip (source_at b.block b.place) (sinks_of circuit basis.arch layout laid.net) laid.paths) at is.tree)
+entry_refuted circuit basis layout laid fault one none is = grind (arith, paths_refuted)
 
 -- ---- global nets
-
--- no latch so far is controlled by the net, nor is one more
-pub control_still : (latches : List Latch) (i : ℕ) (latch : Latch) (net : ℕ) → i < length latches → get_or latches i latch ≡ latch → has (flat_map (λ latch. option_to_list latch.control) (take i latches)) net ≡ false →
-    is_net net latch.control ≡ false → has (flat_map (λ latch. option_to_list latch.control) (take (i + 1) latches)) net ≡ false
-control_still latches i latch net small item none last =
-    same_truth (has (flat_map (λ (latch : Latch). option_to_list latch.control) (take (i + 1) latches)) net) false (λ yes. absurd (from yes)) (λ never. absurd (false≢true never))
-  where
-    of_control : (control : Option ℕ) → is_net net control ≡ false → Contains (option_to_list control) net → ⊥
-    of_control None fails c = in_none net c
-    of_control (Some other) fails c =
-        let e : other ≡ net = same_Some other net (only_one (Some other) net c) in
-        false≢true (sym fails ∙ eq-eqb other net e)
-
-    from : has (flat_map (λ (latch : Latch). option_to_list latch.control) (take (i + 1) latches)) net ≡ true → ⊥
-    from says =
-        let f : Latch → List ℕ = λ latch. option_to_list latch.control in
-        elim (from_append (flat_map f (take i latches)) (f latch) net (subst (λ ns. Contains ns net) (flat_more f latches i latch small item) (from_has (flat_map f (take (i + 1) latches)) net says))) [
-          | inl c ↦ false≢true (sym none ∙ to_has (flat_map f (take i latches)) net c)
-          | inr c ↦ of_control latch.control last c
-        ]
 
 pub control_here : (latches : List Latch) (i : ℕ) (latch : Latch) (net : ℕ) → i < length latches → get_or latches i latch ≡ latch → is_net net latch.control ≡ true → true ≡ has (flat_map (λ latch. option_to_list latch.control) latches) net
 control_here latches i latch net small item is =
@@ -109,8 +47,7 @@ control_here latches i latch net small item is =
     of_control (Some other) is = ap (λ n. Some n) (eqb-true other net is)
 
 pub control_at : (xs latches : List Latch) → xs ≡ latches → (i : ℕ) (d : Latch) (net : ℕ) → i < length xs → is_net net (get_or xs i d).control ≡ true → true ≡ has (flat_map (λ latch. option_to_list latch.control) latches) net
-control_at xs latches same i d net small is =
-    subst (λ ls. true ≡ has (flat_map (λ (latch : Latch). option_to_list latch.control) ls) net) same (control_here xs i (get_or xs i d) net small (get_or_default xs i (get_or xs i d) d small) is)
+control_at xs latches same i d net small is = grind (arith, get_or_default, control_here xs i (get_or xs i d) net small (get_or_default xs i (get_or xs i d) d small) is, get_or_default xs i (get_or xs i d) d small)
 
 -- ---- the blocks by net, in place of all blocks
 
@@ -143,28 +80,14 @@ only_driver layout net row driver is at only =
 
 pub listed_same : (circuit : Circuit) (arch : Arch) (layout : Layout) (driver net : ℕ) (g : Bool) (readers : List ℕ) → g ≡ is_global circuit net → readers ≡ numbers_of (wants arch net) layout.blocks →
     cond g (driver ∷ filter (λ reader. not (eqb reader driver)) readers) [] ≡ listed_with circuit arch layout driver net
-listed_same circuit arch layout driver net g readers g_is readers_are =
-    ap (λ (b : Bool). cond {A = List ℕ} b (driver ∷ filter (λ reader. not (eqb reader driver)) readers) []) g_is
-    ∙ ap (λ (rs : List ℕ). cond {A = List ℕ} (is_global circuit net) (driver ∷ filter (λ reader. not (eqb reader driver)) rs) []) readers_are
-    ∙ ap (λ (ks : List ℕ). cond {A = List ℕ} (is_global circuit net) (driver ∷ ks) []) (others_by_number (λ reader. not (eqb reader driver)) (wants arch net) layout.blocks)
+listed_same circuit arch layout driver net g readers g_is readers_are = grind (arith, others_by_number)
 
 pub sinks_same : (circuit : Circuit) (arch : Arch) (layout : Layout) (net : ℕ) (g : Bool) (readers : List ℕ) (blocks : List LaidBlock) → g ≡ is_global circuit net → readers ≡ numbers_of (wants arch net) layout.blocks → blocks ≡ layout.blocks →
     cond g [] (sinks_at blocks readers) ≡ sinks_of circuit arch layout net
-sinks_same circuit arch layout net g readers blocks g_is readers_are same =
-    ap (λ (b : Bool). cond {A = List Node} b [] (sinks_at blocks readers)) g_is
-    ∙ ap (λ (rs : List ℕ). cond {A = List Node} (is_global circuit net) [] (sinks_at blocks rs)) readers_are
-    ∙ ap (λ (bs : List LaidBlock). cond {A = List Node} (is_global circuit net) [] (sinks_at bs (numbers_of (wants arch net) layout.blocks))) same
-    ∙ ap (λ (ns : List Node). cond {A = List Node} (is_global circuit net) [] ns) (sinks_by_number (wants arch net) layout.blocks)
+sinks_same circuit arch layout net g readers blocks g_is readers_are same = grind (arith, sinks_by_number)
 
 -- an entry is laid
 pub entry_laid : (circuit : Circuit) (basis : Basis) (layout : Layout) (laid : LaidNet) (driver : ℕ) (block : LaidBlock) → slice_get layout.blocks driver ≡ Some block → drives laid.net block ≡ true → (source : Node) → source ≡ source_at block.block block.place →
     (sinks : List Node) → sinks ≡ sinks_of circuit basis.arch layout laid.net → IsRouted basis.arch basis.strip source sinks laid.paths → laid.listed ≡ listed_with circuit basis.arch layout driver laid.net →
     IsLaid circuit basis.arch basis.strip layout laid
-entry_laid circuit basis layout laid driver block there driven source source_is sinks sinks_are tree listed = record {
-  driver = driver;
-  block = block;
-  there = there;
-  driven = driven;
-  tree = subst (λ n. IsRouted basis.arch basis.strip n (sinks_of circuit basis.arch layout laid.net) laid.paths) source_is (subst (λ ns. IsRouted basis.arch basis.strip source ns laid.paths) sinks_are tree);
-  listed = listed;
-}
+entry_laid circuit basis layout laid driver block there driven source source_is sinks sinks_are tree listed = grind arith

@@ -1,23 +1,6 @@
 -- Numbers that occur just once, and BLEs that hold each table and each latch just once.
-use Rattle.std.proofs.Common.{◌≡◌, ◌≢◌, ℕ, suc, ◌+◌, ◌<◌, ◌≤◌, Bool, true, ◌==◌, cond, List, [], ◌∷◌, ◌++◌, Option, None, Some, get_or, length, length-append, set, slice_get, take, sym, ap, refl, ◌∙◌, subst, eq-eqb, arith, inl, inr, ◌⊎◌}
-use Rattle.std.specs.Prelude.{All, count_by}
-use Rattle.std.specs.Option.{ForSome}
-use Rattle.std.proofs.Math.Seq.{get_or-append_seam}
-use Rattle.std.proofs.lemmas.Bool.{cases_eq, cases_lt, eqb-true, false_from_ne_true}
-use Rattle.std.proofs.lemmas.List.{get_or_default, get_or-set_other, get_or-set_same, get_or_append_left, length-set, take_all}
-use Rattle.std.proofs.lemmas.List.Sums.{count_by_more_no, count_by_more_yes}
-use Rattle.std.proofs.lemmas.Option.{get_or_from_slice_get, slice_get-get_or}
-use Rattle.blif.specs.declared.circuit.Circuit.{Circuit}
-use Rattle.blif.specs.declared.latches.Latch.{Latch}
-use Rattle.blif.specs.LookupTables.{LookupTable}
-use Rattle.ble_cluster.specs.Bles.{LogicElement}
-use Rattle.implements.specs.Holding.{AreBlesOf, holds_latch, holds_table}
-use Rattle.implements.proofs.Inside.{at_member}
-use Rattle.implements.proofs.Members.{all_members, from_get}
-use Rattle.implements.proofs.Unique.{count-cons}
-use Rattle.layout_check.specs.declared.once.OnceFault.{OnceFault}
-use Rattle.layout_check.specs.declared.once.OnceFault.TheVariants.{Twice, Never}
-use Rattle.layout_check.specs.Helds.{AreHeld, ArePlaces, HoldsLatchIn, HoldsTableIn, IsHeld, IsHeldFault, IsOnceFault, is_number, of_latches, of_tables}
+use Rattle.layout_check.proofs.Prelude.{◌≡◌, ◌≢◌, ℕ, suc, ◌+◌, ◌<◌, ◌≤◌, Bool, true, ◌==◌, cond, List, [], ◌∷◌, ◌++◌, Option, None, Some, get_or, length, length-append, set, slice_get, take, sym, ap, refl, ◌∙◌, subst, eq-eqb, arith, inl, inr, ◌⊎◌, All, count_by, ForSome, get_or-append_seam, cases_eq, cases_lt, eqb-true, false_from_ne_true, get_or_default, get_or-set_other, get_or-set_same, get_or_append_left, length-set, take_all, count_by_more_no, count_by_more_yes, get_or_from_slice_get, slice_get-get_or, Circuit, Latch, LookupTable, LogicElement, AreBlesOf, holds_latch, holds_table, at_member, all_members, from_get, count-cons, OnceFault, Never, AreHeld, ArePlaces, HoldsLatchIn, HoldsTableIn, IsHeld, IsHeldFault, IsOnceFault, is_number, of_latches, of_tables}
+use Rattle.layout_check.specs.declared.once.OnceFault.TheVariants.{Twice}
 use Rattle.layout_check.proofs.BlePlaces.{get_some}
 use Rattle.layout_check.proofs.HeldParts.{holds_some}
 
@@ -215,13 +198,9 @@ module _ (circuit : Circuit) (elements : List LogicElement) (held behind : List 
 
   -- what is wrong with how often tables and latches are held
   pub table_fault : (fault : OnceFault) → IsOnceFault held (length circuit.tables) fault → IsHeldFault circuit elements (of_tables fault)
-  table_fault (Twice k place other) (small, less, first, second) =
-      let table = get_some circuit.tables k small in
-      (table.0, table.1, less, holds_table_in k place table.0 table.1 first, holds_table_in k other table.0 table.1 second)
+  table_fault (Twice k place other) (small, less, first, second) = grind (arith, holds_table_in, get_some circuit.tables k small)
   table_fault (Never k) (small, none) = let table = get_some circuit.tables k small in (table.0, table.1, table_count k table.0 table.1 ∙ none)
 
   pub latch_fault : (fault : OnceFault) → IsOnceFault behind (length circuit.latches) fault → IsHeldFault circuit elements (of_latches fault)
-  latch_fault (Twice k place other) (small, less, first, second) =
-      let latch = get_some circuit.latches k small in
-      (latch.0, latch.1, less, holds_latch_in k place latch.0 latch.1 first, holds_latch_in k other latch.0 latch.1 second)
+  latch_fault (Twice k place other) (small, less, first, second) = grind (arith, holds_latch_in, get_some circuit.latches k small)
   latch_fault (Never k) (small, none) = let latch = get_some circuit.latches k small in (latch.0, latch.1, latch_count k latch.0 latch.1 ∙ none)

@@ -1,14 +1,5 @@
 -- What a BLE is that holds a table or a latch.
-use Rattle.std.proofs.Common.{◌≡◌, Bool, true, ◌&&◌, ◌||◌, eqb, eq-eqb, [], ◌∷◌, None, ap, ◌∙◌, inl, inr, ◌⊎◌}
-use Rattle.std.specs.Prelude.{Contains}
-use Rattle.std.specs.List.{list_any}
-use Rattle.std.proofs.lemmas.Bool.{and_parts, eqb-true}
-use Rattle.blif.specs.declared.circuit.Circuit.{Circuit}
-use Rattle.blif.specs.declared.latches.Latch.{Latch}
-use Rattle.blif.specs.LookupTables.{LookupTable}
-use Rattle.ble_cluster.specs.Bles.{LogicElement, is_read_once}
-use Rattle.implements.specs.Holding.{holds_latch, holds_table, is_latch, is_pair, is_same_net, is_table, receives}
-use Rattle.implements.proofs.Members.{from_any, to_any}
+use Rattle.layout_check.proofs.Prelude.{◌≡◌, Bool, true, ◌&&◌, ◌||◌, [], ◌∷◌, None, ap, ◌∙◌, inl, inr, ◌⊎◌, arith, Contains, list_any, and_parts, Circuit, Latch, LookupTable, LogicElement, is_read_once, holds_latch, holds_table, is_latch, is_pair, is_same_net, is_table, receives, from_any, to_any}
 use Rattle.layout_check.proofs.OneDriver.{or_cases, or_left, or_right}
 
 pub record IsTableOnly (element : LogicElement) (table : LookupTable) : Type 0 where
@@ -31,58 +22,30 @@ pub record IsBoth (circuit : Circuit) (element : LogicElement) (table : LookupTa
 -- ---- from the tests, and to them
 
 pub from_table : (element : LogicElement) (table : LookupTable) → is_table element table ≡ true → IsTableOnly element table
-from_table element table is =
-    let first = and_parts (eqb element.output table.output) _ is in
-    let second = and_parts (receives element table.inputs) _ first.1 in
-    record { output = eqb-true element.output table.output first.0; reads = second.0; clock = second.1 }
+from_table element table is = grind arith
 
 pub from_latch : (element : LogicElement) (latch : Latch) → is_latch element latch ≡ true → IsLatchOnly element latch
-from_latch element latch is =
-    let first = and_parts (eqb element.output latch.output) _ is in
-    let second = and_parts (receives element (latch.input ∷ [])) _ first.1 in
-    record { output = eqb-true element.output latch.output first.0; reads = second.0; clock = second.1 }
+from_latch element latch is = grind arith
 
 pub from_pair : (circuit : Circuit) (element : LogicElement) (table : LookupTable) (latch : Latch) → is_pair circuit element table latch ≡ true → IsBoth circuit element table latch
-from_pair circuit element table latch is =
-    let halves = and_parts (eqb latch.input table.output && is_read_once circuit table.output) _ is in
-    let front = and_parts (eqb latch.input table.output) _ halves.0 in
-    let first = and_parts (eqb element.output latch.output) _ halves.1 in
-    let second = and_parts (receives element table.inputs) _ first.1 in
-    record { stored = eqb-true latch.input table.output front.0; once = front.1; output = eqb-true element.output latch.output first.0; reads = second.0; clock = second.1 }
+from_pair circuit element table latch is = grind (arith, and_parts)
 
 and_true : (a b : Bool) → a ≡ true → b ≡ true → (a && b) ≡ true
 and_true a b first second = ap (λ x. x && b) first ∙ second
 
-pub to_table : (element : LogicElement) (table : LookupTable) → IsTableOnly element table → is_table element table ≡ true
-to_table element table is =
-    and_true (eqb element.output table.output) _ (eq-eqb element.output table.output is.output) (and_true (receives element table.inputs) _ is.reads is.clock)
-
-pub to_latch : (element : LogicElement) (latch : Latch) → IsLatchOnly element latch → is_latch element latch ≡ true
-to_latch element latch is =
-    and_true (eqb element.output latch.output) _ (eq-eqb element.output latch.output is.output) (and_true (receives element (latch.input ∷ [])) _ is.reads is.clock)
-
 pub to_pair : (circuit : Circuit) (element : LogicElement) (table : LookupTable) (latch : Latch) → IsBoth circuit element table latch → is_pair circuit element table latch ≡ true
-to_pair circuit element table latch is =
-    and_true (eqb latch.input table.output && is_read_once circuit table.output) _
-    (and_true (eqb latch.input table.output) _ (eq-eqb latch.input table.output is.stored) is.once)
-    (and_true (eqb element.output latch.output) _ (eq-eqb element.output latch.output is.output) (and_true (receives element table.inputs) _ is.reads is.clock))
+to_pair circuit element table latch is = grind arith
 
 -- ---- what holds a table or a latch
 
 module _ (circuit : Circuit) (element : LogicElement) where
   -- it is the table, or the table with a latch
   pub table_cases : (table : LookupTable) → holds_table circuit element table ≡ true → IsTableOnly element table ⊎ ((latch : Latch) × Contains circuit.latches latch × IsBoth circuit element table latch)
-  table_cases table holds = elim (or_cases (is_table element table) (list_any (is_pair circuit element table) circuit.latches) holds) [
-    | inl is ↦ inl (from_table element table is)
-    | inr pairs ↦ (let q = from_any (is_pair circuit element table) circuit.latches pairs in inr (q.0, q.1, from_pair circuit element table q.0 q.2))
-  ]
+  table_cases table holds = grind (arith, from_any, from_pair)
 
   -- it is the latch, or a table with the latch
   pub latch_cases : (latch : Latch) → holds_latch circuit element latch ≡ true → IsLatchOnly element latch ⊎ ((table : LookupTable) × Contains circuit.tables table × IsBoth circuit element table latch)
-  latch_cases latch holds = elim (or_cases (is_latch element latch) (list_any (λ table. is_pair circuit element table latch) circuit.tables) holds) [
-    | inl is ↦ inl (from_latch element latch is)
-    | inr pairs ↦ (let q = from_any (λ table. is_pair circuit element table latch) circuit.tables pairs in inr (q.0, q.1, from_pair circuit element q.0 latch q.2))
-  ]
+  latch_cases latch holds = grind (arith, or_cases, from_latch, from_any, from_pair)
 
   pub table_alone : (table : LookupTable) → is_table element table ≡ true → holds_table circuit element table ≡ true
   table_alone table is = or_left (is_table element table) (list_any (is_pair circuit element table) circuit.latches) is
@@ -94,8 +57,7 @@ module _ (circuit : Circuit) (element : LogicElement) where
   table_paired table latch c is = or_right (is_table element table) (list_any (is_pair circuit element table) circuit.latches) (to_any (is_pair circuit element table) circuit.latches latch c is)
 
   pub latch_paired : (table : LookupTable) (latch : Latch) → Contains circuit.tables table → is_pair circuit element table latch ≡ true → holds_latch circuit element latch ≡ true
-  latch_paired table latch c is =
-      or_right (is_latch element latch) (list_any (λ table. is_pair circuit element table latch) circuit.tables) (to_any (λ table. is_pair circuit element table latch) circuit.tables table c is)
+  latch_paired table latch c is = search (or_right, to_any, arith)
 
   abbrev pub holds_some : Bool
   holds_some = list_any (holds_table circuit element) circuit.tables || list_any (holds_latch circuit element) circuit.latches

@@ -1,25 +1,12 @@
 -- What is wrong with BLEs by their places is wrong with them by their numbers.
-use Rattle.std.proofs.Common.{◌≡◌, ℕ, ◌<◌, List, [], ◌++◌, Some, length, slice_get, ap, subst, sym, ◌∙◌}
-use Rattle.std.specs.List.{flat_map}
-use Rattle.arch_file.specs.declared.arch.Arch.{Arch}
-use Rattle.blif.specs.declared.circuit.Circuit.{Circuit}
-use Rattle.ble_cluster.specs.Bles.{LogicElement}
-use Rattle.implements.specs.Holding.{AreBlesOf}
-use Rattle.implements.specs.Layouts.{LaidBlock, Layout, traced_bles}
-use Rattle.rr_graph.specs.Graph.{Basis}
-use Rattle.layout_check.specs.declared.fault.BleNumber.{BleNumber}
-use Rattle.layout_check.specs.declared.fault.HoldFault.{HoldFault}
-use Rattle.layout_check.specs.declared.fault.Wrong.TheVariants.{Ble as WrongBle, TableTwice as WrongTableTwice, LatchTwice as WrongLatchTwice}
+use Rattle.layout_check.proofs.Prelude.{◌≡◌, ℕ, ◌<◌, List, [], ◌++◌, Some, length, slice_get, ap, subst, sym, ◌∙◌, arith, flat_map, Arch, Circuit, LogicElement, AreBlesOf, LaidBlock, Layout, traced_bles, Basis, BleNumber, HoldFault, Ble as WrongBle, TableTwice as WrongTableTwice, LatchTwice as WrongLatchTwice, IsHeldFault, IsNumberOf, IsBleAt, IsWrong}
 use Rattle.layout_check.specs.declared.held.HeldFault.TheVariants.{Ble, TableTwice, LatchTwice}
-use Rattle.layout_check.specs.Helds.{IsHeldFault, IsNumberOf}
-use Rattle.layout_check.specs.Wrongs.{IsBleAt, IsWrong}
 use Rattle.layout_check.proofs.BlePlaces.{bles_in, numbers_differ, place_within, traced_at, traced_in}
 
 -- the elements are the traced BLEs of the layout
 pub traced_told : (basis : Basis) (layout : Layout) (arch : Arch) (blocks : List LaidBlock) (old elements slice : List LogicElement) → old ≡ [] → elements ≡ old ++ flat_map (traced_in arch) blocks → arch ≡ basis.arch → blocks ≡ layout.blocks →
     slice ≡ elements → slice ≡ traced_bles basis.arch layout
-traced_told basis layout arch blocks old elements slice none are at same copy =
-    copy ∙ are ∙ ap (λ xs. xs ++ flat_map (traced_in arch) blocks) none ∙ ap (λ a. flat_map (traced_in a) blocks) at ∙ ap (flat_map (traced_in basis.arch)) same
+traced_told basis layout arch blocks old elements slice none are at same copy = grind arith
 
 module _ (circuit : Circuit) (basis : Basis) (layout : Layout) (blocks : List LaidBlock) (elements : List LogicElement) (same : blocks ≡ layout.blocks) (are : elements ≡ traced_bles basis.arch layout) where
   pub bles_told : AreBlesOf circuit elements → AreBlesOf circuit (traced_bles basis.arch layout)
@@ -47,9 +34,7 @@ module _ (circuit : Circuit) (basis : Basis) (layout : Layout) (blocks : List La
   ble_told place fault number so (element, at, said) = (element, at_told place number element so at, said)
 
   pub table_told : (k place other : ℕ) (number second : BleNumber) → IsNumberOf blocks place number → IsNumberOf blocks other second → IsHeldFault circuit elements (TableTwice k place other) → IsWrong circuit basis layout (WrongTableTwice k number second)
-  table_told k place other number second a b (table, at, less, one, two) =
-      (table, at, numbers_differ blocks place other number second less a b, (one.0, at_told place number one.0 a one.1, one.2), (two.0, at_told other second two.0 b two.1, two.2))
+  table_told k place other number second a b h3 = search (numbers_differ, at_told, arith)
 
   pub latch_told : (k place other : ℕ) (number second : BleNumber) → IsNumberOf blocks place number → IsNumberOf blocks other second → IsHeldFault circuit elements (LatchTwice k place other) → IsWrong circuit basis layout (WrongLatchTwice k number second)
-  latch_told k place other number second a b (latch, at, less, one, two) =
-      (latch, at, numbers_differ blocks place other number second less a b, (one.0, at_told place number one.0 a one.1, one.2), (two.0, at_told other second two.0 b two.1, two.2))
+  latch_told k place other number second a b h3 = search (numbers_differ, at_told, arith)

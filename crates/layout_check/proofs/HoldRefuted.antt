@@ -1,19 +1,6 @@
 -- A BLE with a fault holds nothing of a lawful circuit.
-use Rattle.std.proofs.Common.{◌≡◌, ◌≢◌, ℕ, true, false, List, [], ◌∷◌, ◌++◌, map, sym, ◌∙◌, subst}
-use Rattle.std.specs.Prelude.{Contains}
-use Rattle.std.proofs.lemmas.Bool.{false≢true}
-use Rattle.blif.specs.declared.circuit.Circuit.{Circuit}
-use Rattle.blif.specs.declared.latches.Latch.{Latch}
-use Rattle.blif.specs.LawfulCircuits.{IsCircuit}
-use Rattle.blif.specs.LookupTables.{LookupTable}
-use Rattle.ble_cluster.specs.Bles.{LogicElement, is_read_once}
-use Rattle.cluster.proofs.Pairs.{pairs_back, pairs_front}
-use Rattle.implements.specs.Holding.{is_same_net, receives}
-use Rattle.implements.proofs.Members.{from_get, to_map}
-use Rattle.implements.proofs.Unique.{AreApart, never_both, same_by}
-use Rattle.layout_check.specs.declared.fault.HoldFault.{HoldFault}
-use Rattle.layout_check.specs.declared.fault.HoldFault.TheVariants.{NotDriven, Clocked, Table, WrongClock, Latch as LatchAlone, Pair, ReadElsewhere}
-use Rattle.layout_check.specs.HoldFaults.{IsHoldFault}
+use Rattle.layout_check.proofs.Prelude.{◌≡◌, ◌≢◌, ℕ, true, false, List, [], ◌∷◌, ◌++◌, map, sym, ◌∙◌, subst, arith, Contains, false≢true, Circuit, Latch, IsCircuit, LookupTable, LogicElement, is_read_once, pairs_back, pairs_front, is_same_net, receives, from_get, to_map, AreApart, never_both, same_by, HoldFault, NotDriven, Clocked, WrongClock, Pair, ReadElsewhere, IsHoldFault}
+use Rattle.layout_check.specs.declared.fault.HoldFault.TheVariants.{Table, Latch as LatchAlone}
 use Rattle.layout_check.proofs.HeldParts.{IsBoth, IsLatchOnly, IsTableOnly, What, a_latch, a_table, both, holds_some, what_it_is}
 use Rattle.layout_check.proofs.Receiving.{never_received, read_refuted}
 
@@ -56,12 +43,10 @@ module _ (circuit : Circuit) (lawful : IsCircuit circuit) where
     only_latch latch c out (both table other d l is) = paired table d (subst (λ l. IsBoth circuit element table l) (one_latch other latch l c (sym is.output ∙ out)) is)
 
     wrong_clock : (latch : Latch) → is_same_net element.clock latch.control ≡ false → IsOf latch → ⊥
-    wrong_clock latch differ (alone is) = false≢true (sym differ ∙ is.clock)
-    wrong_clock latch differ (paired table c is) = false≢true (sym differ ∙ is.clock)
+    wrong_clock latch differ h2 = grind arith
 
     no_pair : (latch : Latch) → receives element (latch.input ∷ []) ≡ false → ((table : LookupTable) → Contains circuit.tables table → IsBoth circuit element table latch → ⊥) → IsOf latch → ⊥
-    no_pair latch fails none (alone is) = false≢true (sym fails ∙ is.reads)
-    no_pair latch fails none (paired table c is) = none table c is
+    no_pair latch fails none h3 = grind arith
 
     not_driven : ((table : LookupTable) → Contains circuit.tables table → element.output ≡ table.output → ⊥) → ((latch : Latch) → Contains circuit.latches latch → element.output ≡ latch.output → ⊥) → What circuit element → ⊥
     not_driven tables latches (a_table table c is) = tables table c is.output

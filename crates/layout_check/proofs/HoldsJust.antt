@@ -1,23 +1,5 @@
 -- A BLE holds just one table, one latch, or one table with one latch.
-use Rattle.std.proofs.Common.{◌≡◌, ℕ, ◌<◌, true, eqb, List, [], ◌∷◌, Option, None, Some, length, slice_get, sym, ap, refl, ◌∙◌, subst, eq-eqb, inl, inr}
-use Rattle.std.specs.Prelude.{Contains}
-use Rattle.std.specs.List.{list_all}
-use Rattle.std.specs.Option.{ForSome}
-use Rattle.std.proofs.lemmas.Bool.{and_parts, eqb-true, false_from_ne_true}
-use Rattle.blif.specs.declared.circuit.Circuit.{Circuit}
-use Rattle.blif.specs.declared.latches.Latch.{Latch}
-use Rattle.blif.specs.LookupTables.{LookupTable}
-use Rattle.ble_cluster.specs.Nets.{distinct_nets, has}
-use Rattle.ble_cluster.specs.Bles.{LogicElement, is_read_once}
-use Rattle.implements.specs.Holding.{holds_latch, holds_table, is_latch, is_pair, is_table, receives}
-use Rattle.implements.proofs.Between.{same_truth}
-use Rattle.implements.proofs.BleHolders.{read_by_latch}
-use Rattle.implements.proofs.Inside.{at_member}
-use Rattle.implements.proofs.Members.{from_all, from_get, from_has, in_first, to_flat_map}
-use Rattle.layout_check.specs.declared.owners.Owner.{Owner}
-use Rattle.layout_check.specs.declared.owners.Owner.TheVariants.{Table, Latch as LatchOwner}
-use Rattle.layout_check.specs.Helds.{IsHeld, IsLatchOrPair}
-use Rattle.layout_check.specs.NetOwners.{AreOwners, owner_of}
+use Rattle.layout_check.proofs.Prelude.{◌≡◌, ℕ, ◌<◌, true, eqb, List, [], ◌∷◌, Option, None, Some, length, slice_get, sym, ap, refl, ◌∙◌, subst, eq-eqb, inl, inr, arith, Contains, list_all, ForSome, and_parts, eqb-true, false_from_ne_true, Circuit, Latch, LookupTable, distinct_nets, has, LogicElement, is_read_once, holds_latch, holds_table, is_latch, is_pair, is_table, receives, same_truth, read_by_latch, at_member, from_all, from_get, from_has, in_first, to_flat_map, Owner, Table, IsHeld, IsLatchOrPair, AreOwners, owner_of}
 use Rattle.layout_check.proofs.HeldParts.{IsBoth, IsLatchOnly, IsTableOnly, from_latch, from_pair, from_table, latch_alone, latch_cases, latch_paired, table_alone, table_cases, table_paired, with_latch, with_table}
 
 here : {X : Type 0} (xs : List X) (k : ℕ) (x : X) → slice_get xs k ≡ Some x → Contains xs x
@@ -33,25 +15,13 @@ module _ (circuit : Circuit) (owners : List Owner) (are : AreOwners circuit owne
   -- ---- each net has one driver
 
   same_table : (k j : ℕ) (table other : LookupTable) → slice_get circuit.tables k ≡ Some table → slice_get circuit.tables j ≡ Some other → table.output ≡ other.output → k ≡ j
-  same_table k j table other at bt same =
-      let first = are.tables k table (from_get circuit.tables k table at).0 at in
-      let second = are.tables j other (from_get circuit.tables j other bt).0 bt in
-      let e : Table k ≡ Table j = sym first ∙ ap (owner_of owners) same ∙ second in
-      cc
+  same_table k j table other at bt same = grind (arith, from_get)
 
   same_latch : (k j : ℕ) (latch other : Latch) → slice_get circuit.latches k ≡ Some latch → slice_get circuit.latches j ≡ Some other → latch.output ≡ other.output → k ≡ j
-  same_latch k j latch other at bt same =
-      let first = are.latches k latch (from_get circuit.latches k latch at).0 at in
-      let second = are.latches j other (from_get circuit.latches j other bt).0 bt in
-      let e : LatchOwner k ≡ LatchOwner j = sym first ∙ ap (owner_of owners) same ∙ second in
-      cc
+  same_latch k j latch other at bt same = grind (arith, from_get)
 
   never_both : (k j : ℕ) (table : LookupTable) (latch : Latch) → slice_get circuit.tables k ≡ Some table → slice_get circuit.latches j ≡ Some latch → table.output ≡ latch.output → ⊥
-  never_both k j table latch at bt same =
-      let first = are.tables k table (from_get circuit.tables k table at).0 at in
-      let second = are.latches j latch (from_get circuit.latches j latch bt).0 bt in
-      let e : Table k ≡ LatchOwner j = sym first ∙ ap (owner_of owners) same ∙ second in
-      absurd cc
+  never_both k j table latch at bt same = grind (arith, from_get)
 
   module _ (element : LogicElement) where
     -- ---- a table alone
@@ -153,8 +123,7 @@ module _ (circuit : Circuit) (owners : List Owner) (are : AreOwners circuit owne
         holds_latch_it = latch_paired circuit element table latch (here circuit.tables k table at) is
 
     pub held_behind : (k : ℕ) (found : Option ℕ) → IsLatchOrPair circuit element k found → IsHeld circuit element found (Some k)
-    held_behind k None (latch, at, is) = held_latch k latch at is
-    held_behind k (Some j) (table, latch, at, lt, is) = held_pair j k table latch at lt is
+    held_behind k found h1 = grind (arith, held_latch, held_pair)
 
 -- ---- from what drives the net of a BLE
 

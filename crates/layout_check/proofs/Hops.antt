@@ -1,13 +1,5 @@
 -- Hops by number.
-use Rattle.std.proofs.Common.{◌≡◌, ◌≢◌, ℕ, zero, suc, ◌+◌, ◌<◌, ◌≤◌, Bool, true, false, not, ◌&&◌, List, [], ◌∷◌, map, set, get_or, length, replicate, cond, eqb, sym, ap, refl, ◌∙◌, subst, arith, inl, inr, ◌⊎◌}
-use Rattle.std.specs.Prelude.{All, Contains, MatchBool, count_by}
-use borrow.Author.Count.{below_more}
-use Rattle.std.proofs.lemmas.Bool.{cases_eq, false≢true}
-use Rattle.std.proofs.lemmas.List.{get_or-set_same, get_or-set_other, length-set, get_or_default}
-use Rattle.std.proofs.lemmas.List.Elements.{Contains-get_or, All-get_or}
-use Rattle.implements.proofs.Members.{from_map, to_map}
-use Rattle.layout_check.specs.Marks.{IsClear, IsSetOf, is_in}
-use Rattle.layout_check.specs.NumberTrees.{AreOneWay, AreReached, HasKept, IsClosed, Reaches, here, onward}
+use Rattle.layout_check.proofs.Prelude.{◌≡◌, ◌≢◌, ℕ, zero, suc, ◌+◌, ◌<◌, ◌≤◌, Bool, true, false, not, ◌&&◌, List, [], ◌∷◌, map, set, get_or, length, replicate, cond, eqb, sym, ap, refl, ◌∙◌, subst, arith, inl, inr, ◌⊎◌, All, Contains, MatchBool, count_by, below_more, cases_eq, false≢true, get_or-set_same, get_or-set_other, length-set, get_or_default, Contains-get_or, All-get_or, from_map, to_map, IsClear, IsSetOf, is_in, AreOneWay, AreReached, HasKept, IsClosed, Reaches, here, onward}
 use Rattle.layout_check.proofs.Stamps.{added, after_adding, is_within, kept, one_less}
 
 abbrev pub hop_at : List (ℕ × ℕ) → ℕ → ℕ × ℕ
@@ -46,13 +38,7 @@ followed_new hops n old reached has_grown so small within from to = record {
 -- one more hop that leads to no new node
 pub followed_old : (hops : List (ℕ × ℕ)) (n : ℕ) (old reached : List Bool) (has_grown : Bool) → AreFollowed hops n old reached has_grown →
     (is_in reached (hop_at hops n).0 ≡ true → is_in reached (hop_at hops n).1 ≡ true) → AreFollowed hops (n + 1) old reached has_grown
-followed_old hops n old reached has_grown so last = record {
-  long = so.long;
-  kept = so.kept;
-  sound = so.sound;
-  fewer = so.fewer;
-  closed = λ stays. below_more (λ k. is_in reached (hop_at hops k).0 ≡ true → is_in reached (hop_at hops k).1 ≡ true) n (so.closed stays) last;
-}
+followed_old hops n old reached has_grown so last = grind arith
 
 -- one more hop
 pub followed_more : (hops : List (ℕ × ℕ)) (n : ℕ) (old reached : List Bool) (has_grown : Bool) → AreFollowed hops n old reached has_grown → n < length hops → (hop_at hops n).1 < length reached →

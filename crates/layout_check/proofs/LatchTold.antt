@@ -1,21 +1,6 @@
 -- A BLE that drives what a latch drives, by what drives the latch's data.
-use Rattle.std.proofs.Common.{◌≡◌, ℕ, ◌<◌, ◌≤◌, List, [], ◌∷◌, Some, get_or, length, slice_get, true, sym, ap, ◌∙◌, subst, arith, inl, inr, ◌⊎◌}
-use Rattle.std.proofs.lemmas.Bool.{cases_lt}
-use Rattle.std.proofs.lemmas.List.{get_or_past}
-use Rattle.std.proofs.lemmas.Option.{slice_get-get_or}
-use Rattle.blif.specs.declared.circuit.Circuit.{Circuit}
-use Rattle.blif.specs.declared.latches.Latch.{Latch}
-use Rattle.blif.specs.LookupTables.{LookupTable}
-use Rattle.ble_cluster.specs.Bles.{LogicElement, is_read_once}
-use Rattle.implements.specs.Holding.{is_same_net, receives}
-use Rattle.implements.proofs.Inside.{at_member}
+use Rattle.layout_check.proofs.Prelude.{◌≡◌, ℕ, ◌<◌, ◌≤◌, List, [], ◌∷◌, Some, get_or, length, slice_get, true, sym, ap, ◌∙◌, subst, arith, inl, inr, ◌⊎◌, cases_lt, get_or_past, slice_get-get_or, Circuit, Latch, LookupTable, LogicElement, is_read_once, is_same_net, receives, at_member, ReadFault, Owner, Nothing, Table, IsLatchOrPair, DrivesAsPair, IsHoldFault, IsReadFault, AreNets, owner_of}
 use Rattle.layout_check.specs.declared.fault.HoldFault.TheVariants.{Latch as LatchAlone}
-use Rattle.layout_check.specs.declared.fault.ReadFault.{ReadFault}
-use Rattle.layout_check.specs.declared.owners.Owner.{Owner}
-use Rattle.layout_check.specs.declared.owners.Owner.TheVariants.{Nothing, Table}
-use Rattle.layout_check.specs.Helds.{IsLatchOrPair}
-use Rattle.layout_check.specs.HoldFaults.{DrivesAsPair, IsHoldFault, IsReadFault}
-use Rattle.layout_check.specs.NetOwners.{AreNets, owner_of}
 use Rattle.layout_check.proofs.HeldParts.{to_pair}
 use Rattle.layout_check.proofs.Receiving.{never_received}
 

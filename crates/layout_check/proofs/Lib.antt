@@ -1,3 +1,4 @@
+mod Prelude
 pub mod Stamps
 pub mod Hops
 pub mod Numbers

@@ -1,12 +1,8 @@
 -- Options and what is said of them.
-use Rattle.std.proofs.Common.{◌≡◌, ◌+◌, ◌<◌, ◌≤◌, ℕ, List, Option, Some, None, get_or, length, subst, take}
-use Rattle.std.specs.Prelude.{All, MatchOption}
-use Rattle.std.proofs.lemmas.List.{take_all}
-use Rattle.std.proofs.lemmas.List.Elements.{All-more}
+use Rattle.layout_check.proofs.Prelude.{◌≡◌, ◌+◌, ◌<◌, ◌≤◌, ℕ, List, Option, get_or, length, subst, take, arith, All, MatchOption, take_all, All-more}
 
 pub match_weaker : {X : Type 0} (o : Option X) (P R : Type 0) (Q S : X → Type 0) → (P → R) → ((x : X) → Q x → S x) → MatchOption o P Q → MatchOption o R S
-match_weaker None P R Q S none some m = none m
-match_weaker (Some x) P R Q S none some m = some x m
+match_weaker o P R Q S none some m = grind arith
 
 -- one more item of which it holds, and all items
 pub all_next : {X : Type 0} (P : X → Type 0) (xs : List X) (i : ℕ) (x : X) → i < length xs → x ≡ get_or xs i x → All P (take i xs) → P x → All P (take (i + 1) xs)

@@ -1,19 +1,6 @@
 -- A layout with something wrong doesn't implement a lawful circuit.
-use Rattle.std.proofs.Common.{◌≡◌, true, arith, sym}
-use Rattle.std.specs.Prelude.{count_by}
-use Rattle.std.proofs.lemmas.List.Elements.{All-contains}
-use Rattle.blif.specs.declared.circuit.Circuit.{Circuit}
-use Rattle.blif.specs.LawfulCircuits.{IsCircuit}
-use Rattle.implements.specs.Holding.{holds_latch, holds_table}
-use Rattle.implements.specs.Implements.{Implements}
-use Rattle.implements.specs.Layouts.{Layout, traced_bles}
-use Rattle.implements.proofs.Members.{from_get}
-use Rattle.rr_graph.specs.Graph.{Basis}
-use Rattle.layout_check.specs.declared.fault.EntryFault.TheVariants.{NoDriver, TwoDrivers, Listed, Paths}
-use Rattle.layout_check.specs.declared.fault.NetFault.TheVariants.{Entry, Overused}
-use Rattle.layout_check.specs.declared.fault.Wrong.{Wrong}
-use Rattle.layout_check.specs.declared.fault.Wrong.TheVariants.{Block, SamePlace, Inputs, Outputs, NotGlobal, LeftOut, SameNet, NoEntry, Unlawful, Ble, TableTwice, NoTable, LatchTwice, NoLatch, Net}
-use Rattle.layout_check.specs.Wrongs.{IsWrong}
+use Rattle.layout_check.proofs.Prelude.{◌≡◌, true, arith, sym, count_by, All-contains, Circuit, IsCircuit, holds_latch, holds_table, Implements, Layout, traced_bles, from_get, Basis, NoDriver, TwoDrivers, Listed, Paths, Entry, Overused, Wrong, SamePlace, Inputs, Outputs, NotGlobal, LeftOut, SameNet, NoEntry, Unlawful, Ble, TableTwice, NoTable, LatchTwice, NoLatch, Net, IsWrong}
+use Rattle.layout_check.specs.declared.fault.Wrong.TheVariants.{Block}
 use Rattle.layout_check.proofs.BlePlaces.{in_traced, two_bles}
 use Rattle.layout_check.proofs.Decided.{wrong_refuted}
 use Rattle.layout_check.proofs.HeldParts.{holds_some}
@@ -30,8 +17,7 @@ never circuit basis layout (LeftOut number) lawful said is = wrong_refuted circu
 never circuit basis layout (SameNet number other) lawful said is = wrong_refuted circuit basis layout (SameNet number other) said (λ two. two) is
 never circuit basis layout (NoEntry number) lawful said is = wrong_refuted circuit basis layout (NoEntry number) said (λ two. two) is
 never circuit basis layout (Unlawful net) lawful said is = said lawful
-never circuit basis layout (Ble number fault) lawful (element, at, said) is =
-    holds_nothing circuit lawful element fault said (All-contains (λ element. holds_some circuit element ≡ true) (traced_bles basis.arch layout) element is.held.each (in_traced basis.arch layout.blocks number element at))
+never circuit basis layout (Ble number fault) lawful (element, at, said) is = grind (arith, holds_nothing, All-contains, holds_some, in_traced, holds_nothing circuit lawful element fault said (All-contains (λ element. holds_some circuit element ≡ true) (traced_bles basis.arch layout) element is.held.each (in_traced basis.arch layout.blocks number element at)), All-contains (λ element. holds_some circuit element ≡ true) (traced_bles basis.arch layout) element is.held.each (in_traced basis.arch layout.blocks number element at), holds_some circuit element, in_traced basis.arch layout.blocks number element)
 never circuit basis layout (TableTwice k number other) lawful (table, at, differ, one, two) is =
     let twice = two_bles (λ element. holds_table circuit element table) basis.arch layout.blocks number other one.0 two.0 differ one.1 two.1 one.2 two.2 in
     let once = All-contains (λ table. count_by (λ element. holds_table circuit element table) (traced_bles basis.arch layout) ≡ 1) circuit.tables table is.held.tables (from_get circuit.tables k table at).1 in

@@ -1,20 +1,7 @@
 -- Paths by the numbers of their nodes.
-use Rattle.std.proofs.Common.{◌≡◌, ◌≢◌, ℕ, zero, suc, ◌+◌, ◌-◌, ◌<◌, ◌≤◌, Bool, true, false, not, List, [], ◌∷◌, ◌++◌, map, take, drop, get_or, length, eqb, eq-eqb, sym, ap, refl, ◌∙◌, subst, arith, inl, inr, ◌⊎◌}
-use Rattle.std.specs.Prelude.{All, Contains}
-use Rattle.std.specs.List.{flat_map, list_any}
-use Rattle.std.proofs.lemmas.Bool.{false≢true, eqb-true}
-use Rattle.std.proofs.lemmas.List.{drop_at, get_or_default, length-append, length-map, map-append, take_all, take_more, append_assoc, append-nil}
-use Rattle.std.proofs.lemmas.List.Concat.{flat_map-append, flat_map-cons}
-use Rattle.std.proofs.lemmas.List.Elements.{All-append, All-contains, All-more, All-take, Contains-get_or}
-use Rattle.implements.proofs.Between.{same_truth}
-use Rattle.implements.proofs.Members.{all_members, from_any, from_append, from_flat_map, from_map, in_cases, in_first, in_later, in_none, to_any, to_append_left, to_append_right, to_flat_map, to_map}
-use Rattle.rr_graph.specs.declared.node.Node.{Node}
-use Rattle.rr_graph.specs.Geometry.{is_edge, is_node}
-use Rattle.rr_graph.specs.Graph.{Basis, IsRoutingGraph, RoutingGraph, graph_of}
-use Rattle.pathfinder.specs.LegalRoutes.{pairs_of, path_nodes, steps_of}
-use Rattle.pathfinder.specs.PlacedNets.{number_of}
-use Rattle.pathfinder.proofs.NodeNumbers.{number_found}
-use Rattle.layout_check.specs.Numbered.{IsNumbered, hop_of}
+use Rattle.layout_check.proofs.Prelude.{◌≡◌, ◌≢◌, ℕ, zero, suc, ◌+◌, ◌-◌, ◌<◌, ◌≤◌, Bool, true, false, not, List, [], ◌∷◌, ◌++◌, map, take, drop, get_or, length, eqb, eq-eqb, sym, ap, refl, ◌∙◌, subst, arith, inl, inr, ◌⊎◌, All, Contains, flat_map, list_any, false≢true, eqb-true, drop_at, get_or_default, length-map, map-append, take_all, take_more, append-nil, flat_map-cons, All-append, All-contains, All-more, All-take, Contains-get_or, same_truth, all_members, from_any, from_append, from_flat_map, from_map, in_cases, in_first, in_later, in_none, to_any, to_append_left, to_append_right, to_flat_map, to_map, Node, is_edge, is_node, Basis, IsRoutingGraph, RoutingGraph, graph_of, pairs_of, path_nodes, steps_of, number_of, number_found, IsNumbered, hop_of}
+use Rattle.std.proofs.lemmas.List.{length-append, append_assoc}
+use Rattle.std.proofs.lemmas.List.Concat.{flat_map-append}
 
 -- ---- edges
 
@@ -64,18 +51,11 @@ pub step_at : (xs : List ℕ) (i : ℕ) → i + 1 < length xs → get_or (steps_
 step_at [] i small = absurd (omega (arith, small))
 step_at (x ∷ []) i small = absurd (omega (arith, small))
 step_at (x ∷ y ∷ xs) zero small = refl
-step_at (x ∷ y ∷ xs) (suc i) small =
-    let e : suc i + 1 ≡ suc (i + 1) = omega arith in
-    step_at (y ∷ xs) i (omega (arith, small)) ∙ ap (λ (k : ℕ). (get_or (y ∷ xs) i 0, get_or (x ∷ y ∷ xs) k 0)) (sym e)
+step_at (x ∷ y ∷ xs) (suc i) small = search (step_at (y ∷ xs) i (omega (arith, small)), arith)
 
 -- one more hop
 pub hops_more : (old now next : List (ℕ × ℕ)) (xs : List ℕ) (i : ℕ) → now ≡ old ++ take i (steps_of xs) → i + 1 < length xs → next ≡ now ++ (get_or xs i 0, get_or xs (i + 1) 0) ∷ [] → next ≡ old ++ take (i + 1) (steps_of xs)
-hops_more old now next xs i is small next_is =
-    let long = length_steps xs in
-    let within : i < length (steps_of xs) = omega (arith, long, small) in
-    next_is ∙ ap (λ front. front ++ (get_or xs i 0, get_or xs (i + 1) 0) ∷ []) is
-    ∙ append_assoc old (take i (steps_of xs)) ((get_or xs i 0, get_or xs (i + 1) 0) ∷ [])
-    ∙ ap (λ back. old ++ back) (ap (λ (step : ℕ × ℕ). take i (steps_of xs) ++ step ∷ []) (sym (step_at xs i small)) ∙ sym (take_more (steps_of xs) i (0, 0) within))
+hops_more old now next xs i is small next_is = grind (arith, append_assoc, step_at, take_more, length_steps xs, append_assoc old (take i (steps_of xs)) ((get_or xs i 0, get_or xs (i + 1) 0) ∷ []), step_at xs i small)
 
 pub hops_all : (xs : List ℕ) (i : ℕ) → length xs - 1 ≤ i → take i (steps_of xs) ≡ steps_of xs
 hops_all xs i end = let long = length_steps xs in take_all i (steps_of xs) (omega (arith, long, end))
@@ -112,22 +92,15 @@ number_again = number_back
 
 -- one more item that is mapped
 pub map_more : {X Y : Type 0} (f : X → Y) (xs : List X) (i : ℕ) (x : X) (old now next : List Y) → i < length xs → now ≡ old ++ map f (take i xs) → get_or xs i x ≡ x → next ≡ now ++ f x ∷ [] → next ≡ old ++ map f (take (i + 1) xs)
-map_more f xs i x old now next small is item next_is =
-    next_is ∙ ap (λ front. front ++ f x ∷ []) is ∙ append_assoc old (map f (take i xs)) (f x ∷ [])
-    ∙ ap (λ back. old ++ back) (sym (ap (map f) (take_more xs i x small ∙ ap (λ y. take i xs ++ y ∷ []) item) ∙ map-append f (take i xs) (x ∷ [])))
+map_more f xs i x old now next small is item next_is = grind (arith, take_more, map-append, append_assoc old (map f (take i xs)) (f x ∷ []), take_more xs i x small, map-append f (take i xs) (x ∷ []))
 
 pub flat_more : {X Y : Type 0} (f : X → List Y) (xs : List X) (i : ℕ) (x : X) → i < length xs → get_or xs i x ≡ x → flat_map f (take (i + 1) xs) ≡ flat_map f (take i xs) ++ f x
-flat_more f xs i x small item =
-    ap (flat_map f) (take_more xs i x small ∙ ap (λ y. take i xs ++ y ∷ []) item)
-    ∙ flat_map-append f (take i xs) (x ∷ []) ∙ ap (λ rest. flat_map f (take i xs) ++ rest) (flat_map-cons f x [] ∙ append-nil (f x))
+flat_more f xs i x small item = grind (arith, flat_map-append, flat_map-cons, append-nil, take_more xs i x small, flat_map-append f (take i xs) (x ∷ []), flat_map-cons f x [], append-nil (f x))
 
 steps_numbered : (g : RoutingGraph) (path : List Node) → steps_of (map (number_of g) path) ≡ map (hop_of g) (steps_of path)
 steps_numbered g [] = refl
 steps_numbered g (a ∷ []) = refl
 steps_numbered g (a ∷ b ∷ path) = ap (λ rest. (number_of g a, number_of g b) ∷ rest) (steps_numbered g (b ∷ path))
-
-pub numbered_none : (basis : Basis) (nodes : List ℕ) (hops : List (ℕ × ℕ)) → nodes ≡ [] → hops ≡ [] → IsNumbered basis [] nodes hops
-numbered_none basis nodes hops none_nodes none_hops = record { numbers = none_nodes; pairs = none_hops; inside = λ k d small. absurd (omega (arith, small)) }
 
 -- one more path
 pub numbered_more : (basis : Basis) (paths : List (List Node)) (i : ℕ) (path : List Node) (nodes more_nodes : List ℕ) (hops more_hops : List (ℕ × ℕ)) → i < length paths → get_or paths i path ≡ path →
@@ -157,9 +130,7 @@ item_is xs i item read same is = subst (λ x. get_or xs i x ≡ x) (sym same) (s
 
 -- what holds of each hop by its index
 pub each_hop : (P : ℕ → ℕ → Type 0) (hops : List (ℕ × ℕ)) (n : ℕ) → length hops ≤ n → ((k : ℕ) → k < n → P (get_or hops k (0, 0)).0 (get_or hops k (0, 0)).1) → (a b : ℕ) → Contains hops (a, b) → P a b
-each_hop P hops n end each a b c =
-    let e : get_or hops c.0 (0, 0) ≡ (a, b) = sym (get_or_default hops c.0 (a, b) (0, 0) c.1) ∙ c.2 in
-    subst (λ (hop : ℕ × ℕ). P hop.0 hop.1) e (each c.0 (let small = c.1 in omega (arith, small, end)))
+each_hop P hops n end each a b c = grind (arith, get_or_default)
 
 -- both numbers of a hop are small
 pub hop_small : (count : ℕ) (hops : List (ℕ × ℕ)) → All (λ hop. (hop.0 < count) × (hop.1 < count)) hops → (a b : ℕ) → Contains hops (a, b) → (a < count) × (b < count)

@@ -1,66 +1,28 @@
 -- In a layout that implements a lawful circuit no two blocks drive one net.
-use Rattle.std.proofs.Common.{◌≡◌, ◌≢◌, ℕ, zero, suc, ◌≤◌, Bool, true, false, ◌||◌, ◌&&◌, List, [], ◌∷◌, ◌++◌, Some, map, eqb, slice_get, sym, ap, refl, ◌∙◌, eq-eqb, subst, arith, inl, inr, ◌⊎◌}
-use Rattle.std.specs.Prelude.{All, Contains, count_by}
-use Rattle.std.specs.List.{flat_map, list_any}
-use Rattle.std.proofs.lemmas.Bool.{and_parts, eqb-true, false≢true}
-use Rattle.std.proofs.lemmas.List.Elements.{All-contains, All-head, All-tail}
-use Rattle.arch_file.specs.declared.arch.Arch.{Arch}
-use Rattle.blif.specs.declared.circuit.Circuit.{Circuit}
-use Rattle.blif.specs.declared.latches.Latch.{Latch}
-use Rattle.blif.specs.LawfulCircuits.{IsCircuit}
-use Rattle.blif.specs.LookupTables.{LookupTable}
-use Rattle.ble_cluster.specs.Bles.{LogicElement, is_read_once}
-use Rattle.cluster.specs.declared.block.Block.{Block}
-use Rattle.cluster.specs.declared.block.Block.TheVariants.{InputPad, OutputPad, Cluster}
-use Rattle.cluster.proofs.Pairs.{pairs_back, pairs_front, pairs_head, pairs_tail}
-use Rattle.grid.specs.declared.Strip.{Strip}
-use Rattle.implements.specs.Holding.{holds_latch, holds_table, is_latch, is_pair, is_table}
-use Rattle.implements.specs.Implements.{Implements, drives, drives_as, input_at, leaves_as}
-use Rattle.implements.specs.Layouts.{LaidBlock, Layout, traced_ble, traced_bles}
-use Rattle.implements.proofs.Members.{from_any, from_get, in_first, to_any, to_append_left, to_append_right, to_flat_map, to_map}
-use Rattle.implements.proofs.Unique.{AreApart, count-append, count-no, count-yes, never_both, same_by, some_counted}
+use Rattle.layout_check.proofs.Prelude.{◌≡◌, ◌≢◌, ℕ, zero, suc, ◌≤◌, Bool, true, false, ◌||◌, List, [], ◌∷◌, ◌++◌, Some, map, eqb, slice_get, sym, ap, refl, ◌∙◌, eq-eqb, subst, arith, inl, inr, ◌⊎◌, All, Contains, count_by, flat_map, list_any, and_parts, eqb-true, false≢true, All-contains, All-head, All-tail, Arch, Circuit, Latch, IsCircuit, LookupTable, LogicElement, Block, InputPad, OutputPad, Cluster, pairs_back, pairs_front, pairs_head, pairs_tail, Strip, holds_latch, holds_table, is_latch, is_pair, is_table, Implements, drives, drives_as, input_at, leaves_as, LaidBlock, Layout, traced_ble, traced_bles, from_any, from_get, in_first, to_any, to_append_left, to_append_right, to_flat_map, to_map, AreApart, count-append, count-no, count-yes, never_both, same_by, some_counted}
 
 pub or_cases : (a b : Bool) → (a || b) ≡ true → (a ≡ true) ⊎ (b ≡ true)
-or_cases true b h = inl refl
-or_cases false b h = inr h
+or_cases a b h = grind arith
 
 pub or_left : (a b : Bool) → a ≡ true → (a || b) ≡ true
 or_left a b h = ap (λ x. x || b) h
 
 pub or_right : (a b : Bool) → b ≡ true → (a || b) ≡ true
-or_right true b h = refl
-or_right false b h = h
+or_right a b h = grind arith
 
 -- ---- members of two parts of a list
 
 part_counted : {X Y : Type 0} (f : X → List Y) (test : Y → Bool) (xs : List X) (j : ℕ) (y : X) → slice_get xs j ≡ Some y → 1 ≤ count_by test (f y) → 1 ≤ count_by test (flat_map f xs)
 part_counted f test [] j y at one = absurd cc
-part_counted f test (x ∷ xs) zero y at one =
-    let same : x ≡ y = cc in
-    let first : 1 ≤ count_by test (f x) = subst (λ z. 1 ≤ count_by test (f z)) (sym same) one in
-    let all = count-append test (f x) (flat_map f xs) in
-    omega (arith, first, all)
-part_counted f test (x ∷ xs) (suc j) y at one =
-    let rest = part_counted f test xs j y at one in
-    let all = count-append test (f x) (flat_map f xs) in
-    omega (arith, rest, all)
+part_counted f test (x ∷ xs) zero y at one = grind (arith, count-append)
+part_counted f test (x ∷ xs) (suc j) y at one = grind (arith, count-append, part_counted f test xs j y)
 
 pub two_counted : {X Y : Type 0} (f : X → List Y) (test : Y → Bool) (xs : List X) (i j : ℕ) (x y : X) → i ≢ j → slice_get xs i ≡ Some x → slice_get xs j ≡ Some y → 1 ≤ count_by test (f x) → 1 ≤ count_by test (f y) →
     2 ≤ count_by test (flat_map f xs)
 two_counted f test [] i j x y differ a b one two = absurd cc
 two_counted f test (z ∷ xs) zero zero x y differ a b one two = absurd (differ refl)
-two_counted f test (z ∷ xs) zero (suc j) x y differ a b one two =
-    let same : z ≡ x = cc in
-    let first : 1 ≤ count_by test (f z) = subst (λ w. 1 ≤ count_by test (f w)) (sym same) one in
-    let rest = part_counted f test xs j y b two in
-    let all = count-append test (f z) (flat_map f xs) in
-    omega (arith, first, rest, all)
-two_counted f test (z ∷ xs) (suc i) zero x y differ a b one two =
-    let same : z ≡ y = cc in
-    let first : 1 ≤ count_by test (f z) = subst (λ w. 1 ≤ count_by test (f w)) (sym same) two in
-    let rest = part_counted f test xs i x a one in
-    let all = count-append test (f z) (flat_map f xs) in
-    omega (arith, first, rest, all)
+two_counted f test (z ∷ xs) zero (suc j) x y differ a b one two = grind (arith, part_counted, count-append)
+two_counted f test (z ∷ xs) (suc i) zero x y differ a b one two = grind (arith, part_counted, count-append)
 two_counted f test (z ∷ xs) (suc i) (suc j) x y differ a b one two =
     let rest = two_counted f test xs i j x y (λ e. differ (ap (λ n. suc n) e)) a b one two in
     let all = count-append test (f z) (flat_map f xs) in
@@ -69,11 +31,7 @@ two_counted f test (z ∷ xs) (suc i) (suc j) x y differ a b one two =
 -- a net that occurs once
 none_in : (first net : ℕ) → eqb first net ≡ true → (some : List ℕ) → All (λ n. first ≢ n) some → count_by (λ n. eqb n net) some ≡ 0
 none_in first net is [] apart = refl
-none_in first net is (n ∷ some) apart = by (none_in first net is some (All-tail (λ n. first ≢ n) n some apart)) (eqb n net) refl
-  where
-    by : count_by (λ n. eqb n net) some ≡ 0 → (b : Bool) → eqb n net ≡ b → count_by (λ n. eqb n net) (n ∷ some) ≡ 0
-    by rest true also = absurd (All-head (λ n. first ≢ n) n some apart (eqb-true first net is ∙ sym (eqb-true n net also)))
-    by rest false differ = omega (arith, rest, count-no (λ n. eqb n net) n some differ)
+none_in first net is (n ∷ some) apart = grind (arith, All-head, none_in first net is some (All-tail (λ n. first ≢ n) n some apart))
 
 pub once_counted : (nets : List ℕ) (net : ℕ) → AreApart nets → count_by (λ n. eqb n net) nets ≤ 1
 once_counted [] net apart = omega arith
@@ -108,9 +66,7 @@ latch_output : (element : LogicElement) (latch : Latch) → is_latch element lat
 latch_output element latch is = eqb-true element.output latch.output (and_parts (eqb element.output latch.output) _ is).0
 
 pair_output : (circuit : Circuit) (element : LogicElement) (table : LookupTable) (latch : Latch) → is_pair circuit element table latch ≡ true → element.output ≡ latch.output
-pair_output circuit element table latch is =
-    let parts = and_parts (eqb latch.input table.output && is_read_once circuit table.output) _ is in
-    eqb-true element.output latch.output (and_parts (eqb element.output latch.output) _ parts.1).0
+pair_output circuit element table latch is = grind arith
 
 by_table : (circuit : Circuit) (net : ℕ) (element : LogicElement) → element.output ≡ net → (table : LookupTable) → Contains circuit.tables table → holds_table circuit element table ≡ true → IsTableOf circuit net element ⊎ IsLatchOf circuit net element
 by_table circuit net element out table c h = elim (or_cases (is_table element table) (list_any (is_pair circuit element table) circuit.latches) h) [
@@ -126,12 +82,7 @@ by_table circuit net element out table c h = elim (or_cases (is_table element ta
 ]
 
 by_latch : (circuit : Circuit) (net : ℕ) (element : LogicElement) → element.output ≡ net → (latch : Latch) → Contains circuit.latches latch → holds_latch circuit element latch ≡ true → IsLatchOf circuit net element
-by_latch circuit net element out latch c h = elim (or_cases (is_latch element latch) (list_any (λ table. is_pair circuit element table latch) circuit.tables) h) [
-  | inl is ↦ record { latch = latch; there = c; holds = h; drives_it = sym (latch_output element latch is) ∙ out }
-  | inr pairs ↦
-      (let q = from_any (λ table. is_pair circuit element table latch) circuit.tables pairs in
-      record { latch = latch; there = c; holds = h; drives_it = sym (pair_output circuit element q.0 latch q.2) ∙ out })
-]
+by_latch circuit net element out latch c h = grind (arith, or_cases, from_any, pair_output)
 
 held_by : (circuit : Circuit) (net : ℕ) (element : LogicElement) → element.output ≡ net → (list_any (holds_table circuit element) circuit.tables || list_any (holds_latch circuit element) circuit.latches) ≡ true →
     IsTableOf circuit net element ⊎ IsLatchOf circuit net element

@@ -1,20 +1,6 @@
 -- What drives each net, table by table and latch by latch.
-use Rattle.std.proofs.Common.{◌≡◌, ◌≢◌, ℕ, ◌+◌, ◌<◌, List, Some, get_or, length, map, set, slice_get, sym, ap, refl, ◌∙◌, subst, arith, inl, inr, ◌⊎◌, ◌++◌}
-use Rattle.std.specs.Prelude.{Contains}
-use Rattle.std.proofs.lemmas.Bool.{cases_eq}
-use Rattle.std.proofs.lemmas.List.{get_or-set_other, get_or-set_same, length-set}
-use Rattle.std.proofs.lemmas.List.Elements.{All-contains}
-use Rattle.std.proofs.lemmas.Option.{get_or_from_slice_get, slice_get-get_or}
-use Rattle.blif.specs.declared.circuit.Circuit.{Circuit}
-use Rattle.blif.specs.declared.latches.Latch.{Latch}
-use Rattle.blif.specs.LawfulCircuits.{IsCircuit, IsLatchWithin, IsTableWithin}
-use Rattle.blif.specs.LookupTables.{LookupTable}
-use Rattle.cluster.proofs.Pairs.{pairs_back, pairs_front}
-use Rattle.implements.proofs.Members.{from_get, to_map}
-use Rattle.implements.proofs.Unique.{AreApart, apart_at, never_both}
-use Rattle.layout_check.specs.declared.owners.Owner.{Owner}
-use Rattle.layout_check.specs.declared.owners.Owner.TheVariants.{Nothing, Table, Latch as LatchOwner}
-use Rattle.layout_check.specs.NetOwners.{AreOwnersUpTo, owner_of}
+use Rattle.layout_check.proofs.Prelude.{◌≡◌, ◌≢◌, ℕ, ◌+◌, ◌<◌, List, Some, get_or, length, map, set, slice_get, sym, ap, ◌∙◌, subst, arith, ◌++◌, Contains, get_or-set_other, get_or-set_same, length-set, get_or_from_slice_get, slice_get-get_or, Circuit, Latch, IsCircuit, LookupTable, pairs_back, pairs_front, from_get, to_map, AreApart, apart_at, never_both, Owner, Nothing, Table, AreOwnersUpTo, owner_of}
+use Rattle.layout_check.specs.declared.owners.Owner.TheVariants.{Latch as LatchOwner}
 
 -- ---- what a write changes
 
@@ -28,90 +14,12 @@ module _ (circuit : Circuit) where
   -- one more table
   pub owned_table : (n : ℕ) (owners : List Owner) (table : LookupTable) → slice_get circuit.tables n ≡ Some table → table.output < length owners → owner_of owners table.output ≡ Nothing → AreOwnersUpTo circuit n 0 owners →
       AreOwnersUpTo circuit (n + 1) 0 (set owners table.output (Table n))
-  owned_table n owners table at small free so = record {
-    long = length-set owners table.output (Table n) ∙ so.long;
-    tables = tables;
-    latches = λ k latch less bt. absurd (omega (arith, less));
-    of_table = of_table;
-    of_latch = of_latch;
-  }
-    where
-      new : List Owner
-      new = set owners table.output (Table n)
-
-      tables : (k : ℕ) (other : LookupTable) → k < n + 1 → slice_get circuit.tables k ≡ Some other → owner_of new other.output ≡ Table k
-      tables k other less bt = by (cases_eq k n)
-        where
-          by : (k ≡ n) ⊎ (k ≢ n) → owner_of new other.output ≡ Table k
-          by (inl e) = let same : other ≡ table = cc in ap (λ (t : LookupTable). owner_of new t.output) same ∙ written owners table.output (Table n) small ∙ ap (λ i. Table i) (sym e)
-          by (inr differ) =
-              let old = so.tables k other (omega (arith, less, differ)) bt in
-              let apart : other.output ≢ table.output = λ same. (let clash : Table k ≡ Nothing = sym old ∙ ap (owner_of owners) same ∙ free in absurd cc) in
-              unwritten owners table.output other.output (Table n) apart ∙ old
-
-      of_table : (net k : ℕ) → owner_of new net ≡ Table k → (k < n + 1) × (other : LookupTable) × (slice_get circuit.tables k ≡ Some other) × (other.output ≡ net)
-      of_table net k e = by (cases_eq net table.output)
-        where
-          by : (net ≡ table.output) ⊎ (net ≢ table.output) → (k < n + 1) × (other : LookupTable) × (slice_get circuit.tables k ≡ Some other) × (other.output ≡ net)
-          by (inl here) =
-              let it : Table n ≡ Table k = sym (written owners table.output (Table n) small) ∙ ap (owner_of new) (sym here) ∙ e in
-              let same : n ≡ k = cc in
-              (omega (arith, same), table, sym (ap (slice_get circuit.tables) same) ∙ at, sym here)
-          by (inr differ) = let q = so.of_table net k (sym (unwritten owners table.output net (Table n) differ) ∙ e) in let less = q.0 in (omega (arith, less), q.1, q.2, q.3)
-
-      of_latch : (net k : ℕ) → owner_of new net ≡ LatchOwner k → (k < 0) × (latch : Latch) × (slice_get circuit.latches k ≡ Some latch) × (latch.output ≡ net)
-      of_latch net k e = by (cases_eq net table.output)
-        where
-          by : (net ≡ table.output) ⊎ (net ≢ table.output) → (k < 0) × (latch : Latch) × (slice_get circuit.latches k ≡ Some latch) × (latch.output ≡ net)
-          by (inl here) = let it : Table n ≡ LatchOwner k = sym (written owners table.output (Table n) small) ∙ ap (owner_of new) (sym here) ∙ e in absurd cc
-          by (inr differ) = so.of_latch net k (sym (unwritten owners table.output net (Table n) differ) ∙ e)
+  owned_table n owners table at small free so = grind (arith, length-set, written, unwritten)
 
   -- one more latch
   pub owned_latch : (n : ℕ) (owners : List Owner) (latch : Latch) → slice_get circuit.latches n ≡ Some latch → latch.output < length owners → owner_of owners latch.output ≡ Nothing → AreOwnersUpTo circuit (length circuit.tables) n owners →
       AreOwnersUpTo circuit (length circuit.tables) (n + 1) (set owners latch.output (LatchOwner n))
-  owned_latch n owners latch at small free so = record {
-    long = length-set owners latch.output (LatchOwner n) ∙ so.long;
-    tables = tables;
-    latches = latches;
-    of_table = of_table;
-    of_latch = of_latch;
-  }
-    where
-      new : List Owner
-      new = set owners latch.output (LatchOwner n)
-
-      tables : (k : ℕ) (other : LookupTable) → k < length circuit.tables → slice_get circuit.tables k ≡ Some other → owner_of new other.output ≡ Table k
-      tables k other less bt =
-          let old = so.tables k other less bt in
-          let apart : other.output ≢ latch.output = λ same. (let clash : Table k ≡ Nothing = sym old ∙ ap (owner_of owners) same ∙ free in absurd cc) in
-          unwritten owners latch.output other.output (LatchOwner n) apart ∙ old
-
-      latches : (k : ℕ) (other : Latch) → k < n + 1 → slice_get circuit.latches k ≡ Some other → owner_of new other.output ≡ LatchOwner k
-      latches k other less bt = by (cases_eq k n)
-        where
-          by : (k ≡ n) ⊎ (k ≢ n) → owner_of new other.output ≡ LatchOwner k
-          by (inl e) = let same : other ≡ latch = cc in ap (λ (l : Latch). owner_of new l.output) same ∙ written owners latch.output (LatchOwner n) small ∙ ap (λ i. LatchOwner i) (sym e)
-          by (inr differ) =
-              let old = so.latches k other (omega (arith, less, differ)) bt in
-              let apart : other.output ≢ latch.output = λ same. (let clash : LatchOwner k ≡ Nothing = sym old ∙ ap (owner_of owners) same ∙ free in absurd cc) in
-              unwritten owners latch.output other.output (LatchOwner n) apart ∙ old
-
-      of_table : (net k : ℕ) → owner_of new net ≡ Table k → (k < length circuit.tables) × (other : LookupTable) × (slice_get circuit.tables k ≡ Some other) × (other.output ≡ net)
-      of_table net k e = by (cases_eq net latch.output)
-        where
-          by : (net ≡ latch.output) ⊎ (net ≢ latch.output) → (k < length circuit.tables) × (other : LookupTable) × (slice_get circuit.tables k ≡ Some other) × (other.output ≡ net)
-          by (inl here) = let it : LatchOwner n ≡ Table k = sym (written owners latch.output (LatchOwner n) small) ∙ ap (owner_of new) (sym here) ∙ e in absurd cc
-          by (inr differ) = so.of_table net k (sym (unwritten owners latch.output net (LatchOwner n) differ) ∙ e)
-
-      of_latch : (net k : ℕ) → owner_of new net ≡ LatchOwner k → (k < n + 1) × (other : Latch) × (slice_get circuit.latches k ≡ Some other) × (other.output ≡ net)
-      of_latch net k e = by (cases_eq net latch.output)
-        where
-          by : (net ≡ latch.output) ⊎ (net ≢ latch.output) → (k < n + 1) × (other : Latch) × (slice_get circuit.latches k ≡ Some other) × (other.output ≡ net)
-          by (inl here) =
-              let it : LatchOwner n ≡ LatchOwner k = sym (written owners latch.output (LatchOwner n) small) ∙ ap (owner_of new) (sym here) ∙ e in
-              let same : n ≡ k = cc in
-              (omega (arith, same), latch, sym (ap (slice_get circuit.latches) same) ∙ at, sym here)
-          by (inr differ) = let q = so.of_latch net k (sym (unwritten owners latch.output net (LatchOwner n) differ) ∙ e) in let less = q.0 in (omega (arith, less), q.1, q.2, q.3)
+  owned_latch n owners latch at small free so = grind (arith, length-set, unwritten, written)
 
   -- ---- a net that isn't free
 
@@ -142,41 +50,24 @@ module _ (circuit : Circuit) where
         (subst (λ net. Contains by_latches net) (sym same) (to_map (λ (l : Latch). l.output) circuit.latches latch (from_get circuit.latches j latch bt).1))
 
     free_table : (n : ℕ) (owners : List Owner) (table : LookupTable) → slice_get circuit.tables n ≡ Some table → AreOwnersUpTo circuit n 0 owners → (owner : Owner) → owner_of owners table.output ≡ owner → owner ≡ Nothing
-    free_table n owners table at so Nothing e = refl
-    free_table n owners table at so (Table k) e =
-        let q = so.of_table table.output k e in
-        let less = q.0 in
-        absurd (two_tables k n q.1 table (λ same. omega (arith, same, less)) q.2 at q.3)
-    free_table n owners table at so (LatchOwner k) e = let none = (so.of_latch table.output k e).0 in absurd (omega (arith, none))
+    free_table n owners table at so owner e = grind (arith, two_tables)
 
     free_latch : (n : ℕ) (owners : List Owner) (latch : Latch) → slice_get circuit.latches n ≡ Some latch → AreOwnersUpTo circuit (length circuit.tables) n owners → (owner : Owner) → owner_of owners latch.output ≡ owner → owner ≡ Nothing
-    free_latch n owners latch at so Nothing e = refl
-    free_latch n owners latch at so (Table k) e = let q = so.of_table latch.output k e in absurd (table_and_latch k n q.1 latch q.2 at q.3)
-    free_latch n owners latch at so (LatchOwner k) e =
-        let q = so.of_latch latch.output k e in
-        let less = q.0 in
-        absurd (two_latches k n q.1 latch (λ same. omega (arith, same, less)) q.2 at q.3)
+    free_latch n owners latch at so owner e = grind (arith, table_and_latch, two_latches)
 
   -- what a table drives isn't free: the circuit isn't lawful
   pub unlawful_table : (n : ℕ) (owners : List Owner) (table : LookupTable) → slice_get circuit.tables n ≡ Some table → AreOwnersUpTo circuit n 0 owners → (table.output < length owners → owner_of owners table.output ≡ Nothing → ⊥) → IsCircuit circuit → ⊥
-  unlawful_table n owners table at so taken lawful =
-      let small = (All-contains (IsTableWithin (length circuit.nets)) circuit.tables table lawful.tables (from_get circuit.tables n table at).1).output in
-      let long = so.long in
-      taken (omega (arith, small, long)) (free_table lawful n owners table at so (owner_of owners table.output) refl)
+  unlawful_table n owners table at so taken lawful = grind (arith, from_get, free_table)
 
   pub unlawful_latch : (n : ℕ) (owners : List Owner) (latch : Latch) → slice_get circuit.latches n ≡ Some latch → AreOwnersUpTo circuit (length circuit.tables) n owners → (latch.output < length owners → owner_of owners latch.output ≡ Nothing → ⊥) →
       IsCircuit circuit → ⊥
-  unlawful_latch n owners latch at so taken lawful =
-      let small = (All-contains (IsLatchWithin (length circuit.nets)) circuit.latches latch lawful.latches (from_get circuit.latches n latch at).1).output in
-      let long = so.long in
-      taken (omega (arith, small, long)) (free_latch lawful n owners latch at so (owner_of owners latch.output) refl)
+  unlawful_latch n owners latch at so taken lawful = grind (arith, from_get, free_latch)
 
   -- ---- the same over copies of the owners and of the latches
 
   pub owned_table_told : (n : ℕ) (owners copy : List Owner) (table : LookupTable) → copy ≡ owners → slice_get circuit.tables n ≡ Some table → (table.output < length copy) × (owner_of copy table.output ≡ Nothing) → AreOwnersUpTo circuit n 0 owners →
       AreOwnersUpTo circuit (n + 1) 0 (set owners table.output (Table n))
-  owned_table_told n owners copy table same at free so =
-      owned_table n owners table at (subst (λ (os : List Owner). table.output < length os) same free.0) (subst (λ os. owner_of os table.output ≡ Nothing) same free.1) so
+  owned_table_told n owners copy table same at free so = grind (arith, owned_table n owners table)
 
   pub unlawful_table_told : (n : ℕ) (owners copy : List Owner) (table : LookupTable) → copy ≡ owners → slice_get circuit.tables n ≡ Some table → AreOwnersUpTo circuit n 0 owners → (table.output < length copy → owner_of copy table.output ≡ Nothing → ⊥) →
       IsCircuit circuit → ⊥

@@ -1,22 +1,11 @@
 -- Counts of reads by net, after more reads.
-use Rattle.std.proofs.Common.{◌≡◌, ◌≢◌, ◌⊎◌, inl, inr, ℕ, ◌+◌, ◌<◌, true, false, cond, ◌==◌, List, [], ◌∷◌, ◌++◌, Option, Some, None, length, get_or, set, take, min, refl, sym, ap, subst, ◌∙◌, arith, append_assoc, slice_get}
+use Rattle.layout_check.proofs.Prelude.{◌≡◌, ◌≢◌, ◌⊎◌, inl, inr, ℕ, ◌+◌, ◌<◌, true, false, cond, ◌==◌, List, [], ◌∷◌, ◌++◌, Option, Some, length, get_or, set, take, min, refl, sym, ap, subst, ◌∙◌, arith, append_assoc, slice_get, option_to_list, flat_map, flat_map-append, append-nil, get_or-replicate, get_or-set_other, get_or-set_same, length-replicate, length-set, take_more, get_or_from_slice_get, eqb_tells, Latch, count-append, AreCounts, CountsOn}
 use Rattle.std.specs.Prelude.{replicate}
-use Rattle.std.specs.Option.{option_to_list}
-use Rattle.std.specs.List.{count_by, flat_map}
-use Rattle.std.proofs.lemmas.Grind.{flat_map-append}
-use Rattle.std.proofs.lemmas.List.{append-nil, get_or-replicate, get_or-set_other, get_or-set_same, length-replicate, length-set, take_more}
-use Rattle.std.proofs.lemmas.Option.{get_or_from_slice_get}
-use Rattle.std.proofs.lemmas.Bool.Decides.{eqb_tells}
-use Rattle.blif.specs.declared.latches.Latch.{Latch}
-use Rattle.implements.proofs.Unique.{count-append, count-cons}
-use Rattle.layout_check.specs.NetOwners.{AreCounts, CountsOn}
+use Rattle.std.specs.List.{count_by}
 
 -- one more read
 one_read : (reads : List ℕ) (net other : ℕ) → count_by (λ read. read == other) (reads ++ net ∷ []) ≡ count_by (λ read. read == other) reads + cond (net == other) 1 0
-one_read reads net other =
-    let all = count-append (λ read. read == other) reads (net ∷ []) in
-    let last = count-cons (λ read. read == other) net [] in
-    omega (arith, all, last)
+one_read reads net other = grind (arith, count-append)
 
 pub counted_read : (counts : List ℕ) (net more : ℕ) → net < length counts → more ≡ min (get_or counts net 0 + 1) 255 → CountsOn counts (net ∷ []) (set counts net more)
 counted_read counts net more within is = record {
@@ -64,11 +53,8 @@ pub control_here : (control : Option ℕ) (net : ℕ) → control ≡ Some net �
 control_here control net is = sym (ap option_to_list is)
 
 pub control_none : (control : Option ℕ) → ((net : ℕ) → control ≡ Some net → ⊥) → [] ≡ option_to_list control
-control_none None h = refl
-control_none (Some net) h = absurd (h net refl)
+control_none control h = grind arith
 
 pub controls_more : (latches : List Latch) (i : ℕ) (d : Latch) (controls : List ℕ) → i < length latches → controls ≡ option_to_list (get_or latches i d).control →
     flat_map (λ (latch : Latch). option_to_list latch.control) (take i latches) ++ controls ≡ flat_map (λ (latch : Latch). option_to_list latch.control) (take (i + 1) latches)
-controls_more latches i d controls within is =
-    ap (λ more. flat_map (λ (latch : Latch). option_to_list latch.control) (take i latches) ++ more) is
-    ∙ sym (ap (flat_map (λ (latch : Latch). option_to_list latch.control)) (take_more latches i d within) ∙ flat_map_push (λ (latch : Latch). option_to_list latch.control) (take i latches) (get_or latches i d))
+controls_more latches i d controls within is = grind (arith, flat_map_push, take_more latches i d within)

@@ -1,25 +1,5 @@
 -- Whether a BLE receives just some nets.
-use Rattle.std.proofs.Common.{◌≡◌, ℕ, ◌+◌, ◌<◌, ◌≤◌, Bool, true, false, ◌&&◌, ◌==◌, List, [], ◌∷◌, ◌++◌, drop, get_or, length, take, subst, sym, ap, refl, ◌∙◌, eq-eqb, eqb, arith}
-use Rattle.std.specs.Prelude.{count_by}
-use Rattle.std.specs.List.{AllByRecursion, IsDistinct, list_all}
-use Rattle.std.specs.Set.{is_member}
-use Rattle.std.proofs.lemmas.Bool.{and_parts, eqb-true, false_from_ne_true, false≢true}
-use Rattle.std.proofs.lemmas.Bool.Decides.{Decides-eqb, nat_tests}
-use Rattle.std.proofs.lemmas.Cmp.{nat_eq_equiv}
-use Rattle.std.proofs.lemmas.List.{take-append-drop, take_more}
-use Rattle.std.proofs.lemmas.List.Sums.{count_by_more_yes}
-use Rattle.std.proofs.lemmas.Map.Made.{AllPairs-from_IsDistinct, IsDistinct-from_count, distinct_count-from_IsDistinct, length-from_keys}
-use Rattle.std.specs.Set.{distinct_count}
-use Rattle.ble_cluster.specs.Nets.{IsOnce, distinct_nets, has}
-use Rattle.ble_cluster.specs.Bles.{LogicElement}
-use Rattle.ble_cluster.proofs.Outside.{has-distinct, once-distinct, once-push}
-use Rattle.implements.specs.Holding.{receives}
-use Rattle.implements.proofs.Between.{same_truth}
-use Rattle.implements.proofs.Members.{from_all, from_has}
-use Rattle.implements.proofs.Unique.{count-append, some_counted}
-use Rattle.layout_check.specs.declared.fault.ReadFault.{ReadFault}
-use Rattle.layout_check.specs.declared.fault.ReadFault.TheVariants.{Lacks, Extra, Twice}
-use Rattle.layout_check.specs.HoldFaults.{IsReadFault}
+use Rattle.layout_check.proofs.Prelude.{◌≡◌, ℕ, ◌+◌, ◌<◌, ◌≤◌, Bool, true, false, ◌==◌, List, [], ◌∷◌, ◌++◌, drop, get_or, length, take, subst, sym, ap, refl, ◌∙◌, eq-eqb, eqb, arith, count_by, AllByRecursion, IsDistinct, list_all, is_member, and_parts, eqb-true, false_from_ne_true, false≢true, Decides-eqb, nat_tests, nat_eq_equiv, take-append-drop, take_more, count_by_more_yes, AllPairs-from_IsDistinct, IsDistinct-from_count, distinct_count-from_IsDistinct, length-from_keys, distinct_count, IsOnce, distinct_nets, has, LogicElement, has-distinct, once-distinct, once-push, receives, same_truth, from_all, from_has, count-append, some_counted, ReadFault, Lacks, Extra, Twice, IsReadFault}
 use Rattle.layout_check.proofs.OneDriver.{once_counted}
 
 apart : (net : ℕ) (nets : List ℕ) → has nets net ≡ false → AllByRecursion (λ other. eqb net other ≡ false) nets
@@ -43,11 +23,7 @@ counted inputs nets all also = length-from_keys nat_eq_equiv (distinct_nets nets
     ∙ sym (member_has inputs q))
 
 pub received : (element : LogicElement) (nets : List ℕ) → list_all (has element.inputs) nets ≡ true → list_all (has nets) element.inputs ≡ true → IsOnce element.inputs → receives element nets ≡ true
-received element nets also all once =
-    let long : length element.inputs ≡ length (distinct_nets nets) =
-    sym (distinct_count-from_IsDistinct nat_eq_equiv element.inputs (once_distinct element.inputs once)) ∙ sym (counted element.inputs nets all also) in
-    let is : (length element.inputs == length (distinct_nets nets)) ≡ true = eq-eqb (length element.inputs) (length (distinct_nets nets)) long in
-    ap (λ b. b && (list_all (has nets) element.inputs && list_all (has element.inputs) nets)) is ∙ ap (λ b. b && list_all (has element.inputs) nets) all ∙ also
+received element nets also all once = grind (arith, distinct_count-from_IsDistinct, once_distinct, counted)
 
 pub read_refuted : (element : LogicElement) (nets : List ℕ) (fault : ReadFault) → IsReadFault element nets fault → receives element nets ≡ true → ⊥
 read_refuted element nets fault said is = by fault said
@@ -76,8 +52,7 @@ never_received element nets fault said = false_from_ne_true (receives element ne
 
 -- the same over a copy of the inputs
 pub received_told : (element : LogicElement) (nets inputs : List ℕ) → inputs ≡ element.inputs → list_all (has inputs) nets ≡ true → list_all (has nets) inputs ≡ true → IsOnce inputs → receives element nets ≡ true
-received_told element nets inputs same also all once =
-    received element nets (subst (λ xs. list_all (has xs) nets ≡ true) same also) (subst (λ xs. list_all (has nets) xs ≡ true) same all) (subst IsOnce same once)
+received_told element nets inputs same also all once = grind (arith, received)
 
 -- a net that is one of those before it
 pub repeated : (nets : List ℕ) (place : ℕ) → place < length nets → has (take place nets) (get_or nets place 0) ≡ true → 1 < count_by (λ other. other == get_or nets place 0) nets

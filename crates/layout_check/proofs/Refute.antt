@@ -1,31 +1,10 @@
 -- Paths with a fault are no tree of the net.
-use Rattle.std.proofs.Common.{◌≡◌, ◌≢◌, ℕ, ◌<◌, Bool, true, false, List, [], ◌∷◌, sym, ap, refl, ◌∙◌, subst, arith}
-use Rattle.std.specs.Prelude.{All, Contains}
-use Rattle.std.proofs.lemmas.Bool.{and_parts, false≢true}
-use Rattle.std.proofs.lemmas.List.Elements.{All-contains, All-map}
-use Rattle.implements.proofs.Members.{all_members, in_none}
-use Rattle.arch_file.specs.declared.arch.Arch.{Arch}
-use Rattle.grid.specs.declared.Strip.{Strip}
-use Rattle.rr_graph.specs.declared.node.Node.{Node}
-use Rattle.rr_graph.specs.declared.node.NodeKind.{NodeKind}
-use Rattle.rr_graph.specs.declared.node.NodeKind.TheVariants.{Opin, Source}
-use Rattle.rr_graph.specs.Geometry.{is_edge, is_node}
-use Rattle.rr_graph.specs.Graph.{Basis, IsRoutingGraph, graph_of}
-use Rattle.pathfinder.specs.LegalRoutes.{IsRoute, IsRouted, LeadsOver, pairs_of, path_nodes}
-use Rattle.pathfinder.specs.PlacedNets.{number_of}
-use Rattle.layout_check.specs.declared.fault.RouteFault.{RouteFault}
-use Rattle.layout_check.specs.declared.fault.RouteFault.TheVariants.{NoNode, NoEdge, IntoSource, TwoWays, NoSource, NotReached, NoPin, TwoPins, NoSink, LeadsOn, EndsAt, NotEmpty}
-use Rattle.layout_check.specs.Numbered.{AreHops, AreNodes, IsNumbered, hop_of}
-use Rattle.layout_check.specs.RouteFaults.{IsPathFault, IsRouteFault}
-use Rattle.layout_check.specs.TreeTests.{AreNumbers}
+use Rattle.layout_check.proofs.Prelude.{◌≡◌, ◌≢◌, ℕ, ◌<◌, Bool, true, List, [], ◌∷◌, sym, ap, refl, ◌∙◌, subst, arith, All, Contains, and_parts, false≢true, All-contains, All-map, all_members, Arch, Strip, Node, NodeKind, Opin, Source, is_edge, is_node, Basis, IsRoutingGraph, graph_of, IsRoute, IsRouted, LeadsOver, pairs_of, path_nodes, number_of, RouteFault, NoNode, NoEdge, IntoSource, TwoWays, NoSource, NotReached, NoPin, TwoPins, NoSink, LeadsOn, EndsAt, NotEmpty, AreHops, AreNodes, IsNumbered, hop_of, IsPathFault, IsRouteFault, AreNumbers}
 use Rattle.layout_check.proofs.Numbers.{number_small}
 use Rattle.layout_check.proofs.ByNumber.{pair_in}
 
 edge_ends : (arch : Arch) (strip : Strip) (a b : Node) → is_edge arch strip a b ≡ true → (is_node arch strip a ≡ true) × (is_node arch strip b ≡ true)
-edge_ends arch strip a b is =
-    let p = and_parts (is_node arch strip a) _ is in
-    let q = and_parts (is_node arch strip b) _ p.1 in
-    (p.0, q.0)
+edge_ends arch strip a b is = grind (arith, and_parts)
 
 last_in : (arch : Arch) (strip : Strip) (paths : List (List Node)) → ((a b : Node) → Contains (pairs_of paths) (a, b) → is_edge arch strip a b ≡ true) → (last node : Node) (rest : List Node) →
     LeadsOver (pairs_of paths) last node rest → is_node arch strip node ≡ true → is_node arch strip last ≡ true
@@ -59,9 +38,7 @@ route_refuted basis source sinks paths (NotEmpty node) kind none r = none
 
 -- paths with a fault are no tree of the net
 pub paths_refuted : (basis : Basis) (source : Node) (sinks : List Node) (paths : List (List Node)) (fault : RouteFault) → source.kind ≡ Source → IsPathFault basis source sinks paths fault → IsRouted basis.arch basis.strip source sinks paths → ⊥
-paths_refuted basis source [] paths (NotEmpty node) kind c none = in_none node (subst (λ nodes. Contains nodes node) none c)
-paths_refuted basis source [] paths fault kind never none = absurd never
-paths_refuted basis source (sink ∷ sinks) paths fault kind said r = route_refuted basis source (sink ∷ sinks) paths fault kind said r
+paths_refuted basis source sinks paths fault kind c none = grind (arith, route_refuted)
 
 -- numbers of nodes of the strip are numbers of the graph
 pub numbers_small : (basis : Basis) → IsRoutingGraph basis (graph_of basis) → (xs : List Node) (numbers : List ℕ) → AreNumbers basis xs numbers → AreNodes basis numbers
@@ -79,7 +56,3 @@ hops_small basis lawful paths nodes hops so =
       number_small basis lawful pair.0 (All-contains (λ node. is_node basis.arch basis.strip node ≡ true) (path_nodes paths) pair.0 so.inside both.0),
       number_small basis lawful pair.1 (All-contains (λ node. is_node basis.arch basis.strip node ≡ true) (path_nodes paths) pair.1 so.inside both.1),
     ))))
-
--- a node that the strip doesn't have is on no path
-pub foreign_off : (basis : Basis) (paths : List (List Node)) (nodes : List ℕ) (hops : List (ℕ × ℕ)) → IsNumbered basis paths nodes hops → (node : Node) → is_node basis.arch basis.strip node ≡ false → Contains (path_nodes paths) node → ⊥
-foreign_off basis paths nodes hops so node none c = false≢true (sym none ∙ All-contains (λ node. is_node basis.arch basis.strip node ≡ true) (path_nodes paths) node so.inside c)

@@ -1,20 +1,5 @@
 -- The nets of entries as a set, and the nets that are wanted.
-use Rattle.std.proofs.Common.{◌≡◌, ℕ, ◌<◌, ◌≤◌, Bool, true, false, List, Option, Some, None, map, length, slice_get, sym, ap, refl, ◌∙◌, eq-eqb, subst, arith}
-use Rattle.std.specs.Prelude.{All, Contains, MatchOption}
-use Rattle.std.specs.List.{list_any, range_with_len}
-use Rattle.std.specs.Option.{option_map_or}
-use Rattle.std.proofs.lemmas.Bool.{false≢true}
-use Rattle.std.proofs.lemmas.List.Elements.{All-weaker}
-use Rattle.std.proofs.lemmas.List.FromFn.{get_or-range_with_len, length-range_with_len}
-use Rattle.std.proofs.lemmas.Option.{slice_get-get_or}
-use Rattle.implements.proofs.Inside.{is_some_net}
-use Rattle.implements.proofs.Members.{from_any, from_has, from_map, in_range, to_any, to_has}
-use Rattle.arch_file.specs.declared.arch.Arch.{Arch}
-use Rattle.arch_file.specs.declared.arch.PinClass.{PinClass}
-use Rattle.ble_cluster.specs.Nets.{has}
-use Rattle.implements.specs.Implements.{has_on, is_net, wants}
-use Rattle.implements.specs.Layouts.{LaidBlock, LaidNet, on_pin}
-use Rattle.layout_check.specs.Marks.{IsSetOf, is_in}
+use Rattle.layout_check.proofs.Prelude.{◌≡◌, ℕ, ◌<◌, ◌≤◌, Bool, true, false, List, Option, Some, None, map, length, slice_get, sym, ap, refl, ◌∙◌, eq-eqb, subst, arith, All, Contains, MatchOption, list_any, range_with_len, option_map_or, false≢true, get_or-range_with_len, length-range_with_len, slice_get-get_or, from_any, from_has, from_map, in_range, to_any, to_has, Arch, PinClass, has, has_on, is_net, wants, LaidBlock, LaidNet, on_pin, IsSetOf, is_in}
 
 -- the nets of the first entries are in the set, and no others
 pub record AreEntries (nets : List LaidNet) (count n : ℕ) (marks : List Bool) : Type 0 where
@@ -35,13 +20,7 @@ entries_all nets count n marks end so net = (
 -- the nets on all pins are in the set
 pub all_served : (arch : Arch) (block : LaidBlock) (class : PinClass) (marks : List Bool) (end : ℕ) → length arch.pins ≤ end → ((k : ℕ) → k < end → option_map_or (is_in marks) (on_pin arch block class k) true ≡ true) →
     (net : ℕ) → has_on arch block class net ≡ true → is_in marks net ≡ true
-all_served arch block class marks end within served net has =
-    let q = from_any (λ pin. is_net net (on_pin arch block class pin)) (range_with_len 0 (length arch.pins)) has in
-    let small = q.1.1 in
-    let is = q.1.2 in
-    let at : q.0 ≡ q.1.0 = sym is ∙ get_or-range_with_len 0 (length arch.pins) q.1.0 q.0 (omega (arith, small, length-range_with_len 0 (length arch.pins))) ∙ omega arith in
-    let on = is_some_net (on_pin arch block class q.0) net q.2 in
-    sym (ap (λ (o : Option ℕ). option_map_or (is_in marks) o true) on) ∙ served q.0 (omega (arith, at, small, within, length-range_with_len 0 (length arch.pins)))
+all_served arch block class marks end within served net has = grind (arith, from_any, get_or-range_with_len, length-range_with_len)
 
 -- the net on one pin isn't in the set
 pub one_unserved : (arch : Arch) (block : LaidBlock) (class : PinClass) (marks : List Bool) (pin : ℕ) → pin < length arch.pins → option_map_or (is_in marks) (on_pin arch block class pin) true ≡ false →
@@ -61,11 +40,7 @@ pub has_from_set : (nets : List ℕ) (marks : List Bool) → IsSetOf nets marks 
 has_from_set nets marks exact net is = to_has nets net ((exact net).0 is)
 
 pub has_not : (nets : List ℕ) (marks : List Bool) → IsSetOf nets marks → (net : ℕ) → is_in marks net ≡ false → has nets net ≡ false
-has_not nets marks exact net out = by (has nets net) refl
-  where
-    by : (b : Bool) → has nets net ≡ b → has nets net ≡ false
-    by true is = absurd (false≢true (sym out ∙ (exact net).1 (from_has nets net is)))
-    by false is = is
+has_not nets marks exact net out = grind (arith, from_has)
 
 -- the set in place of the entries
 pub wanted_told : (arch : Arch) (blocks bs : List LaidBlock) (nets ns : List LaidNet) (marks : List Bool) (o : Option ℕ) → bs ≡ blocks → ns ≡ nets → IsSetOf (map (λ laid. laid.net) ns) marks →
@@ -73,11 +48,5 @@ pub wanted_told : (arch : Arch) (blocks bs : List LaidBlock) (nets ns : List Lai
     (λ number. (laid : LaidBlock) × (slice_get bs number ≡ Some laid) × (net : ℕ) × (wants arch net laid ≡ true) × (is_in marks net ≡ false)) →
     MatchOption o (All (λ laid. (net : ℕ) → wants arch net laid ≡ true → has (map (λ between. between.net) nets) net ≡ true) blocks)
     (λ number. (laid : LaidBlock) × (slice_get blocks number ≡ Some laid) × (net : ℕ) × (wants arch net laid ≡ true) × (has (map (λ between. between.net) nets) net ≡ false))
-wanted_told arch blocks bs nets ns marks None same also exact all =
-    let set = subst (λ xs. IsSetOf (map (λ (laid : LaidNet). laid.net) xs) marks) also exact in
-    subst (λ xs. All (λ laid. (net : ℕ) → wants arch net laid ≡ true → has (map (λ between. between.net) nets) net ≡ true) xs) same
-    (All-weaker (λ laid. (net : ℕ) → wants arch net laid ≡ true → is_in marks net ≡ true) (λ laid. (net : ℕ) → wants arch net laid ≡ true → has (map (λ between. between.net) nets) net ≡ true)
-    (λ laid served net wanted. has_from_set (map (λ (between : LaidNet). between.net) nets) marks set net (served net wanted)) bs all)
-wanted_told arch blocks bs nets ns marks (Some number) same also exact (laid, there, net, wanted, out) =
-    let set = subst (λ xs. IsSetOf (map (λ (laid : LaidNet). laid.net) xs) marks) also exact in
-    (laid, subst (λ xs. slice_get xs number ≡ Some laid) same there, net, wanted, has_not (map (λ (between : LaidNet). between.net) nets) marks set net out)
+wanted_told arch blocks bs nets ns marks None same also exact all = grind (arith, has_from_set)
+wanted_told arch blocks bs nets ns marks (Some number) same also exact (laid, there, net, wanted, out) = grind (arith, has_not)

@@ -1,17 +1,5 @@
 -- Places of a strip.
-use Rattle.std.proofs.Common.{◌≡◌, ℕ, ◌+◌, ◌<◌, ◌≤◌, List, [], ◌∷◌, map, sym, ap, subst, arith, inl, inr, ◌⊎◌, zero}
-use Rattle.std.specs.Prelude.{All, Contains}
-use Rattle.std.specs.List.{flat_map, range_with_len}
-use Rattle.std.proofs.lemmas.List.Elements.{All-contains}
-use Rattle.implements.proofs.Members.{in_first, in_later, in_range, to_flat_map, to_map}
-use Rattle.grid.specs.declared.Strip.{Strip}
-use Rattle.grid.specs.declared.place.Kind.{Kind}
-use Rattle.grid.specs.declared.place.Kind.TheVariants.{Logic, Pad}
-use Rattle.grid.specs.declared.place.Place.{Place}
-use Rattle.grid.specs.PlaceLaws.{IsPlaceIn}
-use Rattle.grid.specs.Places.{column_of, place_at, places_of}
-use Rattle.grid.specs.Sizes.{IsStripSize}
-use Rattle.grid.proofs.Numbers.{all_within}
+use Rattle.layout_check.proofs.Prelude.{◌≡◌, ℕ, ◌+◌, ◌<◌, ◌≤◌, List, [], ◌∷◌, map, sym, ap, subst, arith, inl, inr, ◌⊎◌, zero, All, Contains, flat_map, range_with_len, All-contains, in_first, in_later, in_range, to_flat_map, to_map, Strip, Kind, Logic, Pad, Place, IsPlaceIn, column_of, place_at, places_of, IsStripSize, all_within}
 
 pub place_listed : (strip : Strip) (kind : Kind) (place : Place) → IsPlaceIn strip kind place → Contains (places_of strip kind) place
 unfolding places_of

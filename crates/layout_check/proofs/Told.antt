@@ -1,24 +1,5 @@
 -- What is wrong by the numbers of nodes is wrong with the paths.
-use Rattle.std.proofs.Common.{◌≡◌, ◌≢◌, ℕ, ◌<◌, Bool, true, false, List, [], ◌∷◌, map, sym, ap, refl, ◌∙◌, subst, arith, inl, inr, ◌⊎◌}
-use Rattle.std.specs.Prelude.{All, Contains}
-use Rattle.std.proofs.lemmas.Bool.{false≢true}
-use Rattle.std.proofs.lemmas.List.Elements.{All-contains}
-use Rattle.implements.proofs.Members.{from_map, to_map}
-use Rattle.rr_graph.specs.declared.node.Node.{Node}
-use Rattle.rr_graph.specs.declared.node.NodeKind.TheVariants.{Opin}
-use Rattle.rr_graph.specs.Geometry.{is_edge}
-use Rattle.rr_graph.specs.Graph.{Basis, IsRoutingGraph, graph_of}
-use Rattle.pathfinder.specs.LegalRoutes.{IsLeaf, IsRoute, pairs_of, path_nodes}
-use Rattle.pathfinder.specs.LegalTrees.{HasOnePin}
-use Rattle.pathfinder.specs.PlacedNets.{number_of, wiring_of}
-use Rattle.layout_check.specs.declared.fault.RouteFault.{RouteFault}
-use Rattle.layout_check.specs.declared.trees.HopFault.{HopFault}
-use Rattle.layout_check.specs.declared.trees.HopFault.TheVariants.{IntoRoot, TwoHops}
-use Rattle.layout_check.specs.declared.fault.RouteFault.TheVariants.{NoEdge, IntoSource, TwoWays, NoSource, NotReached, NoPin, TwoPins, NoSink, LeadsOn, EndsAt}
-use Rattle.layout_check.specs.Marks.{IsSetOf, is_in}
-use Rattle.layout_check.specs.Numbered.{AreHops, AreNodes, IsNumbered}
-use Rattle.layout_check.specs.NumberTrees.{AreOneWay, IsClosed, IsFaultWithin, IsHopFault}
-use Rattle.layout_check.specs.TreeTests.{AreAllReached, AreEdges, AreEnds, AreNumbers, IsFaultOf, told_fault}
+use Rattle.layout_check.proofs.Prelude.{◌≡◌, ◌≢◌, ℕ, ◌<◌, Bool, true, false, List, [], ◌∷◌, map, sym, ap, refl, ◌∙◌, subst, arith, inl, inr, ◌⊎◌, All, Contains, false≢true, All-contains, from_map, to_map, Node, Opin, is_edge, Basis, IsRoutingGraph, graph_of, IsLeaf, IsRoute, pairs_of, path_nodes, HasOnePin, number_of, wiring_of, RouteFault, HopFault, IntoRoot, TwoHops, NoEdge, IntoSource, TwoWays, NoSource, NotReached, NoPin, TwoPins, NoSink, LeadsOn, EndsAt, IsSetOf, is_in, AreHops, AreNodes, IsNumbered, AreOneWay, IsClosed, IsHopFault, AreAllReached, AreEdges, AreEnds, AreNumbers, IsFaultOf, told_fault}
 use Rattle.layout_check.proofs.Numbers.{hop_small, number_again}
 use Rattle.layout_check.proofs.ByNumber.{back_to, from_hop, from_number, never_reached, not_listed, to_hop, to_number, tree_by_number}
 
@@ -36,11 +17,7 @@ module _ (basis : Basis) (lawful : IsRoutingGraph basis (graph_of basis)) where
 
   pub two_told : (root : ℕ) (sinks nodes : List ℕ) (hops : List (ℕ × ℕ)) → AreHops basis hops → (a b node : ℕ) → Contains hops (a, node) → Contains hops (b, node) → a ≢ b →
       IsFaultOf basis root sinks nodes hops (TwoWays ((graph_of basis).node a) ((graph_of basis).node b) ((graph_of basis).node node))
-  two_told root sinks nodes hops small a b node c d apart paths ends so are = (
-    from_hop basis lawful paths nodes hops so a node c,
-    from_hop basis lawful paths nodes hops so b node d,
-    differ a b (hop_small (graph_of basis).count hops small a node c).0 (hop_small (graph_of basis).count hops small b node d).0 apart,
-  )
+  two_told root sinks nodes hops small a b node c d apart paths ends so are = grind (arith, differ, hop_small, from_hop basis lawful paths nodes hops so a node c, from_hop basis lawful paths nodes hops so b node d, differ a b (hop_small (graph_of basis).count hops small a node c).0 (hop_small (graph_of basis).count hops small b node d).0 apart, hop_small (graph_of basis).count hops small a node c, hop_small (graph_of basis).count hops small b node d)
 
   pub source_told : (root : ℕ) (sinks nodes : List ℕ) (hops : List (ℕ × ℕ)) → root < (graph_of basis).count → (marks : List Bool) → IsSetOf nodes marks → is_in marks root ≡ false → IsFaultOf basis root sinks nodes hops NoSource
   source_told root sinks nodes hops small marks exact out paths ends so are =
@@ -100,11 +77,6 @@ module _ (basis : Basis) (lawful : IsRoutingGraph basis (graph_of basis)) where
   hop_told root sinks nodes hops small (IntoRoot from) c = into_told root sinks nodes hops from c
   hop_told root sinks nodes hops small (TwoHops from other to) (c, d, apart) = two_told root sinks nodes hops small from other to c d apart
 
-  pub hop_fault_within : (root : ℕ) (hops : List (ℕ × ℕ)) → AreHops basis hops → (fault : HopFault) → IsHopFault hops root fault → IsFaultWithin (graph_of basis).count fault
-  hop_fault_within root hops small (IntoRoot from) c = (hop_small (graph_of basis).count hops small from root c).0
-  hop_fault_within root hops small (TwoHops from other to) (c, d, apart) =
-      ((hop_small (graph_of basis).count hops small from to c).0, (hop_small (graph_of basis).count hops small other to d).0, (hop_small (graph_of basis).count hops small from to c).1)
-
   pub at_fault : (root : ℕ) (sinks nodes : List ℕ) (hops : List (ℕ × ℕ)) (x y : RouteFault) → x ≡ y → IsFaultOf basis root sinks nodes hops y → IsFaultOf basis root sinks nodes hops x
   at_fault root sinks nodes hops x y same is = subst (λ f. IsFaultOf basis root sinks nodes hops f) (sym same) is
 
@@ -113,8 +85,7 @@ module _ (basis : Basis) (lawful : IsRoutingGraph basis (graph_of basis)) where
   at_one root sinks nodes hops fault x y same is = subst (λ n. IsFaultOf basis root sinks nodes hops (fault n)) (sym same) is
 
   pub at_two : (root : ℕ) (sinks nodes : List ℕ) (hops : List (ℕ × ℕ)) (fault : Node → Node → RouteFault) (x y z w : Node) → x ≡ y → z ≡ w → IsFaultOf basis root sinks nodes hops (fault y w) → IsFaultOf basis root sinks nodes hops (fault x z)
-  at_two root sinks nodes hops fault x y z w same also is =
-      subst (λ n. IsFaultOf basis root sinks nodes hops (fault n z)) (sym same) (subst (λ n. IsFaultOf basis root sinks nodes hops (fault y n)) (sym also) is)
+  at_two root sinks nodes hops fault x y z w same also is = grind arith
 
   -- the ends by number
   pub ends_are : (sinks nodes : List ℕ) (hops : List (ℕ × ℕ)) (inside marks wanted : List Bool) → IsSetOf nodes inside → IsSetOf (map (λ hop. hop.0) hops) marks → IsSetOf sinks wanted →

@@ -1,13 +1,6 @@
 -- What is wrong with a block by itself.
 use Rattle.std.specs.Prelude.{ℕ, ◌≡◌, ◌<◌, ◌≤◌, List, All, Contains, Some, None, length, slice_get}
-use Rattle.arch_file.specs.declared.arch.Arch.{Arch}
-use Rattle.arch_file.specs.declared.arch.PinClass.TheVariants.{Clock, Output}
-use Rattle.block_places.specs.Fits.{kind_of}
-use Rattle.grid.specs.declared.Strip.{Strip}
-use Rattle.grid.specs.Places.{places_of}
-use Rattle.implements.specs.declared.feed.Feed.{Feed}
-use Rattle.implements.specs.Implements.{IsNarrowBle, ble_places}
-use Rattle.implements.specs.Layouts.{IsFed, LaidBle, LaidBlock, input_net, on_pin}
+use Rattle.layout_check.specs.Prelude.{Arch, Clock, Output, kind_of, Strip, places_of, Feed, IsNarrowBle, ble_places, IsFed, LaidBle, LaidBlock, input_net, on_pin}
 use Rattle.layout_check.specs.declared.fault.BleFault.{BleFault}
 use Rattle.layout_check.specs.declared.fault.BleFault.TheVariants.{TooManyInputs, NoInput, NoClock, WrongOutput}
 use Rattle.layout_check.specs.declared.fault.BlockFault.{BlockFault}

@@ -1,13 +1,7 @@
 -- What is wrong with the entry of a net between blocks.
 use Rattle.std.specs.Prelude.{ℕ, ◌≡◌, ◌+◌, ◌<◌, Bool, true, false, List, Contains, Some, slice_get, slice_index, if◌then◌else◌}
 use Rattle.std.specs.List.{list_any}
-use Rattle.blif.specs.declared.circuit.Circuit.{Circuit}
-use Rattle.implements.specs.Implements.{drives, listed_with, sinks_of}
-use Rattle.implements.specs.Layouts.{LaidBlock, LaidNet, Layout}
-use Rattle.pathfinder.specs.LegalRoutes.{path_nodes}
-use Rattle.pathfinder.specs.Terminals.{is_same_node, source_at}
-use Rattle.rr_graph.specs.declared.node.Node.{Node}
-use Rattle.rr_graph.specs.Graph.{Basis, graph_of}
+use Rattle.layout_check.specs.Prelude.{Circuit, drives, listed_with, sinks_of, LaidBlock, LaidNet, Layout, path_nodes, is_same_node, source_at, Node, Basis, graph_of}
 use Rattle.layout_check.specs.declared.fault.EntryFault.{EntryFault}
 use Rattle.layout_check.specs.declared.fault.EntryFault.TheVariants.{NoDriver, TwoDrivers, Listed, Paths}
 use Rattle.layout_check.specs.RouteFaults.{IsPathFault}

@@ -2,13 +2,7 @@
 use Rattle.std.specs.Prelude.{ℕ, ◌≡◌, ◌<◌, ◌+◌, ◌==◌, Bool, true, false, ◌||◌, List, Option, None, Some, count_by, length, slice_get, slice_index_or, take}
 use Rattle.std.specs.List.{flat_map, list_any}
 use Rattle.std.specs.Option.{ForSome, option_map_or}
-use Rattle.blif.specs.declared.circuit.Circuit.{Circuit}
-use Rattle.blif.specs.declared.latches.Latch.{Latch}
-use Rattle.blif.specs.LawfulCircuits.{IsCircuit}
-use Rattle.blif.specs.LookupTables.{LookupTable}
-use Rattle.ble_cluster.specs.Bles.{LogicElement}
-use Rattle.implements.specs.Holding.{holds_latch, holds_table, is_latch, is_pair}
-use Rattle.implements.specs.Layouts.{LaidBle, LaidBlock}
+use Rattle.layout_check.specs.Prelude.{Circuit, Latch, IsCircuit, LookupTable, LogicElement, holds_latch, holds_table, is_latch, is_pair, LaidBle, LaidBlock}
 use Rattle.layout_check.specs.declared.fault.BleNumber.{BleNumber}
 use Rattle.layout_check.specs.declared.held.HeldFault.{HeldFault}
 use Rattle.layout_check.specs.declared.held.HeldFault.TheVariants.{Unlawful, Ble, TableTwice, NoTable, LatchTwice, NoLatch}

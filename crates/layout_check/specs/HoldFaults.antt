@@ -1,11 +1,6 @@
 -- Why a BLE holds no table and no latch of a circuit.
 use Rattle.std.specs.Prelude.{ℕ, ◌≡◌, ◌<◌, ◌==◌, true, false, List, [], ◌∷◌, Contains, None, Some, count_by, slice_get}
-use Rattle.blif.specs.declared.circuit.Circuit.{Circuit}
-use Rattle.blif.specs.declared.latches.Latch.{Latch}
-use Rattle.blif.specs.LookupTables.{LookupTable}
-use Rattle.ble_cluster.specs.Nets.{has}
-use Rattle.ble_cluster.specs.Bles.{LogicElement, is_read_once}
-use Rattle.implements.specs.Holding.{is_same_net, receives}
+use Rattle.layout_check.specs.Prelude.{Circuit, Latch, LookupTable, has, LogicElement, is_read_once, is_same_net, receives}
 use Rattle.layout_check.specs.declared.fault.HoldFault.{HoldFault}
 use Rattle.layout_check.specs.declared.fault.HoldFault.TheVariants.{NotDriven, Clocked, Table, WrongClock, Latch as LatchAlone, Pair, ReadElsewhere}
 use Rattle.layout_check.specs.declared.fault.ReadFault.{ReadFault}

@@ -1,3 +1,4 @@
+pub mod Prelude
 pub mod Marks
 pub mod NumberTrees
 pub mod Numbered
@@ -11,3 +12,4 @@ pub mod NetOwners
 pub mod Helds
 pub mod Wrongs
 pub mod NetBlocks
+pub mod Pads

@@ -2,12 +2,9 @@
 use Rattle.std.specs.Prelude.{ℕ, ◌≡◌, ◌<◌, ◌++◌, ◌||◌, Bool, List, [], ◌∷◌, Some, filter, length, map, option_map, slice_get, slice_index_or, if◌then◌else◌}
 use Rattle.std.specs.List.{enumerate_from, flat_map}
 use Rattle.std.specs.Option.{option_to_list}
-use Rattle.arch_file.specs.declared.arch.Arch.{Arch}
-use Rattle.implements.specs.Implements.{drives, wants}
-use Rattle.implements.specs.Layouts.{LaidBlock, LaidNet}
-use Rattle.pathfinder.specs.Terminals.{sink_at}
-use Rattle.rr_graph.specs.declared.node.Node.{Node}
+use Rattle.layout_check.specs.Prelude.{Arch, drives, wants, LaidBlock, LaidNet, sink_at, Node}
 use Rattle.layout_check.specs.declared.net_blocks.NetBlocks.{NetBlocks}
+use Rattle.layout_check.specs.declared.net_blocks.NetLists.{NetLists}
 use Rattle.layout_check.specs.Marks.{is_in}
 
 -- the list with this number
@@ -48,3 +45,12 @@ pub record IsNoted (number count : ℕ) (test : ℕ → Bool) (before after : Li
   pub marked : length after ≡ count
   pub exact : (net : ℕ) → net < count → is_in after net ≡ (is_in before net || test net)
   pub noted : (start : List (List ℕ)) → AreNoted number count before start old → AreNoted number count after start new
+
+-- Private: the same of lists that are filled
+abbrev pub NotesIn : ℕ → ℕ → (ℕ → Bool) → NetLists → NetLists → Type 0
+NotesIn number count test old new = IsNoted number count test old.marks new.marks old.lists new.lists
+
+-- Private: they are for this number of nets
+pub record HaveRoom (count : ℕ) (found : NetLists) : Type 0 where
+  pub marks : length found.marks ≡ count
+  pub lists : length found.lists ≡ count

@@ -1,10 +1,6 @@
 -- What is wrong with the nets between blocks.
 use Rattle.std.specs.Prelude.{ℕ, ◌≡◌, ◌<◌, ◌≤◌, List, Some, count_by, slice_get, slice_index}
-use Rattle.blif.specs.declared.circuit.Circuit.{Circuit}
-use Rattle.implements.specs.Layouts.{LaidNet, Layout}
-use Rattle.rr_graph.specs.declared.node.Node.{Node}
-use Rattle.rr_graph.specs.Geometry.{capacity_of}
-use Rattle.rr_graph.specs.Graph.{Basis, graph_of}
+use Rattle.layout_check.specs.Prelude.{Circuit, LaidNet, Layout, Node, capacity_of, Basis, graph_of}
 use Rattle.layout_check.specs.declared.fault.NetFault.{NetFault}
 use Rattle.layout_check.specs.declared.fault.NetFault.TheVariants.{Entry, Overused}
 use Rattle.layout_check.specs.EntryFaults.{IsEntryFault, is_on}

@@ -1,9 +1,6 @@
 -- Private: what drives nets and how often they are read, by net.
 use Rattle.std.specs.Prelude.{ℕ, ◌≡◌, ◌<◌, ◌==◌, List, ◌++◌, Some, count_by, length, min, slice_get, slice_index, slice_index_or}
-use Rattle.blif.specs.declared.circuit.Circuit.{Circuit}
-use Rattle.blif.specs.declared.latches.Latch.{Latch}
-use Rattle.blif.specs.LookupTables.{LookupTable}
-use Rattle.ble_cluster.specs.Bles.{reads_of}
+use Rattle.layout_check.specs.Prelude.{Circuit, Latch, LookupTable, reads_of}
 use Rattle.layout_check.specs.declared.owners.Owner.{Owner}
 use Rattle.layout_check.specs.declared.owners.Owner.TheVariants.{Nothing, Table, Latch as LatchOwner}
 

@@ -1,10 +1,6 @@
 -- Paths by the numbers of their nodes.
 use Rattle.std.specs.Prelude.{ℕ, ◌≡◌, ◌<◌, true, List, All, map}
-use Rattle.rr_graph.specs.declared.node.Node.{Node}
-use Rattle.rr_graph.specs.Geometry.{is_node}
-use Rattle.rr_graph.specs.Graph.{Basis, RoutingGraph, graph_of}
-use Rattle.pathfinder.specs.LegalRoutes.{pairs_of, path_nodes}
-use Rattle.pathfinder.specs.PlacedNets.{number_of}
+use Rattle.layout_check.specs.Prelude.{Node, is_node, Basis, RoutingGraph, graph_of, pairs_of, path_nodes, number_of}
 
 -- a pair of nodes by number
 abbrev pub hop_of : RoutingGraph → Node × Node → ℕ × ℕ

@@ -1,10 +1,6 @@
 -- What is wrong with the paths of a net.
 use Rattle.std.specs.Prelude.{ℕ, ◌≡◌, ◌≢◌, Bool, true, false, List, [], ◌∷◌, Contains}
-use Rattle.rr_graph.specs.declared.node.Node.{Node}
-use Rattle.rr_graph.specs.declared.node.NodeKind.TheVariants.{Opin}
-use Rattle.rr_graph.specs.Geometry.{is_edge, is_node}
-use Rattle.rr_graph.specs.Graph.{Basis}
-use Rattle.pathfinder.specs.LegalRoutes.{IsLeaf, LeadsOver, pairs_of, path_nodes}
+use Rattle.layout_check.specs.Prelude.{Node, Opin, is_edge, is_node, Basis, IsLeaf, LeadsOver, pairs_of, path_nodes}
 use Rattle.layout_check.specs.declared.fault.RouteFault.{RouteFault}
 use Rattle.layout_check.specs.declared.fault.RouteFault.TheVariants.{NoNode, NoEdge, IntoSource, TwoWays, NoSource, NotReached, NoPin, TwoPins, NoSink, LeadsOn, EndsAt, NotEmpty}
 

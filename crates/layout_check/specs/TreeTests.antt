@@ -1,10 +1,6 @@
 -- What the tests of a net's tree say of it, by the numbers of its nodes.
 use Rattle.std.specs.Prelude.{ℕ, ◌≡◌, ◌↔◌, true, List, [], All, Contains, length, map}
-use Rattle.rr_graph.specs.declared.node.Node.{Node}
-use Rattle.rr_graph.specs.Geometry.{is_edge, is_node}
-use Rattle.rr_graph.specs.Graph.{Basis, graph_of}
-use Rattle.pathfinder.specs.LegalRoutes.{IsLeaf}
-use Rattle.pathfinder.specs.PlacedNets.{number_of}
+use Rattle.layout_check.specs.Prelude.{Node, is_edge, is_node, Basis, graph_of, IsLeaf, number_of}
 use Rattle.layout_check.specs.declared.fault.RouteFault.{RouteFault}
 use Rattle.layout_check.specs.declared.fault.RouteFault.TheVariants.{IntoSource, TwoWays}
 use Rattle.layout_check.specs.declared.trees.HopFault.{HopFault}

@@ -2,25 +2,7 @@
 use Rattle.std.specs.Prelude.{ℕ, ◌≡◌, ◌≢◌, ◌<◌, ◌≤◌, true, false, List, All, AllPairs, Contains, Some, count_by, length, map, slice_get}
 use Rattle.std.specs.List.{flat_map, list_any}
 use Rattle.std.specs.Option.{option_map_or}
-use Rattle.arch_file.specs.declared.arch.Arch.{Arch}
-use Rattle.blif.specs.declared.circuit.Circuit.{Circuit}
-use Rattle.blif.specs.declared.latches.Latch.{Latch}
-use Rattle.blif.specs.LawfulCircuits.{IsCircuit}
-use Rattle.blif.specs.LookupTables.{LookupTable}
-use Rattle.ble_cluster.specs.Nets.{has}
-use Rattle.ble_cluster.specs.Bles.{LogicElement}
-use Rattle.block_places.specs.Fits.{kind_of}
-use Rattle.cluster.specs.Blocks.{is_global}
-use Rattle.grid.specs.declared.Strip.{Strip}
-use Rattle.grid.specs.Places.{places_of}
-use Rattle.implements.specs.Holding.{holds_latch, holds_table}
-use Rattle.implements.specs.Implements.{IsLaid, IsNarrowBle, ble_places, input_at, output_at, wants}
-use Rattle.implements.specs.Layouts.{IsFed, LaidBle, LaidBlock, LaidNet, Layout, traced_ble, traced_bles}
-use Rattle.pathfinder.specs.LegalRoutes.{path_nodes}
-use Rattle.pathfinder.specs.Terminals.{is_same_node}
-use Rattle.rr_graph.specs.declared.node.Node.{Node}
-use Rattle.rr_graph.specs.Geometry.{capacity_of}
-use Rattle.rr_graph.specs.Graph.{Basis}
+use Rattle.layout_check.specs.Prelude.{Arch, Circuit, Latch, IsCircuit, LookupTable, has, LogicElement, kind_of, is_global, Strip, places_of, holds_latch, holds_table, IsLaid, IsNarrowBle, ble_places, input_at, output_at, wants, IsFed, LaidBle, LaidBlock, LaidNet, Layout, traced_ble, traced_bles, path_nodes, is_same_node, Node, capacity_of, Basis}
 use Rattle.layout_check.specs.declared.fault.BleNumber.{BleNumber}
 use Rattle.layout_check.specs.declared.fault.EntryFault.TheVariants.{TwoDrivers}
 use Rattle.layout_check.specs.declared.fault.NetFault.TheVariants.{Entry}

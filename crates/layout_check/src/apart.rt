@@ -1,7 +1,6 @@
 //! Whether places differ, and nets have one entry each.
 ghost use Rattle.std.specs.Prelude.{◌≡◌, ◌≢◌, ◌<◌, ℕ, AllPairs, MatchOption, Some, slice_get};
-ghost use Rattle.grid.specs.declared.place.Place.{Place as PlaceValue};
-ghost use Rattle.implements.specs.Layouts.{LaidBlock as BlockValue, LaidNet as NetValue};
+ghost use Rattle.layout_check.specs.Prelude.{Place as PlaceValue, LaidBlock as BlockValue, LaidNet as NetValue};
 
 use grid::Place;
 use layouts::{LaidBlock, LaidNet};

@@ -1,10 +1,7 @@
 //! Whether nets come to the inputs of BLEs.
 ghost use Rattle.std.specs.Prelude.{◌≡◌, ◌<◌, ℕ, All, MatchBool, MatchOption, None, Some, is_some, slice_get, true};
 ghost use Rattle.std.specs.Option.{ForSome};
-ghost use Rattle.arch_file.specs.declared.arch.PinClass.TheVariants.{Clock, Output};
-ghost use Rattle.implements.specs.declared.feed.Feed.{Feed as FeedValue};
-ghost use Rattle.implements.specs.Implements.{IsNarrowBle};
-ghost use Rattle.implements.specs.Layouts.{IsFed, LaidBle as BleValue, input_net, on_pin};
+ghost use Rattle.layout_check.specs.Prelude.{Clock, Output, Feed as FeedValue, IsNarrowBle, IsFed, LaidBle as BleValue, input_net, on_pin};
 ghost use Rattle.layout_check.specs.BlockFaults.{IsBleFault};
 
 use crate::fault::BleFault;

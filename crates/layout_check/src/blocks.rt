@@ -1,11 +1,6 @@
 //! Whether blocks have room, and are on places of their kind.
 ghost use Rattle.std.specs.Prelude.{◌≡◌, ◌≢◌, ◌<◌, ℕ, All, AllPairs, Contains, MatchBool, MatchOption, None, Some, length, slice_get};
-ghost use Rattle.block_places.specs.Fits.{kind_of};
-ghost use Rattle.grid.specs.PlaceLaws.{IsPlaceIn};
-ghost use Rattle.grid.specs.Places.{places_of};
-ghost use Rattle.grid.specs.Sizes.{IsStripSize};
-ghost use Rattle.implements.specs.Implements.{ble_places};
-ghost use Rattle.implements.specs.Layouts.{LaidBlock as BlockValue};
+ghost use Rattle.layout_check.specs.Prelude.{kind_of, IsPlaceIn, places_of, IsStripSize, ble_places, LaidBlock as BlockValue};
 ghost use Rattle.layout_check.specs.BlockFaults.{IsBlockFault, IsBlockRight};
 
 use crate::bles::check_bles;

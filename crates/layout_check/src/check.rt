@@ -1,7 +1,6 @@
 //! Whether a layout implements a circuit.
 ghost use Rattle.std.specs.Prelude.{◌≡◌, ℕ, IfOk, MatchOption, MatchResult};
-ghost use Rattle.blif.specs.LawfulCircuits.{IsCircuit};
-ghost use Rattle.implements.specs.Implements.{Implements};
+ghost use Rattle.layout_check.specs.Prelude.{IsCircuit, Implements};
 ghost use Rattle.layout_check.specs.Wrongs.{AreListsRight, ArePortsRight, IsConnected, IsWrong};
 
 use crate::apart::{same_net, same_place};
@@ -10,7 +9,7 @@ use crate::fault::Wrong;
 use crate::globals::{first_left_out, first_local};
 use crate::held::check_held;
 use crate::nets::check_nets;
-use crate::ports::{has_inputs, has_outputs};
+use crate::ports::{PadUse, has_pads};
 use crate::wanted::check_wanted;
 use blif::Circuit;
 use layouts::Layout;
@@ -51,11 +50,11 @@ fn check_ports(
     ensures { IfOk result (λ found. MatchOption found (ArePortsRight circuit.now graph.now layout.now) (IsWrong circuit.now graph.now layout.now)) }
 {
     let blocks = layout.blocks();
-    let inputs = has_inputs(alloc, circuit, blocks)?;
+    let inputs = has_pads(alloc, blocks, PadUse::Input, circuit.inputs.as_slice())?;
     if !inputs {
         return Ok(Some(Wrong::Inputs));
     }
-    let outputs = has_outputs(alloc, circuit, blocks)?;
+    let outputs = has_pads(alloc, blocks, PadUse::Output, circuit.outputs.as_slice())?;
     if !outputs {
         return Ok(Some(Wrong::Outputs));
     }

@@ -1,37 +1,11 @@
 //! The blocks that drive a net, and those at which it is wanted.
 ghost use Rattle.std.specs.Prelude.{◌≡◌, ◌++◌, ◌<◌, All, Contains, OnOk, MatchOption, Some, length, option_map, slice_get};
-ghost use Rattle.implements.specs.Layouts.{LaidBlock as BlockValue};
-ghost use Rattle.pathfinder.specs.Terminals.{sink_at, source_at, terminal_number};
+ghost use Rattle.layout_check.specs.Prelude.{LaidBlock as BlockValue, sink_at, source_at};
 ghost use Rattle.layout_check.specs.NetBlocks.{sinks_at};
 
-use cluster::Block;
-use grid::Place;
 use layouts::LaidBlock;
-use rr_graph::{Node, NodeKind};
+use rr_graph::Node;
 use std::alloc::AllocError;
-
-/// The number of a block's source or sink: a pad's number, or the class of a cluster's pins.
-fn terminal_number(block: Block, place: Place, class: u32) -> u32
-    ensures { result ≡ terminal_number block place class }
-{
-    match block {
-        Block::Cluster(_) => class,
-        Block::InputPad(_) => place.subblock,
-        Block::OutputPad(_) => place.subblock,
-    }
-}
-
-/// The node at which the block drives a net.
-fn source_at(block: Block, place: Place) -> Node
-    ensures { result ≡ source_at block place }
-{
-    Node {
-        x: place.x,
-        kind: NodeKind::Source,
-        y: place.y,
-        n: terminal_number(block, place, 1),
-    }
-}
 
 /// The node at which the block with this number drives a net.
 pub(crate) fn source_of(blocks: &[LaidBlock], driver: usize) -> Node
@@ -39,20 +13,7 @@ pub(crate) fn source_of(blocks: &[LaidBlock], driver: usize) -> Node
     ensures { (block : BlockValue) → slice_get blocks.now driver ≡ Some block →
         result ≡ source_at block.block block.place }
 {
-    let block = &blocks[driver];
-    source_at(block.block(), block.place())
-}
-
-/// The node at which the block reads nets.
-fn sink_at(block: Block, place: Place) -> Node
-    ensures { result ≡ sink_at block place }
-{
-    Node {
-        x: place.x,
-        kind: NodeKind::Sink,
-        y: place.y,
-        n: terminal_number(block, place, 0),
-    }
+    blocks[driver].source()
 }
 
 /// The first of the numbers of the blocks that drive a net.
@@ -84,7 +45,7 @@ fn sink_of(blocks: &[LaidBlock], number: usize) -> Option<Node>
     ensures { result ≡ option_map (λ laid. sink_at laid.block laid.place) (slice_get blocks.now number) }
 {
     match blocks.get(number) {
-        Some(block) => Some(sink_at(block.block(), block.place())),
+        Some(block) => Some(block.sink()),
         None => None,
     }
 }

@@ -2,8 +2,7 @@
 ghost use Rattle.std.specs.Prelude.{◌≡◌, ◌++◌, ◌<◌, OnOk, IfOk, length, map, option_and_then};
 ghost use Rattle.std.specs.List.{flat_map};
 ghost use Rattle.std.specs.Option.{option_to_list};
-ghost use Rattle.arch_file.specs.declared.arch.PinClass.TheVariants.{Clock};
-ghost use Rattle.implements.specs.Layouts.{input_net, on_pin, traced_ble};
+ghost use Rattle.layout_check.specs.Prelude.{Clock, input_net, on_pin, traced_ble};
 ghost use Rattle.layout_check.specs.Helds.{IsNumberOf};
 
 use crate::fault::BleNumber;

@@ -1,13 +1,10 @@
 //! Whether the entry of a net between blocks is laid.
 ghost use Rattle.std.specs.Prelude.{◌≡◌, ◌++◌, ◌+◌, ◌<◌, ◌==◌, ◌^◌, [], ◌∷◌, ℕ, IfOk, IfNone, OnOk, MatchBool, MatchOption, filter, length, not, slice_index, if◌then◌else◌};
-ghost use Rattle.cluster.specs.Blocks.{is_global};
-ghost use Rattle.implements.specs.Implements.{IsLaid};
-ghost use Rattle.pathfinder.specs.LegalRoutes.{IsRouted};
-ghost use Rattle.rr_graph.specs.Graph.{graph_of};
+ghost use Rattle.layout_check.specs.Prelude.{is_global, IsLaid, IsRouted, graph_of};
 ghost use Rattle.layout_check.specs.EntryFaults.{AreUsedBy, IsEntryFault};
 ghost use Rattle.layout_check.specs.NetBlocks.{AreBlocksOf, sinks_at};
 ghost use Rattle.layout_check.specs.RouteFaults.{IsPathFault};
-ghost use Rattle.layout_check.specs.TreeTests.{AreEmpty, HasRoom};
+ghost use Rattle.layout_check.specs.TreeTests.{HasRoom};
 
 use crate::drivers::{add_sinks, first_driver, other_driver, source_of};
 use crate::fault::{EntryFault, RouteFault};
@@ -15,7 +12,7 @@ use crate::inside::is_net;
 use crate::net_blocks::NetBlocks;
 use crate::paths::check_routed;
 use crate::uses::count_uses;
-use crate::work::{NetNumbers, Work, no_numbers};
+use crate::work::{Work, no_numbers};
 use blif::Circuit;
 use layouts::{LaidBlock, LaidNet, LaidPath, Layout};
 use rr_graph::{Fabric, Node, StripGraph};
@@ -46,7 +43,7 @@ fn add_readers(readers: &[usize], driver: usize, listed: &mut Vec<usize>) -> Res
 }
 
 /// Whether the numbers are equal.
-fn same_numbers(numbers: &[u32], others: &[usize]) -> bool
+pub(crate) fn same_numbers(numbers: &[u32], others: &[usize]) -> bool
     ensures { MatchBool result (numbers.now ≡ others.now) (numbers.now ≡ others.now → ⊥) }
 {
     if numbers.len() != others.len() {
@@ -111,37 +108,6 @@ fn sinks_of(
     Ok(sinks)
 }
 
-/// Finds what is wrong with the paths of a net, or counts their nodes.
-fn check_and_count(
-    graph: &Fabric,
-    work: &mut Work,
-    source: Node,
-    sinks: &[Node],
-    paths: &[LaidPath],
-    numbers: &mut NetNumbers,
-    uses: &mut Vec<u64>,
-) -> Result<Option<RouteFault>, AllocError>
-    requires room { HasRoom work.old (graph_of graph.now).count }
-    requires empty { AreEmpty numbers.old }
-    requires uses { length uses.old.items ≡ (graph_of graph.now).count }
-    requires few { (k : ℕ) → slice_index uses.old.items k + 1 < 2 ^ 64 }
-    ensures room { HasRoom work.new (graph_of graph.now).count }
-    ensures uses { length uses.new.items ≡ (graph_of graph.now).count }
-    ensures exact { IfOk result (λ fault. MatchOption fault
-        (IsRouted graph.now.arch graph.now.strip source sinks.now paths.now)
-        (IsPathFault graph.now source sinks.now paths.now)) }
-    ensures used { IfOk result (λ fault. IfNone fault
-        (AreUsedBy graph.now paths.now uses.old.items uses.new.items)) }
-{
-    graph.laws();
-    if let Some(fault) = check_routed(graph, work, source, sinks, paths, numbers)? {
-        return Ok(Some(fault));
-    }
-    work.marks.clear();
-    count_uses(numbers.nodes.as_slice(), &mut work.marks, uses);
-    Ok(None)
-}
-
 /// Finds what is wrong with the paths of a net, or counts their nodes. Takes memory for their
 /// numbers.
 fn check_paths(
@@ -164,10 +130,14 @@ fn check_paths(
     ensures used { IfOk result (λ fault. IfNone fault
         (AreUsedBy graph.now paths.now uses.old.items uses.new.items)) }
 {
+    graph.laws();
     let mut numbers = no_numbers(alloc);
-    let found = check_and_count(graph, work, source, sinks, paths, &mut numbers, uses);
-    drop(numbers);
-    found
+    if let Some(fault) = check_routed(graph, work, source, sinks, paths, &mut numbers)? {
+        return Ok(Some(fault));
+    }
+    work.marks.clear();
+    count_uses(numbers.nodes.as_slice(), &mut work.marks, uses);
+    Ok(None)
 }
 
 /// Finds what is wrong with the entry of a net, or counts the nodes of its paths.

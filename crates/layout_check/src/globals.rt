@@ -2,9 +2,7 @@
 ghost use Rattle.std.specs.Prelude.{◌≡◌, ◌==◌, ℕ, Contains, MatchOption, Some, false, slice_get, true};
 ghost use Rattle.std.specs.List.{list_any};
 ghost use Rattle.std.specs.Option.{option_map_or};
-ghost use Rattle.blif.specs.declared.latches.Latch.{Latch as LatchValue};
-ghost use Rattle.ble_cluster.specs.Nets.{has};
-ghost use Rattle.cluster.specs.Blocks.{is_global};
+ghost use Rattle.layout_check.specs.Prelude.{Latch as LatchValue, has, is_global};
 
 use crate::entry::is_global;
 use blif::Circuit;

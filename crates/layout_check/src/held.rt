@@ -1,8 +1,6 @@
 //! Whether each table and each latch of the circuit is in exactly one BLE.
 ghost use Rattle.std.specs.Prelude.{◌≡◌, [], IfOk, List, MatchOption, Some, slice_get};
-ghost use Rattle.ble_cluster.specs.Bles.{LogicElement};
-ghost use Rattle.implements.specs.Holding.{AreBlesOf};
-ghost use Rattle.implements.specs.Layouts.{traced_bles};
+ghost use Rattle.layout_check.specs.Prelude.{LogicElement, AreBlesOf, traced_bles};
 ghost use Rattle.layout_check.specs.Helds.{AreHeld, IsHeldFault, of_latches, of_tables};
 ghost use Rattle.layout_check.specs.HoldFaults.{IsHoldFault};
 ghost use Rattle.layout_check.specs.NetOwners.{AreNets};

@@ -1,9 +1,6 @@
 //! Which table and which latch a BLE holds.
 ghost use Rattle.std.specs.Prelude.{◌≡◌, ◌<◌, MatchOption, MatchResult, Some, length, slice_get, true};
-ghost use Rattle.blif.specs.declared.latches.Latch.{Latch as LatchValue};
-ghost use Rattle.blif.specs.LookupTables.{LookupTable};
-ghost use Rattle.ble_cluster.specs.Bles.{is_read_once, reads_of};
-ghost use Rattle.implements.specs.Holding.{is_same_net, is_table, receives};
+ghost use Rattle.layout_check.specs.Prelude.{Latch as LatchValue, LookupTable, is_read_once, reads_of, is_same_net, is_table, receives};
 ghost use Rattle.layout_check.specs.Helds.{IsHeld, IsLatchOrPair};
 ghost use Rattle.layout_check.specs.HoldFaults.{DrivesAsPair, IsHoldFault};
 ghost use Rattle.layout_check.specs.NetOwners.{AreCounts, AreNets};

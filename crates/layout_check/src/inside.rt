@@ -1,9 +1,7 @@
 //! The nets on the pins of a block and at the inputs of its BLEs.
 ghost use Rattle.std.specs.Prelude.{◌≡◌, option_and_then, slice_get, false};
 ghost use Rattle.std.specs.Option.{option_map_or};
-ghost use Rattle.cluster.specs.Blocks.{is_same_class};
-ghost use Rattle.implements.specs.Layouts.{input_net, on_pin};
-ghost use Rattle.implements.specs.Implements.{is_net};
+ghost use Rattle.layout_check.specs.Prelude.{is_same_class, input_net, on_pin, is_net};
 
 use arch_file::{Arch, PinClass};
 use implements::Feed;

@@ -1,8 +1,6 @@
 //! Whether the nets between blocks are laid, and no node is in too many trees.
 ghost use Rattle.std.specs.Prelude.{◌≡◌, ◌<◌, ℕ, All, IfOk, IfNone, MatchOption, Some, length, replicate, slice_get};
-ghost use Rattle.implements.specs.Implements.{IsLaid};
-ghost use Rattle.implements.specs.Layouts.{LaidNet as NetValue};
-ghost use Rattle.rr_graph.specs.Graph.{graph_of};
+ghost use Rattle.layout_check.specs.Prelude.{IsLaid, LaidNet as NetValue, graph_of};
 ghost use Rattle.layout_check.specs.EntryFaults.{IsEntryFault};
 ghost use Rattle.layout_check.specs.NetBlocks.{AreBlocksOf};
 ghost use Rattle.layout_check.specs.NetFaults.{AreCarried, AreUses, IsNetFault};

@@ -1,9 +1,6 @@
 //! The nodes of paths by their numbers.
 ghost use Rattle.std.specs.Prelude.{◌≡◌, ◌++◌, [], IfOk, OnOk, MatchOption, Contains, All, map, false, true};
-ghost use Rattle.rr_graph.specs.Geometry.{is_node};
-ghost use Rattle.rr_graph.specs.Graph.{graph_of};
-ghost use Rattle.pathfinder.specs.LegalRoutes.{path_nodes, steps_of};
-ghost use Rattle.pathfinder.specs.PlacedNets.{number_of};
+ghost use Rattle.layout_check.specs.Prelude.{is_node, graph_of, path_nodes, steps_of, number_of};
 ghost use Rattle.layout_check.specs.Numbered.{IsNumbered};
 
 use layouts::LaidPath;

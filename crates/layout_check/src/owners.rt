@@ -1,6 +1,6 @@
 //! The table or latch that drives a net.
 ghost use Rattle.std.specs.Prelude.{◌≡◌, ◌<◌, MatchBool, MatchOption, length, replicate};
-ghost use Rattle.blif.specs.LawfulCircuits.{IsCircuit};
+ghost use Rattle.layout_check.specs.Prelude.{IsCircuit};
 ghost use Rattle.layout_check.specs.NetOwners.{AreOwners, AreOwnersUpTo, owner_of};
 ghost use Rattle.layout_check.specs.declared.owners.Owner.TheVariants.{Nothing};
 

@@ -1,8 +1,6 @@
 //! Whether the paths of a net are its tree.
 ghost use Rattle.std.specs.Prelude.{◌≡◌, ◌+◌, ◌<◌, ◌≤◌, ◌^◌, [], ℕ, IfOk, IfNone, MatchOption, Contains, length, slice_index, if◌then◌else◌};
-ghost use Rattle.rr_graph.specs.Graph.{graph_of};
-ghost use Rattle.pathfinder.specs.LegalRoutes.{IsRoute, IsRouted, path_nodes};
-ghost use Rattle.ble_cluster.specs.Nets.{has};
+ghost use Rattle.layout_check.specs.Prelude.{graph_of, IsRoute, IsRouted, path_nodes, has};
 ghost use Rattle.layout_check.specs.Marks.{IsClear};
 ghost use Rattle.layout_check.specs.RouteFaults.{IsPathFault, IsRouteFault};
 ghost use Rattle.layout_check.specs.TreeTests.{AreEmpty, AreNumbers, HasRoom};

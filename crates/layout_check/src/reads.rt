@@ -2,7 +2,7 @@
 ghost use Rattle.std.specs.Prelude.{◌≡◌, ◌<◌, ◌==◌, ℕ, List, [], ◌∷◌, count_by, length, map, replicate};
 ghost use Rattle.std.specs.List.{flat_map};
 ghost use Rattle.std.specs.Option.{option_to_list};
-ghost use Rattle.ble_cluster.specs.Bles.{reads_of};
+ghost use Rattle.layout_check.specs.Prelude.{reads_of};
 ghost use Rattle.layout_check.specs.NetOwners.{AreCounts, CountsOn};
 
 use blif::{Circuit, Latch, Tables};

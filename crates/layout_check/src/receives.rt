@@ -1,8 +1,7 @@
 //! Whether a BLE receives just the nets that it should.
 ghost use Rattle.std.specs.Prelude.{◌≡◌, ◌<◌, ◌==◌, Contains, MatchOption, count_by, false, true};
 ghost use Rattle.std.specs.List.{list_all};
-ghost use Rattle.ble_cluster.specs.Nets.{IsOnce, has};
-ghost use Rattle.implements.specs.Holding.{receives};
+ghost use Rattle.layout_check.specs.Prelude.{IsOnce, has, receives};
 ghost use Rattle.layout_check.specs.HoldFaults.{IsReadFault};
 
 use crate::elements::Element;

@@ -1,10 +1,6 @@
 //! Whether paths are a net's tree.
 ghost use Rattle.std.specs.Prelude.{◌≡◌, ◌<◌, ℕ, List, All, Contains, MatchOption};
-ghost use Rattle.rr_graph.specs.declared.node.Node.{Node};
-ghost use Rattle.rr_graph.specs.Graph.{graph_of};
-ghost use Rattle.pathfinder.specs.LegalRoutes.{IsRoute};
-ghost use Rattle.pathfinder.specs.LegalTrees.{HasOnePin};
-ghost use Rattle.pathfinder.specs.PlacedNets.{wiring_of};
+ghost use Rattle.layout_check.specs.Prelude.{Node, graph_of, IsRoute, HasOnePin, wiring_of};
 ghost use Rattle.layout_check.specs.Marks.{IsSetOf};
 ghost use Rattle.layout_check.specs.Numbered.{AreHops, AreNodes, IsNumbered};
 ghost use Rattle.layout_check.specs.NumberTrees.{AreOneWay, IsFaultWithin};

@@ -1,9 +1,7 @@
 //! The tests of a net's tree.
 ghost use Rattle.std.specs.Prelude.{◌≡◌, ◌<◌, ℕ, List, All, Contains, MatchOption, false, true, ◌==◌};
 ghost use Rattle.std.specs.List.{list_any};
-ghost use Rattle.rr_graph.specs.declared.node.NodeKind.TheVariants.{Opin};
-ghost use Rattle.rr_graph.specs.Geometry.{is_edge};
-ghost use Rattle.rr_graph.specs.Graph.{graph_of};
+ghost use Rattle.layout_check.specs.Prelude.{Opin, is_edge, graph_of};
 ghost use Rattle.layout_check.specs.Numbered.{AreHops, AreNodes};
 
 use rr_graph::{Fabric, NodeKind, StripGraph};

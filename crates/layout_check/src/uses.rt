@@ -1,7 +1,6 @@
 //! How many nets use each node.
 ghost use Rattle.std.specs.Prelude.{◌≡◌, ◌+◌, ◌<◌, ◌≤◌, ◌^◌, ℕ, All, MatchOption, length, slice_index, if◌then◌else◌};
-ghost use Rattle.rr_graph.specs.Geometry.{capacity_of};
-ghost use Rattle.rr_graph.specs.Graph.{graph_of};
+ghost use Rattle.layout_check.specs.Prelude.{capacity_of, graph_of};
 ghost use Rattle.layout_check.specs.Marks.{IsClear, IsSetOf, is_in};
 
 use crate::marks::Marks;

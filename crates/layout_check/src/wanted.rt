@@ -1,9 +1,7 @@
 //! Whether each net that is wanted at a block has an entry.
 ghost use Rattle.std.specs.Prelude.{◌≡◌, ◌<◌, ℕ, All, IfOk, MatchBool, MatchOption, Some, false, length, map, slice_get, true};
 ghost use Rattle.std.specs.Option.{option_map_or};
-ghost use Rattle.ble_cluster.specs.Nets.{has};
-ghost use Rattle.implements.specs.Implements.{has_on, wants};
-ghost use Rattle.implements.specs.Layouts.{LaidBlock as BlockValue, LaidNet as NetValue};
+ghost use Rattle.layout_check.specs.Prelude.{has, has_on, wants, LaidBlock as BlockValue, LaidNet as NetValue};
 ghost use Rattle.layout_check.specs.Marks.{IsClear, IsSetOf, is_in};
 
 use crate::inside::on_pin;

@@ -1,10 +1,5 @@
 -- A list whose elements are read one after another.
-use Rattle.std.proofs.Common.{◌≡◌, ◌≢◌, ◌⊎◌, inl, inr, ℕ, ◌+◌, ◌-◌, ◌<◌, ◌≤◌, nat_lt, true, false, List, [], ◌∷◌, ◌++◌, length, map, take, Option, Some, All, subst, refl, sym, ap, ◌∙◌, arith, append_assoc, append-nil, slice_get, length-append}
-use Rattle.std.specs.List.{enumerate_from, flat_map}
-use Rattle.std.proofs.lemmas.Bool.Decides.{nat_tests}
-use Rattle.std.proofs.lemmas.List.{length-map, map-id}
-use Rattle.std.proofs.lemmas.Option.{get_or_from_slice_get, slice_get_within}
-use Rattle.layout_files.specs.Cursors.{size}
+use Rattle.layout_files.proofs.Prelude.{◌≡◌, ◌≢◌, ◌⊎◌, inl, inr, ℕ, ◌+◌, ◌-◌, ◌<◌, ◌≤◌, nat_lt, true, false, List, [], ◌∷◌, ◌++◌, length, map, take, Option, Some, All, subst, refl, sym, ap, ◌∙◌, arith, append_assoc, append-nil, slice_get, length-append, enumerate_from, flat_map, nat_tests, length-map, map-id, get_or_from_slice_get, slice_get_within, size}
 
 -- the texts of a list's elements, with their numbers, one after another
 abbrev pub texts_from : {X : Type 0} → (ℕ → X → List ℕ) → ℕ → List X → List ℕ
@@ -138,6 +133,4 @@ front_taken (x ∷ first) todo = ap (λ xs. x ∷ xs) (front_taken first todo)
 
 -- those that are read are the first ones
 pub done_is : {X : Type 0} (f : ℕ → X → List ℕ) (xs : List X) (end : List ℕ) (done : List X) (left : Option (List ℕ)) → Halfway f (λ (x : X). x) xs end done left → take (length done) xs ≡ done
-done_is {X} f xs end done left h =
-    let same : done ≡ h.first = h.read ∙ map-id h.first in
-    ap (λ (n : ℕ). take n xs) (ap length same) ∙ ap (take (length h.first)) h.all ∙ front_taken h.first h.todo ∙ sym same
+done_is f xs end done left h = grind (arith, map-id, front_taken)

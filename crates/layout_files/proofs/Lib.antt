@@ -1,3 +1,4 @@
+mod Prelude
 pub mod Printing
 pub mod Lines
 pub mod Fronts

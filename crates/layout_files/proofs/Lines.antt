@@ -1,23 +1,6 @@
 -- Lines of the three texts, as they are printed part by part.
-use Rattle.std.proofs.Common.{◌≡◌, ◌==◌, ℕ, nat_lt, List, [], ◌∷◌, ◌++◌, length, map, true, false, cond, Option, refl, sym, ap, ◌∙◌, codes, decimal, slice_get, append_assoc, append-nil}
-use Rattle.std.specs.List.{enumerate_from, flat_map, range_with_len}
-use Rattle.std.specs.Option.{option_map_or}
-use Rattle.std.proofs.lemmas.Bool.{true≢false}
-use Rattle.std.proofs.lemmas.Grind.{flat_map-append}
-use Rattle.std.proofs.lemmas.List.Folds.{flat_map-map}
-use Rattle.arch_file.specs.declared.arch.Arch.{Arch}
-use Rattle.blif.specs.declared.circuit.Circuit.{Circuit}
-use Rattle.cluster.specs.Blocks.{net_name}
-use Rattle.cluster.specs.declared.block.Block.{Block}
-use Rattle.cluster.specs.declared.block.Block.TheVariants.{InputPad, OutputPad}
-use Rattle.grid.specs.declared.Strip.{Strip}
-use Rattle.implements.specs.Layouts.{LaidBle, LaidBlock, LaidNet, Layout}
-use Rattle.implements.specs.declared.feed.Feed.{Feed}
-use Rattle.layout_text.specs.LayoutText.{between_lines, ble_line, block_of, feed_or_open, laid_lines, laid_lines_as, laid_name_as, listed_line, net_text, place_line, place_text, route_text}
-use Rattle.vpr_files.proofs.FileTexts.{global_heading_text, local_heading_text, net_text as net_lines_text, place_headings_text, route_headings_text}
-use Rattle.vpr_files.specs.NetFile.{or_open}
-use Rattle.vpr_files.specs.TextLines.{line_of, word_after_space, text_of}
-use Rattle.layout_files.specs.Printing.{cluster_lines, connected_text, global_lines, heading_text, node_lines, place_headings, route_headings}
+use Rattle.layout_files.proofs.Prelude.{◌≡◌, ◌==◌, ℕ, nat_lt, List, [], ◌∷◌, ◌++◌, length, map, true, false, Option, refl, sym, ap, ◌∙◌, codes, decimal, slice_get, append_assoc, append-nil, arith, enumerate_from, flat_map, range_with_len, option_map_or, flat_map-append, flat_map-map, Arch, Circuit, net_name, InputPad, OutputPad, Strip, LaidBle, LaidBlock, LaidNet, Layout, Feed, between_lines, ble_line, block_of, feed_or_open, laid_lines, listed_line, net_text, place_line, place_text, route_text, global_heading_text, local_heading_text, place_headings_text, route_headings_text, or_open, line_of, word_after_space, text_of, cluster_lines, connected_text, global_lines, heading_text, node_lines, place_headings, route_headings}
+use Rattle.vpr_files.proofs.FileTexts.{net_text as net_lines_text}
 
 -- ---- the `.net` text
 
@@ -26,20 +9,14 @@ joined name inputs output clock = simp (append_assoc, append-nil)
 
 words_text : (name inputs output clock : List ℕ) (words : List (List ℕ)) → inputs ≡ flat_map word_after_space words
     → (name ++ []) ++ inputs ++ word_after_space output ++ word_after_space clock ++ 10 ∷ [] ≡ (name ++ flat_map word_after_space (words ++ output ∷ clock ∷ [])) ++ 10 ∷ []
-words_text name inputs output clock words e =
-    ap (λ t. (name ++ []) ++ t ++ word_after_space output ++ word_after_space clock ++ 10 ∷ []) e
-    ∙ joined name (flat_map word_after_space words) (word_after_space output) (word_after_space clock)
-    ∙ ap (λ t. (name ++ t) ++ 10 ∷ []) (sym (flat_map-append word_after_space words (output ∷ clock ∷ [])))
+words_text name inputs output clock words e = grind (arith, joined, flat_map-append)
 
 -- the line of a BLE, from the parts that are printed
 pub ble_text : (circuit : Circuit) (arch : Arch) (ble : LaidBle) (name : List ℕ) (inputs : List Feed) (output clock : Option ℕ)
     → name ≡ net_name circuit ble.name → inputs ≡ ble.inputs → output ≡ ble.output → clock ≡ ble.clock
     → codes "subblock: " ++ (name ++ []) ++ flat_map (λ place. word_after_space (feed_or_open (slice_get inputs place))) (range_with_len 0 arch.lut_size) ++ word_after_space (or_open decimal output) ++ word_after_space (or_open decimal clock) ++ 10 ∷ []
     ≡ line_of (ble_line circuit arch ble)
-ble_text circuit arch ble name inputs output clock e f g h =
-    rw (e, f, g, h) (
-    let word = λ (place : ℕ). feed_or_open (slice_get ble.inputs place) in
-    ap (λ t. codes "subblock: " ++ t) (words_text (net_name circuit ble.name) _ (or_open decimal ble.output) (or_open decimal ble.clock) (map word (range_with_len 0 arch.lut_size)) (sym (flat_map-map word_after_space word (range_with_len 0 arch.lut_size)))))
+ble_text circuit arch ble name inputs output clock e f g h = grind (arith, words_text, flat_map-map)
 
 pad_tail : (name word : List ℕ) → name ++ (10 ∷ (word ++ (name ++ 10 ∷ 10 ∷ []))) ≡ ((name ++ []) ++ 10 ∷ []) ++ ((word ++ ((name ++ []) ++ 10 ∷ [])) ++ 10 ∷ [])
 pad_tail name word = simp (append_assoc, append-nil)
@@ -47,20 +24,12 @@ pad_tail name word = simp (append_assoc, append-nil)
 -- the lines of a pad of an input, from the parts that are printed
 pub input_text : (circuit : Circuit) (arch : Arch) (laid : LaidBlock) (net : ℕ) (name : List ℕ) → InputPad net ≡ laid.block → name ≡ net_name circuit net
     → codes ".input " ++ (name ++ (codes "\npinlist: " ++ (name ++ (10 ∷ 10 ∷ [])))) ≡ text_of (laid_lines circuit arch laid)
-input_text circuit arch laid net name is named =
-    ap (λ n. codes ".input " ++ (n ++ (codes "\npinlist: " ++ (n ++ (10 ∷ 10 ∷ []))))) named
-    ∙ ap (λ rest. codes ".input " ++ rest) (pad_tail (net_name circuit net) (codes "pinlist: "))
-    ∙ ap (λ n. text_of ((codes ".input" ∷ n ∷ []) ∷ (codes "pinlist:" ∷ net_name circuit net ∷ []) ∷ [] ∷ [])) (ap (laid_name_as circuit laid) is)
-    ∙ ap (λ (block : Block). text_of (laid_lines_as circuit arch laid block)) is
+input_text circuit arch laid net name is named = grind (arith, pad_tail (net_name circuit net) (codes "pinlist: "))
 
 -- the lines of a pad of an output
 pub output_text : (circuit : Circuit) (arch : Arch) (laid : LaidBlock) (net : ℕ) (name : List ℕ) → OutputPad net ≡ laid.block → name ≡ net_name circuit net
     → codes ".output out:" ++ (name ++ (codes "\npinlist: " ++ (name ++ (10 ∷ 10 ∷ [])))) ≡ text_of (laid_lines circuit arch laid)
-output_text circuit arch laid net name is named =
-    ap (λ n. codes ".output out:" ++ (n ++ (codes "\npinlist: " ++ (n ++ (10 ∷ 10 ∷ []))))) named
-    ∙ ap (λ rest. codes ".output out:" ++ rest) (pad_tail (net_name circuit net) (codes "pinlist: "))
-    ∙ ap (λ n. text_of ((codes ".output" ∷ n ∷ []) ∷ (codes "pinlist:" ∷ net_name circuit net ∷ []) ∷ [] ∷ [])) (ap (laid_name_as circuit laid) is)
-    ∙ ap (λ (block : Block). text_of (laid_lines_as circuit arch laid block)) is
+output_text circuit arch laid net name is named = grind (arith, pad_tail (net_name circuit net) (codes "pinlist: "))
 
 cluster_joined : (head name word pins bles end : List ℕ)
     → ((((head ++ (name ++ (end ++ word))) ++ pins) ++ end) ++ bles) ++ end
@@ -83,18 +52,13 @@ cluster_text circuit arch laid name pins bles e f g =
 -- the lines of the global nets, if there are any, and the empty line after them
 pub globals_text : (circuit : Circuit) (globals : List ℕ) → nat_lt 0 (length globals) ≡ true
     → flat_map (λ net. line_of (codes ".global" ∷ net_name circuit net ∷ [])) globals ++ 10 ∷ [] ≡ text_of (global_lines circuit globals)
-globals_text circuit globals some =
-    let line = λ (net : ℕ). codes ".global" ∷ net_name circuit net ∷ [] in
-    ap (λ t. t ++ 10 ∷ []) (sym (flat_map-map line_of line globals))
-    ∙ sym (flat_map-append line_of (map line globals) ([] ∷ []))
-    ∙ ap (λ b. text_of (map line globals ++ cond b ([] ∷ []) [])) (sym some)
+globals_text circuit globals some = grind (arith, flat_map-map, flat_map-append)
 
 -- the `.net` text, from its two parts
 pub net_parts : (circuit : Circuit) (arch : Arch) (layout : Layout) (globals : List ℕ) (blocks : List LaidBlock) → globals ≡ layout.globals → blocks ≡ layout.blocks
     → text_of (global_lines circuit globals) ++ text_of (flat_map (laid_lines circuit arch) blocks) ≡ net_text circuit arch layout
 unfolding net_text
-net_parts circuit arch layout globals blocks e f =
-    rw (e, f) (sym (flat_map-append line_of (global_lines circuit layout.globals) (flat_map (laid_lines circuit arch) layout.blocks)))
+net_parts circuit arch layout globals blocks e f = grind (arith, flat_map-append)
 
 -- joined lists of lines
 pub flat_map-flat_map : {X Y Z : Type 0} (h : Y → List Z) (g : X → List Y) (xs : List X) → flat_map h (flat_map g xs) ≡ flat_map (λ x. flat_map h (g x)) xs
@@ -150,5 +114,4 @@ net_printed circuit strip layout number between (first ∷ others) =
 -- what follows the name of a net with listed blocks
 pub connected_listed : (circuit : Circuit) (strip : Strip) (layout : Layout) (net : LaidNet) (listed : List ℕ) → (length listed == 0) ≡ false
     → codes "): global net connecting:\n\n" ++ text_of (map (λ block. listed_line circuit block (block_of layout block)) listed) ≡ connected_text circuit strip layout net listed
-connected_listed circuit strip layout net [] e = absurd (true≢false e)
-connected_listed circuit strip layout net (first ∷ others) e = refl
+connected_listed circuit strip layout net listed e = grind arith

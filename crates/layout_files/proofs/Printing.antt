@@ -1,26 +1,13 @@
 -- Texts that are printed one after another.
-use Rattle.std.proofs.Common.{◌≡◌, ◌≢◌, refl, cond, Bool, Option, None, OnErr, ℕ, ◌+◌, ◌-◌, ◌<◌, ◌≤◌, ◌==◌, nat_eq, nat_lt, List, [], ◌∷◌, ◌++◌, length, take, get_or, true, false, IsTrue, MatchOption, subst, Some, Result, Ok, Err, OnOk, sym, ap, ◌∙◌, arith, append-nil, zero-add}
-use Rattle.std.specs.List.{enumerate_from, flat_map, slice_get}
-use Rattle.std.specs.Option.{is_some}
-use Rattle.std.specs.Prelude.{if◌then◌else◌}
-use Rattle.std.proofs.lemmas.Bool.{eq-eqb, eqb-true, true≢false}
-use Rattle.std.proofs.lemmas.Bool.Decides.{nat_tests}
-use Rattle.std.proofs.lemmas.Grind.{flat_map-append}
-use Rattle.std.proofs.lemmas.List.{take_more, take_all}
-use Rattle.std.proofs.lemmas.List.FromFn.{get_or-enumerate_from, length-enumerate_from}
-use Rattle.std.proofs.lemmas.Option.{slice_get_within, get_or_from_slice_get, slice_get-get_or}
-use Rattle.layout_files.specs.Cursors.{IsSame, left_after, without_front}
+use Rattle.layout_files.proofs.Prelude.{◌≡◌, ◌≢◌, refl, cond, Bool, Option, None, OnErr, ℕ, ◌+◌, ◌-◌, ◌<◌, ◌≤◌, ◌==◌, nat_eq, nat_lt, List, [], ◌∷◌, ◌++◌, length, take, get_or, true, false, IsTrue, MatchOption, subst, Some, Result, Ok, Err, OnOk, sym, ap, ◌∙◌, arith, append-nil, enumerate_from, flat_map, is_some, if◌then◌else◌, eq-eqb, true≢false, nat_tests, flat_map-append, take_more, take_all, get_or-enumerate_from, length-enumerate_from, slice_get_within, get_or_from_slice_get, slice_get-get_or, IsSame, left_after, without_front}
+use Rattle.std.specs.List.{slice_get}
 
 -- the texts up to an index, with one more
 text_more : {X : Type 0} (f : X → List ℕ) (xs : List X) (i : ℕ) (x : X) → slice_get xs i ≡ Some x → flat_map f (take i xs) ++ f x ≡ flat_map f (take (i + 1) xs)
-text_more f xs i x e =
-    sym (ap (flat_map f) (take_more xs i x (slice_get_within xs i x e)) ∙ flat_map-append f (take i xs) (get_or xs i x ∷ [])
-    ∙ ap (λ y. flat_map f (take i xs) ++ (f y ++ [])) (get_or_from_slice_get xs i x x e)
-    ∙ ap (λ y. flat_map f (take i xs) ++ y) (append-nil (f x)))
+text_more f xs i x e = grind (arith, slice_get_within, flat_map-append, get_or_from_slice_get, append-nil, take_more xs i x (slice_get_within xs i x e), slice_get_within xs i x e, flat_map-append f (take i xs) (get_or xs i x ∷ []), get_or_from_slice_get xs i x x e, append-nil (f x))
 
 if_same : (t : List ℕ) (b : Bool) (s whole : Option (List ℕ)) → left_after s t ≡ whole → left_after (cond b s None) t ≡ cond b whole None
-if_same t true s whole e = e
-if_same t false s whole e = refl
+if_same t b s whole e = grind arith
 
 front_append : (t bytes text : List ℕ) → left_after (without_front bytes text) t ≡ without_front (bytes ++ t) text
 front_append t [] text = refl
@@ -29,18 +16,13 @@ front_append t (byte ∷ bytes) (first ∷ others) = if_same t (byte == first) _
 
 -- what is left after two texts
 pub left_append : (left : Option (List ℕ)) (s t : List ℕ) → left_after (left_after left s) t ≡ left_after left (s ++ t)
-left_append None s t = refl
-left_append (Some text) s t = front_append t s text
+left_append left s t = grind (arith, front_append)
 
 -- the text is these bytes and what is left
 pub front_is : (bytes text left : List ℕ) → without_front bytes text ≡ Some left → text ≡ bytes ++ left
 front_is [] text left e = let same : text ≡ left = cc in same
 front_is (byte ∷ bytes) [] left e = absurd cc
-front_is (byte ∷ bytes) (first ∷ others) left e = test (byte == first) refl (front_is bytes others left) e
-  where
-    test : (b : Bool) → (byte == first) ≡ b → (without_front bytes others ≡ Some left → others ≡ bytes ++ left) → cond b (without_front bytes others) None ≡ Some left → first ∷ others ≡ byte ∷ (bytes ++ left)
-    test true same more f = let one : byte ≡ first = eqb-true byte first same in let rest = more f in cc
-    test false other more f = absurd cc
+front_is (byte ∷ bytes) (first ∷ others) left e = grind (arith, front_is bytes others left)
 
 pub front_of : (bytes left : List ℕ) → without_front bytes (bytes ++ left) ≡ Some left
 front_of [] left = refl
@@ -64,8 +46,7 @@ same_outcome (Err f) text printed left e ok err = record { ok = record {}; err =
 
 -- one more text of a list is printed
 pub one_more : {X : Type 0} (f : X → List ℕ) (xs : List X) (i : ℕ) (x : X) (start old new : Option (List ℕ)) → slice_get xs i ≡ Some x → old ≡ left_after start (flat_map f (take i xs)) → new ≡ left_after old (f x) → new ≡ left_after start (flat_map f (take (i + 1) xs))
-one_more f xs i x start old new at e g =
-    g ∙ ap (λ t. left_after t (f x)) e ∙ left_append start (flat_map f (take i xs)) (f x) ∙ ap (left_after start) (text_more f xs i x at)
+one_more f xs i x start old new at e g = grind (arith, left_append, text_more)
 
 -- the whole list is printed
 pub all_printed : {X : Type 0} (f : X → List ℕ) (xs : List X) (i : ℕ) (start old : Option (List ℕ)) → length xs ≤ i → old ≡ left_after start (flat_map f (take i xs)) → old ≡ left_after start (flat_map f xs)
@@ -88,11 +69,7 @@ same_text start new s whole g h = printed_as start new s whole h g
 
 -- an element with its number
 pub numbered : {X : Type 0} (xs : List X) (i : ℕ) (x : X) → i < length xs → x ≡ get_or xs i x → slice_get (enumerate_from 0 xs) i ≡ Some (i, x)
-numbered xs i x within e =
-    slice_get-get_or (enumerate_from 0 xs) i (i, x) (let long = length-enumerate_from 0 xs in omega arith)
-    ∙ ap Some (get_or-enumerate_from 0 xs i (i, x) within)
-    ∙ ap (λ n. Some (n, get_or xs i x)) (zero-add i)
-    ∙ ap (λ y. Some (i, y)) (sym e)
+numbered xs i x within e = grind (arith, slice_get-get_or, length-enumerate_from, get_or-enumerate_from 0 xs i (i, x) within)
 
 -- an element of a list
 pub element : {X : Type 0} (xs : List X) (i : ℕ) (x : X) → i < length xs → x ≡ get_or xs i x → slice_get xs i ≡ Some x

@@ -1,26 +1,6 @@
 -- Printed lines as they are read, part by part.
-use Rattle.std.proofs.Common.{◌≡◌, ◌⊎◌, inl, inr, ◌≢◌, ℕ, ◌+◌, ◌<◌, ◌≤◌, Bool, true, false, not, List, [], ◌∷◌, ◌++◌, length, take, get_or, Some, All, AllPairs, codes, slice_get, refl, sym, ap, ◌∙◌, arith, append_assoc, append-nil, if◌then◌else◌, length-take, length-append}
-use Rattle.std.specs.List.{enumerate_from, flat_map, list_all}
-use Rattle.std.specs.Option.{option_map_or}
-use Rattle.std.specs.Str.{bytes_eq}
-use Rattle.std.proofs.lemmas.Bool.{and_from}
-use Rattle.std.proofs.lemmas.List.{get_or-take, get_or_default, get_or_past, take_more}
-use Rattle.std.proofs.lemmas.List.Folds.{flat_map-map, list_all-append, list_any_none}
-use Rattle.std.proofs.lemmas.List.Sums.{position_or_len_is}
-use Rattle.std.proofs.lemmas.Option.{get_or_from_slice_get, slice_get_within}
-use Rattle.std.proofs.lemmas.Slice.Eq.{bytes_eq-Decides}
-use Rattle.blif.specs.declared.circuit.Circuit.{Circuit}
-use Rattle.cluster.specs.Blocks.{net_name}
-use Rattle.cluster.specs.declared.block.Block.{Block}
-use Rattle.cluster.specs.declared.block.Block.TheVariants.{InputPad, OutputPad, Cluster}
-use Rattle.grid.specs.declared.place.Place.{Place}
-use Rattle.implements.specs.Layouts.{LaidBle, LaidBlock}
-use Rattle.layout_text.specs.LayoutText.{laid_name, laid_name_as, place_line}
-use Rattle.line_text.specs.Names.{number_of, with_name}
-use Rattle.vpr_files.specs.TextLines.{line_of, word_after_space}
-use Rattle.layout_files.specs.Cursors.{IsPlain, is_word_end}
-use Rattle.layout_files.specs.Fitting.{HasFileNames}
-use Rattle.layout_files.specs.Reading.{place_lines}
+use Rattle.layout_files.proofs.Prelude.{◌≡◌, ◌≢◌, ℕ, ◌+◌, ◌<◌, Bool, true, false, not, List, [], ◌∷◌, ◌++◌, length, take, get_or, Some, All, AllPairs, codes, slice_get, refl, sym, ap, ◌∙◌, arith, append_assoc, append-nil, length-take, length-append, bytes_eq, and_from, get_or-take, get_or_default, get_or_past, take_more, flat_map-map, list_all-append, list_any_none, position_or_len_is, get_or_from_slice_get, slice_get_within, bytes_eq-Decides, Circuit, net_name, Place, LaidBlock, laid_name, place_line, number_of, with_name, line_of, IsPlain, is_word_end, HasFileNames, place_lines}
+use Rattle.std.proofs.Common.{if◌then◌else◌}
 use Rattle.layout_files.proofs.Halfway.{texts_from, texts_numbered}
 
 -- ---- names
@@ -32,42 +12,17 @@ pub model_plain : (circuit : Circuit) → HasFileNames circuit → IsPlain (circ
 model_plain circuit names = plain_append circuit.model (codes ".net") names.model refl
 
 name_at : (names : List (List ℕ)) (net : ℕ) → All IsPlain names → IsPlain (get_or names net [])
-name_at [] net all = refl
-name_at (name ∷ names) net all = by (split net)
-  where
-    split : (n : ℕ) → (n < length (name ∷ names)) ⊎ (length (name ∷ names) ≤ n)
-    split n = grind arith
-
-    by : (net < length (name ∷ names)) ⊎ (length (name ∷ names) ≤ net) → IsPlain (get_or (name ∷ names) net [])
-    by (inl within) = all net [] within
-    by (inr past) = ap (list_all (λ byte. not (is_word_end byte))) (get_or_past (name ∷ names) net [] past)
+name_at names net all = grind (arith, get_or_past)
 
 pub net_plain : (circuit : Circuit) (net : ℕ) → HasFileNames circuit → IsPlain (net_name circuit net)
 net_plain circuit net names = name_at circuit.nets net names.plain
 
 pub laid_plain : (circuit : Circuit) (laid : LaidBlock) → HasFileNames circuit → IsPlain (laid_name circuit laid)
-laid_plain circuit laid names = by laid.block
-  where
-    first : (bles : List LaidBle) → IsPlain (option_map_or (λ ble. net_name circuit ble.name) (slice_get bles 0) [])
-    first [] = refl
-    first (ble ∷ bles) = net_plain circuit ble.name names
-
-    by : (block : Block) → IsPlain (laid_name_as circuit laid block)
-    by (InputPad net) = net_plain circuit net names
-    by (OutputPad net) = plain_append (codes "out:") (net_name circuit net) refl (net_plain circuit net names)
-    by (Cluster number) = first laid.bles
+laid_plain circuit laid names = grind (arith, net_plain)
 
 -- the number of a name
 pub number_is : (names : List (List ℕ)) (net : ℕ) → AllPairs (λ name other. name ≢ other) names → net < length names → number_of names (get_or names net []) ≡ net
-number_is names net once within =
-    position_or_len_is (bytes_eq (get_or names net [])) names net [] (omega (arith, within))
-    (λ k less. other k less) (λ _. (bytes_eq-Decides (get_or names net []) (get_or names net [])).1 refl)
-  where
-    other : (k : ℕ) → k < net → bytes_eq (get_or names net []) (get_or names k []) ≡ false
-    other k less = elim (bytes_eq (get_or names net []) (get_or names k [])) as (λ b. bytes_eq (get_or names net []) (get_or names k []) ≡ b → b ≡ false) [
-      | true ↦ λ e. absurd (once k net [] less within (sym ((bytes_eq-Decides (get_or names net []) (get_or names k [])).0 e)))
-      | false ↦ λ e. refl
-    ] refl
+number_is names net once within = grind (arith, position_or_len_is, bytes_eq-Decides, bytes_eq-Decides (get_or names net []) (get_or names net []))
 
 -- one more name is added
 pub name_added : (nets : List (List ℕ)) (i : ℕ) (name : List ℕ) → AllPairs (λ name other. name ≢ other) nets → slice_get nets i ≡ Some name → with_name (take i nets) name ≡ take (i + 1) nets
@@ -101,13 +56,7 @@ pub size_parts : (a w x r rest : List ℕ) → (a ++ (w ++ (x ++ r))) ++ rest �
 size_parts a w x r rest = simp append_assoc
 
 pub line_some : (words : List (List ℕ)) → 0 < length (line_of words)
-line_some [] = omega arith
-line_some (word ∷ words) =
-    let tail = flat_map word_after_space words in
-    omega (arith, length-append word (tail ++ 10 ∷ []), length-append tail (10 ∷ []))
+line_some words = grind (arith, length-append)
 
 pub place_texts : (circuit : Circuit) (blocks : List LaidBlock) → place_lines circuit blocks ≡ texts_from (λ k laid. line_of (place_line circuit k laid)) 0 blocks ++ []
-place_texts circuit blocks =
-    flat_map-map line_of (λ (block : ℕ × LaidBlock). place_line circuit block.0 block.1) (enumerate_from 0 blocks)
-    ∙ texts_numbered (λ (block : ℕ × LaidBlock). line_of (place_line circuit block.0 block.1)) 0 blocks
-    ∙ sym (append-nil _)
+place_texts circuit blocks = grind (arith, flat_map-map, texts_numbered, append-nil)

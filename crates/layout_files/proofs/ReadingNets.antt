@@ -1,37 +1,5 @@
 -- Printed packings as they are read, part by part.
-use Rattle.std.proofs.Common.{◌≡◌, ◌≢◌, ◌⊎◌, inl, inr, subst, suc, zero, ℕ, ◌+◌, ◌-◌, ◌<◌, ◌≤◌, ◌^◌, ◌==◌, nat_lt, not, Bool, true, false, cond, List, [], ◌∷◌, ◌++◌, length, map, take, drop, get_or, Option, Some, None, All, codes, decimal, slice_get, refl, sym, ap, ◌∙◌, arith, append_assoc, append-nil}
-use Rattle.std.specs.List.{flat_map, list_all}
-use Rattle.std.specs.Option.{ForSome, is_some, option_map, option_to_list}
-use Rattle.std.specs.Prelude.{count_by, if◌then◌else◌, nat_le}
-use Rattle.std.specs.Str.{bytes_eq}
-use Rattle.std.proofs.lemmas.Bool.{and_from, and_parts, true≢false}
-use Rattle.std.proofs.lemmas.Bool.Decides.{nat_tests}
-use Rattle.std.proofs.lemmas.Grind.{flat_map-append}
-use Rattle.std.proofs.lemmas.List.{take_all, take_more}
-use Rattle.std.proofs.lemmas.List.Folds.{flat_map-map}
-use Rattle.std.proofs.lemmas.Option.{get_or_from_slice_get, slice_get-get_or, slice_get_past, slice_get_within}
-use Rattle.std.proofs.lemmas.Slice.Eq.{bytes_eq-Decides}
-use Rattle.arch_file.specs.declared.arch.Arch.{Arch}
-use Rattle.blif.specs.declared.circuit.Circuit.{Circuit}
-use Rattle.cluster.specs.Blocks.{net_name}
-use Rattle.cluster.specs.declared.block.Block.{Block}
-use Rattle.cluster.specs.declared.block.Block.TheVariants.{InputPad, OutputPad, Cluster}
-use Rattle.grid.specs.declared.place.Place.{Place}
-use Rattle.implements.specs.Layouts.{LaidBle, LaidBlock}
-use Rattle.implements.specs.declared.feed.Feed.{Feed}
-use Rattle.implements.specs.declared.feed.Feed.TheVariants.{Pin, Ble}
-use Rattle.implements.proofs.Unique.{count-append}
-use Rattle.layout_text.specs.LayoutText.{ble_line, feed_or_open, feed_word, laid_lines, laid_lines_as, laid_name, laid_name_as}
-use Rattle.line_text.specs.Decimal.{is_digit}
-use Rattle.vpr_files.specs.NetFile.{or_open}
-use Rattle.vpr_files.specs.TextLines.{line_of, text_of, word_after_space}
-use Rattle.strip_files.specs.Fronts.{Stops}
-use Rattle.layout_files.specs.Cursors.{IsPlain, is_word_end, left_after}
-use Rattle.layout_files.specs.Fitting.{HasFileNames, HasNumber, feed_number}
-use Rattle.layout_files.specs.Printing.{global_lines}
-use Rattle.layout_files.specs.Reading.{IsNetRead}
-use Rattle.layout_files.specs.ReadingNets.{IsNumberIn, ble_rest, cluster_text, inputs_text}
-use Rattle.strip_files.proofs.Fronts.{digits_told}
+use Rattle.layout_files.proofs.Prelude.{◌≡◌, ◌≢◌, ◌⊎◌, inl, inr, subst, suc, zero, ℕ, ◌+◌, ◌-◌, ◌<◌, ◌≤◌, ◌^◌, ◌==◌, nat_lt, not, Bool, true, false, cond, List, [], ◌∷◌, ◌++◌, length, map, take, get_or, Option, Some, None, All, codes, decimal, slice_get, refl, sym, ap, ◌∙◌, arith, append_assoc, append-nil, flat_map, list_all, ForSome, is_some, option_map, option_to_list, count_by, if◌then◌else◌, nat_le, bytes_eq, and_from, and_parts, true≢false, nat_tests, flat_map-append, take_all, take_more, flat_map-map, get_or_from_slice_get, slice_get-get_or, slice_get_past, slice_get_within, bytes_eq-Decides, Arch, Circuit, net_name, Block, InputPad, OutputPad, Cluster, Place, LaidBle, LaidBlock, Feed, Pin, Ble, count-append, ble_line, feed_or_open, feed_word, laid_lines, laid_lines_as, laid_name, laid_name_as, is_digit, or_open, line_of, text_of, word_after_space, Stops, IsPlain, is_word_end, left_after, HasFileNames, HasNumber, feed_number, global_lines, IsNetRead, IsNumberIn, ble_rest, cluster_text, inputs_text, digits_told}
 use Rattle.layout_files.proofs.Halfway.{Halfway, texts_from, texts_plain}
 use Rattle.layout_files.proofs.Lines.{ble_text, flat_map-flat_map}
 use Rattle.layout_files.proofs.Reading.{net_plain}
@@ -41,21 +9,15 @@ use Rattle.layout_files.proofs.Reading.{net_plain}
 word_is : (word text : List ℕ) (b : Bool) → b ≡ bytes_eq word text → b ≡ true → word ≡ text
 word_is word text b e is = (bytes_eq-Decides word text).0 (sym e ∙ is)
 
-word_not : (word text : List ℕ) (b : Bool) → b ≡ bytes_eq word text → b ≡ false → word ≢ text
-word_not word text b e is same = true≢false (sym ((bytes_eq-Decides word text).1 same) ∙ sym e ∙ is)
-
 pub name_plain : (circuit : Circuit) (pin : Option ℕ) → HasFileNames circuit → IsPlain (or_open (net_name circuit) pin)
-name_plain circuit None names = refl
-name_plain circuit (Some net) names = net_plain circuit net names
+name_plain circuit pin names = grind (arith, net_plain)
 
 pub no_net : (circuit : Circuit) (pin : Option ℕ) (word : List ℕ) (b : Bool) → HasFileNames circuit → ForSome pin (λ net. net < length circuit.nets) → word ≡ or_open (net_name circuit) pin → b ≡ bytes_eq word (codes "open") → b ≡ true → None ≡ pin
-no_net circuit None word b names within e f is = refl
-no_net circuit (Some net) word b names within e f is = absurd (names.none_open net [] (within net refl) (sym e ∙ word_is word (codes "open") b f is))
+no_net circuit pin word b names within e f is = grind (arith, word_is)
 
 pub some_net : (circuit : Circuit) (pin : Option ℕ) (names : List (List ℕ)) (word : List ℕ) (b : Bool) (old new : Option (List ℕ)) (found : ℕ) → names ≡ circuit.nets → HasFileNames circuit → ForSome pin (λ net. net < length circuit.nets)
     → word ≡ or_open (net_name circuit) pin → b ≡ bytes_eq word (codes "open") → b ≡ false → IsNetRead names word old found new → (Some found ≡ pin) × (new ≡ old)
-some_net circuit None names word b old new found same good within e f is read = absurd (word_not word (codes "open") b f is e)
-some_net circuit (Some net) names word b old new found same good within e f is read = let done = read circuit net same good (within net refl) e in (ap Some done.0, done.1)
+some_net circuit pin names word b old new found same good within e f is read = grind arith
 
 -- digits are no word with letters in front
 no_letters : (n : ℕ) (letters rest : List ℕ) → n < 2 ^ 32 → list_all is_digit (letters ++ rest) ≡ false → decimal n ≢ letters ++ rest
@@ -74,16 +36,14 @@ pub decimal_plain : (n : ℕ) → n < 2 ^ 32 → IsPlain (decimal n)
 decimal_plain n small = digits_plain (decimal n) (digits_told n (omega arith)).0
 
 pub pin_plain : (pin : Option ℕ) → ForSome pin (λ n. n < 2 ^ 32) → IsPlain (or_open decimal pin)
-pin_plain None small = refl
-pin_plain (Some n) small = decimal_plain n (small n refl)
+pin_plain pin small = grind (arith, decimal_plain)
 
 pub no_pin : (pin : Option ℕ) (word : List ℕ) (b : Bool) → ForSome pin (λ n. n < 2 ^ 32) → word ≡ or_open decimal pin → b ≡ bytes_eq word (codes "open") → b ≡ true → None ≡ pin
 no_pin None word b small e f is = refl
 no_pin (Some n) word b small e f is = absurd (no_letters n (codes "open") [] (small n refl) refl (sym e ∙ word_is word (codes "open") b f is))
 
 pub some_pin : (pin : Option ℕ) (word : List ℕ) (b : Bool) (old new : Option (List ℕ)) (found : ℕ) → ForSome pin (λ n. n < 2 ^ 32) → word ≡ or_open decimal pin → b ≡ bytes_eq word (codes "open") → b ≡ false → IsNumberIn word old found new → (Some found ≡ pin) × (new ≡ old)
-some_pin None word b old new found small e f is read = absurd (word_not word (codes "open") b f is e)
-some_pin (Some n) word b old new found small e f is read = let done = read n (small n refl) e in (ap Some done.0, done.1)
+some_pin pin word b old new found small e f is read = grind arith
 
 -- ---- where inputs come from
 
@@ -94,13 +54,10 @@ feed_plain (Some (Ble place)) small = decimal_plain place (small (Ble place) ref
 
 pub feed_ble : (feed : Feed) (word place : List ℕ) (old new : Option (List ℕ)) (found : ℕ) → feed_number feed < 2 ^ 32 → word ≡ feed_word feed → word ≡ codes "ble_" ++ place → IsNumberIn place old found new → (Ble found ≡ feed) × (new ≡ old)
 feed_ble (Pin pin) word place old new found small e f read = absurd (no_letters pin (codes "ble_") place small refl (sym e ∙ f))
-feed_ble (Ble at) word place old new found small e f read =
-    let same : place ≡ decimal at = (let whole : codes "ble_" ++ place ≡ codes "ble_" ++ decimal at = sym f ∙ e in ap (λ (t : List ℕ). drop 4 t) whole) in
-    let done = read at small same in (ap Ble done.0, done.1)
+feed_ble (Ble at) word place old new found small e f read = grind arith
 
 pub feed_pin : (feed : Feed) (word : List ℕ) (old new : Option (List ℕ)) (found : ℕ) → feed_number feed < 2 ^ 32 → word ≡ feed_word feed → ((rest : List ℕ) → word ≢ codes "ble_" ++ rest) → IsNumberIn word old found new → (Pin found ≡ feed) × (new ≡ old)
-feed_pin (Pin pin) word old new found small e other read = let done = read pin small e in (ap Pin done.0, done.1)
-feed_pin (Ble place) word old new found small e other read = absurd (other (decimal place) e)
+feed_pin feed word old new found small e other read = grind arith
 
 feed_letters : (feed : Feed) → feed_number feed < 2 ^ 32 → feed_word feed ≢ codes "open"
 feed_letters (Pin pin) small e = no_letters pin (codes "open") [] small refl e
@@ -112,23 +69,14 @@ no_input (Some feed) word b small e f is = absurd (feed_letters feed (small feed
 
 pub an_input : (feed : Option Feed) (word : List ℕ) (b : Bool) (old new : Option (List ℕ)) (found : Feed) → ForSome feed (λ f. feed_number f < 2 ^ 32) → word ≡ feed_or_open feed → b ≡ bytes_eq word (codes "open") → b ≡ false
     → ((f : Feed) → feed_number f < 2 ^ 32 → word ≡ feed_word f → (found ≡ f) × (new ≡ old)) → (found ∷ [] ≡ option_to_list feed) × (new ≡ old)
-an_input None word b old new found small e f is read = absurd (word_not word (codes "open") b f is e)
-an_input (Some feed) word b old new found small e f is read = let done = read feed (small feed refl) e in (ap (λ (x : Feed). x ∷ []) done.0, done.1)
+an_input feed word b old new found small e f is read = grind arith
 
 pub inputs_stop : (inputs : List Feed) (start count : ℕ) (after : List ℕ) → Stops is_word_end (inputs_text inputs start count ++ (32 ∷ after))
-inputs_stop inputs start zero after = refl
-inputs_stop inputs start (suc count) after = refl
-
-inputs_step : (inputs : List Feed) (start count : ℕ) → 0 < count → inputs_text inputs start count ≡ word_after_space (feed_or_open (slice_get inputs start)) ++ inputs_text inputs (start + 1) (count - 1)
-inputs_step inputs start zero some = absurd (omega (arith, some))
-inputs_step inputs start (suc count) some = ap (λ n. word_after_space (feed_or_open (slice_get inputs start)) ++ inputs_text inputs (start + 1) n) (omega arith)
+inputs_stop inputs start count after = grind arith
 
 pub inputs_next : (inputs : List Feed) (place count : ℕ) (after : List ℕ) → place < count
     → inputs_text inputs place (count - place) ++ (32 ∷ after) ≡ word_after_space (feed_or_open (slice_get inputs place)) ++ (inputs_text inputs (place + 1) (count - (place + 1)) ++ (32 ∷ after))
-inputs_next inputs place count after within =
-    ap (λ t. t ++ (32 ∷ after)) (inputs_step inputs place (count - place) (omega (arith, within)))
-    ∙ append_assoc (word_after_space (feed_or_open (slice_get inputs place))) (inputs_text inputs (place + 1) (count - place - 1)) (32 ∷ after)
-    ∙ ap (λ n. word_after_space (feed_or_open (slice_get inputs place)) ++ (inputs_text inputs (place + 1) n ++ (32 ∷ after))) (omega (arith, within))
+inputs_next inputs place count after within = grind (arith, append_assoc)
 
 pub inputs_ended : (inputs : List Feed) (place count : ℕ) (after : List ℕ) → count ≤ place → inputs_text inputs place (count - place) ++ (32 ∷ after) ≡ 32 ∷ after
 inputs_ended inputs place count after past = let none : count - place ≡ 0 = omega (arith, past) in ap (λ n. inputs_text inputs place n ++ (32 ∷ after)) none
@@ -150,9 +98,7 @@ ble_joined : (head name inputs output clock end after : List ℕ)
 ble_joined head name inputs output clock end after = simp (append_assoc, append-nil)
 
 pub ble_read : (circuit : Circuit) (arch : Arch) (ble : LaidBle) (after : List ℕ) → line_of (ble_line circuit arch ble) ++ after ≡ codes "subblock: " ++ ble_rest circuit arch ble after
-ble_read circuit arch ble after =
-    ap (λ t. t ++ after) (sym (ble_text circuit arch ble (net_name circuit ble.name) ble.inputs ble.output ble.clock refl refl refl refl))
-    ∙ ble_joined (codes "subblock: ") (net_name circuit ble.name) (inputs_text ble.inputs 0 arch.lut_size) (word_after_space (or_open decimal ble.output)) (word_after_space (or_open decimal ble.clock)) (10 ∷ []) after
+ble_read circuit arch ble after = grind (arith, ble_text circuit arch ble (net_name circuit ble.name) ble.inputs ble.output ble.clock refl refl refl refl, ble_joined (codes "subblock: ") (net_name circuit ble.name) (inputs_text ble.inputs 0 arch.lut_size) (word_after_space (or_open decimal ble.output)) (word_after_space (or_open decimal ble.clock)) (10 ∷ []) after)
 
 pub same_ble : (ble : LaidBle) (name : ℕ) (inputs : List Feed) (output clock : Option ℕ) → name ≡ ble.name → inputs ≡ ble.inputs → output ≡ ble.output → clock ≡ ble.clock → record { name = name; inputs = inputs; output = output; clock = clock } ≡ ble
 same_ble ble name inputs output clock e f g h = rw (e, f, g, h) refl
@@ -172,10 +118,7 @@ bles_texts circuit arch bles after = ap (λ t. t ++ after) (flat_map-map line_of
 -- ---- global nets
 
 pub global_read : (circuit : Circuit) (net : ℕ) (rest : List ℕ) → line_of (codes ".global" ∷ net_name circuit net ∷ []) ++ rest ≡ codes ".global " ++ (net_name circuit net ++ (10 ∷ rest))
-global_read circuit net rest = ap (λ t. codes ".global " ++ t) (joined (net_name circuit net) (10 ∷ []) rest)
-  where
-    joined : (name end rest : List ℕ) → ((name ++ []) ++ end) ++ rest ≡ name ++ (end ++ rest)
-    joined name end rest = simp (append_assoc, append-nil)
+global_read circuit net rest = grind (arith, append_assoc)
 
 -- what follows the lines of the global nets
 abbrev pub globals_end : List ℕ → List ℕ → List ℕ
@@ -193,16 +136,13 @@ globals_texts circuit (net ∷ globals) after =
     ∙ ap (λ t. t ++ (10 ∷ after)) (flat_map-map line_of line (net ∷ globals) ∙ texts_plain (λ n. line_of (line n)) 0 (net ∷ globals))
 
 pub globals_stop : (globals after : List ℕ) → left_after (Some after) (codes ".global ") ≡ None → left_after (Some (globals_end globals after)) (codes ".global ") ≡ None
-globals_stop [] after none = none
-globals_stop (net ∷ globals) after none = refl
+globals_stop globals after none = grind arith
 
 pub globals_done : (found globals after : List ℕ) (left : Option (List ℕ)) → found ≡ globals → length found ≡ 0 → left ≡ Some (globals_end globals after) → left ≡ Some after
-globals_done found [] after left e none is = is
-globals_done found (net ∷ globals) after left e none is = absurd (omega (arith, ap length e, none))
+globals_done found globals after left e none is = grind arith
 
 pub globals_more : (found globals after : List ℕ) (left : Option (List ℕ)) → found ≡ globals → (length found ≡ 0 → ⊥) → left ≡ Some (globals_end globals after) → left ≡ Some (10 ∷ after)
-globals_more found [] after left e some is = absurd (some (ap length e))
-globals_more found (net ∷ globals) after left e some is = is
+globals_more found globals after left e some is = grind arith
 
 -- ---- blocks
 
@@ -245,36 +185,19 @@ pub same_block : (laid : LaidBlock) (block : Block) (pins : List (Option ℕ)) (
 same_block laid block pins bles place e f g h = rw (e, f, g, h) refl
 
 pub blocks_texts : (circuit : Circuit) (arch : Arch) (blocks : List LaidBlock) → text_of (flat_map (laid_lines circuit arch) blocks) ≡ texts_from (λ k laid. text_of (laid_lines circuit arch laid)) 0 blocks ++ []
-blocks_texts circuit arch blocks =
-    flat_map-flat_map line_of (laid_lines circuit arch) blocks ∙ texts_plain (λ laid. text_of (laid_lines circuit arch laid)) 0 blocks ∙ sym (append-nil _)
+blocks_texts circuit arch blocks = search (flat_map-flat_map, texts_plain, append-nil, arith)
 
 pub block_some : (circuit : Circuit) (arch : Arch) (laid : LaidBlock) → 0 < length (text_of (laid_lines circuit arch laid))
-block_some circuit arch laid = by laid.block
-  where
-    by : (block : Block) → 0 < length (text_of (laid_lines_as circuit arch laid block))
-    by (InputPad net) = omega arith
-    by (OutputPad net) = omega arith
-    by (Cluster number) = omega arith
-
-block_other : (circuit : Circuit) (arch : Arch) (laid : LaidBlock) (block : Block) (rest : List ℕ) → left_after (Some (text_of (laid_lines_as circuit arch laid block) ++ rest)) (codes ".global ") ≡ None
-block_other circuit arch laid (InputPad net) rest = refl
-block_other circuit arch laid (OutputPad net) rest = refl
-block_other circuit arch laid (Cluster number) rest = refl
+block_some circuit arch laid = grind arith
 
 pub blocks_stop : (circuit : Circuit) (arch : Arch) (blocks : List LaidBlock) → left_after (Some (text_of (flat_map (laid_lines circuit arch) blocks))) (codes ".global ") ≡ None
 blocks_stop circuit arch [] = refl
-blocks_stop circuit arch (laid ∷ blocks) =
-    ap (λ t. left_after (Some t) (codes ".global ")) (flat_map-append line_of (laid_lines circuit arch laid) (flat_map (laid_lines circuit arch) blocks))
-    ∙ block_other circuit arch laid laid.block (text_of (flat_map (laid_lines circuit arch) blocks))
+blocks_stop circuit arch (laid ∷ blocks) = grind arith
 
 -- ---- the numbers of clusters
 
 pub count_more : {X : Type 0} (p : X → Bool) (xs more : List X) (x : X) → more ≡ xs ++ x ∷ [] → count_by p more ≡ (if p x then count_by p xs + 1 else count_by p xs)
-count_more p xs more x e = ap (count_by p) e ∙ count-append p xs (x ∷ []) ∙ by (p x) refl
-  where
-    by : (b : Bool) → p x ≡ b → count_by p xs + count_by p (x ∷ []) ≡ cond (p x) (count_by p xs + 1) (count_by p xs)
-    by true e = rw e refl
-    by false e = rw e (omega arith)
+count_more p xs more x e = grind (arith, count-append)
 
 pub place_found : (blocks : List LaidBlock) (places : List Place) (k : ℕ) (laid : LaidBlock) → places ≡ map (λ laid. laid.place) blocks → slice_get blocks k ≡ Some laid → slice_get places k ≡ Some laid.place
 place_found blocks places k laid same at = ap (λ (all : List Place). slice_get all k) same ∙ by blocks k at

@@ -1,8 +1,7 @@
 -- Private: what is left of a text that is read, or compared with what is printed.
 use Rattle.std.specs.Prelude.{ℕ, ◌≡◌, ◌<◌, ◌^◌, ◌==◌, ◌||◌, Bool, true, false, not, List, [], ◌∷◌, ◌++◌, length, decimal, Result, OnOk, OnErr, Option, Some, None, option_and_then, ⊤, if◌then◌else◌}
 use Rattle.std.specs.List.{list_all}
-use Rattle.strip_files.specs.Fronts.{Stops}
-use Rattle.text_parts.specs.PartEnds.{is_no_digit}
+use Rattle.layout_files.specs.Prelude.{Stops, is_no_digit}
 
 -- the text without these bytes at its front; `None` if it doesn't begin with them
 abbrev pub without_front : List ℕ → List ℕ → Option (List ℕ)

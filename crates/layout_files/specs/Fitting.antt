@@ -1,15 +1,7 @@
 -- Which circuits and layouts the three files can say.
 use Rattle.std.specs.Prelude.{ℕ, ◌≡◌, ◌≢◌, ◌<◌, ◌≤◌, ◌^◌, Bool, true, false, List, All, AllPairs, Some, codes, count_by, length, slice_get, take, ⊤}
 use Rattle.std.specs.Option.{ForSome}
-use Rattle.arch_file.specs.declared.arch.Arch.{Arch}
-use Rattle.blif.specs.declared.circuit.Circuit.{Circuit}
-use Rattle.cluster.specs.declared.block.Block.{Block}
-use Rattle.cluster.specs.declared.block.Block.TheVariants.{InputPad, OutputPad, Cluster}
-use Rattle.grid.specs.declared.place.Place.{Place}
-use Rattle.implements.specs.Layouts.{LaidBle, LaidBlock, LaidNet, Layout}
-use Rattle.implements.specs.declared.feed.Feed.{Feed}
-use Rattle.implements.specs.declared.feed.Feed.TheVariants.{Pin, Ble}
-use Rattle.rr_graph.specs.declared.node.Node.{Node}
+use Rattle.layout_files.specs.Prelude.{Arch, Circuit, Block, InputPad, OutputPad, Cluster, Place, LaidBle, LaidBlock, LaidNet, Layout, Feed, Pin, Ble, Node}
 use Rattle.layout_files.specs.Cursors.{IsPlain}
 
 -- all names of nets differ, none is `open`, and none has a space or a line end in it; nor has the

@@ -1,17 +1,6 @@
 -- When a layout is what its three files say.
 use Rattle.std.specs.Prelude.{ℕ, ◌≡◌, ◌≢◌, ◌-◌, Bool, true, false, List, [], All, Some, Result, Ok, Err, ⊤, codes, length, position}
-use Rattle.arch_file.specs.declared.arch.Arch.{Arch}
-use Rattle.blif.specs.declared.circuit.Circuit.{Circuit}
-use Rattle.cluster.specs.declared.block.Block.{Block}
-use Rattle.cluster.specs.declared.block.Block.TheVariants.{Cluster}
-use Rattle.grid.specs.declared.Strip.{Strip}
-use Rattle.implements.specs.Layouts.{LaidBlock, LaidNet, Layout}
-use Rattle.layout_text.specs.LayoutText.{net_text, place_text, route_text}
-use Rattle.line_text.specs.declared.text_error.TextError.{TextError}
-use Rattle.line_text.specs.declared.text_error.TextError.TheVariants.{NoMemory, Fault}
-use Rattle.rr_graph.specs.declared.node.Node.{Node}
-use Rattle.rr_graph.specs.declared.node.NodeKind.{NodeKind}
-use Rattle.rr_graph.specs.declared.node.NodeKind.TheVariants.{Source, Sink, Opin, Ipin, ChanX, ChanY}
+use Rattle.layout_files.specs.Prelude.{Arch, Circuit, Block, Cluster, Strip, LaidBlock, LaidNet, Layout, net_text, place_text, route_text, TextError, NoMemory, Fault, Node, NodeKind, Source, Sink, Opin, Ipin, ChanX, ChanY}
 use Rattle.layout_files.specs.Fitting.{FitsFiles, HasFileNames}
 
 abbrev pub is_sink_kind : NodeKind → Bool

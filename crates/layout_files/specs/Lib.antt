@@ -1,3 +1,4 @@
+pub mod Prelude
 pub mod Cursors
 pub mod Fitting
 pub mod LayoutFiles

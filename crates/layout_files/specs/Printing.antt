@@ -1,16 +1,7 @@
 -- Private: parts of the three texts of a layout, as they are printed one after another.
 use Rattle.std.specs.Prelude.{ℕ, nat_lt, List, [], ◌∷◌, ◌++◌, codes, decimal, length, map, if◌then◌else◌}
 use Rattle.std.specs.List.{flat_map}
-use Rattle.arch_file.specs.declared.arch.Arch.{Arch}
-use Rattle.blif.specs.declared.circuit.Circuit.{Circuit}
-use Rattle.cluster.specs.Blocks.{net_name}
-use Rattle.cluster.specs.declared.block.Block.TheVariants.{Cluster}
-use Rattle.grid.specs.declared.Strip.{Strip}
-use Rattle.implements.specs.Layouts.{LaidBlock, LaidNet, Layout}
-use Rattle.layout_text.specs.LayoutText.{block_of, laid_lines_as, listed_line}
-use Rattle.rr_graph.specs.declared.node.Node.{Node}
-use Rattle.vpr_files.specs.NodeText.{node_text_of}
-use Rattle.vpr_files.specs.TextLines.{text_of}
+use Rattle.layout_files.specs.Prelude.{Arch, Circuit, net_name, Cluster, Strip, LaidBlock, LaidNet, Layout, block_of, laid_lines_as, listed_line, Node, node_text_of, text_of}
 
 -- the lines of the global nets, followed by an empty line if there are any
 abbrev pub global_lines : Circuit → List ℕ → List (List (List ℕ))

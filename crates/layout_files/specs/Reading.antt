@@ -1,13 +1,7 @@
 -- Private: where a text is the print of a part of a layout, this part is read.
 use Rattle.std.specs.Prelude.{ℕ, ◌≡◌, ◌≢◌, AllPairs, ◌<◌, List, [], ◌∷◌, ◌++◌, All, Option, Some, map, length, codes, decimal}
 use Rattle.std.specs.List.{enumerate_from}
-use Rattle.blif.specs.declared.circuit.Circuit.{Circuit}
-use Rattle.cluster.specs.Blocks.{net_name}
-use Rattle.grid.specs.declared.Strip.{Strip}
-use Rattle.grid.specs.declared.place.Place.{Place}
-use Rattle.implements.specs.Layouts.{LaidBlock}
-use Rattle.layout_text.specs.LayoutText.{place_line}
-use Rattle.vpr_files.specs.TextLines.{line_of, text_of}
+use Rattle.layout_files.specs.Prelude.{Circuit, net_name, Strip, Place, LaidBlock, place_line, line_of, text_of}
 use Rattle.layout_files.specs.Fitting.{HasFileNames, IsSmallPlace}
 use Rattle.layout_files.specs.Printing.{place_headings}
 

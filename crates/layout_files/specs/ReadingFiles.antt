@@ -1,13 +1,6 @@
 -- Private: where three texts are the print of a layout, this layout is read.
 use Rattle.std.specs.Prelude.{ℕ, ◌≡◌, List, Result, Ok, Err, ⊤, map}
-use Rattle.arch_file.specs.declared.arch.Arch.{Arch}
-use Rattle.blif.specs.declared.circuit.Circuit.{Circuit}
-use Rattle.grid.specs.declared.Strip.{Strip}
-use Rattle.grid.specs.declared.place.Place.{Place}
-use Rattle.implements.specs.Layouts.{LaidBlock, LaidNet, Layout}
-use Rattle.layout_text.specs.LayoutText.{net_text, place_text, route_text}
-use Rattle.line_text.specs.declared.text_error.TextError.{TextError}
-use Rattle.line_text.specs.declared.text_error.TextError.TheVariants.{NoMemory, Fault}
+use Rattle.layout_files.specs.Prelude.{Arch, Circuit, Strip, Place, LaidBlock, LaidNet, Layout, net_text, place_text, route_text, TextError, NoMemory, Fault}
 use Rattle.layout_files.specs.Fitting.{FitsFiles, HasFileNames}
 use Rattle.layout_files.specs.LayoutFiles.{ArePrintOf, HasPrintedForm}
 

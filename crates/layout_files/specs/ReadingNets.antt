@@ -2,16 +2,7 @@
 use Rattle.std.specs.Prelude.{ℕ, ◌≡◌, ◌<◌, ◌≤◌, ◌^◌, List, [], ◌∷◌, ◌++◌, All, Option, Some, None, map, length, codes, decimal, slice_get}
 use Rattle.std.specs.List.{flat_map, range_with_len}
 use Rattle.std.specs.Option.{ForSome, option_to_list}
-use Rattle.arch_file.specs.declared.arch.Arch.{Arch}
-use Rattle.blif.specs.declared.circuit.Circuit.{Circuit}
-use Rattle.cluster.specs.Blocks.{net_name}
-use Rattle.grid.specs.declared.place.Place.{Place}
-use Rattle.implements.specs.Layouts.{LaidBle, LaidBlock}
-use Rattle.implements.specs.declared.feed.Feed.{Feed}
-use Rattle.layout_text.specs.LayoutText.{ble_line, feed_or_open, feed_word, laid_lines}
-use Rattle.vpr_files.specs.NetFile.{or_open}
-use Rattle.vpr_files.specs.TextLines.{text_of, word_after_space}
-use Rattle.strip_files.specs.Fronts.{Stops}
+use Rattle.layout_files.specs.Prelude.{Arch, Circuit, net_name, Place, LaidBle, LaidBlock, Feed, ble_line, feed_or_open, feed_word, laid_lines, or_open, text_of, word_after_space, Stops}
 use Rattle.layout_files.specs.Cursors.{IsPlain, is_word_end, left_after}
 use Rattle.layout_files.specs.Fitting.{AreNumbered, FitsBle, FitsBlock, HasFileNames, HasNumber, feed_number}
 use Rattle.layout_files.specs.LayoutFiles.{IsBare}

@@ -1,15 +1,7 @@
 -- Private: where a text is the print of a part of a routing, this part is read.
 use Rattle.std.specs.Prelude.{ℕ, ◌≡◌, ◌<◌, ◌^◌, Bool, true, false, List, [], ◌∷◌, ◌++◌, All, Option, Some, map, length, codes, decimal}
 use Rattle.std.specs.List.{enumerate_from, flat_map}
-use Rattle.blif.specs.declared.circuit.Circuit.{Circuit}
-use Rattle.cluster.specs.Blocks.{net_name}
-use Rattle.grid.specs.declared.Strip.{Strip}
-use Rattle.implements.specs.Layouts.{LaidNet, Layout}
-use Rattle.layout_text.specs.LayoutText.{between_lines, block_of, listed_line}
-use Rattle.rr_graph.specs.declared.node.Node.{Node}
-use Rattle.rr_graph.specs.declared.node.NodeKind.{NodeKind}
-use Rattle.vpr_files.specs.NodeText.{kind_word, node_text_of, number_word}
-use Rattle.vpr_files.specs.TextLines.{line_of, text_of}
+use Rattle.layout_files.specs.Prelude.{Circuit, net_name, Strip, LaidNet, Layout, between_lines, block_of, listed_line, Node, NodeKind, kind_word, node_text_of, number_word, line_of, text_of}
 use Rattle.layout_files.specs.Cursors.{IsPlain}
 use Rattle.layout_files.specs.Fitting.{FitsNet, HasFileNames, IsSmallNode, IsSmallPlace}
 use Rattle.layout_files.specs.LayoutFiles.{EndsAtSink, HasWholePaths}

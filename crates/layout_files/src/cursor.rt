@@ -2,7 +2,7 @@
 ghost use Rattle.std.specs.Prelude.{◌≡◌, ◌≢◌, ◌≤◌, ◌-◌, ◌+◌, [], length, nat_lt, IsTrue, OnErr, OnOk, Some, None, is_some, if◌then◌else◌};
 ghost use Rattle.std.specs.List.{flat_map};
 ghost use Rattle.layout_files.specs.Cursors.{IsNumberRead, IsWordRead, has_line, left_after, size};
-ghost use Rattle.text_parts.specs.Parts.{bytes_of_part};
+ghost use Rattle.layout_files.specs.Prelude.{bytes_of_part};
 
 use crate::front::{split_digits, split_word};
 use itoa::Buffer;

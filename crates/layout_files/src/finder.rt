@@ -1,7 +1,6 @@
 //! Finds the layout that the lines of the files describe.
 ghost use Rattle.std.specs.Prelude.{◌≡◌, [], Some, ⊤};
-ghost use Rattle.arch_file.specs.declared.arch.Arch.{Arch};
-ghost use Rattle.blif.specs.declared.circuit.Circuit.{Circuit};
+ghost use Rattle.layout_files.specs.Prelude.{Arch, Circuit};
 ghost use Rattle.layout_files.specs.ReadingFiles.{ArePartsFound, ArePlacesFound, Given, IsFound, IsPackingFound, IsRoutingFound};
 
 use crate::cursor::Cursor;

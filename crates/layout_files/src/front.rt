@@ -2,7 +2,7 @@
 ghost use Rattle.std.specs.Prelude.{◌≡◌, drop, position};
 ghost use Rattle.std.specs.List.{before_first, position_or_len};
 ghost use Rattle.layout_files.specs.Cursors.{is_word_end};
-ghost use Rattle.text_parts.specs.PartEnds.{is_no_digit};
+ghost use Rattle.layout_files.specs.Prelude.{is_no_digit};
 
 /// The digits at the front, and the bytes after them.
 pub(crate) fn split_digits(text: &[u8]) -> (&[u8], &[u8])

@@ -1,8 +1,7 @@
 //! The names of a layout's blocks.
 ghost use Rattle.std.specs.Prelude.{◌≡◌, ◌++◌, [], slice_get};
 ghost use Rattle.std.specs.Option.{option_map_or};
-ghost use Rattle.cluster.specs.Blocks.{net_name};
-ghost use Rattle.layout_text.specs.LayoutText.{laid_name};
+ghost use Rattle.layout_files.specs.Prelude.{net_name, laid_name};
 
 use blif::Circuit;
 use cluster::Block;

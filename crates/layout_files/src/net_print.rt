@@ -1,12 +1,9 @@
 //! Prints the `.net` text of a layout.
 ghost use Rattle.std.specs.Prelude.{◌≡◌, decimal, map, slice_get};
 ghost use Rattle.std.specs.List.{flat_map, range_with_len};
-ghost use Rattle.cluster.specs.Blocks.{net_name};
+ghost use Rattle.layout_files.specs.Prelude.{net_name, ble_line, feed_or_open, laid_lines, net_text, or_open, line_of, word_after_space, text_of};
 ghost use Rattle.layout_files.specs.Cursors.{left_after};
 ghost use Rattle.layout_files.specs.Printing.{cluster_lines, global_lines};
-ghost use Rattle.layout_text.specs.LayoutText.{ble_line, feed_or_open, laid_lines, net_text};
-ghost use Rattle.vpr_files.specs.NetFile.{or_open};
-ghost use Rattle.vpr_files.specs.TextLines.{line_of, word_after_space, text_of};
 
 use crate::cursor::Cursor;
 use crate::laid_names::{cluster_name, net_name};

@@ -1,6 +1,6 @@
 //! The words in the line of a node.
 ghost use Rattle.std.specs.Prelude.{◌≡◌, ◌++◌, ◌==◌, ◌||◌, codes, nat_lt};
-ghost use Rattle.vpr_files.specs.NodeText.{kind_word, number_word};
+ghost use Rattle.layout_files.specs.Prelude.{kind_word, number_word};
 
 use rr_graph::NodeKind;
 

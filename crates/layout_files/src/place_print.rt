@@ -3,8 +3,7 @@ ghost use Rattle.std.specs.Prelude.{◌≡◌, map};
 ghost use Rattle.std.specs.List.{enumerate_from};
 ghost use Rattle.layout_files.specs.Cursors.{left_after};
 ghost use Rattle.layout_files.specs.Printing.{place_headings};
-ghost use Rattle.layout_text.specs.LayoutText.{place_line, place_text};
-ghost use Rattle.vpr_files.specs.TextLines.{line_of, text_of};
+ghost use Rattle.layout_files.specs.Prelude.{place_line, place_text, line_of, text_of};
 
 use crate::cursor::Cursor;
 use crate::laid_names::laid_name;

@@ -2,7 +2,7 @@
 ghost use Rattle.std.specs.Prelude.{◌≡◌, IfOk, OnErr, OnOk};
 ghost use Rattle.layout_files.specs.Cursors.{IsSame};
 ghost use Rattle.layout_files.specs.LayoutFiles.{AreFilesOf, ArePrintOf, IsReadingOf};
-ghost use Rattle.layout_text.specs.LayoutText.{net_text, place_text, route_text};
+ghost use Rattle.layout_files.specs.Prelude.{net_text, place_text, route_text};
 
 use crate::cursor::Cursor;
 use crate::fault::LayoutFault;

@@ -3,9 +3,7 @@ ghost use Rattle.std.specs.Prelude.{◌≡◌, ◌++◌, ◌∷◌, [], codes, d
 ghost use Rattle.std.specs.List.{enumerate_from, flat_map};
 ghost use Rattle.layout_files.specs.Cursors.{left_after};
 ghost use Rattle.layout_files.specs.Printing.{connected_text, heading_text, node_lines, route_headings};
-ghost use Rattle.layout_text.specs.LayoutText.{between_lines, block_of, laid_name, listed_line, route_text};
-ghost use Rattle.vpr_files.specs.NodeText.{node_text_of, position_text};
-ghost use Rattle.vpr_files.specs.TextLines.{line_of, text_of};
+ghost use Rattle.layout_files.specs.Prelude.{between_lines, block_of, laid_name, listed_line, route_text, node_text_of, position_text, line_of, text_of};
 
 use crate::cursor::Cursor;
 use crate::laid_names::{LaidName, laid_name, net_name};

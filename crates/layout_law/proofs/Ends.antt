@@ -1,32 +1,7 @@
 -- What a placing and a routing have made at their end.
-use Rattle.std.proofs.Common.{◌≡◌, ℕ, ◌+◌, ◌<◌, ◌≤◌, Bool, true, false, if◌then◌else◌, List, None, Result, Ok, IfOk, length, get_or, sym, ap, refl, ◌∙◌, inl, inr, subst, arith}
-use Rattle.std.specs.List.{position_or_len, range_with_len}
-use Rattle.std.proofs.lemmas.Bool.{cases_lt}
-use Rattle.std.proofs.lemmas.List.FromFn.{get_or-range_with_len, length-range_with_len}
-use Rattle.std.proofs.lemmas.List.Sums.{fails_before_first, passes_at_first}
-use Rattle.arch_file.specs.declared.arch.Arch.{Arch}
-use Rattle.blif.specs.CircuitOf.{circuit_of}
-use Rattle.blif.specs.declared.circuit.Circuit.{Circuit}
-use Rattle.blif.specs.declared.fault.BlifFault.{BlifFault}
-use Rattle.grid.specs.Sizes.{IsStripSize}
-use Rattle.grid.specs.declared.Strip.{Strip}
-use Rattle.kept_places.specs.Kept.{KeptPlaces}
-use Rattle.pathfinder.specs.Negotiation.{Routed as RoutedTrees, Standing, More, Done, GaveUp as GivenUp, NoPath as WithoutPath, routed_after}
-use Rattle.pathfinder.specs.PlacedNets.{wiring_of}
-use Rattle.pathfinder.specs.Routings.{routes_by_node}
-use Rattle.rr_graph.specs.Graph.{graph_of}
-use Rattle.strip_place.specs.Anneal.{PlacingUnderWay, is_past_last}
-use Rattle.job_state.specs.Held.{HasFewSteps, IsNotOverBefore}
-use Rattle.job_state.specs.JobValue.{basis_in, end_value, is_last, is_whole, is_whole_value, nets_in, pads_in, pass_count, placing_at, placing_sources, routing_sources, routing_stands, step_count, step_limit, value_of, work_of}
-use Rattle.job_state.specs.RoutedCircuits.{RoutedCircuit}
-use Rattle.job_state.specs.declared.sources.JobKind.TheVariants.{Placing as PlacingJob}
-use Rattle.job_state.specs.declared.sources.Sources.{Sources}
-use Rattle.job_state.specs.declared.work.Work.{Work}
-use Rattle.job_state.specs.declared.work.Work.TheVariants.{Placing, Placed, Routed}
-use Rattle.job_state.proofs.Beginnings.{over_past_last}
-use Rattle.job_state.proofs.Ended.{placed_made}
-use Rattle.job_state.proofs.Routings.{over_by_thirty}
-use Rattle.tenant_slot.specs.Results.{failure_of}
+use Rattle.layout_law.proofs.Prelude.{◌≡◌, ℕ, ◌+◌, ◌<◌, ◌≤◌, Bool, true, false, if◌then◌else◌, List, None, Result, Ok, IfOk, length, get_or, sym, ap, refl, ◌∙◌, inl, inr, subst, arith, position_or_len, range_with_len, cases_lt, get_or-range_with_len, length-range_with_len, fails_before_first, passes_at_first, Arch, circuit_of, Circuit, BlifFault, IsStripSize, Strip, KeptPlaces, Standing, More, Done, GaveUp as GivenUp, NoPath as WithoutPath, routed_after, wiring_of, routes_by_node, graph_of, PlacingUnderWay, is_past_last, HasFewSteps, IsNotOverBefore, basis_in, end_value, is_last, is_whole, is_whole_value, nets_in, pads_in, pass_count, placing_at, placing_sources, routing_sources, routing_stands, step_count, step_limit, value_of, work_of, RoutedCircuit, Placing as PlacingJob, Sources, Work, Placed, over_past_last, placed_made, over_by_thirty, failure_of}
+use Rattle.pathfinder.specs.Negotiation.{Routed as RoutedTrees}
+use Rattle.job_state.specs.declared.work.Work.TheVariants.{Placing, Routed}
 
 -- the least number that passes, if there is one
 first_passes : (test : ℕ → Bool) (limit k : ℕ) → k < limit → test k ≡ true → test (position_or_len test (range_with_len 0 limit)) ≡ true
@@ -41,9 +16,7 @@ first_passes test limit k small passes = elim (cases_lt (position_or_len test (r
 ]
 
 none_before : (test : ℕ → Bool) (limit fewer : ℕ) → fewer < limit → fewer < position_or_len test (range_with_len 0 limit) → test fewer ≡ false
-none_before test limit fewer small before =
-    let at : get_or (range_with_len 0 limit) fewer 0 ≡ fewer = get_or-range_with_len 0 limit fewer 0 small ∙ omega arith in
-    sym (ap test at) ∙ fails_before_first test (range_with_len 0 limit) fewer 0 before
+none_before test limit fewer small before = grind (arith, fails_before_first, get_or-range_with_len 0 limit fewer 0 small, fails_before_first test (range_with_len 0 limit) fewer 0 before)
 
 not_past : (test : ℕ → Bool) (limit k : ℕ) → k < limit → test k ≡ true → position_or_len test (range_with_len 0 limit) ≤ k
 not_past test limit k small passes = elim (cases_lt k (position_or_len test (range_with_len 0 limit))) [

@@ -1,32 +1,6 @@
 -- The laws of the crates below that this one rests on.
-use Rattle.std.specs.Prelude.{ℕ, ◌≡◌, ◌≢◌, ◌+◌, ◌≤◌, false, List, All, AllPairs, Contains}
-use Rattle.blif.specs.LawfulCircuits.{IsNarrow}
-use Rattle.block_places.specs.Placed.{ArePlaced}
-use Rattle.cluster.specs.Clusters.{PackedCircuit}
-use Rattle.cluster.specs.LawfulPackings.{IsPacked}
-use Rattle.cluster.specs.PackingLaws.{IsLawfulPacking}
-use Rattle.grid.specs.PlaceLaws.{IsPlaceIn}
-use Rattle.grid.specs.Places.{places_of}
-use Rattle.grid.specs.Sizes.{IsStripSize}
-use Rattle.grid.specs.declared.Strip.{Strip}
-use Rattle.grid.specs.declared.place.Kind.{Kind}
-use Rattle.grid.specs.declared.place.Kind.TheVariants.{Logic, Pad}
-use Rattle.grid.specs.declared.place.Place.{Place}
-use Rattle.implements.specs.Connects.{Connects}
-use Rattle.implements.specs.Implements.{Implements}
-use Rattle.implements.specs.LayoutOf.{layout_of}
-use Rattle.pathfinder.specs.LegalRoutes.{IsLegal}
-use Rattle.pathfinder.specs.Negotiation.{Done, routed_after}
-use Rattle.pathfinder.specs.PlacedNets.{nets_to_route, wiring_of}
-use Rattle.pathfinder.specs.Routings.{routes_by_node}
-use Rattle.pathfinder.specs.Wiring.{AreNets}
-use Rattle.rr_graph.specs.Graph.{Basis, IsBasis, IsRoutingGraph, graph_of}
-use Rattle.rr_graph.specs.declared.node.Node.{Node}
-use Rattle.strip_place.specs.Anneal.{is_past_last}
-use Rattle.layout_text.specs.LayoutText.{net_text, place_text, route_text}
-use Rattle.vpr_files.specs.NetFile.{net_text_of}
-use Rattle.vpr_files.specs.PlaceFile.{place_text_of}
-use Rattle.vpr_files.specs.RouteFile.{route_text_of}
+use Rattle.layout_law.proofs.Prelude.{All, AllPairs, Contains, IsNarrow, ArePlaced, PackedCircuit, IsPacked, IsLawfulPacking, IsPlaceIn, places_of, IsStripSize, Strip, Kind, Logic, Pad, Place, Connects, Implements, layout_of, IsLegal, Done, routed_after, nets_to_route, wiring_of, routes_by_node, AreNets, Basis, IsBasis, IsRoutingGraph, graph_of, Node, is_past_last, net_text, place_text, route_text, net_text_of, place_text_of, route_text_of}
+use Rattle.std.specs.Prelude.{ℕ, ◌≡◌, ◌≢◌, ◌+◌, ◌≤◌, false, List}
 
 pub record Laws : Type 0 where
   pub within : (strip : Strip) (kind : Kind) → IsStripSize strip → All (IsPlaceIn strip kind) (places_of strip kind)

@@ -1,3 +1,4 @@
+mod Prelude
 pub mod Laws
 pub mod Places
 pub mod Ends

@@ -1,38 +1,6 @@
 -- After any number of passes the blocks of a packed circuit have places, of their kinds and one to
 -- one.
-use Rattle.std.proofs.Common.{◌≡◌, ◌≢◌, ℕ, suc, zero, ◌*◌, ◌<◌, Bool, true, false, cond, List, length, get_or, map, sym, ap, refl, ◌∙◌, inl, inr, ◌⊎◌, subst, arith}
-use Rattle.std.specs.Prelude.{AllPairs, Contains}
-use Rattle.std.proofs.lemmas.Bool.{cases_eq, cases_lt}
-use Rattle.block_places.specs.declared.fit.Fit.TheVariants.{Fits}
-use Rattle.block_places.specs.Fits.{fit_of, kind_of}
-use Rattle.block_places.specs.Placed.{ArePlaced}
-use Rattle.cluster.specs.Blocks.{blocks_of}
-use Rattle.cluster.specs.Clusters.{PackedCircuit}
-use Rattle.cluster.specs.PackingLaws.{IsLawfulPacking}
-use Rattle.grid.specs.Places.{places_of}
-use Rattle.grid.specs.Sizes.{IsStripSize}
-use Rattle.grid.specs.declared.Strip.{Strip}
-use Rattle.grid.specs.declared.place.Kind.{Kind}
-use Rattle.grid.specs.declared.place.Kind.TheVariants.{Logic, Pad}
-use Rattle.grid.specs.declared.place.Place.{Place}
-use Rattle.kept_places.specs.Kept.{KeptPlaces}
-use Rattle.strip_place.specs.Anneal.{placed_after, temperature_at}
-use Rattle.strip_place.specs.Boards.{drawn_block, places_on}
-use Rattle.strip_place.specs.Keeping.{AreKeptOn}
-use Rattle.strip_place.specs.KeptSites.{kept_sites_of}
-use Rattle.strip_place.specs.Pass.{Draw, after_draw, cost_of, is_kept, pass_of}
-use Rattle.strip_place.specs.Seating.{exchanged_site}
-use Rattle.strip_place.specs.Sites.{AreDistinct, AreOneToOne, IsSiteFor, drawn_for, site_count, start_of}
-use Rattle.strip_place.specs.Start.{places_at_start}
-use Rattle.strip_place.specs.Starting.{HaveRoom}
-use Rattle.strip_place.specs.Task.{Task, task_of}
-use Rattle.strip_place.proofs.Boarding.{standing_after}
-use Rattle.strip_place.proofs.Carrying.{draw_decided, draw_stays}
-use Rattle.strip_place.proofs.KeptSites.{kept_lawful}
-use Rattle.strip_place.proofs.Seatings.{start_standing}
-use Rattle.strip_place.proofs.Standing.{distinct_by, placed_by}
-use Rattle.strip_place.proofs.StartPlaces.{start_places}
-use Rattle.strip_place.proofs.Starts.{fitting}
+use Rattle.layout_law.proofs.Prelude.{◌≡◌, ◌≢◌, ℕ, suc, zero, ◌*◌, ◌<◌, Bool, true, false, cond, List, length, get_or, map, sym, ap, refl, ◌∙◌, inl, inr, ◌⊎◌, subst, arith, AllPairs, Contains, cases_eq, Fits, fit_of, kind_of, ArePlaced, blocks_of, PackedCircuit, IsLawfulPacking, places_of, IsStripSize, Strip, Kind, Logic, Pad, Place, KeptPlaces, placed_after, drawn_block, places_on, AreKeptOn, kept_sites_of, Draw, after_draw, cost_of, is_kept, pass_of, exchanged_site, AreDistinct, AreOneToOne, IsSiteFor, drawn_for, site_count, start_of, places_at_start, HaveRoom, Task, task_of, standing_after, draw_decided, draw_stays, kept_lawful, start_standing, distinct_by, placed_by, start_places, fitting}
 
 -- the places are those of sites on which blocks of these kinds are, one to one
 pub record AreOnSites (strip : Strip) (kinds : List Kind) (places : List Place) : Type 0 where
@@ -97,18 +65,12 @@ module _ (strip : Strip) (distinct : AreDistinct strip) where
   -- if there is no block, there is no draw
   after_pass : (task : Task) (temperature : ℕ) (draws : ℕ → Draw) (effort : ℕ) (places : List Place) → AreOnSites strip task.kinds places → AreOnSites strip task.kinds (pass_of strip task temperature draws (effort * length task.kinds) places)
   unfolding pass_of
-  after_pass task temperature draws effort places on = elim (cases_lt 0 (length task.kinds)) [
-    | inl some ↦ after_some task temperature draws (effort * length task.kinds) places some on
-    | inr none ↦ (let zero' : length task.kinds ≡ 0 = omega (arith, none) in
-        let count : effort * length task.kinds ≡ 0 = ap (λ n. effort * n) zero' ∙ omega arith in
-        subst (λ n. AreOnSites strip task.kinds (pass_of strip task temperature draws n places)) (sym count) on)
-  ]
+  after_pass task temperature draws effort places on = grind (arith, after_some)
 
   after_passes : (task : Task) (start : List Place) (seed effort passes : ℕ) → AreOnSites strip task.kinds start → AreOnSites strip task.kinds (placed_after strip task start seed effort passes)
   unfolding placed_after
   after_passes task start seed effort zero on = on
-  after_passes task start seed effort (suc passes) on =
-      after_pass task (temperature_at strip passes) _ effort (placed_after strip task start seed effort passes) (after_passes task start seed effort passes on)
+  after_passes task start seed effort (suc passes) on = grind (arith, after_pass, after_passes task start seed effort passes on)
 
 module _ (strip : Strip) (size : IsStripSize strip) (apart : (kind : Kind) → AllPairs (λ place other. place ≢ other) (places_of strip kind))
     (kinds_apart : (place : Place) → Contains (places_of strip Logic) place → Contains (places_of strip Pad) place → ⊥) where

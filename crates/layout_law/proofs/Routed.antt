@@ -1,36 +1,5 @@
 -- A tenancy in the state Routed implements the circuit of its text.
-use Rattle.std.proofs.Common.{◌≡◌, ℕ, List, None, sym, ap, refl, ◌∙◌, subst}
-use Rattle.arch_file.specs.Arch.{IsArch}
-use Rattle.arch_file.specs.declared.arch.Arch.{Arch}
-use Rattle.blif.specs.declared.circuit.Circuit.{Circuit}
-use Rattle.blif.specs.LawfulCircuits.{IsNarrow}
-use Rattle.blif.proofs.AllTexts.{text_lawful}
-use Rattle.block_places.specs.Placed.{ArePlaced}
-use Rattle.cluster.specs.Clusters.{PackedCircuit, packed_of}
-use Rattle.cluster.specs.LawfulPackings.{IsPacked}
-use Rattle.grid.specs.Sizes.{IsStripSize}
-use Rattle.grid.specs.declared.Strip.{Strip}
-use Rattle.grid.specs.declared.place.Place.{Place}
-use Rattle.implements.specs.Connects.{Connects}
-use Rattle.implements.specs.Implements.{Implements}
-use Rattle.implements.specs.LayoutOf.{layout_of}
-use Rattle.kept_places.specs.Kept.{KeptPlaces}
-use Rattle.pathfinder.specs.LegalRoutes.{IsLegal}
-use Rattle.pathfinder.specs.Negotiation.{routed_after}
-use Rattle.pathfinder.specs.PlacedNets.{nets_to_route, wiring_of}
-use Rattle.pathfinder.specs.Routings.{routes_by_node}
-use Rattle.pathfinder.specs.Wiring.{Net}
-use Rattle.pathfinder.proofs.PlacedTerminals.{are_nets}
-use Rattle.rr_graph.specs.Graph.{Basis, IsBasis, graph_of}
-use Rattle.strip_place.specs.Anneal.{PlacingUnderWay, places_by_block}
-use Rattle.strip_place.specs.Keeping.{AreKeptOn}
-use Rattle.job_state.specs.JobValue.{end_value, nets_in, pass_count, placing_at, placing_sources, routing_sources, step_count}
-use Rattle.tenant_slot.specs.Results.{failure_of}
-use Rattle.tenant_slot.specs.SingleUser.{State, run}
-use Rattle.tenant_slot.specs.declared.event.Event.{Event}
-use Rattle.tenant_slot.specs.declared.reply.StateName.{StateName}
-use Rattle.tenant_slot.specs.declared.reply.StateName.TheVariants.{Routed}
-use Rattle.layout_law.specs.Tenancies.{ImplementsItsText}
+use Rattle.layout_law.proofs.Prelude.{◌≡◌, ℕ, List, None, sym, ap, refl, ◌∙◌, subst, arith, IsArch, Arch, Circuit, IsNarrow, text_lawful, ArePlaced, PackedCircuit, packed_of, IsPacked, IsStripSize, Strip, Place, Connects, Implements, layout_of, KeptPlaces, IsLegal, routed_after, nets_to_route, wiring_of, routes_by_node, Net, are_nets, Basis, IsBasis, graph_of, PlacingUnderWay, places_by_block, AreKeptOn, end_value, nets_in, pass_count, placing_at, placing_sources, routing_sources, step_count, failure_of, State, run, Event, StateName, Routed, ImplementsItsText}
 use Rattle.layout_law.proofs.Ends.{HasRoutes, placed_end, routed_end}
 use Rattle.layout_law.proofs.Laws.{Laws}
 use Rattle.layout_law.proofs.States.{Has, HasNotFailed, IsPlaceable, always_sound, lawful_packed, places_lawful}
@@ -132,8 +101,4 @@ module _ (laws : Laws) (arch : Arch) (strip : Strip) (known : IsArch arch) (size
 
   -- whatever the events were
   pub routed_implements : (events : List Event) → (run arch strip events).0.name ≡ Routed → ImplementsItsText (run arch strip events).0
-  routed_implements events is =
-      let state = (run arch strip events).0 in
-      let sound = always_sound laws arch strip known size events in
-      let has = of_name state state.name is sound.has in
-      of_routed state sound.arch_is sound.strip_is sound.kept has.0 has.1
+  routed_implements events is = grind (arith, always_sound, of_routed)

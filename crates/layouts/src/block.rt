@@ -1,9 +1,11 @@
 //! A block of a layout.
 ghost use Rattle.std.specs.Prelude.{◌≡◌};
+ghost use Rattle.pathfinder.specs.Terminals.{sink_at, source_at, terminal_number};
 
 use crate::ble::LaidBle;
 use cluster::Block;
 use grid::Place;
+use rr_graph::{Node, NodeKind};
 use std::marker::Model;
 
 /// A block on its place: a cluster with the net on each of its pins and its BLEs, or a pad.
@@ -72,5 +74,38 @@ impl LaidBlock {
         ensures { result ≡ self.now.place }
     {
         self.place
+    }
+    /// The node at which the block drives a net.
+    pub fn source(&self) -> Node
+        ensures { result ≡ source_at self.now.block self.now.place }
+    {
+        self.terminal(NodeKind::Source, 1)
+    }
+
+    /// The node at which the block reads nets.
+    pub fn sink(&self) -> Node
+        ensures { result ≡ sink_at self.now.block self.now.place }
+    {
+        self.terminal(NodeKind::Sink, 0)
+    }
+
+    /// The block's source or sink, for the pins of that class. A pad has one for itself.
+    fn terminal(&self, kind: NodeKind, class: u32) -> Node
+        ensures { result ≡ record {
+          x = self.now.place.x;
+          kind = kind;
+          y = self.now.place.y;
+          n = terminal_number self.now.block self.now.place class;
+        } }
+    {
+        Node {
+            x: self.place.x,
+            kind,
+            y: self.place.y,
+            n: match self.block {
+                Block::Cluster(_) => class,
+                Block::InputPad(_) | Block::OutputPad(_) => self.place.subblock,
+            },
+        }
     }
 }

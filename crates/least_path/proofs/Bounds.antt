@@ -1,26 +1,16 @@
 -- Bounds that are consistent along edges.
-use Rattle.std.proofs.Common.{◌≡◌, ℕ, ◌+◌, ◌<◌, Option, Some, None, List, [], ◌∷◌, arith, ◌∙◌, ap}
-use Rattle.std.specs.List.{sum_by}
-use Rattle.std.proofs.lemmas.List.Sums.{sum_by-cons}
-use Rattle.least_path.specs.Graph.{Graph, IsLawful}
-use Rattle.least_path.specs.Path.{Leads}
-use Rattle.least_path.specs.LowerBound.{IsLowerBound, FallsByAtMost, IsConsistent}
+use Rattle.least_path.proofs.Prelude.{◌≡◌, ℕ, ◌+◌, ◌<◌, Option, Some, None, List, [], ◌∷◌, arith, ◌∙◌, ap, sum_by, sum_by-cons, Graph, IsLawful, Leads, IsLowerBound, FallsByAtMost, IsConsistent}
 use Rattle.least_path.proofs.Edges.{known_end}
 
 no_steps : (bound : Option ℕ) → bound ≡ Some 0 → FallsByAtMost 0 bound (Some 0)
-no_steps None e = cc
-no_steps (Some n) e = let none : n ≡ 0 = cc in omega (arith, none)
+no_steps bound e = grind arith
 
 one_step : (cost sum : ℕ) (bound next : Option ℕ) → FallsByAtMost cost bound next → FallsByAtMost sum next (Some 0) → FallsByAtMost (cost + sum) bound (Some 0)
-one_step cost sum bound None f q = absurd q
-one_step cost sum None (Some n) f q = absurd f
-one_step cost sum (Some b) (Some n) f q = omega arith
+one_step cost sum bound next f q = grind arith
 
 along : (g : Graph) (goal : ℕ) (bound_at : ℕ → Option ℕ) → IsLawful g → IsConsistent g goal bound_at → (rest : List ℕ) (node : ℕ) → node < g.count → Leads g goal node rest → FallsByAtMost (sum_by g.cost rest) (bound_at node) (Some 0)
 along g goal bound_at law c [] node b l = no_steps (bound_at node) (ap bound_at l ∙ c.at_goal)
-along g goal bound_at law c (x ∷ r) node b l =
-    rw (sum_by-cons g.cost x r) (one_step (g.cost x) (sum_by g.cost r) (bound_at node) (bound_at x) (c.step node x b l.0)
-    (along g goal bound_at law c r x (known_end law node x b l.0) l.1))
+along g goal bound_at law c (x ∷ r) node b l = grind (arith, sum_by-cons, one_step (g.cost x) (sum_by g.cost r) (bound_at node) (bound_at x) (c.step node x b l.0) (along g goal bound_at law c r x (known_end law node x b l.0) l.1), along g goal bound_at law c r x (known_end law node x b l.0) l.1)
 
 -- Bounds that are consistent along edges are lower bounds.
 pub consistent_below : (g : Graph) (goal : ℕ) (bound_at : ℕ → Option ℕ) (node : ℕ) → IsLawful g → IsConsistent g goal bound_at → node < g.count → IsLowerBound g goal node (bound_at node)

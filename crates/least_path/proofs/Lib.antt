@@ -1,3 +1,4 @@
+mod Prelude
 mod Edges
 mod Exact
 pub mod Agrees

@@ -1,5 +1,5 @@
 -- A line that is read in pieces.
-use Rattle.std.proofs.Common.{◌≡◌, ℕ, suc, ◌+◌, ◌-◌, ◌<◌, ◌≤◌, nat_lt, position, List, [], ◌∷◌, ◌++◌, length, take, drop, Bool, true, false, not, ◌&&◌, cond, eqb, Option, Some, None, Result, Ok, Err, refl, sym, ap, ◌∙◌, subst, arith, append_assoc}
+use Rattle.std.proofs.Common.{◌≡◌, ℕ, suc, ◌+◌, ◌-◌, ◌<◌, ◌≤◌, nat_lt, position, List, [], ◌∷◌, ◌++◌, length, take, drop, Bool, true, false, not, ◌&&◌, cond, eqb, Option, Some, None, Result, Ok, Err, refl, sym, ap, ◌∙◌, arith, append_assoc}
 use Rattle.std.specs.List.{position_or_len}
 use Rattle.std.proofs.lemmas.Bool.{eqb-true}
 use Rattle.std.proofs.lemmas.Bool.Decides.{nat_tests}
@@ -38,12 +38,6 @@ piece_ended (x ∷ xs) inside =
           ∙ (ap (λ l. l ++ 10 ∷ drop (end_of xs + 1) xs) (sym (take_next (end_of xs) x xs))
           ∙ ap (λ l. take (1 + end_of xs) (x ∷ xs) ++ 10 ∷ l) (sym (drop_two (end_of xs) x xs)))
     ] refl inside
-
--- the same, by the answer
-pub piece_is : (ahead rest : List ℕ) (kept after : List ℕ) (a b : Bool) → a ≡ b → TakesPiece ahead kept a rest after → TakesPiece ahead kept b rest after
-piece_is ahead rest kept after a b e p =
-    let P : Bool → Type 0 = λ t. TakesPiece ahead kept t rest after in
-    subst P e p
 
 -- bytes without LF, and a place of the first one
 no_end : (bytes : List ℕ) → position is_end bytes ≡ None → is_one_line bytes ≡ true

@@ -1,29 +1,14 @@
 -- A conversation of a service is one of what is seen of the service.
-use Rattle.std.proofs.Common.{ℕ, ◌+◌, List, [], ◌∷◌, ap, take}
-use Rattle.dialogue.specs.History.{Event, View}
-use Rattle.line_service.specs.declared.conversation.ConversationEnd.{ConversationEnd}
-use Rattle.line_service.specs.declared.conversation.ConversationEnd.TheVariants.{Done, NoMemory, Stopped, TooManyLines}
-use Rattle.line_service.specs.Conversation.{AreAnswered, EndsAs, IsBacked, IsCaughtUp, IsConversation}
+use Rattle.line_service.proofs.Prelude.{ℕ, ◌+◌, List, [], ◌∷◌, ap, take, arith, Event, View, ConversationEnd, Done, NoMemory, Stopped, TooManyLines, AreAnswered, EndsAs, IsBacked, IsCaughtUp, IsConversation}
 
 pub answered_along : {S T : Type 0} (f : S → T) (a : S → ℕ → List ℕ → List ℕ → S → Type 0) (b : T → ℕ → List ℕ → List ℕ → T → Type 0) → ((old : S) (number : ℕ) (line reply : List ℕ) (new : S) → a old number line reply new → b (f old) number line reply (f new)) →
     (old : S) (number : ℕ) (lines : List (List ℕ)) (text : List ℕ) (new : S) → AreAnswered a old number lines text new → AreAnswered b (f old) number lines text (f new)
 answered_along f a b each old number [] text new (none, stays) = (none, ap f stays)
-answered_along f a b each old number (line ∷ lines) text new (reply, mid, others, one, rest, all) =
-    (reply, f mid, others, each old number _ reply mid one, answered_along f a b each mid (number + 1) lines others new rest, all)
+answered_along f a b each old number (line ∷ lines) text new (reply, mid, others, one, rest, all) = grind (arith, answered_along f a b each mid (number + 1) lines others new rest)
 
 backed_along : {S T : Type 0} (f : S → T) (a : S → ℕ → List ℕ → List ℕ → S → Type 0) (b : T → ℕ → List ℕ → List ℕ → T → Type 0) → ((old : S) (number : ℕ) (line reply : List ℕ) (new : S) → a old number line reply new → b (f old) number line reply (f new)) →
     (old : S) (first : ℕ) (events : List Event) → IsBacked a old first events → IsBacked b (f old) first events
-backed_along f a b each old first events i = record {
-  lines = i.lines;
-  more = i.more;
-  kept = i.kept;
-  are_lines = i.are_lines;
-  text = i.text;
-  new = f i.new;
-  answered = answered_along f a b each old first i.lines i.text i.new i.answered;
-  unsaid = i.unsaid;
-  told = i.told;
-}
+backed_along f a b each old first events i = grind (arith, answered_along f a b each old first i.lines i.text i.new i.answered)
 
 caught_along : {S T : Type 0} (f : S → T) (a : S → ℕ → List ℕ → List ℕ → S → Type 0) (b : T → ℕ → List ℕ → List ℕ → T → Type 0) → ((old : S) (number : ℕ) (line reply : List ℕ) (new : S) → a old number line reply new → b (f old) number line reply (f new)) →
     (old : S) (first : ℕ) (events : List Event) → IsCaughtUp a old first events → IsCaughtUp b (f old) first events

@@ -1,19 +1,5 @@
 -- How a conversation ends.
-use Rattle.std.proofs.Common.{◌≡◌, ℕ, ◌+◌, ◌^◌, ◌<◌, inl, inr, List, [], ◌∷◌, ◌++◌, length, take, drop, true, Option, Some, None, Err, refl, sym, ap, subst, ◌∙◌, arith, append-nil, append_assoc, length-append}
-use Rattle.std.specs.Prelude.{IfSome}
-use Rattle.std.specs.List.{flat_map, list_all}
-use Rattle.std.specs.Io.KnownBytes.{Consumes, IsAtEnd}
-use Rattle.std.proofs.lemmas.List.{take-append-drop}
-use Rattle.tagged_lines.specs.Tags.{with_feed}
-use Rattle.dialogue.specs.declared.dialogue.FailedDevice.{FailedDevice}
-use Rattle.dialogue.specs.History.{Event, Happens, View, kept_in, told_in}
-use Rattle.dialogue.specs.History.Event.{Kept, Told}
-use Rattle.line_feed.specs.Feed.{FailsToRead}
-use Rattle.line_feed.specs.Pieces.{IsKept, TakesPiece, is_one_line, kept_of}
-use Rattle.line_service.specs.declared.conversation.ConversationEnd.{ConversationEnd}
-use Rattle.line_service.specs.declared.conversation.ConversationEnd.TheVariants.{Done, NoMemory, Stopped, TooManyLines}
-use Rattle.line_service.specs.Conversation.{AreAnswered, AtEachMoment, AtEachRead, IsConversation, ended_lines}
-use Rattle.line_service.specs.Turn.{AnswersPart, IsTurn}
+use Rattle.line_service.proofs.Prelude.{◌≡◌, ℕ, ◌+◌, ◌^◌, ◌<◌, inl, inr, List, [], ◌∷◌, ◌++◌, length, take, drop, true, Option, Err, refl, sym, ap, arith, append-nil, append_assoc, length-append, IfSome, flat_map, list_all, Consumes, IsAtEnd, take-append-drop, with_feed, FailedDevice, Event, Happens, View, kept_in, told_in, Kept, Told, FailsToRead, IsKept, TakesPiece, is_one_line, ConversationEnd, Done, NoMemory, Stopped, TooManyLines, AreAnswered, AtEachMoment, AtEachRead, IsConversation, AnswersPart, IsTurn}
 use Rattle.line_service.proofs.EventLemmas.{happens_then, kept_push, kept_told, moments_more, reads_kept, reads_told, told_kept, told_push}
 use Rattle.line_service.proofs.LineLemmas.{both_lines, ended_then, lines_push, none_ended}
 use Rattle.line_service.proofs.TalkLemmas.{Progress, answered_push, backed_kept, backed_told, caught_up, split_line}
@@ -33,26 +19,11 @@ record Ended {S : Type 0} (answers : S → ℕ → List ℕ → List ℕ → S �
   pub answered : AreAnswered answers old first lines (told_in events) state
 
 line_ended : {S : Type 0} (answers : S → ℕ → List ℕ → List ℕ → S → Type 0) (old : S) (first : ℕ) (before : View) (number : ℕ) (now : View) (state : S) (ahead kept rest after : List ℕ) → Progress answers old first before number now state ahead kept → TakesPiece ahead kept true rest after → Ended answers old first before number now state after rest
-line_ended answers old first before number now state ahead kept rest after g p = record {
-  events = g.events;
-  happens = g.happens;
-  moments = g.moments;
-  reads = g.reads;
-  lines = g.lines;
-  line = g.begun ++ p.piece;
-  split = g.split ∙ split_line g.begun p.piece rest ahead g.lines p.rest;
-  are_lines = lines_push g.lines (g.begun ++ p.piece) g.are_lines (both_lines g.begun p.piece g.is_begun p.one);
-  is_kept = p.kept g.begun g.line;
-  counted = g.counted;
-  answered = g.answered;
-}
+line_ended answers old first before number now state ahead kept rest after g p = grind (arith, split_line, lines_push, both_lines)
 
 -- the line that has ended is answered
 line_answered : {S : Type 0} (answers : S → ℕ → List ℕ → List ℕ → S → Type 0) (old : S) (first : ℕ) (before : View) (number : ℕ) (now : View) (state new : S) (kept rest reply : List ℕ) → (e : Ended answers old first before number now state kept rest) → answers state number kept reply new → AreAnswered answers old first (e.lines ++ e.line ∷ []) (told_in e.events ++ reply) new
-line_answered answers old first before number now state new kept rest reply e is =
-    let L : List ℕ → Type 0 = λ l. answers state number l reply new in
-    let N : ℕ → Type 0 = λ n. answers state n (kept_of e.line) reply new in
-    answered_push answers old first e.lines e.line (told_in e.events) reply state new e.answered (subst N e.counted (subst L e.is_kept is))
+line_answered answers old first before number now state new kept rest reply e is = grind (arith, answered_push)
 
 -- and a beginning of its reply is written
 part_told : {S : Type 0} (following : ℕ) (answers : S → ℕ → List ℕ → List ℕ → S → Type 0) (old : S) (first : ℕ) (before : View) (number : ℕ) (now next : View) (state new : S) (kept rest : List ℕ) (fault : FailedDevice) → Ended answers old first before number now state kept rest → AnswersPart answers state number kept now next fault new → IsConversation answers old first before next (Stopped fault) new following
@@ -69,9 +40,7 @@ part_told following answers old first before number now next state new kept rest
 
 -- nothing more happens
 no_more : {S : Type 0} (following : ℕ) (answers : S → ℕ → List ℕ → List ℕ → S → Type 0) (old : S) (first : ℕ) (before : View) (number : ℕ) (now next : View) (state new : S) (kept rest : List ℕ) → Ended answers old first before number now state kept rest → next ≡ now → IsConversation answers old first before next NoMemory new following
-no_more following answers old first before number now next state new kept rest e same =
-    let P : View → Type 0 = λ v. Happens before v e.events in
-    record { events = e.events; happens = subst P (sym same) e.happens; moments = e.moments; reads = e.reads; ends = tt }
+no_more following answers old first before number now next state new kept rest e same = grind arith
 
 pub turn_fails : {S : Type 0} (following : ℕ) (answers : S → ℕ → List ℕ → List ℕ → S → Type 0) (old : S) (first : ℕ) (before : View) (number : ℕ) (now next : View) (state new : S) (ahead kept rest after : List ℕ) (end : ConversationEnd) → Progress answers old first before number now state ahead kept → TakesPiece ahead kept true rest after → IsTurn answers state number after now next (Err end) new → IsConversation answers old first before next end new following
 turn_fails following answers old first before number now next state new ahead kept rest after Done g p t = absurd t
@@ -80,21 +49,7 @@ turn_fails following answers old first before number now next state new ahead ke
 turn_fails following answers old first before number now next state new ahead kept rest after NoMemory g p t = no_more following answers old first before number now next state new after rest (line_ended answers old first before number now state ahead kept rest after g p) t
 
 pub too_many : {S : Type 0} (answers : S → ℕ → List ℕ → List ℕ → S → Type 0) (old : S) (first : ℕ) (before : View) (number : ℕ) (now : View) (state : S) (ahead kept : List ℕ) → Progress answers old first before number now state ahead kept → number + 1 ≡ 2 ^ 64 → IsConversation answers old first before now TooManyLines state number
-too_many answers old first before number now state ahead kept g last = record {
-  events = g.events;
-  happens = g.happens;
-  moments = g.moments;
-  reads = g.reads;
-  ends = record {
-    lines = g.lines;
-    more = g.begun ++ ahead;
-    counted = g.counted;
-    last = last;
-    kept = g.split;
-    are_lines = g.are_lines;
-    answered = g.answered;
-  };
-}
+too_many answers old first before number now state ahead kept g last = grind arith
 
 -- the log takes bytes, and a device fails
 kept_part : {S : Type 0} (following : ℕ) (answers : S → ℕ → List ℕ → List ℕ → S → Type 0) (old : S) (first : ℕ) (before : View) (number : ℕ) (now next : View) (state new : S) (ahead kept bytes : List ℕ) (fault : FailedDevice) → ahead ≡ [] → Progress answers old first before number now state ahead kept → Happens now next (Kept bytes ∷ []) → next.has_failed fault ≡ true → IsConversation answers old first before next (Stopped fault) new following
@@ -113,30 +68,9 @@ read_fails following answers old first before number now next state ahead kept f
 
 -- the whole input
 known_all : (input left : Option (List ℕ)) (bytes : List ℕ) (P : List ℕ → Type 0) → Consumes input left bytes → IsAtEnd left → P bytes → IfSome input P
-known_all None left bytes P read end is = tt
-known_all (Some all) None bytes P read end is = absurd read
-known_all (Some all) (Some rest) bytes P read end is = subst P (sym (read ∙ (ap (λ r. bytes ++ r) end ∙ append-nil bytes))) is
+known_all input left bytes P read end is = grind (arith, append-nil)
 
 -- all lines of the input are answered
 pub input_ends : {S : Type 0} (answers : S → ℕ → List ℕ → List ℕ → S → Type 0) (old : S) (first : ℕ) (before : View) (number : ℕ) (now : View) (state : S) (ahead kept : List ℕ) → ahead ≡ [] → IsAtEnd now.remaining → Progress answers old first before number now state ahead kept → IsConversation answers old first before now Done state number
 unfolding caught_up
-input_ends answers old first before number now state ahead kept none end g =
-    let c = caught_up answers old first before number now state ahead kept none g in
-    let own : g.lines ≡ ended_lines (kept_in g.events) =
-    sym (ap ended_lines c.kept ∙ (ended_then g.lines g.begun g.are_lines ∙ (ap (λ ls. g.lines ++ ls) (none_ended g.begun g.is_begun) ∙ append-nil g.lines))) in
-    record {
-      events = g.events;
-      happens = g.happens;
-      moments = g.moments;
-      reads = g.reads;
-      ends = record {
-        lines = g.lines;
-        counted = g.counted;
-        begun = g.begun;
-        kept = c.kept;
-        are_lines = g.are_lines;
-        is_begun = g.is_begun;
-        answered = g.answered;
-        all = known_all before.remaining now.remaining (kept_in g.events) (λ bytes. g.lines ≡ ended_lines bytes) g.consumes end own;
-      };
-    }
+input_ends answers old first before number now state ahead kept none end g = grind (arith, ended_then, none_ended, append-nil)

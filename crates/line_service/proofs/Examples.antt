@@ -1,9 +1,5 @@
 -- A conversation of a service that answers each line by itself, computed by the checker.
-use Rattle.std.proofs.Common.{◌≡◌, ℕ, List, [], ◌∷◌, ◌++◌, codes, refl}
-use Rattle.dialogue.specs.History.{kept_in, told_in}
-use Rattle.dialogue.specs.History.Event.{Kept, Told}
-use Rattle.line_feed.specs.Pieces.{kept_of}
-use Rattle.line_service.specs.Conversation.{AreAnswered, ended_lines}
+use Rattle.line_service.proofs.Prelude.{◌≡◌, ℕ, List, [], ◌∷◌, ◌++◌, codes, refl, kept_in, told_in, Kept, Told, kept_of, AreAnswered, ended_lines}
 
 -- the line again, and LF
 abbrev echoes : ℕ → ℕ → List ℕ → List ℕ → ℕ → Type 0

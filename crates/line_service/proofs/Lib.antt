@@ -1,3 +1,4 @@
+mod Prelude
 pub mod AlongLemmas
 mod EndLemmas
 mod EventLemmas

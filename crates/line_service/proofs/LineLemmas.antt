@@ -1,14 +1,8 @@
 -- Lines, as they are separated in a text.
-use Rattle.std.proofs.Common.{◌≡◌, ℕ, suc, length, take, arith, List, [], ◌∷◌, ◌++◌, Bool, true, false, not, ◌&&◌, cond, eqb, refl, ap, ◌∙◌, append_assoc}
-use Rattle.std.specs.List.{flat_map, list_all}
-use Rattle.line_feed.specs.Pieces.{is_one_line, kept_of}
-use Rattle.tagged_lines.specs.Tags.{with_feed}
-use Rattle.tagged_lines.proofs.TagLemmas.{both}
-use Rattle.line_service.specs.Conversation.{ended_lines, onto_line}
+use Rattle.line_service.proofs.Prelude.{◌≡◌, ℕ, suc, length, take, arith, List, [], ◌∷◌, ◌++◌, Bool, true, false, not, ◌&&◌, cond, eqb, refl, ap, ◌∙◌, append_assoc, flat_map, list_all, is_one_line, kept_of, with_feed, both, ended_lines, onto_line}
 
 pub not_false : (a : Bool) → not a ≡ true → a ≡ false
-not_false false e = refl
-not_false true e = absurd (cc)
+not_false a e = grind arith
 
 -- a line, and those after its end
 ended_line : (line rest : List ℕ) → is_one_line line ≡ true → ended_lines (line ++ 10 ∷ rest) ≡ line ∷ ended_lines rest
@@ -35,8 +29,7 @@ ended_then (line ∷ lines) more are =
     ∙ (ended_line line (flat_map with_feed lines ++ more) parts.0 ∙ ap (λ ls. line ∷ ls) (ended_then lines more parts.1))
 
 and_more : (p q r : Bool) → p && q ≡ true → (q ≡ true → r ≡ true) → p && r ≡ true
-and_more true q r both more = more both
-and_more false q r both more = both
+and_more p q r h1 more = grind arith
 
 pub both_lines : (a b : List ℕ) → is_one_line a ≡ true → is_one_line b ≡ true → is_one_line (a ++ b) ≡ true
 both_lines [] b first second = second

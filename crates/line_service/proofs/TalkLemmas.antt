@@ -1,16 +1,5 @@
 -- A conversation that goes on.
-use Rattle.std.proofs.Common.{◌≡◌, ℕ, suc, ◌+◌, List, [], ◌∷◌, ◌++◌, length, true, false, refl, sym, ap, subst, ◌∙◌, arith, append-nil, append_assoc, length-append}
-use Rattle.std.specs.List.{flat_map, list_all}
-use Rattle.std.specs.Io.KnownBytes.{Consumes}
-use Rattle.std.proofs.KnownBytes.{Consumes-kept, Consumes-nil, Consumes-trans}
-use Rattle.std.proofs.lemmas.Grind.{flat_map-append}
-use Rattle.tagged_lines.specs.Tags.{with_feed}
-use Rattle.dialogue.specs.History.{Event, Happens, View, kept_in, told_in}
-use Rattle.dialogue.specs.History.Event.{Kept, Told}
-use Rattle.line_feed.specs.Feed.{ReadsAhead}
-use Rattle.line_feed.specs.Pieces.{IsKept, TakesPiece, is_one_line, kept_of}
-use Rattle.line_service.specs.Conversation.{AreAnswered, AtEachMoment, AtEachRead, IsBacked, IsCaughtUp}
-use Rattle.line_service.specs.Turn.{Answers}
+use Rattle.line_service.proofs.Prelude.{◌≡◌, ℕ, suc, ◌+◌, List, [], ◌∷◌, ◌++◌, length, true, false, refl, sym, ap, subst, ◌∙◌, arith, append-nil, append_assoc, length-append, flat_map, list_all, Consumes, Consumes-kept, Consumes-nil, Consumes-trans, flat_map-append, with_feed, Event, Happens, View, kept_in, told_in, Kept, Told, ReadsAhead, IsKept, TakesPiece, is_one_line, kept_of, AreAnswered, AtEachMoment, AtEachRead, IsBacked, IsCaughtUp, Answers}
 use Rattle.line_service.proofs.EventLemmas.{happens_then, kept_push, kept_told, moments_more, moments_none, nothing_happens, reads_kept, reads_none, reads_told, told_kept, told_push}
 use Rattle.line_service.proofs.LineLemmas.{both_lines, lines_push}
 
@@ -51,21 +40,7 @@ progress_none answers old first view ahead kept none line = record {
 -- what was read ahead is of the line that has begun
 pub piece_taken : {S : Type 0} (answers : S → ℕ → List ℕ → List ℕ → S → Type 0) (old : S) (first : ℕ) (before : View) (number : ℕ) (now : View) (state : S) (ahead kept rest after : List ℕ) →
     Progress answers old first before number now state ahead kept → TakesPiece ahead kept false rest after → Progress answers old first before number now state rest after
-piece_taken answers old first before number now state ahead kept rest after g p = record {
-  events = g.events;
-  happens = g.happens;
-  moments = g.moments;
-  reads = g.reads;
-  lines = g.lines;
-  begun = g.begun ++ p.piece;
-  split = g.split ∙ ap (λ l. flat_map with_feed g.lines ++ l) (ap (λ a. g.begun ++ a) (p.rest.0 ∙ (sym (append-nil p.piece) ∙ ap (λ r. p.piece ++ r) (sym p.rest.1))) ∙ sym (append_assoc g.begun p.piece rest));
-  are_lines = g.are_lines;
-  is_begun = both_lines g.begun p.piece g.is_begun p.one;
-  line = p.kept g.begun g.line;
-  counted = g.counted;
-  answered = g.answered;
-  consumes = g.consumes;
-}
+piece_taken answers old first before number now state ahead kept rest after g p = grind (arith, append-nil, both_lines)
 
 -- with nothing ahead, all is answered
 unfoldable pub caught_up : {S : Type 0} (answers : S → ℕ → List ℕ → List ℕ → S → Type 0) (old : S) (first : ℕ) (before : View) (number : ℕ) (now : View) (state : S) (ahead kept : List ℕ) → ahead ≡ [] → (g : Progress answers old first before number now state ahead kept) → IsCaughtUp answers old first g.events
@@ -81,17 +56,7 @@ caught_up answers old first before number now state ahead kept none g = record {
 
 -- bytes are kept
 pub backed_kept : {S : Type 0} (answers : S → ℕ → List ℕ → List ℕ → S → Type 0) (old : S) (first : ℕ) (events : List Event) (bytes : List ℕ) → IsCaughtUp answers old first events → IsBacked answers old first (events ++ Kept bytes ∷ [])
-backed_kept answers old first events bytes c = record {
-  lines = c.lines;
-  more = c.begun ++ bytes;
-  kept = kept_push events bytes ∙ (ap (λ l. l ++ bytes) c.kept ∙ append_assoc (flat_map with_feed c.lines) c.begun bytes);
-  are_lines = c.are_lines;
-  text = told_in events;
-  new = c.new;
-  answered = c.answered;
-  unsaid = [];
-  told = sym (told_kept events bytes) ∙ sym (append-nil (told_in (events ++ Kept bytes ∷ [])));
-}
+backed_kept answers old first events bytes c = grind (arith, append_assoc, told_kept, append-nil, kept_push events bytes, append_assoc (flat_map with_feed c.lines) c.begun bytes, told_kept events bytes, append-nil (told_in (events ++ Kept bytes ∷ [])))
 
 pub refilled : {S : Type 0} (answers : S → ℕ → List ℕ → List ℕ → S → Type 0) (old : S) (first : ℕ) (before : View) (number : ℕ) (now next : View) (state : S) (ahead kept rest : List ℕ) → ahead ≡ [] → Progress answers old first before number now state ahead kept → ReadsAhead now next rest → Progress answers old first before number next state rest kept
 unfolding caught_up
@@ -144,26 +109,11 @@ pub whole_lines : (lines : List (List ℕ)) (line : List ℕ) → flat_map with_
 whole_lines lines line = flat_map-append with_feed lines (line ∷ []) ∙ ap (λ l. flat_map with_feed lines ++ l) (append-nil (line ++ 10 ∷ []))
 
 pub split_line : (begun piece rest ahead : List ℕ) (lines : List (List ℕ)) → ahead ≡ piece ++ 10 ∷ rest → flat_map with_feed lines ++ (begun ++ ahead) ≡ flat_map with_feed (lines ++ (begun ++ piece) ∷ []) ++ rest
-split_line begun piece rest ahead lines is =
-    let line = begun ++ piece in
-    let own : begun ++ ahead ≡ (line ++ 10 ∷ []) ++ rest = ap (λ a. begun ++ a) is ∙ (sym (append_assoc begun piece (10 ∷ rest)) ∙ sym (append_assoc line (10 ∷ []) rest)) in
-    ap (λ l. flat_map with_feed lines ++ l) own
-    ∙ (sym (append_assoc (flat_map with_feed lines) (line ++ 10 ∷ []) rest)
-    ∙ ap (λ l. l ++ rest) (sym (whole_lines lines line)))
+split_line begun piece rest ahead lines is = grind (arith, append_assoc, whole_lines)
 
 -- a beginning of the reply to the next line is written
 pub backed_told : {S : Type 0} (answers : S → ℕ → List ℕ → List ℕ → S → Type 0) (old : S) (first : ℕ) (events : List Event) (lines : List (List ℕ)) (rest text part unsaid : List ℕ) (new : S) → kept_in events ≡ flat_map with_feed lines ++ rest → list_all is_one_line lines ≡ true → AreAnswered answers old first lines text new → text ≡ told_in events ++ (part ++ unsaid) → IsBacked answers old first (events ++ Told part ∷ [])
-backed_told answers old first events lines rest text part unsaid new kept are answered told = record {
-  lines = lines;
-  more = rest;
-  kept = kept_told events part ∙ kept;
-  are_lines = are;
-  text = text;
-  new = new;
-  answered = answered;
-  unsaid = unsaid;
-  told = told ∙ (sym (append_assoc (told_in events) part unsaid) ∙ ap (λ l. l ++ unsaid) (sym (told_push events part)));
-}
+backed_told answers old first events lines rest text part unsaid new kept are answered told = grind (arith, append_assoc, told_push, kept_told events part, append_assoc (told_in events) part unsaid, told_push events part)
 
 pub turn_taken : {S : Type 0} (answers : S → ℕ → List ℕ → List ℕ → S → Type 0) (old : S) (first : ℕ) (before : View) (number more : ℕ) (now next : View) (state new : S) (ahead kept rest after cleared : List ℕ) → more ≡ number + 1 →
     Progress answers old first before number now state ahead kept → TakesPiece ahead kept true rest after → IsKept cleared [] → Answers answers state number after now next new → Progress answers old first before more next new rest cleared

@@ -1,10 +1,5 @@
 -- Joined lines of small texts, and numbers, computed by the checker.
-use Rattle.std.proofs.Common.{Some, None, ◌≡◌, ℕ, Bool, true, false, List, [], ◌∷◌, Ok, Err, refl, codes}
-use Rattle.line_text.specs.declared.fault.LineFault.TheVariants.{NotAscii}
-use Rattle.line_text.specs.Decimal.{decimal_of, millionths_of, whole_of}
-use Rattle.line_text.specs.Words.{words_of}
-use Rattle.line_text.specs.LeastFault.{Found, least_fault}
-use Rattle.line_text.specs.Lines.{JoinedLine, joined_bytes, joined_part, lines_of, physical_lines}
+use Rattle.line_text.proofs.Prelude.{Some, None, ◌≡◌, ℕ, Bool, true, false, List, [], ◌∷◌, Ok, Err, refl, codes, NotAscii, decimal_of, millionths_of, whole_of, words_of, Found, least_fault, JoinedLine, joined_bytes, joined_part, lines_of, physical_lines}
 
 abbrev numbered : ℕ → List (List ℕ) → JoinedLine
 numbered n words = record { number = n; words = words }

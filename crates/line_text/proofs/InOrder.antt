@@ -1,8 +1,5 @@
 -- Of faults that are listed in order, the first is the least.
-use Rattle.std.proofs.Common.{◌≡◌, ◌∙◌, ℕ, ◌<◌, ◌==◌, Bool, true, false, cond, List, [], ◌∷◌, ◌++◌, Option, Some, None, option_map, map, filter, refl, ap, arith, nat_lt}
-use Rattle.std.proofs.lemmas.Bool.Decides.{nat_tests}
-use Rattle.std.specs.Option.{option_map_or}
-use Rattle.line_text.specs.LeastFault.{Found, by_number, least_by, least_fault, precedes}
+use Rattle.line_text.proofs.Prelude.{◌≡◌, ◌∙◌, ℕ, ◌<◌, Bool, true, false, cond, List, [], ◌∷◌, ◌++◌, Option, Some, None, option_map, map, filter, refl, ap, arith, option_map_or, Found, by_number, least_by, least_fault, precedes}
 
 -- the first of a list, if it has one
 abbrev pub first_of : {X : Type 0} → List X → Option X
@@ -33,11 +30,7 @@ Each-map P f (x ∷ xs) h = (h.0, Each-map P f xs h.1)
 
 pub Each-filter : {X : Type 0} (P : X → Type 0) (p : X → Bool) (xs : List X) → Each P xs → Each P (filter p xs)
 Each-filter P p [] h = tt
-Each-filter P p (x ∷ xs) h = by (p x) (Each-filter P p xs h.1)
-  where
-    by : (b : Bool) → Each P (filter p xs) → Each P (cond b (x ∷ filter p xs) (filter p xs))
-    by true rest = (h.0, rest)
-    by false rest = rest
+Each-filter P p (x ∷ xs) h = grind (arith, Each-filter P p xs h.1)
 
 -- two lists in order, if each element of the first is related to all of the second
 pub InOrder-append : {X : Type 0} (R : X → X → Type 0) (xs ys : List X) → InOrder R xs → InOrder R ys → Each (λ x. Each (R x) ys) xs → InOrder R (xs ++ ys)
@@ -46,16 +39,11 @@ InOrder-append R (x ∷ xs) ys h k all = (Each-append (R x) xs ys h.0 all.0, InO
 
 pub InOrder-filter : {X : Type 0} (R : X → X → Type 0) (p : X → Bool) (xs : List X) → InOrder R xs → InOrder R (filter p xs)
 InOrder-filter R p [] h = tt
-InOrder-filter R p (x ∷ xs) h = by (p x) (Each-filter (R x) p xs h.0) (InOrder-filter R p xs h.1)
-  where
-    by : (b : Bool) → Each (R x) (filter p xs) → InOrder R (filter p xs) → InOrder R (cond b (x ∷ filter p xs) (filter p xs))
-    by true here rest = (here, rest)
-    by false here rest = rest
+InOrder-filter R p (x ∷ xs) h = grind (arith, Each-filter, InOrder-filter R p xs h.1)
 
 pub InOrder-map : {X Y : Type 0} (R : X → X → Type 0) (S : Y → Y → Type 0) (f : X → Y) (xs : List X) → ((x y : X) → R x y → S (f x) (f y)) → InOrder R xs → InOrder S (map f xs)
 InOrder-map R S f [] keeps h = tt
-InOrder-map R S f (x ∷ xs) keeps h =
-    (Each-map (S (f x)) f xs (Each-weaker (R x) (λ y. S (f x) (f y)) xs (keeps x) h.0), InOrder-map R S f xs keeps h.1)
+InOrder-map R S f (x ∷ xs) keeps h = grind (arith, Each-map, Each-weaker, InOrder-map R S f xs keeps h.1)
 
 -- the end comes after all lines
 abbrev pub turn_of : Bool → ℕ
@@ -107,15 +95,7 @@ module _ {X : Type 0} (r : X → X → Bool) where
 -- the least of images under a function that preserves the test
 pub least_map : {X Y : Type 0} (r : X → X → Bool) (s : Y → Y → Bool) (f : X → Y) (xs : List X) → ((x y : X) → s (f x) (f y) ≡ r x y) → least_by s (map f xs) ≡ option_map f (least_by r xs)
 least_map r s f [] same = refl
-least_map r s f (x ∷ xs) same = ap (λ least. Some (earlier_by s (f x) least)) (least_map r s f xs same) ∙ of_earlier (least_by r xs)
-  where
-    by : (b : Bool) (y : _) → cond b (f x) (f y) ≡ f (cond b x y)
-    by true y = refl
-    by false y = refl
-
-    of_earlier : (other : Option _) → Some (earlier_by s (f x) (option_map f other)) ≡ Some (f (earlier_by r x other))
-    of_earlier None = refl
-    of_earlier (Some y) = ap (λ b. Some (cond b (f x) (f y))) (same x y) ∙ ap Some (by (r x y) y)
+least_map r s f (x ∷ xs) same = grind (arith, least_map r s f xs same)
 
 -- of faults in order, the first is the least
 pub least_in_order : {F : Type 0} (all : List (Found F)) → InOrder Precedes all → least_fault all ≡ option_map (λ found. found.fault) (first_of all)
@@ -123,21 +103,15 @@ least_in_order all h = ap (option_map (λ found. found.fault)) (least_by_in_orde
 
 -- if the numbers are equal, the next criterion decides
 pub by_number-same : (n : ℕ) (next : Bool) → by_number n n next ≡ next
-by_number-same n next =
-    let lt : nat_lt n n ≡ false = grind (arith, nat_tests) in
-    let same : (n == n) ≡ true = grind (arith, nat_tests) in
-    rw (lt, same) refl
+by_number-same n next = grind arith
 
 -- a lesser number decides
 pub by_number-less : (n m : ℕ) (next : Bool) → n < m → by_number n m next ≡ true
-by_number-less n m next less =
-    let lt : nat_lt n m ≡ true = grind (arith, nat_tests) in
-    rw lt refl
+by_number-less n m next less = grind arith
 
 -- a fault of a line comes before the faults of later lines and of the end
 pub precedes-line : {F : Type 0} (found other : Found F) → found.at_end ≡ other.at_end → found.line < other.line → Precedes found other
-precedes-line found other same less =
-    rw same (by_number-same (turn_of other.at_end) _ ∙ by_number-less found.line other.line _ less)
+precedes-line found other same less = grind arith
 
 pub precedes-end : {F : Type 0} (found other : Found F) → found.at_end ≡ false → other.at_end ≡ true → Precedes found other
 precedes-end found other here there = rw (here, there) refl

@@ -1,3 +1,4 @@
+mod Prelude
 mod DecimalLemmas
 mod Examples
 mod FirstPlaces

@@ -1,41 +1,24 @@
 -- Names by number, and as the texts that their slices refer to.
-use Rattle.std.proofs.Common.{◌≡◌, ◌<◌, ◌≤◌, nat_lt, length, position, arith, ℕ, ◌+◌, Some, None, cond, not, Bool, true, false, List, [], ◌∷◌, ◌++◌, ◌||◌, if◌then◌else◌, refl, sym, ap, ◌∙◌}
+use Rattle.line_text.proofs.Prelude.{◌≡◌, ◌<◌, length, position, arith, ℕ, ◌+◌, Bool, true, false, List, [], ◌∷◌, ◌++◌, ◌||◌, if◌then◌else◌, refl, sym, ap, ◌∙◌, list_any, position_or_len, bytes_eq, map_push, prefix_len-le-length, texts, has_name, number_of, with_name}
 use Rattle.std.specs.Borrow.{Bor}
-use Rattle.std.specs.List.{list_any, position_or_len}
 use Rattle.std.specs.Option.{unwrap_or}
-use Rattle.std.specs.Str.{bytes_eq}
-use Rattle.std.proofs.lemmas.Bool.Decides.{nat_tests}
-use Rattle.std.proofs.lemmas.List.{map_push}
-use Rattle.std.proofs.lemmas.List.Sums.{prefix_len-le-length}
-use Rattle.line_text.specs.Words.{texts}
-use Rattle.line_text.specs.Names.{has_name, number_of, with_name}
 
 pub has_name-texts : (slices : List (Bor (List ℕ))) (name : List ℕ) → list_any (λ slice. bytes_eq name slice.now) slices ≡ has_name (texts slices) name
 has_name-texts [] name = refl
 has_name-texts (slice ∷ slices) name = ap (λ b. bytes_eq name slice.now || b) (has_name-texts slices name)
 
 texts-if : (b : Bool) (slices : List (Bor (List ℕ))) (slice : Bor (List ℕ)) → texts (if b then slices else slices ++ slice ∷ []) ≡ (if b then texts slices else texts slices ++ slice.now ∷ [])
-texts-if true slices slice = refl
-texts-if false slices slice = map_push (λ name. name.now) slices slice
+texts-if b slices slice = grind (arith, map_push)
 
 pub with_name-texts : (slices : List (Bor (List ℕ))) (slice : Bor (List ℕ)) → texts (if list_any (λ s. bytes_eq slice.now s.now) slices then slices else slices ++ slice ∷ []) ≡ with_name (texts slices) slice.now
-with_name-texts slices slice =
-    texts-if (list_any (λ s. bytes_eq slice.now s.now) slices) slices slice
-    ∙ ap (λ b. if b then texts slices else texts slices ++ slice.now ∷ []) (has_name-texts slices slice.now)
+with_name-texts slices slice = grind (arith, texts-if, has_name-texts slices slice.now)
 
 pub number_of-texts : (slices : List (Bor (List ℕ))) (name : List ℕ) → position_or_len (λ slice. bytes_eq name slice.now) slices ≡ number_of (texts slices) name
 number_of-texts [] name = refl
-number_of-texts (slice ∷ slices) name =
-    ap (λ n. cond (not (bytes_eq name slice.now)) (1 + n) 0) (number_of-texts slices name)
-
-place_or_count : (place count : ℕ) (b : Bool) → nat_lt place count ≡ b → place ≤ count → unwrap_or (cond b (Some place) None) count ≡ place
-place_or_count place count true test within = refl
-place_or_count place count false test within = grind (arith, nat_tests, test)
+number_of-texts (slice ∷ slices) name = grind (arith, number_of-texts slices name)
 
 pub number_of-found : (slices : List (Bor (List ℕ))) (name : List ℕ) → unwrap_or (position (λ slice. bytes_eq name slice.now) slices) (length slices) ≡ number_of (texts slices) name
-number_of-found slices name =
-    let place : ℕ = position_or_len (λ slice. bytes_eq name slice.now) slices in
-    place_or_count place (length slices) _ refl (prefix_len-le-length _ slices) ∙ number_of-texts slices name
+number_of-found slices name = grind (arith, prefix_len-le-length, number_of-texts)
 
 -- the number of a name that is the first of the names
 pub number_of-first : (first : List ℕ) (names : List (List ℕ)) (name : List ℕ) → bytes_eq name first ≡ true → number_of (first ∷ names) name ≡ 0
@@ -49,8 +32,7 @@ pub number_of-later : (first : List ℕ) (names : List (List ℕ)) (name : List 
 number_of-later first names name e = rw e refl
 
 pub with_name-later : (first : List ℕ) (names : List (List ℕ)) (name : List ℕ) → bytes_eq name first ≡ false → with_name (first ∷ names) name ≡ first ∷ with_name names name
-with_name-later first names name e =
-    rw e (elim (has_name names name) as (λ b. (if b then first ∷ names else (first ∷ names) ++ name ∷ []) ≡ first ∷ (if b then names else names ++ name ∷ [])) [ true ↦ refl | false ↦ refl ])
+with_name-later first names name e = grind arith
 
 pub has_name-rest : (name first : List ℕ) (names : List (List ℕ)) → bytes_eq name first ≡ false → has_name (first ∷ names) name ≡ true → has_name names name ≡ true
 has_name-rest name first names e h = sym (ap (λ c. c || has_name names name) e) ∙ h

@@ -1,15 +1,6 @@
 -- Reading a text one physical line after another has the result that its runs define.
-use Rattle.std.proofs.Common.{◌≡◌, ℕ, ◌+◌, Bool, true, false, cond, ◌&&◌, List, [], ◌∷◌, ◌++◌, length, map, filter, Result, Ok, Err, Option, Some, None, slice_get, refl, sym, ap, ◌∙◌, arith, append_assoc, length-append, nat_lt}
-use Rattle.std.proofs.lemmas.List.{append-nil}
-use Rattle.std.proofs.lemmas.Grind.{flat_map-append}
-use Rattle.std.specs.List.{slice_split, onto_first, flat_map, enumerate_from, find, filter_map, cons_option}
-use Rattle.std.specs.Option.{option_map, option_map_or, option_or}
-use Rattle.line_text.specs.declared.fault.LineFault.{LineFault}
-use Rattle.line_text.specs.declared.fault.LineFault.TheVariants.{NotAscii, LineTooLong}
-use Rattle.line_text.specs.Words.{is_blank, is_filled, words_of}
-use Rattle.line_text.specs.declared.lines.TheConstants.{MAX_LINE}
-use Rattle.line_text.specs.Lines.{JoinedLine, physical_lines, trim_end, without_comment, ends_in_backslash, without_last, joined_part, is_continued, is_not_ascii, runs, is_too_long, joined_bytes, joined_line, fault_of, lines_of_runs, lines_of}
-use Rattle.line_text.specs.Reading.{OpenLine, Reading, line_to_extend, longer_line, lines_with, closed_reading, continued_or_ended, reading_after, lines_at_end}
+use Rattle.line_text.proofs.Prelude.{◌≡◌, ℕ, ◌+◌, Bool, true, false, cond, ◌&&◌, List, [], ◌∷◌, ◌++◌, length, map, filter, Result, Ok, Err, Option, Some, None, slice_get, refl, sym, ap, ◌∙◌, arith, append_assoc, length-append, nat_lt, append-nil, flat_map-append, slice_split, onto_first, flat_map, enumerate_from, find, filter_map, cons_option, option_map_or, option_or, LineFault, NotAscii, LineTooLong, is_blank, is_filled, words_of, MAX_LINE, JoinedLine, physical_lines, ends_in_backslash, without_last, joined_part, is_continued, is_not_ascii, runs, is_too_long, joined_bytes, joined_line, fault_of, lines_of_runs, lines_of, OpenLine, Reading, line_to_extend, longer_line, lines_with, closed_reading, continued_or_ended, reading_after, lines_at_end}
+use Rattle.std.specs.Option.{option_map}
 
 -- a final `\` becomes a blank
 abbrev pub blanked : List ℕ → List ℕ
@@ -25,45 +16,27 @@ unless_fault faults lines = option_map_or Err (slice_get faults 0) (Ok lines)
 
 slice_split-filled : {X : Type 0} (p : X → Bool) (xs : List X) → is_filled (slice_split p xs) ≡ true
 slice_split-filled p [] = refl
-slice_split-filled p (x ∷ xs) =
-    elim (p x) as (λ b. is_filled (cond b ([] ∷ slice_split p xs) (onto_first x (slice_split p xs))) ≡ true) [
-      | true ↦ refl
-      | false ↦ elim (slice_split p xs) as (λ parts. is_filled (onto_first x parts) ≡ true) [ [] ↦ refl | part ∷ parts ↦ refl ]
-    ]
+slice_split-filled p (x ∷ xs) = grind arith
 
 onto_first-append : {X : Type 0} (x : X) (parts more : List (List X)) → is_filled parts ≡ true → onto_first x (parts ++ more) ≡ onto_first x parts ++ more
-onto_first-append x [] more e = cc
-onto_first-append x (part ∷ parts) more e = refl
+onto_first-append x parts more e = grind arith
 
 -- splitting a list around an element that passes the test
 pub slice_split-append : {X : Type 0} (p : X → Bool) (xs : List X) (y : X) (ys : List X) → p y ≡ true → slice_split p (xs ++ y ∷ ys) ≡ slice_split p xs ++ slice_split p ys
 slice_split-append p [] y ys e = rw e
-slice_split-append p (x ∷ xs) y ys e =
-    elim (p x) as (λ b. cond b ([] ∷ slice_split p (xs ++ y ∷ ys)) (onto_first x (slice_split p (xs ++ y ∷ ys))) ≡ cond b ([] ∷ slice_split p xs) (onto_first x (slice_split p xs)) ++ slice_split p ys) [
-      | true ↦ ap (λ parts. [] ∷ parts) (slice_split-append p xs y ys e)
-      | false ↦ ap (onto_first x) (slice_split-append p xs y ys e) ∙ onto_first-append x (slice_split p xs) (slice_split p ys) (slice_split-filled p xs)
-    ]
+slice_split-append p (x ∷ xs) y ys e = grind (arith, onto_first-append, slice_split-filled, slice_split-append p xs y ys e)
 
 pub filter-append : {X : Type 0} (p : X → Bool) (xs ys : List X) → filter p (xs ++ ys) ≡ filter p xs ++ filter p ys
 filter-append p [] ys = refl
-filter-append p (x ∷ xs) ys =
-    elim (p x) as (λ b. cond b (x ∷ filter p (xs ++ ys)) (filter p (xs ++ ys)) ≡ cond b (x ∷ filter p xs) (filter p xs) ++ filter p ys)
-    [ true ↦ ap (λ zs. x ∷ zs) (filter-append p xs ys) | false ↦ filter-append p xs ys ]
+filter-append p (x ∷ xs) ys = grind (arith, filter-append p xs ys)
 
 -- a blank separates words
 pub words_of-blank : (xs ys : List ℕ) → words_of (xs ++ 32 ∷ ys) ≡ words_of xs ++ words_of ys
 words_of-blank xs ys = ap (filter is_filled) (slice_split-append is_blank xs 32 ys refl) ∙ filter-append is_filled (slice_split is_blank xs) (slice_split is_blank ys)
 
--- a continued line adds its bytes without the last one, and a blank
-kept_continued : (line : List ℕ) → is_continued line ≡ true → joined_part line ≡ without_last (trim_end (without_comment line)) ++ 32 ∷ []
-kept_continued line e = rw e
-
 -- the words of what a continued line adds, and of what follows it
 pub words_of-continued : (line rest : List ℕ) → is_continued line ≡ true → words_of (joined_part line ++ rest) ≡ words_of (joined_part line) ++ words_of rest
-words_of-continued line rest e =
-    let body = without_last (trim_end (without_comment line)) in
-    let whole : joined_part line ≡ body ++ 32 ∷ [] = kept_continued line e in
-    ap (λ bytes. words_of (bytes ++ rest)) whole ∙ (ap words_of (append_assoc body (32 ∷ []) rest) ∙ (words_of-blank body rest ∙ ap (λ words. words ++ words_of rest) (sym (ap words_of whole ∙ (words_of-blank body [] ∙ append-nil (words_of body))))))
+words_of-continued line rest e = grind (arith, append_assoc, words_of-blank)
 
 -- the words of the lines of a run, line by line
 abbrev words_within : List (ℕ × List ℕ) → List (List ℕ)
@@ -82,11 +55,7 @@ AreAscii (line ∷ rest) = (is_not_ascii line.1 ≡ false) × AreAscii rest
 -- no word spans two lines
 words_of-joined : (run : List (ℕ × List ℕ)) (rest : List ℕ) → AreContinued run → words_of (joined_bytes run ++ rest) ≡ words_within run ++ words_of rest
 words_of-joined [] rest h = refl
-words_of-joined (line ∷ run) rest h =
-    ap words_of (append_assoc (joined_part line.1) (joined_bytes run) rest)
-    ∙ (words_of-continued line.1 (joined_bytes run ++ rest) h.0
-    ∙ (ap (λ words. words_of (joined_part line.1) ++ words) (words_of-joined run rest h.1)
-    ∙ sym (append_assoc (words_of (joined_part line.1)) (words_within run) (words_of rest))))
+words_of-joined (line ∷ run) rest h = grind (arith, append_assoc, words_of-continued, words_of-joined run rest h.1)
 
 -- these lines put before the first of the runs
 abbrev glued : List (ℕ × List ℕ) → List (List (ℕ × List ℕ)) → List (List (ℕ × List ℕ))
@@ -176,14 +145,10 @@ AreContinued-push [] line a e = (e, tt)
 AreContinued-push (first ∷ run) line a e = (a.0, AreContinued-push run line a.1 e)
 
 words_of-run : (run : List (ℕ × List ℕ)) → AreContinued run → words_of (joined_bytes run) ≡ words_within run
-words_of-run run c =
-    ap words_of (sym (append-nil (joined_bytes run))) ∙ (words_of-joined run [] c ∙ append-nil (words_within run))
+words_of-run run c = grind (arith, words_of-joined, append-nil (joined_bytes run), words_of-joined run [] c, append-nil (words_within run))
 
 words_of-run_push : (run : List (ℕ × List ℕ)) (line : ℕ × List ℕ) → AreContinued run → words_of (joined_bytes (run ++ line ∷ [])) ≡ words_within (run ++ line ∷ [])
-words_of-run_push run line c =
-    ap words_of (flat_map-append (λ (l : ℕ × List ℕ). joined_part l.1) run (line ∷ []) ∙ ap (λ bytes. joined_bytes run ++ bytes) (append-nil (joined_part line.1)))
-    ∙ (words_of-joined run (joined_part line.1) c
-    ∙ (ap (λ words. words_within run ++ words) (sym (append-nil (words_of (joined_part line.1)))) ∙ sym (flat_map-append (λ (l : ℕ × List ℕ). words_of (joined_part l.1)) run (line ∷ []))))
+words_of-run_push run line c = grind (arith, flat_map-append, append-nil, words_of-joined)
 
 -- reading on from this state has the result that the remaining runs define
 abbrev GivesRuns : List (ℕ × List ℕ) → List JoinedLine → List (ℕ × List ℕ) → Type 0
@@ -199,24 +164,11 @@ at_end done (first ∷ run) c a =
     same_ended (Ok lines) = ap Ok (append-nil lines)
     same_ended (Err fault) = refl
 
--- the first run begins with the first line
-first_of_runs : (line : ℕ × List ℕ) (rest : List (ℕ × List ℕ)) → (tail : List (ℕ × List ℕ)) × (others : List (List (ℕ × List ℕ))) × (runs (line ∷ rest) ≡ (line ∷ tail) ∷ others)
-first_of_runs line rest =
-    elim (is_continued line.1) as (λ b. (tail : List (ℕ × List ℕ)) × (others : List (List (ℕ × List ℕ))) × (cond b (onto_first line (runs rest)) ((line ∷ []) ∷ runs rest) ≡ (line ∷ tail) ∷ others)) [
-      | true ↦ elim (runs rest) as (λ all. (tail : List (ℕ × List ℕ)) × (others : List (List (ℕ × List ℕ))) × (onto_first line all ≡ (line ∷ tail) ∷ others)) [ [] ↦ ([], [], refl) | run ∷ all ↦ (run, all, refl) ]
-      | false ↦ ([], runs rest, refl)
-    ]
-
 not_ascii : (done : List JoinedLine) (run : List (ℕ × List ℕ)) (line : ℕ × List ℕ) (rest : List (ℕ × List ℕ)) → AreAscii run → is_not_ascii line.1 ≡ true → onto done (lines_of_runs (glued run (runs (line ∷ rest)))) ≡ Err (NotAscii line.0)
-not_ascii done run line rest a e =
-    let parts = first_of_runs line rest in
-    ap (λ all. onto done (lines_of_runs (glued run all))) parts.2
-    ∙ (ap (λ all. onto done (lines_of_runs all)) (glued-cons run (line ∷ parts.0) parts.1)
-    ∙ ap (λ found. onto done (unless_fault (cons_option (fault_at found (run ++ line ∷ parts.0)) (filter_map fault_of parts.1)) (filter (λ (l : JoinedLine). is_filled l.words) (map joined_line ((run ++ line ∷ parts.0) ∷ parts.1))))) (find-first run line parts.0 a e))
+not_ascii done run line rest a e = grind (arith, glued-cons, find-first)
 
 read_settled : (rest : List (ℕ × List ℕ)) → ((done : List JoinedLine) → GivesRuns rest done []) → (r : Result (List JoinedLine) LineFault) → and_then (closed_reading r) (λ later. read_all later rest) ≡ and_then r (λ lines. onto lines (lines_of_runs (runs rest)))
-read_settled rest h (Ok lines) = h lines
-read_settled rest h (Err fault) = refl
+read_settled rest h r = grind arith
 
 -- one more line, if the rest is read correctly
 one_line : (line : ℕ × List ℕ) (rest : List (ℕ × List ℕ)) → ((done : List JoinedLine) (run : List (ℕ × List ℕ)) → AreContinued run → AreAscii run → GivesRuns rest done run) → (done : List JoinedLine) (run : List (ℕ × List ℕ)) → AreContinued run → AreAscii run → GivesRuns (line ∷ rest) done run
@@ -241,10 +193,6 @@ read_as_runs [] done run c a = at_end done run c a
 read_as_runs (line ∷ rest) done run c a =
     one_line line rest (λ d r. read_as_runs rest d r) done run c a
 
-same_onto : (r : Result (List JoinedLine) LineFault) → onto [] r ≡ r
-same_onto (Ok lines) = refl
-same_onto (Err fault) = refl
-
 -- the state before anything is read
 abbrev pub unread : Reading
 unread = record { done = []; unfinished = None }
@@ -252,5 +200,4 @@ unread = record { done = []; unfinished = None }
 -- reading the numbered lines of a text one after another results in its lines
 pub lines_of-read : (text : List ℕ) → lines_of text ≡ read_all unread (enumerate_from 1 (physical_lines text))
 unfolding lines_of
-lines_of-read text =
-    sym (read_as_runs (enumerate_from 1 (physical_lines text)) [] [] tt tt ∙ same_onto (lines_of_runs (runs (enumerate_from 1 (physical_lines text)))))
+lines_of-read text = grind (arith, read_as_runs (enumerate_from 1 (physical_lines text)) [] [] tt tt)

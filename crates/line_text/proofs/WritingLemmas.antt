@@ -1,16 +1,7 @@
 -- Texts written in parts.
-use Rattle.std.proofs.Common.{◌≡◌, ℕ, ◌+◌, ◌<◌, ◌≤◌, Bool, List, [], ◌∷◌, ◌++◌, length, take, drop, get_or, Option, Some, Result, Ok, Err, refl, sym, ap, subst, ◌∙◌, arith, append-nil, zero-add, length-append}
-use Rattle.std.specs.List.{flat_map, range_with_len, slice_get}
-use Rattle.std.proofs.lemmas.List.FromFn.{length-range_with_len, get_or-range_with_len}
-use Rattle.std.specs.Result.{IsErr}
-use Rattle.std.proofs.lemmas.List.{take-append-le, take_more, take_all, drop_more, take-append-drop}
-use Rattle.std.proofs.lemmas.Grind.{flat_map-append}
-use Rattle.std.proofs.lemmas.Option.{slice_get_within, get_or_from_slice_get, slice_get-get_or}
-use Rattle.std.proofs.Math.Seq.{take-append-add}
-use Rattle.std.proofs.KnownBytes.{Appends-nil, Appends-trans}
-use Rattle.std.specs.Io.KnownBytes.{Appends}
-use Rattle.line_text.specs.declared.source.Failed.{Failed}
-use Rattle.line_text.specs.Writing.{TakesAll, TakesPart, Writes}
+use Rattle.line_text.proofs.Prelude.{◌≡◌, ℕ, ◌+◌, ◌<◌, ◌≤◌, Bool, List, [], ◌∷◌, ◌++◌, length, take, drop, get_or, Option, Some, Result, Ok, Err, refl, sym, ap, subst, ◌∙◌, arith, length-append, flat_map, range_with_len, length-range_with_len, get_or-range_with_len, IsErr, take-append-le, take_more, take_all, drop_more, take-append-drop, flat_map-append, slice_get_within, get_or_from_slice_get, slice_get-get_or, take-append-add, Appends-nil, Appends-trans, Appends, Failed, TakesAll, TakesPart, Writes}
+use Rattle.std.proofs.Common.{append-nil}
+use Rattle.std.specs.List.{slice_get}
 
 -- writing an equal text
 pub writes_same : {S : Type 0} (contents : S → Option (List ℕ)) (has_failed : S → Bool) (a b : S) (s t : List ℕ) (r : Result (Unit {0}) Failed) → s ≡ t → Writes contents has_failed a b s r → Writes contents has_failed a b t r
@@ -18,8 +9,7 @@ writes_same contents has_failed a b s t r e h = subst (λ text. Writes contents 
 
 -- after a failure only a beginning was written
 pub writes_part : {S : Type 0} {contents : S → Option (List ℕ)} {has_failed : S → Bool} {a b : S} {s : List ℕ} (r : Result (Unit {0}) Failed) → IsErr r → TakesPart contents has_failed a b s → Writes contents has_failed a b s r
-writes_part (Ok u) is h = cc
-writes_part (Err failed) is h = h
+writes_part r is h = grind arith
 
 pub all_same : {S : Type 0} {contents : S → Option (List ℕ)} {has_failed : S → Bool} {a b : S} {s t : List ℕ} → TakesAll contents has_failed a b s → s ≡ t → TakesAll contents has_failed a b t
 all_same {contents = contents} {has_failed = has_failed} {a = a} {b = b} h e = subst (λ text. TakesAll contents has_failed a b text) e h
@@ -37,12 +27,7 @@ all_then h k = record { bytes = Appends-trans _ _ _ _ _ h.bytes k.bytes; works =
 
 -- a failure within the first text
 pub part_first : {S : Type 0} {contents : S → Option (List ℕ)} {has_failed : S → Bool} {a b : S} {s : List ℕ} (t : List ℕ) → TakesPart contents has_failed a b s → TakesPart contents has_failed a b (s ++ t)
-part_first {contents = contents} {a = a} {b = b} {s = s} t h = record {
-  count = h.count;
-  within = (let w = h.within in omega (arith, length-append s t));
-  bytes = (let P : List ℕ → Type 0 = λ bytes. Appends (contents a) (contents b) bytes in subst P (sym (take-append-le h.count s t h.within)) h.bytes);
-  fails = h.fails;
-}
+part_first t h = grind (arith, length-append, take-append-le)
 
 -- the first text is written, and the device fails within the second
 pub part_then : {S : Type 0} {contents : S → Option (List ℕ)} {has_failed : S → Bool} {a b c : S} {s t : List ℕ} → TakesAll contents has_failed a b s → TakesPart contents has_failed b c t → TakesPart contents has_failed a c (s ++ t)
@@ -55,18 +40,11 @@ part_then {contents = contents} {a = a} {c = c} {s = s} {t = t} h k = record {
 
 -- the texts up to an index, with one more
 text_more : {X : Type 0} (f : X → List ℕ) (xs : List X) (i : ℕ) (x : X) → slice_get xs i ≡ Some x → flat_map f (take i xs) ++ f x ≡ flat_map f (take (i + 1) xs)
-text_more f xs i x e =
-    sym (ap (flat_map f) (take_more xs i x (slice_get_within xs i x e)) ∙ flat_map-append f (take i xs) (get_or xs i x ∷ [])
-    ∙ ap (λ y. flat_map f (take i xs) ++ (f y ++ [])) (get_or_from_slice_get xs i x x e)
-    ∙ ap (λ y. flat_map f (take i xs) ++ y) (append-nil (f x)))
+text_more f xs i x e = grind (arith, slice_get_within, flat_map-append, get_or_from_slice_get, append-nil, take_more xs i x (slice_get_within xs i x e), slice_get_within xs i x e, flat_map-append f (take i xs) (get_or xs i x ∷ []), get_or_from_slice_get xs i x x e, append-nil (f x))
 
 -- all texts, split at an index
 text_split : {X : Type 0} (f : X → List ℕ) (xs : List X) (i : ℕ) (x : X) → slice_get xs i ≡ Some x → flat_map f (take i xs) ++ (f x ++ flat_map f (drop (i + 1) xs)) ≡ flat_map f xs
-text_split f xs i x e =
-    ap (λ y. flat_map f (take i xs) ++ (f y ++ flat_map f (drop (i + 1) xs))) (sym (get_or_from_slice_get xs i x x e))
-    ∙ ap (λ ys. flat_map f (take i xs) ++ flat_map f ys) (sym (drop_more xs i x (slice_get_within xs i x e)))
-    ∙ sym (flat_map-append f (take i xs) (drop i xs))
-    ∙ ap (flat_map f) (take-append-drop i xs)
+text_split f xs i x e = grind (arith, drop_more, slice_get_within, flat_map-append, take-append-drop, get_or_from_slice_get xs i x x e, drop_more xs i x (slice_get_within xs i x e), slice_get_within xs i x e, flat_map-append f (take i xs) (drop i xs), take-append-drop i xs)
 
 -- one more text of a list is written
 pub all_loop : {S X : Type 0} {contents : S → Option (List ℕ)} {has_failed : S → Bool} {a b c : S} (f : X → List ℕ) (xs : List X) (i : ℕ) (x : X) → slice_get xs i ≡ Some x → TakesAll contents has_failed a b (flat_map f (take i xs)) → TakesAll contents has_failed b c (f x) → TakesAll contents has_failed a c (flat_map f (take (i + 1) xs))
@@ -82,9 +60,7 @@ all_loop_end f xs i long h = all_same h (ap (flat_map f) (take_all i xs long))
 
 -- the number at an index of the range
 pub place_at : (count place : ℕ) → place < count → slice_get (range_with_len 0 count) place ≡ Some place
-place_at count place within =
-    slice_get-get_or (range_with_len 0 count) place 0 (let long = length-range_with_len 0 count in omega arith)
-    ∙ ap Some (get_or-range_with_len 0 count place 0 within ∙ zero-add place)
+place_at count place within = grind (arith, slice_get-get_or, length-range_with_len, get_or-range_with_len 0 count place 0 within)
 
 -- all numbers of a range are written
 pub all_range_end : {S : Type 0} {contents : S → Option (List ℕ)} {has_failed : S → Bool} {a b : S} (f : ℕ → List ℕ) (count place : ℕ) → count ≤ place → TakesAll contents has_failed a b (flat_map f (take place (range_with_len 0 count))) → TakesAll contents has_failed a b (flat_map f (range_with_len 0 count))

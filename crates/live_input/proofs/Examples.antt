@@ -1,8 +1,5 @@
 -- The lines of an input, computed by the checker.
-use Rattle.std.proofs.Common.{◌≡◌, [], ◌∷◌, refl, codes}
-use Rattle.line_feed.specs.Pieces.{kept_of}
-use Rattle.tagged_lines.specs.Tags.{told_to}
-use Rattle.live_input.specs.Serving.{kept_input, kept_lines}
+use Rattle.live_input.proofs.Prelude.{◌≡◌, [], ◌∷◌, refl, codes, kept_of, told_to, kept_input, kept_lines}
 
 -- a last line without LF is none
 lines : kept_lines (codes "@a x\n\nop lis") ≡ codes "@a x" ∷ [] ∷ []

@@ -1,15 +1,5 @@
 -- The lines of an input, as they are read and as they are cut.
-use Rattle.std.proofs.Common.{◌≡◌, ℕ, zero, suc, ◌+◌, List, [], ◌∷◌, ◌++◌, Bool, true, false, not, ◌&&◌, cond, eqb, map, take, drop, None, refl, sym, ap, ◌∙◌, append-nil, append_assoc}
-use Rattle.std.specs.List.{flat_map, list_all, onto_first, position_or_len}
-use Rattle.line_text.specs.Lines.{physical_lines}
-use Rattle.line_feed.specs.Pieces.{is_one_line, kept_of}
-use Rattle.line_service.specs.Conversation.{ended_lines, onto_line}
-use Rattle.sessions.specs.Items.{items_from, items_of}
-use Rattle.sessions.specs.Reading.{items_to_come}
-use Rattle.tagged_lines.specs.Tags.{with_feed, is_of, rest_of, tag_of, told_to}
-use Rattle.tagged_lines.proofs.TagLemmas.{both, is_line, line_then}
-use Rattle.live_lines.specs.Laws.{said_by}
-use Rattle.live_input.specs.Serving.{kept_input, kept_lines}
+use Rattle.live_input.proofs.Prelude.{◌≡◌, ℕ, zero, suc, ◌+◌, List, [], ◌∷◌, ◌++◌, Bool, true, false, not, ◌&&◌, cond, eqb, map, take, drop, None, refl, sym, ap, ◌∙◌, append-nil, append_assoc, flat_map, list_all, onto_first, position_or_len, physical_lines, is_one_line, kept_of, ended_lines, onto_line, items_from, items_of, items_to_come, with_feed, is_of, rest_of, tag_of, told_to, both, is_line, line_then, said_by, kept_input, kept_lines}
 
 -- lines with their ends are those lines
 lines_back : (lines : List (List ℕ)) → list_all is_line lines ≡ true → physical_lines (flat_map with_feed lines) ≡ lines

@@ -1,12 +1,5 @@
 -- Lines that are answered are taken.
-use Rattle.std.proofs.Common.{◌≡◌, ℕ, ◌+◌, List, [], ◌∷◌, ◌++◌, map, Option, Some, None, refl, sym, ap, subst, ◌∙◌}
-use Rattle.std.specs.Io.KnownBytes.{Appends}
-use Rattle.std.proofs.lemmas.Grind.{flat_map-append}
-use Rattle.line_feed.specs.Pieces.{kept_of}
-use Rattle.line_service.specs.Conversation.{AreAnswered}
-use Rattle.live_lines.specs.Live.{LiveState}
-use Rattle.tagged_lines.specs.Tags.{Tagged, output_of, tagged_text}
-use Rattle.live_input.specs.Serving.{AnswersLine, AreTaken}
+use Rattle.live_input.proofs.Prelude.{◌≡◌, ℕ, ◌+◌, List, [], ◌∷◌, ◌++◌, map, Option, Some, None, refl, sym, ap, subst, ◌∙◌, Appends, flat_map-append, kept_of, AreAnswered, LiveState, Tagged, output_of, tagged_text, AnswersLine, AreTaken}
 
 pub are_taken : (old new : LiveState) (number : ℕ) (lines : List (List ℕ)) (text : List ℕ) → AreAnswered AnswersLine old number lines text new → AreTaken old number lines text new
 are_taken old new number [] text (none, stays) = record { tellings = []; told = []; takes = (refl, refl, stays); text_is = none }

@@ -1,33 +1,6 @@
 -- What the input's end gives to each name, one name after another.
-use Rattle.std.proofs.Common.{◌≡◌, ◌≢◌, ℕ, List, [], ◌∷◌, ◌++◌, length, Bool, true, false, ◌&&◌, cond, Option, Some, None, nat_eq, refl, sym, ap, subst, ◌∙◌, arith, append-nil, append_assoc}
-use Rattle.std.specs.Prelude.{is_some, slice_get}
-use Rattle.std.specs.Str.{bytes_eq}
-use Rattle.std.specs.Io.KnownBytes.{Appends}
-use Rattle.std.proofs.KnownBytes.{Appends-nil, Appends-trans}
-use Rattle.std.proofs.lemmas.Bool.{false≢true}
-use Rattle.std.proofs.lemmas.Bool.Decides.{nat_tests}
-use Rattle.std.proofs.lemmas.Grind.{flat_map-append}
-use Rattle.std.proofs.lemmas.List.Folds.{list_all-append}
-use Rattle.std.proofs.lemmas.Slice.Eq.{bytes_eq-Decides}
-use Rattle.line_text.specs.Names.{number_of}
-use Rattle.script_text.specs.declared.act.Act.TheVariants.{Session}
-use Rattle.script_text.specs.Script.{is_name}
-use Rattle.sessions.specs.declared.line.SessionLine.TheVariants.{Refused}
-use Rattle.sessions.specs.declared.refusal.SessionRefusal.TheVariants.{UnfinishedUpload}
+use Rattle.live_lines.proofs.Prelude.{◌≡◌, ◌≢◌, ℕ, List, [], ◌∷◌, ◌++◌, length, Bool, true, false, ◌&&◌, cond, Option, Some, None, nat_eq, refl, sym, ap, subst, ◌∙◌, arith, append-nil, append_assoc, is_some, slice_get, bytes_eq, Appends, Appends-nil, Appends-trans, false≢true, nat_tests, flat_map-append, list_all-append, bytes_eq-Decides, number_of, Session, is_name, Refused, UnfinishedUpload, TextSoFar, items_to_come, session_refusal_text, Stage, Tagged, with_last_feed, have_tags, is_tag, output_of, tagged_text, told_in, LastName, Missing, Said, IsAnswered, Telling, Tells, Ends, EndsLast, ending_for, open_text_refusal, item_for, items_for, replies_for, reply_for, LiveState, for_name, text_in, texts_of, same}
 use Rattle.sessions.specs.declared.told.Answer.TheVariants.{Refused as RefusedAnswer}
-use Rattle.sessions.specs.Reading.{TextSoFar, items_to_come}
-use Rattle.sessions.specs.SessionText.{session_refusal_text}
-use Rattle.operator.specs.Serving.{Stage}
-use Rattle.tagged_lines.specs.Tags.{Tagged, with_last_feed, have_tags, is_tag, output_of, tagged_text, told_in}
-use Rattle.live_lines.specs.declared.said.LastName.{LastName}
-use Rattle.live_lines.specs.declared.said.LastName.TheVariants.{Missing, Finished}
-use Rattle.live_lines.specs.declared.said.Said.{Said}
-use Rattle.live_lines.specs.Acts.{IsAnswered, Telling, Tells}
-use Rattle.live_lines.specs.Ends.{Ends, EndsLast, ending_for, open_text_refusal}
-use Rattle.live_lines.specs.Laws.{item_for, items_for, replies_for, reply_for}
-use Rattle.live_lines.specs.Live.{LiveState, for_name}
-use Rattle.live_lines.specs.Said.{text_in, texts_of}
-use Rattle.tagged_lines.proofs.TagLemmas.{same}
 use Rattle.live_lines.proofs.AnswerLemmas.{refusal_whole}
 use Rattle.live_lines.proofs.EndLemmas.{last_is, last_stays, no_text, others_stay}
 use Rattle.live_lines.proofs.LawLemmas.{Tells-append, name_tag, of_itself, told_in-append, turned}
@@ -40,11 +13,7 @@ are_same a b e = (bytes_eq-Decides a b).0 e
 
 -- a name is the last one, or another
 by_name : {A : Type 0} (name n : List ℕ) → (bytes_eq name n ≡ false → A) → (name ≡ n → A) → A
-by_name {A = A} name n other own =
-    elim (bytes_eq name n) as (λ b. bytes_eq name n ≡ b → A) [
-      | true ↦ λ e. own (are_same name n e)
-      | false ↦ λ e. other e
-    ] refl
+by_name name n other own = grind (arith, are_same)
 
 -- the text of each name, once the last name is removed
 abbrev Stays : List (List ℕ) → List Text → Text → List ℕ → Type 0
@@ -72,31 +41,19 @@ stay_none names texts t n name at none =
     ] refl
 
 none_by : (t : Text) → is_some t ≡ false → t ≡ None
-none_by None is = refl
-none_by (Some x) is = absurd (cc)
+none_by t is = grind arith
 
 -- the last name's text is no longer open, or it isn't a name, or it is there before
 pub stay_by : (has named first : Bool) (names : List (List ℕ)) (texts : List Text) (t : Text) (n name : List ℕ) → slice_get names (length texts) ≡ Some n → is_some t ≡ has → is_name n ≡ named → (first ≡ false → number_of names n ≢ length texts) →
     (has && named && first) ≡ false → is_name name ≡ true → Stays names texts t name
-stay_by false named first names texts t n name at has is number not_all ok = stay_none names texts t n name at (none_by t has)
-stay_by true false first names texts t n name at has is number not_all ok = stay_unnamed names texts t n name at is ok
-stay_by true true false names texts t n name at has is number not_all ok = stay_later names texts t n name at (number refl)
-stay_by true true true names texts t n name at has is number not_all ok = absurd (cc)
+stay_by has named first names texts t n name at h2 is number not_all ok = grind (arith, stay_none, stay_unnamed, stay_later)
 
 pub items_stay : (names : List (List ℕ)) (texts : List Text) (t : Text) (name : List ℕ) → Stays names texts t name → items_to_come (text_in names (texts ++ t ∷ []) name) [] ≡ items_to_come (text_in names texts name) []
 items_stay names texts t name stays = ap (λ u. items_to_come u []) stays
 
 pub items_end : (names : List (List ℕ)) (texts : List Text) (t : Text) (x : TextSoFar) (n name : List ℕ) → slice_get names (length texts) ≡ Some n → number_of names n ≡ length texts → t ≡ Some x →
     items_to_come (text_in names (texts ++ t ∷ []) name) [] ≡ cond (bytes_eq n name) (Refused UnfinishedUpload ∷ []) [] ++ items_to_come (text_in names texts name) []
-items_end names texts t x n name at first is =
-    elim (bytes_eq n name) as (λ b. bytes_eq n name ≡ b → items_to_come (text_in names (texts ++ t ∷ []) name) [] ≡ cond b (Refused UnfinishedUpload ∷ []) [] ++ items_to_come (text_in names texts name) []) [
-      | true ↦ λ e.
-          let last = last_is names texts t n at first in
-          let P : List ℕ → Type 0 = λ m. items_to_come (text_in names (texts ++ t ∷ []) m) [] ≡ Refused UnfinishedUpload ∷ items_to_come (text_in names texts m) [] in
-          subst P (are_same n name e)
-          (ap (λ u. items_to_come u []) (last.0 ∙ is) ∙ sym (ap (λ u. Refused UnfinishedUpload ∷ items_to_come u []) last.1))
-      | false ↦ λ e. items_stay names texts t name (others_stay names texts t n name at (turned n name e))
-    ] refl
+items_end names texts t x n name at first is = grind (arith, are_same, turned, last_is names texts t n, others_stay names texts t n name)
 
 -- a name that was removed, and what is left to come
 pub items_none : (names : List (List ℕ)) (texts : List Text) (name : List ℕ) → texts ≡ [] → items_to_come (text_in names texts name) [] ≡ []
@@ -123,21 +80,6 @@ ending_begins stage said known = record {
   replies = λ name. refl;
   tags = refl;
   writes = Appends-nil known;
-}
-
-ending_nothing : (name : List ℕ) (last : LastName) → last ≡ Finished → ending_for name last ≡ []
-ending_nothing name last is = ap (ending_for name) is
-
-pub ending_goes : (start : LiveState) (before : Option (List ℕ)) (stage : Stage) (said next : Said) (after : Option (List ℕ)) (last : LastName) → last ≡ Finished → Ending start before stage said after → EndsLast said last next → Ending start before stage next after
-ending_goes start before stage said next after last is e ends = record {
-  tellings = e.tellings;
-  told = e.told;
-  stays = e.stays;
-  tells = e.tells;
-  items = λ name ok. e.items name ok ∙ ap (λ is. items_for name e.tellings ++ is) (ends.items name ok ∙ ap (λ is. is ++ items_to_come (texts_of next name) []) (ending_nothing name last is));
-  replies = e.replies;
-  tags = e.tags;
-  writes = e.writes;
 }
 
 refusal_answered : (stage : Stage) (name : List ℕ) → IsAnswered stage (Session name (Refused UnfinishedUpload)) [] (session_refusal_text UnfinishedUpload) stage
@@ -172,31 +114,11 @@ ending_refuses start before stage said next after then last n gives named e ends
     }
 
 pub all_end : (start : LiveState) (before : Option (List ℕ)) (stage : Stage) (said next : Said) (after : Option (List ℕ)) (last : LastName) → last ≡ Missing → Ending start before stage said after → EndsLast said last next → Ends start before after
-all_end start before stage said next after last is e ends = record {
-  tellings = e.tellings;
-  told = e.told;
-  ends = record {
-    tells = e.tells;
-    items = λ name ok. e.items name ok ∙ (ap (λ is. items_for name e.tellings ++ is) (ends.missing is name) ∙ append-nil (items_for name e.tellings));
-    replies = e.replies;
-    tags = e.tags;
-  };
-  writes = e.writes;
-}
-
--- the last name's text is open
-some_by : (t : Text) → is_some t ≡ true → (x : TextSoFar) × (t ≡ Some x)
-some_by None is = absurd (cc)
-some_by (Some x) is = (x, refl)
+all_end start before stage said next after last is e ends = grind (arith, append-nil)
 
 pub last_open : (has named first : Bool) (names : List (List ℕ)) (texts : List Text) (t : Text) (n name : List ℕ) → slice_get names (length texts) ≡ Some n → is_some t ≡ has → (first ≡ true → number_of names n ≡ length texts) → (has && named && first) ≡ true →
     items_to_come (text_in names (texts ++ t ∷ []) name) [] ≡ cond (bytes_eq n name) (Refused UnfinishedUpload ∷ []) [] ++ items_to_come (text_in names texts name) []
-last_open true true true names texts t n name at has number all = let open_text = some_by t has in items_end names texts t open_text.0 n name at (number refl) open_text.1
-last_open true true false names texts t n name at has number all = absurd (cc)
-last_open true false first names texts t n name at has number all = absurd (cc)
-last_open false named first names texts t n name at has number all = absurd (cc)
+last_open has named first names texts t n name at h2 number all = grind (arith, items_end)
 
 pub all_named : (has named first : Bool) → (has && named && first) ≡ true → named ≡ true
-all_named true true first all = refl
-all_named true false first all = absurd (cc)
-all_named false named first all = absurd (cc)
+all_named has named first all = grind arith

@@ -1,9 +1,5 @@
 -- What lines ask, computed by the checker.
-use Rattle.std.proofs.Common.{◌≡◌, [], ◌∷◌, ◌++◌, refl, codes}
-use Rattle.script_text.specs.Script.{form_in}
-use Rattle.live_lines.specs.Laws.{said_by}
-use Rattle.live_lines.specs.Live.{asked_of}
-use Rattle.live_lines.specs.Live.Asked.{Echoes, Figures, NoForm, Nothing, Says}
+use Rattle.live_lines.proofs.Prelude.{◌≡◌, [], ◌∷◌, ◌++◌, refl, codes, form_in, said_by, asked_of, Echoes, Figures, NoForm, Nothing, Says}
 
 -- a comment, an empty line and a line of blanks ask nothing
 comment : asked_of (codes "# hello") ≡ Nothing

@@ -1,8 +1,6 @@
 -- A name that is kept for the operator's lines.
-use Rattle.std.proofs.Common.{◌≡◌, ℕ, suc, ◌+◌, ◌<◌, List, [], ◌∷◌, true, false, not, cond, Some, length, slice_get, refl, sym, ap, ◌∙◌, arith}
-use Rattle.std.specs.Str.{bytes_eq}
-use Rattle.std.proofs.lemmas.Slice.Eq.{bytes_eq-Decides}
-use Rattle.line_text.specs.Names.{number_of}
+use Rattle.live_lines.proofs.Prelude.{◌≡◌, ℕ, suc, ◌+◌, ◌<◌, List, [], ◌∷◌, true, false, not, cond, Some, length, refl, sym, ap, ◌∙◌, arith, bytes_eq, bytes_eq-Decides, number_of}
+use Rattle.std.proofs.Common.{slice_get}
 
 -- the name at its number is the name
 pub kept_at : (names : List (List ℕ)) (name kept : List ℕ) → number_of names name < length names → slice_get names (number_of names name) ≡ Some kept → kept ≡ name

@@ -1,3 +1,4 @@
+mod Prelude
 mod AnswerLemmas
 mod EndLemmas
 mod EndSteps

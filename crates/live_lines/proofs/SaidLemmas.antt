@@ -1,15 +1,5 @@
 -- The texts that names are in, kept by the names' numbers.
-use Rattle.std.proofs.Common.{◌≡◌, ℕ, suc, ◌+◌, ◌<◌, ◌≤◌, List, [], ◌∷◌, ◌++◌, length, get_or, Bool, true, false, cond, if◌then◌else◌, Option, None, Result, Ok, Err, refl, sym, ap, ◌∙◌, arith}
-use Rattle.std.specs.Str.{bytes_eq}
-use Rattle.std.proofs.Math.ListN.{set}
-use Rattle.std.proofs.lemmas.Slice.Eq.{bytes_eq-Decides}
-use Rattle.line_text.specs.Names.{number_of, with_name}
-use Rattle.line_text.proofs.NameLemmas.{number_of-first, number_of-later, with_name-first, with_name-later}
-use Rattle.std.specs.Prelude.{IfOk}
-use Rattle.std.specs.declared.alloc.AllocError.{AllocError}
-use Rattle.sessions.specs.declared.line.SessionLine.{SessionLine}
-use Rattle.sessions.specs.Reading.{GivesItem, TextSoFar, item_and, items_to_come}
-use Rattle.live_lines.specs.Said.{HearsLine, Texts, no_texts, text_in}
+use Rattle.live_lines.proofs.Prelude.{◌≡◌, ℕ, suc, ◌<◌, ◌≤◌, List, [], ◌∷◌, ◌++◌, length, get_or, Bool, true, false, cond, if◌then◌else◌, Option, None, Result, refl, sym, ap, ◌∙◌, arith, bytes_eq, set, bytes_eq-Decides, number_of, with_name, number_of-first, number_of-later, with_name-later, IfOk, AllocError, SessionLine, GivesItem, TextSoFar, HearsLine, Texts, no_texts, text_in}
 
 abbrev Text : Type 0
 Text = Option TextSoFar
@@ -28,8 +18,7 @@ text_later : (n : List ℕ) (names : List (List ℕ)) (t : Text) (texts : List T
 text_later n names t texts name e = rw e refl
 
 no_text : (b : Bool) → ◌≡◌ {A = Text} (cond b None None) None
-no_text true = refl
-no_text false = refl
+no_text b = grind arith
 
 -- a name that is new is in no text
 pub text_in-more : (names : List (List ℕ)) (texts : List Text) (name other : List ℕ) → length texts ≡ length names → length texts ≤ number_of names name → text_in (with_name names name) (texts ++ None ∷ []) other ≡ text_in names texts other
@@ -47,12 +36,7 @@ text_in-more (n ∷ names) (t ∷ texts) name other even past =
 -- the number of a name that was added
 pub number_of-added : (names : List (List ℕ)) (name : List ℕ) → number_of (with_name names name) name ≡ number_of names name
 number_of-added [] name = number_of-first name [] name (same_name name)
-number_of-added (n ∷ names) name =
-    elim (bytes_eq name n) as (λ b. bytes_eq name n ≡ b → number_of (with_name (n ∷ names) name) name ≡ number_of (n ∷ names) name) [
-      | true ↦ λ e. ap (λ ns. number_of ns name) (with_name-first n names name e)
-      | false ↦ λ e. ap (λ ns. number_of ns name) (with_name-later n names name e)
-          ∙ (number_of-later n (with_name names name) name e ∙ (ap (λ k. 1 + k) (number_of-added names name) ∙ sym (number_of-later n names name e)))
-    ] refl
+number_of-added (n ∷ names) name = grind (arith, number_of-added names name)
 
 -- the text at a name's number is the name's
 pub text_at : (names : List (List ℕ)) (texts : List Text) (name : List ℕ) (d : Text) → length texts ≡ length names → number_of names name < length texts → get_or texts (number_of names name) d ≡ text_in names texts name
@@ -114,11 +98,7 @@ text_set-other (n ∷ names) (t ∷ texts) name other v even within apart =
 -- what a line gives that a name's reader took
 pub hears_by : (r : Result (Option SessionLine) AllocError) (old new : Texts) (name line : List ℕ) (t u : Text) → old name ≡ t → new name ≡ u → ((other : List ℕ) → bytes_eq other name ≡ false → new other ≡ old other) →
     IfOk r (λ item. GivesItem t line item u) → IfOk r (λ item. HearsLine old name line item new)
-hears_by (Ok item) old new name line t u was is others gives = record {
-  gives = λ lines. ap (λ x. items_to_come x (line ∷ lines)) was ∙ (gives lines ∙ ap (λ x. item_and item (items_to_come x lines)) (sym is));
-  others = others;
-}
-hears_by (Err error) old new name line t u was is others gives = tt
+hears_by r old new name line t u was is others gives = grind arith
 
 -- without names, no name is in a text
 pub new_texts : (names : List (List ℕ)) (texts : List Text) → names ≡ [] → ◌≡◌ {A = Texts} (text_in names texts) no_texts

@@ -2,14 +2,7 @@
 use Rattle.std.specs.Prelude.{ℕ, ◌≡◌, ◌≤◌, List, [], ◌∷◌, ◌++◌, length, true, Option, ⊤, if◌then◌else◌}
 use Rattle.std.specs.Str.{bytes_eq}
 use Rattle.std.specs.Io.KnownBytes.{Appends}
-use Rattle.script_text.specs.declared.act.Act.TheVariants.{Session}
-use Rattle.script_text.specs.Script.{is_name}
-use Rattle.sessions.specs.declared.line.SessionLine.{SessionLine}
-use Rattle.sessions.specs.declared.line.SessionLine.TheVariants.{Refused}
-use Rattle.sessions.specs.declared.refusal.SessionRefusal.TheVariants.{UnfinishedUpload}
-use Rattle.sessions.specs.Reading.{items_to_come}
-use Rattle.sessions.specs.SessionText.{session_refusal_text}
-use Rattle.tagged_lines.specs.Tags.{Tagged, have_tags, output_of, told_in}
+use Rattle.live_lines.specs.Prelude.{Session, is_name, SessionLine, Refused, UnfinishedUpload, items_to_come, session_refusal_text, Tagged, have_tags, output_of, told_in}
 use Rattle.live_lines.specs.declared.said.LastName.{LastName}
 use Rattle.live_lines.specs.declared.said.LastName.TheVariants.{Missing, Unfinished}
 use Rattle.live_lines.specs.declared.said.Said.{Said}

@@ -1,10 +1,6 @@
 -- How full a service is, as the operator is told.
 use Rattle.std.specs.Prelude.{ℕ, ◌≡◌, ◌+◌, ◌-◌, List, [], ◌∷◌, ◌++◌, length, codes, decimal, Option, Some, None}
-use Rattle.service_core.specs.declared.service.TheConstants.{MAX_ADMISSIONS}
-use Rattle.service_core.specs.History.{History}
-use Rattle.service_core.specs.Service.{ServiceState, live_of}
-use Rattle.service_core.specs.Texts.{CountAs}
-use Rattle.sessions.specs.SessionText.{blank_word}
+use Rattle.live_lines.specs.Prelude.{MAX_ADMISSIONS, History, ServiceState, live_of, CountAs, blank_word}
 
 -- the line of a tenancy: its id and name, the entries of its journal, and the bytes of their texts
 abbrev pub tenancy_text : ℕ → List ℕ → ℕ → ℕ → List ℕ

@@ -2,10 +2,7 @@
 use Rattle.std.specs.Prelude.{ℕ, List, [], ◌∷◌, ◌++◌, if◌then◌else◌}
 use Rattle.std.specs.List.{flat_map}
 use Rattle.std.specs.Str.{bytes_eq}
-use Rattle.script_text.specs.declared.act.Act.{Act}
-use Rattle.script_text.specs.declared.act.Act.TheVariants.{Operator, Session}
-use Rattle.sessions.specs.declared.line.SessionLine.{SessionLine}
-use Rattle.tagged_lines.specs.Tags.{with_last_feed, with_feed, is_of, rest_of, tag_of}
+use Rattle.live_lines.specs.Prelude.{Act, Operator, Session, SessionLine, with_last_feed, with_feed, is_of, rest_of, tag_of}
 use Rattle.live_lines.specs.Acts.{Telling}
 use Rattle.live_lines.specs.Live.{count_text, is_open}
 

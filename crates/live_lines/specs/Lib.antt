@@ -1,3 +1,4 @@
+pub mod Prelude
 pub mod Acts
 pub mod Ends
 pub mod Figures

@@ -2,18 +2,9 @@
 use Rattle.std.specs.Prelude.{ℕ, ◌≡◌, ◌+◌, List, [], ◌∷◌, ◌++◌, codes, decimal, length, nat_le, Bool, true, false, not, ◌==◌, ◌||◌, ◌&&◌, Option, Some, None, Ok, ⊤, if◌then◌else◌}
 use Rattle.std.specs.List.{list_all}
 use Rattle.std.specs.Str.{bytes_eq}
-use Rattle.line_text.specs.Lines.{physical_lines}
-use Rattle.line_text.specs.Words.{is_blank}
-use Rattle.script_text.specs.declared.act.Act.TheVariants.{Operator, Session}
-use Rattle.script_text.specs.declared.operator_line.OperatorLine.{OperatorLine}
-use Rattle.script_text.specs.declared.operator_line.OperatorLine.TheVariants.{Step, List as ListAll}
-use Rattle.script_text.specs.Script.{Acts, is_name, named_operator, script_of}
-use Rattle.service_core.specs.Service.{ServiceState}
-use Rattle.sessions.specs.declared.line.SessionLine.{SessionLine}
-use Rattle.operator.specs.Serving.{Stage}
+use Rattle.live_lines.specs.Prelude.{physical_lines, is_blank, Operator, Session, OperatorLine, Step, List as ListAll, Acts, is_name, named_operator, script_of, ServiceState, SessionLine, Stage, Tagged, answer_told, id_of, is_good_id, output_of, owner_of, rest_of, tag_of}
 use Rattle.live_lines.specs.Acts.{IsAnswered, Telling}
 use Rattle.std.specs.Io.KnownBytes.{Appends}
-use Rattle.tagged_lines.specs.Tags.{Tagged, answer_told, id_of, is_good_id, output_of, owner_of, rest_of, tag_of}
 use Rattle.live_lines.specs.declared.live.Live.{Live}
 use Rattle.live_lines.specs.declared.asked.TheConstants.{MAX_ECHO, MAX_OPERATOR_LINE}
 use Rattle.live_lines.specs.declared.asked.LineRequest.{LineRequest as AskedIn}

@@ -1,8 +1,7 @@
 -- The text that each name's session is in.
 use Rattle.std.specs.Prelude.{ℕ, ◌≡◌, List, [], ◌∷◌, length, false, Option, None, if◌then◌else◌}
 use Rattle.std.specs.Str.{bytes_eq}
-use Rattle.sessions.specs.declared.line.SessionLine.{SessionLine}
-use Rattle.sessions.specs.Reading.{GivesItem, TextSoFar}
+use Rattle.live_lines.specs.Prelude.{SessionLine, GivesItem, TextSoFar}
 use Rattle.live_lines.specs.declared.said.Said.{Said}
 
 -- the text that each name is in, if it is in one

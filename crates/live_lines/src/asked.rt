@@ -2,9 +2,7 @@
 ghost use Rattle.std.specs.Prelude.{◌≡◌, ◌<◌, ◌^◌, Ok, codes, length, map, IfOk};
 ghost use Rattle.std.specs.List.{list_all};
 ghost use Rattle.std.specs.Str.{bytes_eq};
-ghost use Rattle.line_text.specs.Words.{is_blank as is_blank_byte};
-ghost use Rattle.script_text.specs.Script.{named_act, script_of};
-ghost use Rattle.tagged_lines.specs.Tags.{tag_of};
+ghost use Rattle.live_lines.specs.Prelude.{is_blank as is_blank_byte, named_act, script_of, tag_of};
 ghost use Rattle.live_lines.specs.Live.{HasTag, asked_by, asked_of, asks, are_echoed, begins_comment, is_echo, is_echoed, is_passed, is_short, operator_asks, words_ask};
 
 use line_text::{is_blank, is_word};

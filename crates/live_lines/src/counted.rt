@@ -1,6 +1,6 @@
 //! The number of lines of a text.
 ghost use Rattle.std.specs.Prelude.{◌≡◌, length};
-ghost use Rattle.line_text.specs.Lines.{physical_lines};
+ghost use Rattle.live_lines.specs.Prelude.{physical_lines};
 
 use line_text::split_line;
 

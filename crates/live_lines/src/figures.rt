@@ -1,9 +1,7 @@
 //! How full a service is, as the operator is told.
 ghost use Rattle.std.specs.Prelude.{◌≡◌, ◌≤◌, ◌++◌, length, OnOk};
 ghost use Rattle.std.specs.List.{flat_map};
-ghost use Rattle.service_core.specs.declared.service.TheConstants.{MAX_ADMISSIONS};
-ghost use Rattle.service_core.specs.Service.{live_of};
-ghost use Rattle.operator.specs.Held.{sink_text};
+ghost use Rattle.live_lines.specs.Prelude.{MAX_ADMISSIONS, live_of, sink_text};
 ghost use Rattle.live_lines.specs.Figures.{AppendsFigures, AppendsRow, head_text, tenancy_text};
 
 use itoa::Buffer;

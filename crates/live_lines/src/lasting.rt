@@ -1,6 +1,6 @@
 //! Lines of the operator with names that are kept.
 ghost use Rattle.std.specs.Prelude.{◌≡◌, IfOk};
-ghost use Rattle.script_text.specs.Script.{named_operator};
+ghost use Rattle.live_lines.specs.Prelude.{named_operator};
 
 use line_text::NameSet;
 use script_text::OperatorLine;

@@ -1,8 +1,6 @@
 //! The law of the lines that a live service takes.
 ghost use Rattle.std.specs.Prelude.{◌≡◌, ◌++◌, ◌∷◌, [], ℕ, List, true};
-ghost use Rattle.script_text.specs.Script.{is_name};
-ghost use Rattle.sessions.specs.Reading.{items_to_come};
-ghost use Rattle.tagged_lines.specs.Tags.{Tagged, have_tags, output_of, told_in, told_to};
+ghost use Rattle.live_lines.specs.Prelude.{is_name, items_to_come, Tagged, have_tags, output_of, told_in, told_to};
 ghost use Rattle.live_lines.specs.Acts.{Telling, Tells};
 ghost use Rattle.live_lines.specs.Laws.{items_for, replies_for, said_by};
 ghost use Rattle.live_lines.specs.Live.{LiveState, Takes};

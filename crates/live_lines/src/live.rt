@@ -1,12 +1,7 @@
 //! A live service takes lines, and answers each before the next one.
 ghost use Rattle.std.specs.Prelude.{◌≡◌, ◌<◌, ◌^◌, ◌∷◌, ◌++◌, [], length, codes, decimal, OnOk, is_ok};
 ghost use Rattle.std.specs.Io.KnownBytes.{Appends};
-ghost use Rattle.script_text.specs.Script.{named_operator};
-ghost use Rattle.tagged_lines.specs.Tags.{answer_told, output_of, tag_of, tagged_text};
-ghost use Rattle.sessions.specs.SessionText.{session_refusal_text};
-ghost use Rattle.sessions.specs.declared.refusal.SessionRefusal.TheVariants.{UnfinishedUpload};
-ghost use Rattle.service_core.specs.Run.{Run};
-ghost use Rattle.operator.specs.HeldJobs.{give_backs};
+ghost use Rattle.live_lines.specs.Prelude.{named_operator, answer_told, output_of, tag_of, tagged_text, session_refusal_text, UnfinishedUpload, Run, give_backs};
 ghost use Rattle.live_lines.specs.Live.{asked_of as what_asks, count_text, for_name, is_open as is_open_line, told_by};
 
 mod lending;

@@ -1,6 +1,6 @@
 //! The text that each name's session is in.
 ghost use Rattle.std.specs.Prelude.{◌≡◌, ◌<◌, ◌+◌, ◌⊎◌, ◌&&◌, List, ℕ, length, is_some, IfOk, OnOk};
-ghost use Rattle.line_text.specs.Names.{number_of};
+ghost use Rattle.live_lines.specs.Prelude.{number_of};
 ghost use Rattle.live_lines.specs.Ends.{EndsLast, IsWithin};
 ghost use Rattle.live_lines.specs.Said.{HearsLine, IsEven, no_texts, text_in, texts_of};
 

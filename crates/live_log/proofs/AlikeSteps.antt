@@ -1,15 +1,9 @@
 -- Questions that are answered alike, one after another.
-use Rattle.std.proofs.Common.{◌≡◌, ℕ, ◌+◌, List, [], ◌∷◌, ◌++◌, drop, slice_get, Some, Result, Ok, Err, IfOk, refl, sym, ap, subst, ◌∙◌}
-use Rattle.std.proofs.lemmas.List.{drop_more}
-use Rattle.std.proofs.lemmas.Option.{get_or_from_slice_get, slice_get_within}
-use Rattle.live_log.specs.Alike.{AnswerAlike}
+use Rattle.live_log.proofs.Prelude.{◌≡◌, ℕ, ◌+◌, List, [], ◌∷◌, ◌++◌, drop, slice_get, Some, Result, Ok, Err, IfOk, sym, ap, subst, ◌∙◌, drop_more, get_or_from_slice_get, slice_get_within, AnswerAlike}
 
 -- whatever answers the questions that are left alike leads to answers to all
 pub record LeadsAlike {S : Type 0} (answers : S → ℕ → List ℕ → List ℕ → S → Type 0) (whole short : S) (all : List (List ℕ)) (whole_now short_now : S) (rest : List (List ℕ)) : Type 0 where
   pub leads : (whole_after short_after : S) → AnswerAlike answers whole_now short_now rest whole_after short_after → AnswerAlike answers whole short all whole_after short_after
-
-pub alike_none : {S : Type 0} (answers : S → ℕ → List ℕ → List ℕ → S → Type 0) (whole short : S) (all : List (List ℕ)) → LeadsAlike answers whole short all whole short all
-alike_none answers whole short all = record { leads = λ whole_after short_after a. a }
 
 alike_then : {S : Type 0} (answers : S → ℕ → List ℕ → List ℕ → S → Type 0) (lines more : List (List ℕ)) (whole short whole_mid short_mid whole_after short_after : S) →
     AnswerAlike answers whole short lines whole_mid short_mid → AnswerAlike answers whole_mid short_mid more whole_after short_after → AnswerAlike answers whole short (lines ++ more) whole_after short_after
@@ -24,10 +18,6 @@ alike_more {answers = answers} whole_now short_now whole_next short_next rest li
   leads = λ whole_after short_after a. l.leads whole_after short_after
       (subst (λ ls. AnswerAlike answers whole_now short_now ls whole_after short_after) (sym is) (alike_then answers lines others whole_now short_now whole_next short_next whole_after short_after some a));
 }
-
-pub alike_all : {S : Type 0} {answers : S → ℕ → List ℕ → List ℕ → S → Type 0} {whole short : S} {all : List (List ℕ)} (whole_now short_now : S) (rest : List (List ℕ)) →
-    LeadsAlike answers whole short all whole_now short_now rest → rest ≡ [] → AnswerAlike answers whole short all whole_now short_now
-alike_all {answers = answers} whole_now short_now rest l none = l.leads whole_now short_now (subst (λ ls. AnswerAlike answers whole_now short_now ls whole_now short_now) (sym none) (refl, refl))
 
 -- what was answered alike before, and what is after it, if that condition holds of its result
 pub alike_after : {S X E : Type 0} (answers : S → ℕ → List ℕ → List ℕ → S → Type 0) (condition : X → Type 0) (lines more : List (List ℕ)) (result : Result X E) (whole short whole_mid short_mid whole_after short_after : S) →

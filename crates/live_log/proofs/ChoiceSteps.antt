@@ -1,9 +1,5 @@
 -- Lines that are marked one by one, and kept as their marks say.
-use Rattle.std.proofs.Common.{◌≡◌, ℕ, ◌+◌, Bool, true, false, List, [], ◌∷◌, ◌++◌, length, Option, Some, None, refl, sym, ap, subst, ◌∙◌, append-nil, append_assoc, suc, arith, Result, Ok, Err, IfOk, Vec, Global}
-use Rattle.std.specs.Prelude.{◌==◌}
-use Rattle.line_feed.specs.Pieces.{kept_of}
-use Rattle.live_log.specs.Choice.{AreChosen, FitFlags, FitsFlag, FitsMark, IsDecided, NotesLine, decided}
-use Rattle.live_log.specs.declared.marks.Mark.{Mark}
+use Rattle.live_log.proofs.Prelude.{◌≡◌, ℕ, ◌+◌, Bool, true, false, List, [], ◌∷◌, ◌++◌, length, Option, Some, None, refl, sym, ap, subst, ◌∙◌, append-nil, append_assoc, suc, arith, Result, Ok, Err, IfOk, Vec, Global, ◌==◌, kept_of, AreChosen, FitFlags, FitsFlag, FitsMark, IsDecided, NotesLine, decided, Mark}
 
 -- lines are answered one after another, and each has a mark that fits its reply
 abbrev pub AreMarked : {S : Type 0} → (S → ℕ → List ℕ → List ℕ → S → Type 0) → S → ℕ → Bool → List (List ℕ) → List Mark → S → Type 0

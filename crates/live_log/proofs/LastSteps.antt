@@ -1,14 +1,6 @@
 -- The last tags, one by one.
-use Rattle.std.proofs.Common.{◌≡◌, ℕ, ◌+◌, Bool, true, false, List, [], ◌∷◌, ◌++◌, Bor, drop, reverse, slice_get, Some, None, refl, sym, ap, ◌∙◌, append-nil, append_assoc}
-use Rattle.std.specs.Prelude.{if◌then◌else◌}
-use Rattle.std.specs.List.{filter_map}
-use Rattle.std.proofs.lemmas.List.{map-append, reverse-append}
-use Rattle.std.proofs.lemmas.List.Elements.{filter_map-append}
-use Rattle.line_text.specs.Names.{has_name, with_name}
-use Rattle.line_text.specs.Words.{texts}
-use Rattle.tagged_lines.specs.Tags.{owner_of}
+use Rattle.live_log.proofs.Prelude.{◌≡◌, ℕ, ◌+◌, Bool, true, false, List, [], ◌∷◌, ◌++◌, Bor, drop, reverse, slice_get, Some, None, refl, sym, ap, ◌∙◌, append-nil, append_assoc, if◌then◌else◌, filter_map, map-append, reverse-append, filter_map-append, has_name, with_name, texts, owner_of, last_tags, named_tag, newest, with_tag}
 use Rattle.live_log.proofs.AlikeSteps.{drop_place}
-use Rattle.live_log.specs.LastTags.{last_tags, named_tag, newest, with_tag}
 
 newest_first : (owners : List (List ℕ)) (tag : List ℕ) (tags : List (List ℕ)) → newest owners (tag ∷ tags) ≡ newest owners (tag ∷ []) ++ newest (with_name owners (owner_of tag)) tags
 newest_first owners tag tags = by_test (has_name owners (owner_of tag))

@@ -1,3 +1,4 @@
+mod Prelude
 mod AlikeSteps
 mod ChoiceSteps
 mod LastSteps

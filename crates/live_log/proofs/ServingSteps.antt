@@ -1,10 +1,5 @@
 -- Lines that are answered one by one.
-use Rattle.std.proofs.Common.{◌≡◌, ℕ, ◌+◌, ◌≤◌, ◌<◌, Bool, true, false, List, [], ◌∷◌, ◌++◌, length, replicate, suc, Result, Ok, Err, OnOk, refl, sym, ap, subst, ◌∙◌, arith, take}
-use Rattle.line_feed.specs.Pieces.{kept_of}
-use Rattle.line_service.specs.Conversation.{AreAnswered}
-use Rattle.line_service.proofs.TalkLemmas.{answered_append}
-use Rattle.live_log.specs.Alike.{ServesIf}
-use Rattle.live_log.specs.Kept.{lines_kept}
+use Rattle.live_log.proofs.Prelude.{◌≡◌, ℕ, ◌+◌, ◌≤◌, ◌<◌, Bool, true, false, List, [], ◌∷◌, ◌++◌, length, replicate, suc, Result, Ok, Err, OnOk, refl, sym, ap, subst, ◌∙◌, arith, take, kept_of, AreAnswered, answered_append, ServesIf, lines_kept}
 
 -- whatever answers the lines that are left leads to answers to all lines
 pub record Leads {S : Type 0} (answers : S → ℕ → List ℕ → List ℕ → S → Type 0) (old : S) (first : ℕ) (all : List (List ℕ)) (now : S) (number : ℕ) (rest : List (List ℕ)) : Type 0 where

@@ -1,13 +1,5 @@
 -- Lines that are written one by one, those that are kept.
-use Rattle.std.proofs.Common.{◌≡◌, ℕ, Bool, true, false, List, [], ◌∷◌, ◌++◌, length, Option, Bor, map, refl, sym, ap, ◌∙◌, arith, append-nil, append_assoc}
-use Rattle.line_text.specs.Lines.{physical_lines}
-use Rattle.line_text.specs.Writing.{TakesAll, TakesPart}
-use Rattle.line_text.proofs.WritingLemmas.{all_none, all_same, all_then, part_first, part_same, part_then}
-use Rattle.std.specs.List.{flat_map}
-use Rattle.std.proofs.lemmas.Grind.{flat_map-append}
-use Rattle.line_text.specs.Words.{texts}
-use Rattle.tagged_lines.specs.Tags.{with_feed}
-use Rattle.live_log.specs.Kept.{kept_lines, last_line, line_if}
+use Rattle.live_log.proofs.Prelude.{◌≡◌, ℕ, Bool, true, false, List, [], ◌∷◌, ◌++◌, length, Option, Bor, map, refl, sym, ap, ◌∙◌, arith, append-nil, append_assoc, physical_lines, TakesAll, TakesPart, all_none, all_same, all_then, part_first, part_same, part_then, flat_map, flat_map-append, texts, with_feed, kept_lines, last_line, line_if}
 
 -- all that is kept is written, but for the lines that are left
 pub record Written {S : Type 0} (contents : S → Option (List ℕ)) (has_failed : S → Bool) (old now : S) (all : List Bool) (log : List ℕ) (marks : List Bool) (rest : List ℕ) : Type 0 where
@@ -49,10 +41,6 @@ pub written_all : {S : Type 0} {contents : S → Option (List ℕ)} {has_failed 
     Written contents has_failed old now all log marks rest → length rest ≡ 0 → TakesAll contents has_failed old now (kept_lines all (physical_lines log))
 written_all marks [] w none = all_same w.takes (sym (append-nil w.done) ∙ (ap (λ t. w.done ++ t) (sym (none_left marks)) ∙ w.left))
 written_all marks (x ∷ rest) w none = absurd (omega arith)
-
-pub written_out : {S : Type 0} {contents : S → Option (List ℕ)} {has_failed : S → Bool} {old now : S} {all : List Bool} {log : List ℕ} (marks : List Bool) (rest : List ℕ) →
-    Written contents has_failed old now all log marks rest → marks ≡ [] → TakesAll contents has_failed old now (kept_lines all (physical_lines log))
-written_out marks rest w none = all_same w.takes (sym (append-nil w.done) ∙ (ap (λ t. w.done ++ t) (sym (ap (λ ms. kept_lines ms (physical_lines rest)) none)) ∙ w.left))
 
 -- the comment that says a tag, with its end
 abbrev pub comment : Bor (List ℕ) → List ℕ

@@ -1,10 +1,7 @@
 -- A shorter log whose service answers as the whole log's does.
 use Rattle.std.specs.Prelude.{ℕ, ◌≡◌, ◌+◌, Bool, true, false, ◌||◌, List, [], ◌∷◌, ◌⊎◌, codes}
 use Rattle.std.specs.Str.{bytes_eq}
-use Rattle.line_feed.specs.Pieces.{kept_of}
-use Rattle.line_service.specs.Conversation.{AreAnswered}
-use Rattle.line_text.specs.Lines.{physical_lines}
-use Rattle.tagged_lines.specs.Tags.{rest_of}
+use Rattle.live_log.specs.Prelude.{kept_of, AreAnswered, physical_lines, rest_of}
 use Rattle.live_log.specs.Questions.{questions_after}
 
 -- Private: the line after that number is answered if it is kept, and has the number that comes

@@ -2,9 +2,7 @@
 use Rattle.std.specs.Prelude.{ℕ, ◌≡◌, ◌+◌, Bool, true, false, not, ◌&&◌, ◌||◌, ◌==◌, eqb, List, [], ◌∷◌, ◌++◌, length, Option, Some, None, is_some, codes, drop, ⊤, if◌then◌else◌}
 use Rattle.std.specs.List.{before_first, position_or_len, starts_with}
 use Rattle.std.specs.Str.{bytes_eq}
-use Rattle.line_feed.specs.Pieces.{kept_of}
-use Rattle.line_text.specs.Words.{is_blank}
-use Rattle.tagged_lines.specs.Tags.{rest_of, tag_of}
+use Rattle.live_log.specs.Prelude.{kept_of, is_blank, rest_of, tag_of}
 use Rattle.live_log.specs.Questions.{speaker_of}
 use Rattle.live_log.specs.declared.marks.Mark.{Mark}
 use Rattle.live_log.specs.declared.marks.Mark.TheVariants.{Kept, Dropped}

@@ -1,9 +1,7 @@
 -- The lines of a shorter log.
 use Rattle.std.specs.Prelude.{ℕ, Bool, true, false, List, [], ◌∷◌, ◌++◌, codes, map}
 use Rattle.std.specs.List.{flat_map}
-use Rattle.line_text.specs.Words.{texts}
-use Rattle.line_text.specs.Lines.{physical_lines}
-use Rattle.tagged_lines.specs.Tags.{with_feed}
+use Rattle.live_log.specs.Prelude.{texts, physical_lines, with_feed}
 use Rattle.live_log.specs.declared.short_log.ShortLog.{ShortLog}
 
 -- those of the lines that are kept

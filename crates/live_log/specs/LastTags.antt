@@ -1,8 +1,7 @@
 -- The last id of each name.
 use Rattle.std.specs.Prelude.{ℕ, Bool, ◌&&◌, eqb, List, [], ◌∷◌, ◌++◌, Option, Some, None, codes, drop, reverse, if◌then◌else◌}
 use Rattle.std.specs.List.{filter_map, starts_with}
-use Rattle.line_text.specs.Names.{has_name, with_name}
-use Rattle.tagged_lines.specs.Tags.{has_id, id_of, is_good_id, owner_of, tag_of}
+use Rattle.live_log.specs.Prelude.{has_name, with_name, has_id, id_of, is_good_id, owner_of, tag_of}
 
 -- the tag that a line says: its own, or that of a comment of a shorter log
 abbrev pub said_tag : List ℕ → List ℕ

@@ -1,8 +1,7 @@
 -- What a service is asked, to see what its tenancies are.
 use Rattle.std.specs.Prelude.{ℕ, ◌==◌, List, [], ◌∷◌, ◌++◌, Option, Some, None, codes, map, if◌then◌else◌}
 use Rattle.std.specs.List.{flat_map}
-use Rattle.line_text.specs.Names.{with_name}
-use Rattle.tagged_lines.specs.Tags.{id_of, is_good_id, owner_of, tag_of}
+use Rattle.live_log.specs.Prelude.{with_name, id_of, is_good_id, owner_of, tag_of}
 
 -- the name of an owner that begins with `@`
 abbrev pub name_of : List ℕ → Option (List ℕ)

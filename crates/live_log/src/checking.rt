@@ -1,8 +1,7 @@
 //! A shorter log that is checked before it is used.
 ghost use Rattle.std.specs.Prelude.{◌≡◌, ◌∷◌, [], codes, true, None, IfOk, OnOk, MatchOption};
-ghost use Rattle.line_text.specs.Lines.{physical_lines};
+ghost use Rattle.live_log.specs.Prelude.{physical_lines, texts};
 ghost use Rattle.live_log.specs.Alike.{AnswerAlike, ServesAlike};
-ghost use Rattle.line_text.specs.Words.{texts};
 ghost use Rattle.live_log.specs.LastTags.{last_tags};
 ghost use Rattle.live_log.specs.Choice.{AreChosen};
 ghost use Rattle.live_log.specs.Kept.{lines_in};
@@ -97,24 +96,6 @@ fn differing_in<'l, A: Answers>(
     if !answer_operator_alike(whole, short)? {
         return Ok(Some(b"op"));
     }
-    first_differing_in(alloc, whole, short, log)
-}
-
-/// The first of the names that speak in a log whose questions two services don't answer alike.
-/// `None` if they answer all alike.
-fn first_differing_in<'l, A: Answers>(
-    alloc: Global,
-    whole: &mut A,
-    short: &mut A,
-    log: &'l [u8],
-) -> Result<Option<&'l [u8]>, AllocError>
-    requires whole { A.is_ready whole.old }
-    requires short { A.is_ready short.old }
-    ensures { IfOk result (λ differing. differing ≡ None → AnswerAlike A.answers whole.old short.old
-        (questions_to (with_speakers [] (physical_lines log.now))) whole.new short.new) }
-{
     let names = speakers(alloc, log)?;
-    let differing = first_differing(alloc, whole, short, &names);
-    drop(names);
-    differing
+    first_differing(alloc, whole, short, &names)
 }

@@ -1,10 +1,7 @@
 //! The last id of each name.
 ghost use Rattle.std.specs.Prelude.{◌≡◌, ◌&&◌, [], ◌∷◌, ◌++◌, None, Some, IfOk, OnOk, MatchOption, ◌==◌, position};
 ghost use Rattle.std.specs.List.{filter_map};
-ghost use Rattle.line_text.specs.Lines.{physical_lines};
-ghost use Rattle.line_text.specs.Words.{texts};
-ghost use Rattle.tagged_lines.specs.Tags.{has_id as tag_has_id, id_of, is_good_id, owner_of as tag_owner};
-ghost use Rattle.line_text.specs.Names.{with_name};
+ghost use Rattle.live_log.specs.Prelude.{physical_lines, texts, has_id as tag_has_id, id_of, is_good_id, owner_of as tag_owner, with_name};
 ghost use Rattle.live_log.specs.LastTags.{last_tags, named_tag, newest, said_tag, with_tag};
 
 use line_text::{NameSet, split_line};

@@ -1,7 +1,6 @@
 //! What two services are asked, to see whether they answer alike.
 ghost use Rattle.std.specs.Prelude.{◌≡◌, ◌<◌, ◌^◌, ◌∷◌, [], codes, length, map, true, None, Some, IfOk, OnOk, MatchOption, drop};
-ghost use Rattle.line_text.specs.Lines.{physical_lines};
-ghost use Rattle.line_text.specs.Words.{texts};
+ghost use Rattle.live_log.specs.Prelude.{physical_lines, texts};
 ghost use Rattle.live_log.specs.Alike.{AnswerAlike, are_alike, says_full};
 ghost use Rattle.live_log.specs.Questions.{line_of, questions_to, speaker_of, with_one, with_speakers, words_asked};
 
@@ -92,25 +91,6 @@ pub(crate) fn answer_alike<A: Answers>(
     Ok(are_alike(reply.as_slice(), other.as_slice()))
 }
 
-/// Whether two services answer a line of that name's session alike.
-fn answer_name_alike<A: Answers>(
-    alloc: Global,
-    whole: &mut A,
-    short: &mut A,
-    name: &[u8],
-    words: &[u8],
-) -> Result<bool, AllocError>
-    requires whole { A.is_ready whole.old }
-    requires short { A.is_ready short.old }
-    ensures whole { OnOk result (A.is_ready whole.new) }
-    ensures short { OnOk result (A.is_ready short.new) }
-    ensures alike { IfOk result (λ alike. alike ≡ true → AnswerAlike A.answers whole.old short.old
-        (line_of name.now words.now ∷ []) whole.new short.new) }
-{
-    let line = line_of(alloc, name, words)?;
-    answer_alike(whole, short, line.as_slice())
-}
-
 /// Whether two services answer those words of a name's session alike, one after another.
 fn answer_words_alike<A: Answers>(
     alloc: Global,
@@ -127,39 +107,12 @@ fn answer_words_alike<A: Answers>(
         (map (line_of name.now) (texts asked.now)) whole.new short.new) }
 {
     for words in asked {
-        if !answer_name_alike(alloc, whole, short, name, words)? {
+        let line = line_of(alloc, name, words)?;
+        if !answer_alike(whole, short, line.as_slice())? {
             return Ok(false);
         }
     }
     Ok(true)
-}
-
-/// Whether two services answer alike what each name is asked.
-fn answer_all_alike<A: Answers>(
-    alloc: Global,
-    whole: &mut A,
-    short: &mut A,
-    name: &[u8],
-) -> Result<bool, AllocError>
-    requires whole { A.is_ready whole.old }
-    requires short { A.is_ready short.old }
-    ensures whole { OnOk result (A.is_ready whole.new) }
-    ensures short { OnOk result (A.is_ready short.new) }
-    ensures alike { IfOk result (λ alike. alike ≡ true → AnswerAlike A.answers whole.old short.old
-        (map (line_of name.now) words_asked) whole.new short.new) }
-{
-    let asked: &[&[u8]] = &[
-        b".",
-        b"status",
-        b"net",
-        b"placefile",
-        b"routefile",
-        b"wait",
-        b"net",
-        b"placefile",
-        b"routefile",
-    ];
-    answer_words_alike(alloc, whole, short, name, asked)
 }
 
 /// The first of the names whose questions two services don't answer alike. `None` if they answer
@@ -175,9 +128,20 @@ pub(crate) fn first_differing<'l, A: Answers>(
     ensures { IfOk result (λ differing. differing ≡ None → AnswerAlike A.answers whole.old short.old
         (questions_to names.now) whole.new short.new) }
 {
+    let asked: &[&[u8]] = &[
+        b".",
+        b"status",
+        b"net",
+        b"placefile",
+        b"routefile",
+        b"wait",
+        b"net",
+        b"placefile",
+        b"routefile",
+    ];
     for number in 0..names.len() {
         let name = names.name(number);
-        if !answer_all_alike(alloc, whole, short, name)? {
+        if !answer_words_alike(alloc, whole, short, name, asked)? {
             return Ok(Some(name));
         }
     }

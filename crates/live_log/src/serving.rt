@@ -1,9 +1,6 @@
 //! A service that is served the lines of a shorter log.
 ghost use Rattle.std.specs.Prelude.{ℕ, List, ◌≡◌, ◌+◌, ◌<◌, ◌≤◌, ◌^◌, length, map, take, IfOk, OnOk};
-ghost use Rattle.line_feed.specs.Pieces.{kept_of};
-ghost use Rattle.line_service.specs.Conversation.{AreAnswered};
-ghost use Rattle.line_text.specs.Lines.{physical_lines};
-ghost use Rattle.line_text.specs.Words.{texts};
+ghost use Rattle.live_log.specs.Prelude.{kept_of, AreAnswered, physical_lines, texts};
 ghost use Rattle.live_log.specs.Alike.{ServesIf};
 ghost use Rattle.live_log.specs.Kept.{lines_kept, last_line, lines_in};
 

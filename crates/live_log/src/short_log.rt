@@ -1,10 +1,7 @@
 //! A shorter log.
 ghost use Rattle.std.specs.Prelude.{◌≡◌, IfOk, length, map};
 ghost use Rattle.std.specs.List.{flat_map};
-ghost use Rattle.line_text.specs.Lines.{physical_lines};
-ghost use Rattle.line_text.specs.Words.{texts};
-ghost use Rattle.line_text.specs.Writing.{Writes};
-ghost use Rattle.tagged_lines.specs.Tags.{with_feed};
+ghost use Rattle.live_log.specs.Prelude.{physical_lines, texts, Writes, with_feed};
 ghost use Rattle.live_log.specs.Kept.{kept_lines, last_line, line_if, lines_in};
 
 use crate::last_tags::LAST;

@@ -1,8 +1,6 @@
 //! A log that is answered, line by line, to see which of its lines are kept.
 ghost use Rattle.std.specs.Prelude.{ℕ, List, ◌≡◌, true, IfOk, OnOk, length};
-ghost use Rattle.line_service.specs.Conversation.{AreAnswered};
-ghost use Rattle.line_text.specs.Lines.{physical_lines};
-ghost use Rattle.line_text.specs.Words.{texts};
+ghost use Rattle.live_log.specs.Prelude.{AreAnswered, physical_lines, texts};
 ghost use Rattle.live_log.specs.Choice.{AreChosen};
 ghost use Rattle.live_log.specs.LastTags.{last_tags};
 

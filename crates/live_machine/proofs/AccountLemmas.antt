@@ -1,32 +1,10 @@
 -- The account of all calls.
-use Rattle.std.proofs.Common.{◌≡◌, inl, inr, ℕ, List, [], ◌∷◌, ◌++◌, Bool, true, false, Option, Some, None, refl, sym, ap, subst, ◌∙◌, append_assoc, append-nil}
-use Rattle.std.specs.List.{AllByRecursion, flat_map}
-use Rattle.std.proofs.lemmas.Grind.{flat_map-append}
-use Rattle.script_text.specs.Script.{is_name}
-use Rattle.script_text.specs.declared.operator_line.OperatorLine.{OperatorLine}
-use Rattle.script_text.specs.declared.operator_line.OperatorLine.TheVariants.{Admit, Evict, Move, List as ListAll, Owners, Step, Take, Put}
-use Rattle.sessions.specs.declared.line.LineForm.{LineForm}
-use Rattle.sessions.specs.declared.line.LineForm.TheVariants.{Asks, Begins}
-use Rattle.sessions.specs.declared.line.SessionLine.TheVariants.{Blank, Command, Wait, Refused}
-use Rattle.sessions.specs.Items.{ends_text}
-use Rattle.sessions.specs.Reading.{TextSoFar, items_to_come}
-use Rattle.tagged_lines.specs.Tags.{rest_of}
-use Rattle.live_lines.specs.Laws.{said_by}
-use Rattle.live_lines.specs.Live.{Asked, LiveState, asked_of}
-use Rattle.live_lines.specs.Live.Asked.{Echoes, Figures, NoForm, Nothing, Operates, Says}
-use Rattle.line_service.specs.Conversation.{AreAnswered}
-use Rattle.live_input.specs.Serving.{AnswersLine}
-use Rattle.live_machine.specs.Account.{IsAccount, IsSaid, is_nobodys, line_in, lines_in, log_drained, nobodys_lines, told_drained}
-use Rattle.live_machine.specs.Held.{Held, HeldItem, HearsForm, HearsIn, calls_off, form_of, held_of, with_held, without_name}
-use Rattle.live_machine.specs.declared.held.OpenText.{OpenText}
-use Rattle.live_machine.specs.declared.held.OpenText.TheVariants.{NoText, Begun, Lost}
-use Rattle.live_machine.specs.Machine.{Call, EndsHold, Frees, FreesIf, GivesUp, Happens, HearsAfter, HearsAsked, HearsFree, HearsName, MachineState, Run, ServesFirst, WaitsAfter, begins_with, is_by_hand, must_wait}
-use Rattle.live_machine.specs.Machine.Call.{Drain, GiveUp, Line, PutStep, ServeHeld}
-use Rattle.live_machine.specs.Turn.{IsDay, IsServedTurn, Turn, heard_lines, log_of, replies_of, served_lines, told_of}
+use Rattle.live_machine.proofs.Prelude.{◌≡◌, ℕ, List, [], ◌∷◌, ◌++◌, Bool, true, false, Option, Some, None, refl, sym, ap, subst, ◌∙◌, append_assoc, append-nil, arith, flat_map, flat_map-append, is_name, OperatorLine, Admit, Evict, Move, Owners, Step, Take, Put, LineForm, ends_text, TextSoFar, rest_of, said_by, Asked, LiveState, asked_of, Echoes, Figures, NoForm, Nothing, Operates, Says, AreAnswered, AnswersLine, IsAccount, IsSaid, is_nobodys, line_in, lines_in, log_drained, told_drained, Held, HeldItem, HearsForm, HearsIn, calls_off, held_of, with_held, OpenText, NoText, EndsHold, FreesIf, GivesUp, HearsAfter, HearsAsked, HearsFree, HearsName, MachineState, ServesFirst, WaitsAfter, begins_with, is_by_hand, must_wait, Drain, GiveUp, Line, PutStep, ServeHeld, Turn, log_of, replies_of, served_lines, told_of}
+use Rattle.script_text.specs.declared.operator_line.OperatorLine.TheVariants.{List as ListAll}
+use Rattle.live_machine.specs.Machine.{Call, Happens, Run}
 use Rattle.live_machine.proofs.Books.{Books, books_nobody, books_worked}
-use Rattle.live_machine.proofs.FollowLemmas.{Follows, IsOf, said_in}
+use Rattle.live_machine.proofs.FollowLemmas.{Follows, IsOf}
 use Rattle.live_machine.proofs.TakeLemmas.{rests_flat}
-use Rattle.live_machine.proofs.ReadLemmas.{rests}
 use Rattle.live_machine.proofs.HeldLemmas.{changed_own, freed_own, name_of_held}
 use Rattle.live_machine.proofs.ItemBooks.{IsOn, books_ended, books_freed, books_item, item_lost}
 use Rattle.live_machine.proofs.LineLemmas.{must_wait_so, said_of}
@@ -35,32 +13,17 @@ use Rattle.live_machine.proofs.TurnLemmas.{log_both, told_both, turns_answered}
 
 -- a line that comes while a name is held changes what is held of that name
 form_name : (form : LineForm) (h new : Held) (line : List ℕ) → HearsForm form h line new → new.name ≡ h.name
-form_name (Asks Blank) h new line same = ap (λ (x : Held). x.name) same
-form_name (Asks (Command command)) h new line (items, puts, same) = ap (λ (x : Held). x.name) same
-form_name (Asks Wait) h new line (items, puts, same) = ap (λ (x : Held). x.name) same
-form_name (Asks (Refused refusal)) h new line (items, puts, same) = ap (λ (x : Held). x.name) same
-form_name (Begins kind) h new line (inl same) = ap (λ (x : Held). x.name) same
-form_name (Begins kind) h new line (inr same) = ap (λ (x : Held). x.name) same
+form_name form h new line same = grind arith
 
 pub heard_name : (text : OpenText) (ends : Bool) (h new : Held) (line : List ℕ) → HearsIn text ends h line new → new.name ≡ h.name
-heard_name NoText ends h new line hears = form_name (form_of line) h new line hears
-heard_name (Begun lines) false h new line (inl same) = ap (λ (x : Held). x.name) same
-heard_name (Begun lines) false h new line (inr same) = ap (λ (x : Held). x.name) same
-heard_name (Begun lines) true h new line (items, puts, same) = ap (λ (x : Held). x.name) same
-heard_name Lost false h new line same = ap (λ (x : Held). x.name) same
-heard_name Lost true h new line same = ap (λ (x : Held). x.name) same
+heard_name text ends h new line hears = grind arith
 
 -- a name that calls off its `wait` is held no longer
 pub called_off : (text : OpenText) (line : List ℕ) → calls_off text line ≡ true → text ≡ NoText
-called_off NoText line is = refl
-called_off (Begun lines) line is = absurd (cc)
-called_off Lost line is = absurd (cc)
+called_off text line is = grind arith
 
 pub ended_none : (h : Held) (old new : MachineState) (text : OpenText) → h.text ≡ text → text ≡ NoText → EndsHold (Some h) old new → held_of new.held h.name ≡ None
-ended_none h old new text is none (mid, items, frees) =
-    let P : OpenText → Type 0 = λ t. Frees t h.name mid new in
-    let freed : new ≡ record mid { held = without_name mid.held h.name } = subst P (is ∙ none) frees in
-    ap (λ (m : MachineState). held_of m.held h.name) freed ∙ freed_own mid.held h.name
+ended_none h old new text is none h3 = grind (arith, freed_own)
 
 -- the calls so far
 pub record Accounts (begun : LiveState) (first : ℕ) (calls : List Call) (now : MachineState) : Type 0 where
@@ -71,15 +34,7 @@ pub record Accounts (begun : LiveState) (first : ℕ) (calls : List Call) (now :
 
 -- one more call, which takes nothing
 accounts_more : (begun : LiveState) (first : ℕ) (calls : List Call) (old new : MachineState) (call : Call) (a : Accounts begun first calls old) → log_drained call ≡ [] → told_drained call ≡ [] → Books begun first (lines_in calls ++ line_in call) a.taken new → Accounts begun first (calls ++ call ∷ []) new
-accounts_more begun first calls old new call a no_log nothing_told books =
-    let P : List (List ℕ) → Type 0 = λ x. Books begun first x a.taken new in
-    let lines : lines_in calls ++ line_in call ≡ lines_in (calls ++ call ∷ []) = ap (λ x. lines_in calls ++ x) (sym (append-nil (line_in call))) ∙ sym (flat_map-append line_in calls (call ∷ [])) in
-    record {
-      taken = a.taken;
-      books = subst P lines books;
-      log_taken = flat_map-append log_drained calls (call ∷ []) ∙ (ap (λ x. flat_map log_drained calls ++ (x ++ [])) no_log ∙ (append-nil (flat_map log_drained calls) ∙ a.log_taken));
-      told_taken = flat_map-append told_drained calls (call ∷ []) ∙ (ap (λ x. flat_map told_drained calls ++ (x ++ [])) nothing_told ∙ (append-nil (flat_map told_drained calls) ∙ a.told_taken));
-    }
+accounts_more begun first calls old new call a no_log nothing_told books = grind (arith, append-nil, flat_map-append)
 
 silent : (begun : LiveState) (first : ℕ) (lines : List (List ℕ)) (taken : List Turn) (now : MachineState) → Books begun first lines taken now → Books begun first (lines ++ []) taken now
 silent begun first lines taken now b = let P : List (List ℕ) → Type 0 = λ x. Books begun first x taken now in subst P (sym (append-nil lines)) b
@@ -90,8 +45,7 @@ waits_after begun first lines taken old new [] after b is ends = books_ended beg
 waits_after begun first lines taken old new (item ∷ items) after b is same = let P : MachineState → Type 0 = λ m. Books begun first lines taken m in subst P (sym same) b
 
 frees_if : (begun : LiveState) (first : ℕ) (lines : List (List ℕ)) (taken : List Turn) (old new : MachineState) (items : List HeldItem) (h : Held) → IsOn begun first lines taken old h → h.items ≡ items → FreesIf items h old new → Books begun first lines taken new
-frees_if begun first lines taken old new [] h on none frees = books_freed begun first lines taken old new h h.text on.books on.held_is none refl frees
-frees_if begun first lines taken old new (item ∷ items) h on is same = let P : MachineState → Type 0 = λ m. Books begun first lines taken m in subst P (sym same) on.books
+frees_if begun first lines taken old new items h on none frees = grind (arith, books_freed)
 
 -- a line of a name
 after_name : (begun : LiveState) (first : ℕ) (lines : List (List ℕ)) (taken : List Turn) (old new : MachineState) (name line : List ℕ) (h : Held) (off : Bool) → Books begun first lines taken old → is_name name ≡ true → IsOf name line → held_of old.held name ≡ Some h → calls_off h.text line ≡ off → HearsAfter off h name line old new →
@@ -110,9 +64,7 @@ after_name begun first lines taken old new name line h false b ok of is off (aft
 
 free_name : (begun : LiveState) (first : ℕ) (lines : List (List ℕ)) (taken : List Turn) (old new : MachineState) (name line : List ℕ) (waits : Bool) → Books begun first lines taken old → is_name name ≡ true → IsOf name line → held_of old.held name ≡ None → must_wait old.live name line ≡ waits → HearsFree waits name line old new →
     Books begun first (lines ++ line ∷ []) taken new
-free_name begun first lines taken old new name line true b ok of free waits holds =
-    let (outside, wait, busy) = must_wait_so old.live name line waits in
-    books_holds begun first lines taken old new line name b ok of free outside wait holds
+free_name begun first lines taken old new name line true b ok of free waits holds = search (must_wait_so, books_holds, arith)
 free_name begun first lines taken old new name line false b ok of free waits serves = books_own begun first lines taken old new line name false b ok of free waits serves
 
 heard : (begun : LiveState) (first : ℕ) (lines : List (List ℕ)) (taken : List Turn) (old new : MachineState) (name line : List ℕ) (held : Option Held) → Books begun first lines taken old → is_name name ≡ true → IsOf name line → held_of old.held name ≡ held → HearsName held name line old new →
@@ -122,9 +74,7 @@ heard begun first lines taken old new name line None b ok of is hears = free_nam
 
 -- a line of the input
 heard_operator : (begun : LiveState) (first : ℕ) (lines : List (List ℕ)) (taken : List Turn) (old new : MachineState) (line : List ℕ) (asked : OperatorLine (List ℕ)) → Books begun first lines taken old → asked_of line ≡ Operates asked → HearsAsked (Operates asked) line old new → Books begun first (lines ++ line ∷ []) taken new
-heard_operator begun first lines taken old new line (Evict name) b is (mid, serves, ends) =
-    let served = books_nobody begun first lines taken old mid line false b (ap is_nobodys is) (ap is_by_hand is) serves in
-    books_ended begun first (lines ++ line ∷ []) taken mid new name (held_of mid.held name) served refl ends
+heard_operator begun first lines taken old new line (Evict name) b is (mid, serves, ends) = grind (arith, books_ended, books_nobody begun first lines taken old mid line false b (ap is_nobodys is) (ap is_by_hand is) serves)
 heard_operator begun first lines taken old new line (Step name count) b is serves = books_nobody begun first lines taken old new line true b (ap is_nobodys is) (ap is_by_hand is) serves
 heard_operator begun first lines taken old new line (Take name) b is serves = books_nobody begun first lines taken old new line true b (ap is_nobodys is) (ap is_by_hand is) serves
 heard_operator begun first lines taken old new line (Put number) b is serves = books_nobody begun first lines taken old new line true b (ap is_nobodys is) (ap is_by_hand is) serves
@@ -139,26 +89,21 @@ heard_line begun first lines taken old new line NoForm b is serves = books_nobod
 heard_line begun first lines taken old new line (Echoes words) b is serves = books_nobody begun first lines taken old new line false b (ap is_nobodys is) (ap is_by_hand is) serves
 heard_line begun first lines taken old new line Figures b is serves = books_nobody begun first lines taken old new line false b (ap is_nobodys is) (ap is_by_hand is) serves
 heard_line begun first lines taken old new line (Operates asked) b is hears = heard_operator begun first lines taken old new line asked b is hears
-heard_line begun first lines taken old new line (Says name said) b is hears =
-    let (of, ok, rest) = said_of name said line is in
-    heard begun first lines taken old new name line (held_of old.held name) b ok of refl hears
+heard_line begun first lines taken old new line (Says name said) b is hears = grind (arith, heard, said_of name said line is)
 
 -- a name that is held has its turn
 first_served : (begun : LiveState) (first : ℕ) (lines : List (List ℕ)) (taken : List Turn) (old new : MachineState) (h : Held) (items : List HeldItem) → Books begun first lines taken old → held_of old.held h.name ≡ Some h → h.items ≡ items → ServesFirst items h old new → Books begun first lines taken new
 first_served begun first lines taken old new h [] b is none serves = absurd serves
-first_served begun first lines taken old new h (item ∷ items) b is first_is (mid, free, serves, frees) =
-    frees_if begun first lines taken mid new items (record h { items = items }) (books_item begun first lines taken old mid h item items b is first_is serves) refl frees
+first_served begun first lines taken old new h (item ∷ items) b is first_is (mid, free, serves, frees) = grind (arith, frees_if begun first lines taken mid new items (record h { items = items }) (books_item begun first lines taken old mid h item items b is first_is serves) refl frees)
 
 given_up : (begun : LiveState) (first : ℕ) (lines : List (List ℕ)) (taken : List Turn) (old new : MachineState) (h : Held) (items : List HeldItem) → Books begun first lines taken old → held_of old.held h.name ≡ Some h → h.items ≡ items → GivesUp items h old new → Books begun first lines taken new
 given_up begun first lines taken old new h [] b is none gives = absurd gives
 given_up begun first lines taken old new h (None ∷ items) b is first_is gives = absurd gives
-given_up begun first lines taken old new h (Some item ∷ items) b is first_is (mid, waits, lost, frees) =
-    frees_if begun first lines taken mid new items (record h { items = items }) (item_lost begun first lines taken old mid h (Some item) items b is first_is lost) refl frees
+given_up begun first lines taken old new h (Some item ∷ items) b is first_is (mid, waits, lost, frees) = grind (arith, frees_if begun first lines taken mid new items (record h { items = items }) (item_lost begun first lines taken old mid h (Some item) items b is first_is lost) refl frees)
 
 -- each call
 pub happened : (begun : LiveState) (first : ℕ) (calls : List Call) (old new : MachineState) (call : Call) → Accounts begun first calls old → Happens old call new → Accounts begun first (calls ++ call ∷ []) new
-happened begun first calls old new (Line line) a hears =
-    accounts_more begun first calls old new (Line line) a refl refl (heard_line begun first (lines_in calls) a.taken old new line (asked_of line) a.books refl hears)
+happened begun first calls old new (Line line) a hears = grind (arith, accounts_more, heard_line, accounts_more begun first calls old new (Line line) a refl refl (heard_line begun first (lines_in calls) a.taken old new line (asked_of line) a.books refl hears), heard_line begun first (lines_in calls) a.taken old new line (asked_of line) a.books refl hears)
 happened begun first calls old new (ServeHeld name) a (h, is, serves) =
     let P : List ℕ → Type 0 = λ n. held_of old.held n ≡ Some h in
     accounts_more begun first calls old new (ServeHeld name) a refl refl
@@ -193,75 +138,19 @@ happened begun first calls old new (Drain log told) a (log_is, told_is, drained)
     }
 
 all_happened : (begun : LiveState) (first : ℕ) (before calls : List Call) (old new : MachineState) → Accounts begun first before old → Run old calls new → Accounts begun first (before ++ calls) new
-all_happened begun first before [] old new a same =
-    let P : List Call → Type 0 = λ x. Accounts begun first x new in
-    let Q : MachineState → Type 0 = λ m. Accounts begun first before m in
-    subst P (sym (append-nil before)) (subst Q (sym same) a)
-all_happened begun first before (call ∷ calls) old new a (mid, one, rest) =
-    let P : List Call → Type 0 = λ x. Accounts begun first x new in
-    subst P (append_assoc before (call ∷ []) calls) (all_happened begun first (before ++ call ∷ []) calls mid new (happened begun first before old mid call a one) rest)
+all_happened begun first before [] old new a same = grind (arith, append-nil)
+all_happened begun first before (call ∷ calls) old new a (mid, one, rest) = grind (arith, append_assoc, all_happened begun first (before ++ call ∷ []) calls mid new (happened begun first before old mid call a one) rest)
 
 -- what a name said, in the account's words
 said_so : (name : List ℕ) (begun : Option TextSoFar) (lines heard : List (List ℕ)) (held : Option Held) (now : Option TextSoFar) → Follows name begun (said_by name lines) (said_by name heard) held now → IsSaid begun name lines heard held
-said_so name begun lines heard None now f =
-    record {
-      waiting = [];
-      are_waiting = refl;
-      same =
-          ap (items_to_come begun) (sym (append-nil (said_by name lines)))
-          ∙ (f.same []
-          ∙ (ap (λ is. items_to_come begun (said_by name heard ++ (said_in is ++ (rests f.text ++ [])))) f.are.0
-          ∙ ap (λ t. items_to_come begun (said_by name heard ++ (rests t ++ []))) f.are.1));
-    }
-said_so name begun lines heard (Some h) now f =
-    record {
-      waiting = flat_map (λ item. item) f.items ++ f.text;
-      are_waiting = (f.items, f.text, f.are.items_are, f.are.text_is, refl);
-      same =
-          ap (items_to_come begun) (sym (append-nil (said_by name lines)))
-          ∙ (f.same []
-          ∙ ap (λ x. items_to_come begun (said_by name heard ++ x)) (rests_flat f.items f.text));
-    }
+said_so name begun lines heard None now f = grind (arith, append-nil, heard, append-nil (said_by name lines))
+said_so name begun lines heard (Some h) now f = grind (arith, heard, rests_flat, append-nil (said_by name lines), rests_flat f.items f.text)
 
 account_of : (begun : LiveState) (first : ℕ) (calls : List Call) (now : MachineState) → Accounts begun first calls now → IsAccount begun first calls now
-account_of begun first calls now a =
-    let b = a.books in
-    let D : List Turn → Type 0 = λ t. IsDay begun first t now.live now.next in
-    let S : List Turn → Type 0 = λ t. AllByRecursion IsServedTurn t in
-    let I : List Turn → Type 0 = λ t. (name : List ℕ) → is_name name ≡ true → IsSaid (begun.texts name) name (lines_in calls) (heard_lines t) (held_of now.held name) in
-    let N : List Turn → Type 0 = λ t. nobodys_lines (lines_in calls) ≡ nobodys_lines (heard_lines t) in
-    record {
-      taken = a.taken;
-      rest = b.rest;
-      day = subst D b.all b.day;
-      log_taken = a.log_taken;
-      told_taken = a.told_taken;
-      log = b.log;
-      told = b.told;
-      served = subst S b.all b.served;
-      said = subst I b.all (λ name ok. said_so name (begun.texts name) (lines_in calls) (heard_lines b.turns) (held_of now.held name) (now.live.texts name) (b.said name ok));
-      nobodys = subst N b.all b.nobodys;
-    }
+account_of begun first calls now a = grind (arith, said_so)
 
 pub starts : (begun : LiveState) (first : ℕ) → Accounts begun first [] (begins_with begun first)
-starts begun first =
-    record {
-      taken = [];
-      books = record {
-        turns = [];
-        rest = [];
-        all = refl;
-        day = (refl, refl);
-        log = refl;
-        told = refl;
-        served = tt;
-        said = λ name ok. record { items = []; text = []; are = (refl, refl); same = λ more. refl; done = []; read = λ more. refl };
-        nobodys = refl;
-        named = λ name h is. absurd (cc);
-      };
-      log_taken = refl;
-      told_taken = refl;
-    }
+starts begun first = grind arith
 
 pub account : (begun : LiveState) (first : ℕ) (calls : List Call) (now : MachineState) → Run (begins_with begun first) calls now → IsAccount begun first calls now
 account begun first calls now run = account_of begun first calls now (all_happened begun first [] calls (begins_with begun first) now (starts begun first) run)

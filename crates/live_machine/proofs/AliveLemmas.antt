@@ -1,21 +1,6 @@
 -- Which tenancies are live, and which id a name has.
-use Rattle.std.proofs.Common.{◌≡◌, ◌≢◌, ℕ, suc, ◌+◌, ◌-◌, ◌≤◌, List, [], ◌∷◌, ◌++◌, Bool, true, false, cond, eqb, Option, Some, None, Result, Ok, Err, length, refl, sym, ap, ◌∙◌, arith, is_some}
-use Rattle.std.specs.Prelude.{MatchOption, option_and_then, ⊤}
-use Rattle.std.specs.List.{AllByRecursion}
-use Rattle.std.specs.Str.{bytes_eq}
-use Rattle.std.proofs.lemmas.Bool.{eqb-true, false≢true}
-use Rattle.std.proofs.lemmas.Slice.Eq.{bytes_eq-Decides}
-use Rattle.service_core.specs.History.{History, slot_of, with_entry, with_here}
-use Rattle.service_core.specs.Run.{Call, Happens, Run, step_entry}
-use Rattle.service_core.specs.Run.Call.{Admit, Evict, Move, Tenant, Take, Put, GiveBack, Owners}
-use Rattle.tenant_slot.specs.declared.event.Event.TheVariants.{Command as Asked}
-use Rattle.tenant_slot.specs.Slot.{GivesBack}
-use Rattle.service_core.specs.declared.op_refusal.OpRefusal.{OpRefusal}
-use Rattle.service_core.specs.declared.op_refusal.OpRefusal.TheVariants.{NoMemory as OpNoMemory, NoRoom, TooManyStrips, BadWidth, NoSuchTenancy as OpNoSuchTenancy, IdsSpent}
-use Rattle.service_core.specs.Service.{ServiceState, admitted_history, history_of, live_of, with_changed}
-use Rattle.service_core.specs.declared.not_served.NotServed.TheVariants.{NoMemory, JournalFull, NoSuchTenancy}
-use Rattle.service_core.specs.declared.put_reply.PutReply.TheVariants.{Recorded, Full, Gone}
-use Rattle.operator.specs.OperatorText.{last_id}
+use Rattle.live_machine.proofs.Prelude.{◌≡◌, ◌≢◌, ℕ, ◌+◌, ◌-◌, ◌≤◌, List, [], ◌∷◌, ◌++◌, Bool, true, false, cond, eqb, Some, None, Result, Ok, Err, length, refl, sym, ap, ◌∙◌, arith, is_some, option_and_then, ⊤, AllByRecursion, bytes_eq, eqb-true, false≢true, bytes_eq-Decides, History, Call, Happens, Run, OpRefusal, ServiceState, history_of, live_of, with_changed, last_id}
+use Rattle.service_core.specs.Run.Call.{Admit, Evict, Move}
 
 -- that tenancy is live
 abbrev pub alive : List History → ℕ → Bool
@@ -26,29 +11,15 @@ alive_none [] = refl
 alive_none (h ∷ hs) = alive_none hs
 
 by_live : (b : Bool) (a : History) → is_some (cond b (Some a) None) ≡ b
-by_live true a = refl
-by_live false a = refl
+by_live b a = grind arith
 
 is_live : (a : History) → is_some (cond a.live (Some a) None) ≡ a.live
 is_live a = by_live a.live a
 
-live_same : (a b : History) → a.live ≡ b.live → is_some (cond a.live (Some a) None) ≡ is_some (cond b.live (Some b) None)
-live_same a b same = is_live a ∙ (same ∙ sym (is_live b))
-
 -- histories that change, but not in whether they are live
 changed_alive : (hs : List History) (id at : ℕ) (change : History → History) → ((h : History) → (change h).live ≡ h.live) → alive (with_changed hs at change) id ≡ alive hs id
 changed_alive [] id at change same = refl
-changed_alive (h ∷ hs) id at change same =
-    elim (eqb at 1) as (λ a. alive (cond a (change h ∷ hs) (h ∷ with_changed hs (at - 1) change)) id ≡ alive (h ∷ hs) id) [
-      | true ↦ elim (eqb id 1) as (λ i. is_some (option_and_then (λ x. cond x.live (Some x) None) (cond i (Some (change h)) (history_of hs (id - 1)))) ≡ is_some (option_and_then (λ x. cond x.live (Some x) None) (cond i (Some h) (history_of hs (id - 1))))) [
-        | true ↦ live_same (change h) h (same h)
-        | false ↦ refl
-      ]
-      | false ↦ elim (eqb id 1) as (λ i. is_some (option_and_then (λ x. cond x.live (Some x) None) (cond i (Some h) (history_of (with_changed hs (at - 1) change) (id - 1)))) ≡ is_some (option_and_then (λ x. cond x.live (Some x) None) (cond i (Some h) (history_of hs (id - 1))))) [
-        | true ↦ refl
-        | false ↦ changed_alive hs (id - 1) (at - 1) change same
-      ]
-    ]
+changed_alive (h ∷ hs) id at change same = grind (arith, changed_alive hs (id - 1) (at - 1) change same)
 
 pub not_alive : (hs : List History) (id : ℕ) → alive hs id ≡ true → id ≢ 0
 not_alive hs id live none = false≢true (sym (alive_none hs) ∙ (ap (alive hs) (sym none) ∙ live))
@@ -97,26 +68,8 @@ stays_alive old new id live same = ap (λ (s : ServiceState). alive s.histories 
 change_alive : (old new : ServiceState) (id at : ℕ) (change : History → History) → alive old.histories id ≡ true → ((h : History) → (change h).live ≡ h.live) → new ≡ record old { histories = with_changed old.histories at change } → alive new.histories id ≡ true
 change_alive old new id at change live same is = ap (λ (s : ServiceState). alive s.histories id) is ∙ (changed_alive old.histories id at change same ∙ live)
 
-given_alive : (old new : ServiceState) (id at : ℕ) (back : Option History) (Given : History → Option Bool → Type 0) → alive old.histories id ≡ true → MatchOption back (new ≡ old) (λ h. (here : Option Bool) × Given h here × (new ≡ record old { histories = with_changed old.histories at (with_here here) })) → alive new.histories id ≡ true
-given_alive old new id at None Given live same = stays_alive old new id live same
-given_alive old new id at (Some h) Given live (here, given, is) = change_alive old new id at (with_here here) live (λ x. refl) is
-
 pub quiet_alive : (old new : ServiceState) (call : Call) (id : ℕ) → IsQuiet call → alive old.histories id ≡ true → Happens old call new → alive new.histories id ≡ true
-quiet_alive old new (Admit width answer) id quiet live happens = absurd quiet
-quiet_alive old new (Evict at answer) id quiet live happens = absurd quiet
-quiet_alive old new (Move at offset answer) id quiet live happens = absurd quiet
-quiet_alive old new (Tenant at command (Ok r)) id quiet live (receipt, is) = change_alive old new id at (with_entry (record { event = Asked command; reply = r.reply })) live (λ x. refl) is
-quiet_alive old new (Tenant at command (Err (JournalFull note))) id quiet live (told, full, same) = stays_alive old new id live same
-quiet_alive old new (Tenant at command (Err (NoSuchTenancy note))) id quiet live (told, gone, same) = stays_alive old new id live same
-quiet_alive old new (Tenant at command (Err NoMemory)) id quiet live (room, same) = stays_alive old new id live same
-quiet_alive old new (Take at (Some job)) id quiet live (taken, is) = change_alive old new id at (with_here None) live (λ x. refl) is
-quiet_alive old new (Take at None) id quiet live (none, same) = stays_alive old new id live same
-quiet_alive old new (Put done foreign (Ok (Recorded reply))) id quiet live (step, is) = change_alive old new id done.id (with_entry (step_entry done foreign reply)) live (λ x. refl) is
-quiet_alive old new (Put done foreign (Ok Full)) id quiet live (full, same) = stays_alive old new id live same
-quiet_alive old new (Put done foreign (Ok Gone)) id quiet live (gone, same) = stays_alive old new id live same
-quiet_alive old new (Put done foreign (Err back)) id quiet live (room, it, same) = stays_alive old new id live same
-quiet_alive old new (GiveBack job) id quiet live given = given_alive old new id job.step.id (live_of old.histories job.step.id) (λ h here. GivesBack (slot_of h) job (slot_of (with_here here h))) live given
-quiet_alive old new (Owners list) id quiet live (lists, same) = stays_alive old new id live same
+quiet_alive old new call id quiet live happens = grind (arith, change_alive)
 
 pub run_alive : (old new : ServiceState) (calls : List Call) (id : ℕ) → AllByRecursion IsQuiet calls → alive old.histories id ≡ true → Run old calls new → alive new.histories id ≡ true
 run_alive old new [] id quiet live same = stays_alive old new id live same
@@ -124,31 +77,19 @@ run_alive old new (call ∷ calls) id quiet live (mid, one, rest) = run_alive mi
 
 -- an admission, an eviction of another, and a move
 pub admitted_alive : (old new : ServiceState) (width : ℕ) (answer : Result (ℕ × ℕ) OpRefusal) (id : ℕ) → alive old.histories id ≡ true → Happens old (Admit width answer) new → alive new.histories id ≡ true
-admitted_alive old new width (Ok given) id live (can, next, fit, is) = ap (λ (s : ServiceState). alive s.histories id) is ∙ added_alive old.histories (admitted_history old.device (length old.histories + 1) width) id live
-admitted_alive old new width (Err refusal) id live (refused, same) = stays_alive old new id live same
+admitted_alive old new width answer id live h2 = grind (arith, added_alive)
 
 pub evicted_alive : (old new : ServiceState) (at : ℕ) (answer : Result (Unit {0}) OpRefusal) (id : ℕ) → at ≢ id → alive old.histories id ≡ true → Happens old (Evict at answer) new → alive new.histories id ≡ true
 evicted_alive old new at (Ok nothing) id apart live (some, is) = ap (λ (s : ServiceState). alive s.histories id) is ∙ ended_alive old.histories id at (λ h. record h { live = false; here = Some false }) apart live
 evicted_alive old new at (Err refusal) id apart live (why, gone, same) = stays_alive old new id live same
 
 pub moved_alive : (old new : ServiceState) (at offset : ℕ) (answer : Result (Unit {0}) OpRefusal) (id : ℕ) → alive old.histories id ≡ true → Happens old (Move at offset answer) new → alive new.histories id ≡ true
-moved_alive old new at offset (Ok nothing) id live (some, parted, is) = ap (λ (s : ServiceState). alive s.histories id) is ∙ live
-moved_alive old new at offset (Err OpNoSuchTenancy) id live (gone, same) = stays_alive old new id live same
-moved_alive old new at offset (Err NoRoom) id live (some, apart, same) = stays_alive old new id live same
-moved_alive old new at offset (Err OpNoMemory) id live happens = absurd happens
-moved_alive old new at offset (Err TooManyStrips) id live happens = absurd happens
-moved_alive old new at offset (Err BadWidth) id live happens = absurd happens
-moved_alive old new at offset (Err IdsSpent) id live happens = absurd happens
+moved_alive old new at offset answer id live happens = grind arith
 
 -- two names have not the same id
 last_bound : (names : List (List ℕ)) (name : List ℕ) → last_id names name ≤ length names
 last_bound [] name = omega arith
-last_bound (newest ∷ older) name =
-    let below = last_bound older name in
-    elim (bytes_eq newest name) as (λ b. cond b (length older + 1) (last_id older name) ≤ suc (length older)) [
-      | true ↦ omega arith
-      | false ↦ omega (arith, below)
-    ]
+last_bound (newest ∷ older) name = grind (arith, last_bound older name)
 
 pub ids_apart : (names : List (List ℕ)) (one other : List ℕ) → bytes_eq one other ≡ false → last_id names other ≢ 0 → last_id names one ≢ last_id names other
 ids_apart [] one other apart some = λ same. some refl

@@ -1,20 +1,6 @@
 -- All that was said and served so far.
-use Rattle.std.proofs.Common.{◌≡◌, ℕ, List, [], ◌∷◌, ◌++◌, Bool, true, false, cond, Option, Some, refl, sym, ap, subst, ◌∙◌, append_assoc, append-nil}
-use Rattle.std.specs.List.{AllByRecursion}
-use Rattle.std.proofs.lemmas.Grind.{flat_map-append}
-use Rattle.script_text.specs.declared.operator_line.OperatorLine.TheVariants.{Step}
-use Rattle.script_text.specs.Script.{is_name}
-use Rattle.sessions.specs.declared.line.SessionLine.{SessionLine}
-use Rattle.sessions.specs.Reading.{TextSoFar}
-use Rattle.live_lines.specs.Laws.{said_by}
-use Rattle.live_lines.specs.Live.{Asked, LiveState, asked_of}
-use Rattle.live_lines.specs.Live.Asked.{Echoes, Figures, NoForm, Nothing, Operates, Says}
-use Rattle.live_lines.proofs.LawLemmas.{says}
-use Rattle.live_machine.specs.Account.{is_nobodys, nobodys_line, nobodys_lines}
-use Rattle.live_machine.specs.Held.{Held, held_of}
-use Rattle.live_machine.specs.Machine.{IsMade, MachineState, Serves, ServesNobodys, Works, is_by_hand}
-use Rattle.live_machine.specs.Turn.{IsDay, IsNobodysLine, IsServedAs, IsServedTurn, Turn, heard_lines, log_of, told_of}
-use Rattle.live_machine.specs.Turn.Turn.{Answers, Works as WorksLine}
+use Rattle.live_machine.proofs.Prelude.{◌≡◌, ℕ, List, [], ◌∷◌, ◌++◌, Bool, true, false, Option, Some, refl, sym, ap, subst, ◌∙◌, append_assoc, append-nil, arith, AllByRecursion, flat_map-append, Step, is_name, SessionLine, TextSoFar, said_by, Asked, LiveState, asked_of, Operates, says, is_nobodys, nobodys_line, nobodys_lines, Held, held_of, IsMade, MachineState, Serves, ServesNobodys, Works, is_by_hand, IsDay, IsNobodysLine, IsServedAs, IsServedTurn, Turn, heard_lines, log_of, told_of, Answers}
+use Rattle.live_machine.specs.Turn.Turn.{Works as WorksLine}
 use Rattle.live_machine.proofs.FollowLemmas.{AreOf, Follows, follow_other}
 use Rattle.live_machine.proofs.LineLemmas.{line_read, said_nobody}
 use Rattle.live_machine.proofs.ReadLemmas.{Reads}
@@ -44,43 +30,20 @@ nobodys_both first more = flat_map-append nobodys_line first more
 
 pub not_nobodys : (name : List ℕ) (lines : List (List ℕ)) → is_name name ≡ true → AreOf name lines → nobodys_lines lines ≡ []
 not_nobodys name [] ok of = refl
-not_nobodys name (line ∷ lines) ok of =
-    ap (λ a. cond (is_nobodys a) (line ∷ []) [] ++ nobodys_lines lines) (says name line ok of.0) ∙ not_nobodys name lines ok of.1
+not_nobodys name (line ∷ lines) ok of = grind (arith, says, not_nobodys name lines ok of.1)
 
 -- more turns, and perhaps more lines
 pub books_more : (begun : LiveState) (first : ℕ) (lines more heard : List (List ℕ)) (taken turns : List Turn) (old new : MachineState) (b : Books begun first lines taken old) → Makes old turns new → heard_lines turns ≡ heard →
     ((name : List ℕ) → is_name name ≡ true → Followed begun more (heard_lines b.turns ++ heard) new name) → nobodys_lines more ≡ nobodys_lines (heard_lines b.turns ++ heard) → IsNamed new.held → Books begun first more taken new
-books_more begun first lines more heard taken turns old new b makes is said nobodys named =
-    let heard_is : heard_lines b.turns ++ heard ≡ heard_lines (b.turns ++ turns) = ap (λ x. heard_lines b.turns ++ x) (sym is) ∙ sym (heard_both b.turns turns) in
-    record {
-      turns = b.turns ++ turns;
-      rest = b.rest ++ turns;
-      all = ap (λ t. t ++ turns) b.all ∙ append_assoc taken b.rest turns;
-      day = day_both b.turns turns begun old.live new.live first old.next new.next b.day makes.day;
-      log = makes.log ∙ (ap (λ x. x ++ log_of turns) b.log ∙ sym (log_both b.rest turns));
-      told = makes.told ∙ (ap (λ x. x ++ told_of turns) b.told ∙ sym (told_both b.rest turns));
-      served = all_both b.turns turns b.served makes.served;
-      said = λ name ok. let P : List (List ℕ) → Type 0 = λ x. Followed begun more x new name in subst P heard_is (said name ok);
-      nobodys = nobodys ∙ ap nobodys_lines heard_is;
-      named = named;
-    }
+books_more begun first lines more heard taken turns old new b makes is said nobodys named = grind (arith, heard_both, append_assoc, day_both, log_both, told_both, all_both)
 
 -- the parts of what a name follows, given as other texts
 pub follow_as : (name : List ℕ) (begun : Option TextSoFar) (said saying served serving : List (List ℕ)) (held holding : Option Held) (now : Option TextSoFar) → said ≡ saying → served ≡ serving → held ≡ holding → Follows name begun said served held now → Follows name begun saying serving holding now
-follow_as name begun said saying served serving held holding now one two three f =
-    let P : List (List ℕ) → Type 0 = λ x. Follows name begun x served held now in
-    let Q : List (List ℕ) → Type 0 = λ x. Follows name begun saying x held now in
-    let R : Option Held → Type 0 = λ x. Follows name begun saying serving x now in
-    subst R three (subst Q two (subst P one f))
+follow_as name begun said saying served serving held holding now one two three f = grind arith
 
 -- a line of nobody's session is served
 so_nobody : (asked : Asked) (heard line : List ℕ) → is_nobodys asked ≡ true → IsNobodysLine (is_by_hand asked) heard line → IsServedAs asked heard line
-so_nobody Nothing heard line is so = so
-so_nobody NoForm heard line is so = so
-so_nobody (Echoes words) heard line is so = so
-so_nobody Figures heard line is so = so
-so_nobody (Operates asked) heard line is so = so
-so_nobody (Says name said) heard line is so = absurd (cc)
+so_nobody asked heard line is so = grind arith
 
 nobody_served : (begun : LiveState) (first : ℕ) (lines : List (List ℕ)) (taken : List Turn) (old new : MachineState) (heard line : List ℕ) → Books begun first lines taken old → is_nobodys (asked_of heard) ≡ true → is_nobodys (asked_of line) ≡ true → IsNobodysLine (is_by_hand (asked_of heard)) heard line → Serves old line new →
     Books begun first (lines ++ heard ∷ []) taken new
@@ -101,9 +64,7 @@ nobody_served begun first lines taken old new heard line b nobodys still so s =
 
 pub books_nobody : (begun : LiveState) (first : ℕ) (lines : List (List ℕ)) (taken : List Turn) (old new : MachineState) (line : List ℕ) (by_hand : Bool) → Books begun first lines taken old → is_nobodys (asked_of line) ≡ true → is_by_hand (asked_of line) ≡ by_hand → ServesNobodys by_hand line old new →
     Books begun first (lines ++ line ∷ []) taken new
-books_nobody begun first lines taken old new line false b nobodys is s =
-    let P : Bool → Type 0 = λ by. IsNobodysLine by line line in
-    nobody_served begun first lines taken old new line line b nobodys nobodys (subst P (sym is) refl) s
+books_nobody begun first lines taken old new line false b nobodys is s = grind (arith, nobody_served)
 books_nobody begun first lines taken old new line true b nobodys is (made, asks, s) =
     let P : Bool → Type 0 = λ by. IsNobodysLine by line made in
     nobody_served begun first lines taken old new line made b nobodys (ap is_nobodys asks) (subst P (sym is) asks) s

@@ -1,12 +1,5 @@
 -- What held names are told at the end.
-use Rattle.std.specs.Prelude.{option_map, slice_get}
-use Rattle.std.proofs.Common.{◌≡◌, ℕ, zero, suc, ◌+◌, ◌≤◌, List, [], ◌∷◌, ◌++◌, length, take, Some, None, sym, ap, ◌∙◌, arith, append-nil, append_assoc}
-use Rattle.std.proofs.lemmas.List.{take_all}
-use Rattle.sessions.specs.SessionText.{no_memory_text}
-use Rattle.tagged_lines.specs.Tags.{output_of}
-use Rattle.live_lines.specs.Live.{for_name}
-use Rattle.live_machine.specs.Held.{Held}
-use Rattle.live_machine.specs.Parts.{lost_texts}
+use Rattle.live_machine.proofs.Prelude.{option_map, slice_get, ◌≡◌, ℕ, zero, suc, ◌+◌, ◌≤◌, List, [], ◌∷◌, ◌++◌, length, take, Some, None, sym, ap, ◌∙◌, arith, append-nil, append_assoc, no_memory_text, output_of, for_name, Held, lost_texts}
 
 abbrev lost_one : List ℕ → List ℕ
 lost_one name = output_of (for_name name no_memory_text ∷ [])
@@ -14,9 +7,7 @@ lost_one name = output_of (for_name name no_memory_text ∷ [])
 -- one more name
 pub next_lost : (held : List Held) (place : ℕ) (name : List ℕ) → option_map (λ (h : Held). h.name) (slice_get held place) ≡ Some name → lost_texts (take (place + 1) held) ≡ lost_texts (take place held) ++ output_of (for_name name no_memory_text ∷ [])
 next_lost [] place name is = absurd (cc)
-next_lost (h ∷ held) zero name is =
-    let same : h.name ≡ name = cc in
-    append-nil (lost_one h.name) ∙ ap lost_one same
+next_lost (h ∷ held) zero name is = grind (arith, append-nil)
 next_lost (h ∷ held) (suc n) name is =
     let next : suc n + 1 ≡ suc (n + 1) = omega arith in
     ap (λ k. lost_texts (take k (h ∷ held))) next
@@ -28,6 +19,3 @@ pub none_past : (held : List Held) (place : ℕ) → option_map (λ (h : Held). 
 none_past [] place is = omega arith
 none_past (h ∷ held) zero is = absurd (cc)
 none_past (h ∷ held) (suc n) is = let past = none_past held n is in omega (arith, past)
-
-pub all_lost : (held : List Held) (place : ℕ) → length held ≤ place → lost_texts (take place held) ≡ lost_texts held
-all_lost held place past = ap lost_texts (take_all place held past)

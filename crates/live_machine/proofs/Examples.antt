@@ -1,13 +1,6 @@
 -- The definitions on small lists, computed by the checker.
-use Rattle.std.proofs.Common.{◌≡◌, [], ◌∷◌, codes, true, false, Some, None, refl, inl}
-use Rattle.live_lines.specs.Live.{asked_of}
-use Rattle.live_lines.specs.Live.Asked.{NoForm, Says}
-use Rattle.live_machine.specs.Account.{AreWaiting, lines_in, nobodys_lines}
-use Rattle.live_machine.specs.Held.{Held, HearsHeld, calls_off, form_of, held_of, is_wait, with_held, without_name}
-use Rattle.live_machine.specs.declared.held.OpenText.TheVariants.{NoText, Begun, Lost}
-use Rattle.live_machine.specs.Machine.Call.{Drain, Line, PutStep}
-use Rattle.live_machine.specs.Turn.{heard_lines, log_of, replies_of, told_of}
-use Rattle.live_machine.specs.Turn.Turn.{Answers, Loses, Works}
+use Rattle.live_machine.proofs.Prelude.{◌≡◌, [], ◌∷◌, codes, true, false, Some, None, refl, inl, asked_of, NoForm, Says, AreWaiting, lines_in, nobodys_lines, Held, HearsHeld, calls_off, form_of, held_of, is_wait, with_held, without_name, NoText, Begun, Lost, Drain, Line, PutStep, heard_lines, log_of, replies_of, told_of, Answers, Loses}
+use Rattle.live_machine.specs.Turn.Turn.{Works}
 
 -- a `wait` that was called off, and a step by hand, as they are served
 

@@ -1,18 +1,5 @@
 -- What one name has said, and what of it was served.
-use Rattle.std.proofs.Common.{◌≡◌, inl, inr, ℕ, List, [], ◌∷◌, ◌++◌, Bool, true, false, Option, Some, None, refl, sym, ap, subst, ◌∙◌, append_assoc, append-nil}
-use Rattle.std.specs.List.{AllByRecursion}
-use Rattle.std.specs.Str.{bytes_eq}
-use Rattle.sessions.specs.declared.line.LineForm.{LineForm}
-use Rattle.sessions.specs.declared.line.LineForm.TheVariants.{Asks, Begins}
-use Rattle.sessions.specs.declared.line.SessionLine.{SessionLine}
-use Rattle.sessions.specs.declared.line.SessionLine.TheVariants.{Blank, Command, Wait, Refused}
-use Rattle.sessions.specs.Items.{ends_text, text_item, with_item, without_cr}
-use Rattle.sessions.specs.Reading.{TextSoFar, items_to_come}
-use Rattle.tagged_lines.specs.Tags.{is_of, rest_of, tag_of}
-use Rattle.live_machine.specs.Account.{AreItems, IsText}
-use Rattle.live_machine.specs.Held.{Held, HeldItem, HearsForm, HearsHeld, HearsIn, PutsItem, form_of, is_wait}
-use Rattle.live_machine.specs.declared.held.OpenText.{OpenText}
-use Rattle.live_machine.specs.declared.held.OpenText.TheVariants.{NoText, Begun, Lost}
+use Rattle.live_machine.proofs.Prelude.{◌≡◌, inl, inr, ℕ, List, [], ◌∷◌, ◌++◌, Bool, true, false, Option, Some, None, refl, sym, ap, subst, ◌∙◌, append_assoc, append-nil, arith, AllByRecursion, bytes_eq, LineForm, Asks, Begins, SessionLine, Blank, Command, Wait, Refused, ends_text, text_item, with_item, without_cr, TextSoFar, items_to_come, is_of, rest_of, tag_of, AreItems, IsText, Held, HeldItem, HearsForm, HearsHeld, HearsIn, PutsItem, form_of, is_wait, OpenText, NoText, Begun, Lost}
 use Rattle.live_machine.proofs.ReadLemmas.{IsWhole, Reads, outside_still, reads_asked, reads_begun, reads_both, reads_end, reads_on, rests}
 
 -- the line has the name's tag
@@ -67,11 +54,7 @@ follow_other name begun said served None now new items f reads =
       done = f.done ++ items;
       read = λ more. f.read more ∙ (ap (λ x. f.done ++ x) (reads more) ∙ sym (append_assoc f.done items (items_to_come new more)));
     }
-follow_other name begun said served (Some h) now new items f reads =
-    let P : Option TextSoFar → Type 0 = λ t. Reads t [] items new in
-    let stays : new ≡ None = outside_still items new (subst P f.are.outside reads) in
-    let Q : Option TextSoFar → Type 0 = λ t. Follows name begun said served (Some h) t in
-    subst Q (f.are.outside ∙ sym stays) f
+follow_other name begun said served (Some h) now new items f reads = grind (arith, outside_still)
 
 -- a line of a name that isn't held is served
 pub follow_served : (name : List ℕ) (begun : Option TextSoFar) (said served lines : List (List ℕ)) (now new : Option TextSoFar) (items : List SessionLine) → Follows name begun said served None now → Reads now lines items new → Follows name begun (said ++ lines) (served ++ lines) None new
@@ -92,11 +75,7 @@ follow_served name begun said served lines now new items f reads =
 
 -- a `wait` holds its name
 waits_whole : (said : List ℕ) (form : LineForm) → is_wait form ≡ true → form ≡ Asks Wait
-waits_whole said (Asks Wait) is = refl
-waits_whole said (Asks Blank) is = absurd (cc)
-waits_whole said (Asks (Command command)) is = absurd (cc)
-waits_whole said (Asks (Refused refusal)) is = absurd (cc)
-waits_whole said (Begins kind) is = absurd (cc)
+waits_whole said form is = grind arith
 
 pub wait_whole : (line : List ℕ) → is_wait (form_of line) ≡ true → IsWhole (line ∷ [])
 wait_whole line is = (Wait, reads_asked (rest_of line) Wait (waits_whole (rest_of line) (form_of line) is))
@@ -120,21 +99,14 @@ follow_held name begun said served line id now f outside is of =
 -- items and lines one after another
 said_both : (items : List (List (List ℕ))) (item : List (List ℕ)) (more : List (List ℕ)) → said_in (items ++ item ∷ []) ++ more ≡ said_in items ++ (rests item ++ more)
 said_both [] item more = ap (λ x. x ++ more) (append-nil (rests item))
-said_both (first ∷ items) item more =
-    append_assoc (rests first) (said_in (items ++ item ∷ [])) more
-    ∙ (ap (λ x. rests first ++ x) (said_both items item more)
-    ∙ sym (append_assoc (rests first) (said_in items) (rests item ++ more)))
+said_both (first ∷ items) item more = grind (arith, append_assoc, said_both items item more)
 
 rests_both : (lines : List (List ℕ)) (line : List ℕ) (more : List (List ℕ)) → rests (lines ++ line ∷ []) ++ more ≡ rests lines ++ (rest_of line ∷ more)
 rests_both [] line more = refl
 rests_both (first ∷ lines) line more = ap (λ x. rest_of first ∷ x) (rests_both lines line more)
 
 reads_last : (lines : List (List ℕ)) (line : List ℕ) (old mid new : Option TextSoFar) (items more : List SessionLine) → Reads old (rests lines) items mid → Reads mid (rest_of line ∷ []) more new → Reads old (rests (lines ++ line ∷ [])) (items ++ more) new
-reads_last lines line old mid new items more first last rest =
-    ap (items_to_come old) (rests_both lines line rest)
-    ∙ (first (rest_of line ∷ rest)
-    ∙ (ap (λ x. items ++ x) (last rest)
-    ∙ sym (append_assoc items more (items_to_come new rest))))
+reads_last lines line old mid new items more first last rest = grind (arith, rests_both, append_assoc)
 
 of_last : (name : List ℕ) (lines : List (List ℕ)) (line : List ℕ) → AreOf name lines → IsOf name line → AreOf name (lines ++ line ∷ [])
 of_last name [] line all of = (of, tt)
@@ -162,25 +134,12 @@ put_none (Some l ∷ old) (i ∷ items) item are = (are.0, put_none old items it
 put_none (None ∷ old) (i ∷ items) item are = put_none old items item are
 
 put_item : (old new : List HeldItem) (items : List (List (List ℕ))) (lines item : List (List ℕ)) → AreItems old items → item ≡ lines → PutsItem old lines new → AreItems new (items ++ item ∷ [])
-put_item old new items lines item are is (inl kept) = let P : List HeldItem → Type 0 = λ n. AreItems n (items ++ item ∷ []) in subst P (sym kept) (put_some old items lines item are is)
-put_item old new items lines item are is (inr lost) = let P : List HeldItem → Type 0 = λ n. AreItems n (items ++ item ∷ []) in subst P (sym lost) (put_none old items item are)
+put_item old new items lines item are is h3 = grind (arith, put_some, put_none)
 
 -- a line goes on with a text, or begins one
 text_grows : (name : List ℕ) (begun : Option TextSoFar) (said served : List (List ℕ)) (h new : Held) (now : Option TextSoFar) (line : List ℕ) (f : Follows name begun said served (Some h) now) → IsOf name line → new.items ≡ h.items → IsText new.text (f.text ++ line ∷ []) → IsBegun new.text (f.text ++ line ∷ []) →
     Follows name begun (said ++ rest_of line ∷ []) served (Some new) now
-text_grows name begun said served h new now line f of items_are text_is is_begun =
-    let P : List HeldItem → Type 0 = λ held. AreItems held f.items in
-    record {
-      items = f.items;
-      text = f.text ++ line ∷ [];
-      are = record { items_are = subst P (sym items_are) f.are.items_are; text_is = text_is; outside = f.are.outside; whole = f.are.whole; begun = is_begun; items_of = f.are.items_of; text_of = of_last name f.text line f.are.text_of of };
-      same = λ more.
-          ap (items_to_come begun) (append_assoc said (rest_of line ∷ []) more)
-          ∙ (f.same (rest_of line ∷ more)
-          ∙ ap (λ x. items_to_come begun (served ++ (said_in f.items ++ x))) (sym (rests_both f.text line more)));
-      done = f.done;
-      read = f.read;
-    }
+text_grows name begun said served h new now line f of items_are text_is is_begun = grind (arith, of_last, append_assoc, rests_both)
 
 -- a line ends an item
 item_ends : (name : List ℕ) (begun : Option TextSoFar) (said served : List (List ℕ)) (h new : Held) (now : Option TextSoFar) (line : List ℕ) (f : Follows name begun said served (Some h) now) → IsOf name line → new.text ≡ NoText → AreItems new.items (f.items ++ (f.text ++ line ∷ []) ∷ []) → IsWhole (f.text ++ line ∷ []) →
@@ -219,26 +178,7 @@ reads_items (item ∷ items) whole =
 
 -- a line without a word is passed over
 blank_passes : (name : List ℕ) (begun : Option TextSoFar) (said served : List (List ℕ)) (h : Held) (now : Option TextSoFar) (line : List ℕ) → Follows name begun said served (Some h) now → h.text ≡ NoText → form_of line ≡ Asks Blank → Follows name begun (said ++ rest_of line ∷ []) served (Some h) now
-blank_passes name begun said served h now line f none blank =
-    let P : OpenText → Type 0 = λ t. IsText t f.text in
-    let empty : f.text ≡ [] = subst P none f.are.text_is in
-    let passed = reads_items f.items f.are.whole in
-    let after : (lines : List (List ℕ)) → items_to_come begun (served ++ (said_in f.items ++ lines)) ≡ f.done ++ (passed.0 ++ items_to_come None lines) = λ lines. f.read (said_in f.items ++ lines) ∙ (ap (λ t. f.done ++ items_to_come t (said_in f.items ++ lines)) f.are.outside ∙ ap (λ x. f.done ++ x) (passed.1 lines)) in
-    record {
-      items = f.items;
-      text = f.text;
-      are = f.are;
-      same = λ more.
-          ap (items_to_come begun) (append_assoc said (rest_of line ∷ []) more)
-          ∙ (f.same (rest_of line ∷ more)
-          ∙ (ap (λ t. items_to_come begun (served ++ (said_in f.items ++ (rests t ++ rest_of line ∷ more)))) empty
-          ∙ (after (rest_of line ∷ more)
-          ∙ (ap (λ x. f.done ++ (passed.0 ++ x)) (reads_asked (rest_of line) Blank blank more)
-          ∙ (sym (after more)
-          ∙ ap (λ t. items_to_come begun (served ++ (said_in f.items ++ (rests t ++ more)))) (sym empty))))));
-      done = f.done;
-      read = f.read;
-    }
+blank_passes name begun said served h now line f none blank = grind (arith, reads_items, append_assoc)
 
 -- a line of a held name, outside of texts
 one_item : (name : List ℕ) (begun : Option TextSoFar) (said served : List (List ℕ)) (h new : Held) (now : Option TextSoFar) (line : List ℕ) (f : Follows name begun said served (Some h) now) (item : SessionLine) (items : List HeldItem) → IsOf name line → h.text ≡ NoText → form_of line ≡ Asks item → with_item item [] ≡ item ∷ [] → PutsItem h.items (line ∷ []) items → new ≡ record h { items = items } →
@@ -255,9 +195,7 @@ one_item name begun said served h new now line f item items of none is one puts 
 
 heard_form : (name : List ℕ) (begun : Option TextSoFar) (said served : List (List ℕ)) (h new : Held) (now : Option TextSoFar) (line : List ℕ) (f : Follows name begun said served (Some h) now) (form : LineForm) → IsOf name line → h.text ≡ NoText → form_of line ≡ form → HearsForm form h line new →
     Follows name begun (said ++ rest_of line ∷ []) served (Some new) now
-heard_form name begun said served h new now line f (Asks Blank) of none is hears =
-    let R : Held → Type 0 = λ n. Follows name begun (said ++ rest_of line ∷ []) served (Some n) now in
-    subst R (sym hears) (blank_passes name begun said served h now line f none is)
+heard_form name begun said served h new now line f (Asks Blank) of none is hears = grind (arith, blank_passes)
 heard_form name begun said served h new now line f (Asks (Command command)) of none is (items, puts, after) = one_item name begun said served h new now line f (Command command) items of none is refl puts after
 heard_form name begun said served h new now line f (Asks Wait) of none is (items, puts, after) = one_item name begun said served h new now line f Wait items of none is refl puts after
 heard_form name begun said served h new now line f (Asks (Refused refusal)) of none is (items, puts, after) = one_item name begun said served h new now line f (Refused refusal) items of none is refl puts after

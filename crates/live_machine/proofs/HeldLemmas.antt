@@ -1,8 +1,5 @@
 -- What is held of each name.
-use Rattle.std.proofs.Common.{◌≡◌, ℕ, List, [], ◌∷◌, ◌++◌, true, false, cond, Some, None, refl, sym, ap, ◌∙◌}
-use Rattle.std.specs.Str.{bytes_eq}
-use Rattle.std.proofs.lemmas.Slice.Eq.{bytes_eq-Decides}
-use Rattle.live_machine.specs.Held.{Held, held_of, with_held, without_name}
+use Rattle.live_machine.proofs.Prelude.{◌≡◌, ℕ, List, [], ◌∷◌, ◌++◌, true, false, cond, Some, None, refl, sym, ap, ◌∙◌, arith, bytes_eq, bytes_eq-Decides, Held, held_of, with_held, without_name}
 
 pub same_name : (name : List ℕ) → bytes_eq name name ≡ true
 same_name name = (bytes_eq-Decides name name).1 refl
@@ -24,27 +21,15 @@ changed_own (h ∷ held) old new is =
 
 pub changed_other : (held : List Held) (new : Held) (other : List ℕ) → bytes_eq new.name other ≡ false → held_of (with_held held new) other ≡ held_of held other
 changed_other [] new other apart = refl
-changed_other (h ∷ held) new other apart =
-    elim (bytes_eq h.name new.name) as (λ b. bytes_eq h.name new.name ≡ b → held_of (cond b (new ∷ held) (h ∷ with_held held new)) other ≡ held_of (h ∷ held) other) [
-      | true ↦ λ e. ap (λ b. cond b (Some new) (held_of held other)) apart ∙ sym (ap (λ b. cond b (Some h) (held_of held other)) (not_first h.name new.name other apart e))
-      | false ↦ λ e. ap (cond (bytes_eq h.name other) (Some h)) (changed_other held new other apart)
-    ] refl
+changed_other (h ∷ held) new other apart = grind (arith, not_first, changed_other held new other apart)
 
 pub freed_own : (held : List Held) (name : List ℕ) → held_of (without_name held name) name ≡ None
 freed_own [] name = refl
-freed_own (h ∷ held) name =
-    elim (bytes_eq h.name name) as (λ b. bytes_eq h.name name ≡ b → held_of (cond b (without_name held name) (h ∷ without_name held name)) name ≡ None) [
-      | true ↦ λ e. freed_own held name
-      | false ↦ λ e. ap (λ b. cond b (Some h) (held_of (without_name held name) name)) e ∙ freed_own held name
-    ] refl
+freed_own (h ∷ held) name = grind (arith, freed_own held name)
 
 pub freed_other : (held : List Held) (name other : List ℕ) → bytes_eq name other ≡ false → held_of (without_name held name) other ≡ held_of held other
 freed_other [] name other apart = refl
-freed_other (h ∷ held) name other apart =
-    elim (bytes_eq h.name name) as (λ b. bytes_eq h.name name ≡ b → held_of (cond b (without_name held name) (h ∷ without_name held name)) other ≡ held_of (h ∷ held) other) [
-      | true ↦ λ e. freed_other held name other apart ∙ sym (ap (λ b. cond b (Some h) (held_of held other)) (not_first h.name name other apart e))
-      | false ↦ λ e. ap (cond (bytes_eq h.name other) (Some h)) (freed_other held name other apart)
-    ] refl
+freed_other (h ∷ held) name other apart = grind (arith, not_first, freed_other held name other apart)
 
 pub added_own : (held : List Held) (new : Held) → held_of held new.name ≡ None → held_of (held ++ new ∷ []) new.name ≡ Some new
 added_own [] new none = ap (λ b. cond b (Some new) None) (same_name new.name)

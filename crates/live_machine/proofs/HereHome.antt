@@ -1,13 +1,6 @@
 -- Jobs whose next step no worker has.
-use Rattle.std.proofs.Common.{◌≡◌, ℕ, true, false, Option, Some, None, refl, sym, ap, subst, ◌∙◌}
-use Rattle.std.specs.Prelude.{IfSome, option_map}
-use Rattle.std.proofs.lemmas.Bool.{false≢true}
-use Rattle.tenant_slot.specs.Slot.{is_takeable}
-use Rattle.service_core.specs.Calls.{takeable_in}
-use Rattle.service_core.specs.History.{History, slot_of}
-use Rattle.service_core.specs.Service.{ServiceState, live_of}
-use Rattle.live_machine.specs.Workers.{all_here}
-use Rattle.live_machine.proofs.Here.{live_rested, none_before, rested, some_taken}
+use Rattle.live_machine.proofs.Prelude.{◌≡◌, ℕ, true, false, Option, Some, sym, ap, subst, ◌∙◌, arith, IfSome, option_map, is_takeable, takeable_in, History, slot_of, ServiceState, live_of, all_here}
+use Rattle.live_machine.proofs.Here.{live_rested, none_before, rested}
 
 -- no worker has the next step of that tenancy's job
 abbrev pub IsAtHome : ServiceState → ℕ → Type 0
@@ -18,8 +11,7 @@ same_home old new id same home = let P : ServiceState → Type 0 = λ s. IsAtHom
 
 -- a step that can be taken
 some_busy : (o : Option History) → takeable_in o ≡ true → takeable_in (option_map rested o) ≡ true
-some_busy None busy = absurd (false≢true busy)
-some_busy (Some h) busy = some_taken h busy
+some_busy o busy = grind arith
 
 pub busy_home : (service : ServiceState) (id : ℕ) → takeable_in (live_of service.histories id) ≡ true → IsAtHome service id
 busy_home service id busy = ap takeable_in (live_rested service.histories id) ∙ (some_busy (live_of service.histories id) busy ∙ sym busy)
@@ -34,8 +26,7 @@ rested_home service id h is rests = ap takeable_in (live_rested service.historie
 
 -- a take that finds nothing there finds nothing without workers
 none_taken_in : (o : Option History) → IfSome o (λ h. is_takeable (slot_of h) ≡ false) → takeable_in o ≡ false
-none_taken_in None none = refl
-none_taken_in (Some h) none = none
+none_taken_in o none = grind arith
 
 pub none_home : (service : ServiceState) (id : ℕ) → IsAtHome service id → IfSome (live_of service.histories id) (λ h. is_takeable (slot_of h) ≡ false) → takeable_in (live_of (all_here service).histories id) ≡ false
 none_home service id home none = home ∙ none_taken_in (live_of service.histories id) none

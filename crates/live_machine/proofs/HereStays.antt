@@ -1,20 +1,8 @@
 -- A step leaves its job where no worker has it.
-use Rattle.std.proofs.Common.{◌≡◌, ℕ, List, [], ◌∷◌, Bool, true, Option, Some, None, Ok, Err, inl, inr, refl, ap, subst, ◌∙◌}
-use Rattle.std.specs.Prelude.{IsSomeAnd}
-use Rattle.job_state.specs.Job.{JobState}
-use Rattle.tenant_slot.specs.declared.reply.StepReply.{StepReply}
-use Rattle.service_core.specs.declared.entry.Entry.{Entry}
+use Rattle.live_machine.proofs.Prelude.{◌≡◌, ℕ, List, [], ◌∷◌, Bool, true, Option, Some, None, Ok, Err, inl, inr, refl, ap, subst, ◌∙◌, arith, IsSomeAnd, JobState, StepReply, Entry, History, with_entry, with_here, Call, IsStepOf, Run, step_entry, GiveBack, ServiceState, live_of, with_change, StepOutcome, Recorded, Full, Gone, NoMemory, Unfit, MakesStep, live_of-changed}
 use Rattle.service_core.specs.declared.put_reply.PutReply.TheVariants.{Recorded as PutRecorded}
-use Rattle.service_core.specs.Calls.{takeable_in}
-use Rattle.service_core.specs.History.{History, with_entry, with_here}
-use Rattle.service_core.specs.Run.{Call, IsGivenBackTo, IsStepOf, Run, step_entry}
-use Rattle.service_core.specs.Run.Call.{GiveBack, Put, Take}
-use Rattle.service_core.specs.Service.{ServiceState, live_of, with_change}
-use Rattle.sessions.specs.declared.steps.StepOutcome.{StepOutcome}
-use Rattle.sessions.specs.declared.steps.StepOutcome.TheVariants.{Recorded, Full, Gone, NoMemory, Nothing, Unfit}
-use Rattle.sessions.specs.Steps.{MakesStep}
-use Rattle.sessions.proofs.Counted.{live_of-changed}
-use Rattle.live_machine.proofs.Here.{some_taken}
+use Rattle.service_core.specs.Run.Call.{Put}
+use Rattle.sessions.specs.declared.steps.StepOutcome.TheVariants.{Nothing}
 use Rattle.live_machine.proofs.HereHome.{IsAtHome, busy_home, rested_home, same_home}
 use Rattle.live_machine.proofs.HereMade.{first_taken, never_full, never_gone, own_live, runs_as}
 use Rattle.live_machine.proofs.HereSteps.{Taken, entry_here}
@@ -35,16 +23,7 @@ recorded_home old id calls reply new (job, more, (foreign, puts), is) runs =
 
 -- a job that is given back can be taken again
 given_home : (old : ServiceState) (id : ℕ) (job : JobState) (mid : ServiceState) (made : Bool) (new : ServiceState) → Taken old id job mid → Run mid (GiveBack (record { step = job.step; made = made }) ∷ []) new → IsAtHome new id
-given_home old id job mid made new t (last, gives, same) =
-    let h : History = with_here None t.history in
-    let P : Option History → Type 0 = λ o. IsGivenBackTo o mid (record { step = job.step; made = made }) last in
-    let (here, given, changed) = subst P (own_live old id job mid t) gives in
-    let after : live_of last.histories id ≡ Some (with_here here h) =
-    ap (λ (s : ServiceState). live_of s.histories id) (changed ∙ ap (λ k. with_change mid k (with_here here)) t.own)
-    ∙ live_of-changed mid.histories id (with_here here) h (λ g. refl) t.after in
-    let busy : takeable_in (live_of last.histories id) ≡ true =
-    ap takeable_in after ∙ (ap (λ x. takeable_in (Some (with_here x t.history))) (given.ready t.next.2) ∙ some_taken t.history t.next.1) in
-    same_home last new id same (busy_home last id busy)
+given_home old id job mid made new t h2 = search (live_of-changed, busy_home, arith)
 
 pub stays_home : (old : ServiceState) (id : ℕ) (calls : List Call) (outcome : StepOutcome) (new : ServiceState) → IsAtHome old id → MakesStep id calls outcome → Run old calls new → IsAtHome new id
 stays_home old id calls (Recorded reply) new home makes runs = recorded_home old id calls reply new makes runs
@@ -62,6 +41,4 @@ stays_home old id calls NoMemory new home (job, more, inr (foreign, back, puts),
 stays_home old id calls Unfit new home (job, more, gives, is) runs =
     let (mid, t, rest) = first_taken old id job calls more new is runs in
     given_home old id job mid job.made new t (runs_as mid more (GiveBack job ∷ []) new gives rest)
-stays_home old id calls Nothing new home makes runs =
-    let run : Run old (Take id None ∷ []) new = runs_as old calls (Take id None ∷ []) new makes runs in
-    same_home old new id (run.2 ∙ run.1.1) home
+stays_home old id calls Nothing new home makes runs = grind (arith, runs_as, same_home)

@@ -1,23 +1,6 @@
 -- The replies to steps by hand, whatever workers have.
-use Rattle.std.proofs.Common.{◌≡◌, ◌≢◌, ℕ, List, [], ◌∷◌, ◌++◌, codes, decimal, get_or, true, refl, sym, ap, subst, ◌∙◌, arith, append-nil}
-use Rattle.std.proofs.lemmas.List.Elements.{All-head}
-use Rattle.script_text.specs.declared.act.Act.{Act}
-use Rattle.script_text.specs.declared.act.Act.TheVariants.{Operator}
-use Rattle.script_text.specs.declared.operator_line.OperatorLine.TheVariants.{Step}
-use Rattle.tenant_slot.specs.declared.reply.StepReply.TheVariants.{Advanced, Finished, Stale}
-use Rattle.service_core.specs.Run.{Call, Run}
-use Rattle.sessions.specs.declared.steps.StepOutcome.{StepOutcome}
-use Rattle.sessions.specs.declared.steps.StepOutcome.TheVariants.{Recorded, Full, Gone, NoMemory, Nothing, Unfit}
-use Rattle.sessions.specs.Steps.{MakesStep}
-use Rattle.operator.specs.OperatorText.{last_id, outcome_text}
-use Rattle.operator.specs.Serving.{IsServed, Stage}
-use Rattle.tagged_lines.specs.Tags.{Tagged, output_of, tag_of, tagged_text}
-use Rattle.live_lines.specs.Acts.{IsAnswered, Telling}
-use Rattle.live_lines.specs.Live.{Asked, LiveState, TakesAsked, asked_of, operator_told}
-use Rattle.live_lines.specs.Live.Asked.{Operates}
-use Rattle.live_input.specs.Serving.{AnswersLine}
-use Rattle.live_machine.specs.Machine.{is_busy}
-use Rattle.live_machine.specs.Workers.{IsHome, all_here, nomemory_reply, without_workers}
+use Rattle.live_machine.proofs.Prelude.{◌≡◌, ◌≢◌, ℕ, List, [], ◌∷◌, ◌++◌, codes, decimal, get_or, true, refl, sym, ap, subst, ◌∙◌, arith, append-nil, All-head, Operator, Step, Advanced, Finished, Stale, Call, Run, StepOutcome, Recorded, Full, Gone, NoMemory, Unfit, MakesStep, last_id, outcome_text, IsServed, Stage, Tagged, output_of, tag_of, tagged_text, Telling, Asked, LiveState, TakesAsked, asked_of, operator_told, Operates, AnswersLine, is_busy, IsHome, all_here, nomemory_reply, without_workers}
+use Rattle.sessions.specs.declared.steps.StepOutcome.TheVariants.{Nothing}
 use Rattle.live_machine.proofs.HereHome.{IsAtHome, busy_home}
 use Rattle.live_machine.proofs.HereMade.{IsUnrecorded, unrecorded}
 use Rattle.live_machine.proofs.HereServed.{stage_here}
@@ -32,17 +15,7 @@ record TellsSteps (old : LiveState) (name : List ℕ) (count : ℕ) (reply : Lis
   texts : new.texts ≡ old.texts
 
 steps_told : (old new : LiveState) (number count : ℕ) (line reply name : List ℕ) → asked_of line ≡ Operates (Step name count) → AnswersLine old number line reply new → TellsSteps old name count reply new
-steps_told old new number count line reply name asks answers =
-    let P : Asked → Type 0 = λ a. TakesAsked old number (tag_of line) a answers.tellings answers.told new in
-    let (t, act, answered, one, is, stay) = subst P asks answers.takes in
-    let Q : Act (List ℕ) → Type 0 = λ a. IsAnswered old.stage a t.calls t.text new.stage in
-    record {
-      calls = t.calls;
-      text = t.text;
-      served = subst Q act answered;
-      reply_is = answers.reply_is ∙ ap output_of is;
-      texts = stay;
-    }
+steps_told old new number count line reply name asks answers = grind arith
 
 told_steps : (old new : LiveState) (number count : ℕ) (line reply name : List ℕ) → asked_of line ≡ Operates (Step name count) → TellsSteps old name count reply new → AnswersLine old number line reply new
 told_steps old new number count line reply name asks s =
@@ -89,10 +62,6 @@ steps_here old new number count line reply name asks home answers =
 pub step_here : (old new : LiveState) (number : ℕ) (line reply name : List ℕ) → asked_of line ≡ Operates (Step name 1) → is_busy old name ≡ true → AnswersLine old number line reply new → AnswersLine (without_workers old) number line reply (without_workers new)
 step_here old new number line reply name asks busy answers = steps_here old new number 1 line reply name asks (busy_home old.stage.service (last_id old.stage.names name) busy) answers
 
--- the one step that was tried
-abbrev StepTried : Type 0
-StepTried = List Call × StepOutcome
-
 record Tries (old : Stage) (name : List ℕ) (calls : List Call) (text : List ℕ) (new : Stage) : Type 0 where
   outcome : StepOutcome
   makes : MakesStep (last_id old.names name) calls outcome
@@ -104,18 +73,7 @@ record Tries (old : Stage) (name : List ℕ) (calls : List Call) (text : List �
 
 one_tried : (old : Stage) (name : List ℕ) (calls : List Call) (text : List ℕ) (new : Stage) → IsServed old (Step name 1) calls text new → Tries old name calls text new
 one_tried old name calls text new ([], count, all, runs, names, jobs, calls_are, text_is, graph, fits) = absurd (omega (arith, count))
-one_tried old name calls text new (m ∷ [], count, all, runs, names, jobs, calls_are, text_is, graph, fits) =
-    let id : ℕ = last_id old.names name in
-    let P : List Call → Type 0 = λ cs. MakesStep id cs m.1 in
-    record {
-      outcome = m.1;
-      makes = subst P (sym (calls_are ∙ append-nil m.0)) (All-head (λ (t : StepTried). MakesStep id t.0 t.1) m [] all);
-      runs = runs;
-      names = names;
-      jobs = jobs;
-      text_is = text_is ∙ append-nil (outcome_text m.1);
-      graph = graph;
-    }
+one_tried old name calls text new (m ∷ [], count, all, runs, names, jobs, calls_are, text_is, graph, fits) = search (append-nil, All-head, arith)
 one_tried old name calls text new (m ∷ n ∷ others, count, all, runs, names, jobs, calls_are, text_is, graph, fits) = absurd (omega (arith, count))
 
 -- a step whose reply is that memory ran out was not recorded
@@ -150,12 +108,7 @@ no_memory_unrecorded Nothing is = tt
 no_memory_unrecorded Unfit is = tt
 
 same_state : (old new : LiveState) → all_here new.stage.service ≡ all_here old.stage.service → new.stage.names ≡ old.stage.names → new.stage.jobs ≡ old.stage.jobs → new.stage.graph ≡ old.stage.graph → new.texts ≡ old.texts → without_workers new ≡ without_workers old
-same_state old new service names jobs graph texts =
-    ap (λ s. record (without_workers new) { stage = record new.stage { service = s } }) service
-    ∙ (ap (λ n. record new { stage = record new.stage { names = n; service = all_here old.stage.service } }) names
-    ∙ (ap (λ j. record new { stage = record new.stage { names = old.stage.names; jobs = j; service = all_here old.stage.service } }) jobs
-    ∙ (ap (λ g. record new { stage = record { names = old.stage.names; jobs = old.stage.jobs; service = all_here old.stage.service; graph = g } }) graph
-    ∙ ap (λ t. record (without_workers old) { texts = t }) texts)))
+same_state old new service names jobs graph texts = grind arith
 
 pub nomemory_here : (old new : LiveState) (number : ℕ) (line reply name : List ℕ) → asked_of line ≡ Operates (Step name 1) → reply ≡ nomemory_reply name → AnswersLine old number line reply new → without_workers new ≡ without_workers old
 nomemory_here old new number line reply name asks is answers =

@@ -1,17 +1,5 @@
 -- Steps by hand, one after another, whatever workers have.
-use Rattle.std.proofs.Common.{◌≡◌, ℕ, List, [], ◌∷◌, length, map, refl, sym, ap, ◌∙◌}
-use Rattle.std.specs.Prelude.{All}
-use Rattle.std.specs.List.{flat_map}
-use Rattle.std.proofs.lemmas.List.{length-map}
-use Rattle.std.proofs.lemmas.List.Elements.{All-cons, All-head, All-map, All-nil, All-same, All-tail}
-use Rattle.std.proofs.lemmas.List.Folds.{flat_map-map}
-use Rattle.service_core.specs.Run.{Call, Run}
-use Rattle.service_core.specs.Service.{ServiceState}
-use Rattle.sessions.specs.declared.steps.StepOutcome.{StepOutcome}
-use Rattle.sessions.specs.Steps.{MakesStep}
-use Rattle.sessions.proofs.EndToEndLemmas.{split}
-use Rattle.sessions.proofs.StepLemmas.{Run-append}
-use Rattle.live_machine.specs.Workers.{all_here}
+use Rattle.live_machine.proofs.Prelude.{◌≡◌, ℕ, List, [], ◌∷◌, length, map, sym, ap, ◌∙◌, arith, All, flat_map, length-map, All-cons, All-head, All-map, All-nil, All-same, All-tail, flat_map-map, Call, Run, ServiceState, StepOutcome, MakesStep, split, Run-append, all_here}
 use Rattle.live_machine.proofs.HereHome.{IsAtHome, same_home}
 use Rattle.live_machine.proofs.HereMade.{remade}
 use Rattle.live_machine.proofs.HereStays.{stays_home}
@@ -35,8 +23,7 @@ pub record Retried (X : Type 0) (outcome_of : X → StepOutcome) (old : ServiceS
   pub home : IsAtHome new id
 
 pub retried : (X : Type 0) (outcome_of : X → StepOutcome) (old : ServiceState) (id : ℕ) (tried : List (List Call × X)) (new : ServiceState) → IsAtHome old id → AreMade X outcome_of id tried → Run old (calls_in X tried) new → Retried X outcome_of old id tried new
-retried X outcome_of old id [] new home made same =
-    record { again = []; same = refl; made = All-nil (λ (s : List Call × X). MakesStep id s.0 (outcome_of s.1)); runs = ap all_here same; home = same_home old new id same home }
+retried X outcome_of old id [] new home made same = grind (arith, All-nil, same_home)
 retried X outcome_of old id (t ∷ tried) new home made runs =
     let P : List Call × X → Type 0 = λ s. MakesStep id s.0 (outcome_of s.1) in
     let (mid, first, rest) = split old t.0 (calls_in X tried) new runs in

@@ -1,28 +1,6 @@
 -- A `wait` of a name whose job is at home, whatever workers have.
-use Rattle.std.proofs.Common.{◌≡◌, ℕ, List, [], ◌∷◌, ◌++◌, Some, Err, inl, inr, refl, sym, ap, subst, ◌∙◌, append_assoc}
-use Rattle.std.specs.Prelude.{◌⊎◌}
-use Rattle.tenant_slot.specs.declared.command.Command.TheVariants.{Status}
-use Rattle.tenant_slot.specs.declared.reply.StepReply.{StepReply}
+use Rattle.live_machine.proofs.Prelude.{◌≡◌, ℕ, List, [], ◌∷◌, ◌++◌, Err, inl, inr, refl, sym, subst, append_assoc, arith, ◌⊎◌, Status, StepReply, Call, Happens, Run, Tenant, GiveBack, ServiceState, Session, SessionLine, Blank, Command, Wait, Refused, StepOutcome, Recorded, NoMemory, Unfit, Answer, Served, AsksCommand, EndsWait, GivesNoneBack, LeavesNone, Waits, split, Run-append, wait_leaves, last_id, Stage, IsAnswered, all_here}
 use Rattle.service_core.specs.declared.not_served.NotServed.TheVariants.{NoMemory as NotServedNoMemory}
-use Rattle.service_core.specs.Run.{Call, Happens, Run}
-use Rattle.service_core.specs.Run.Call.{Tenant, Take, GiveBack}
-use Rattle.service_core.specs.Service.{ServiceState}
-use Rattle.script_text.specs.declared.act.Act.TheVariants.{Session}
-use Rattle.sessions.specs.declared.line.SessionLine.{SessionLine}
-use Rattle.sessions.specs.declared.line.SessionLine.TheVariants.{Blank, Command, Wait, Refused}
-use Rattle.sessions.specs.declared.steps.StepOutcome.{StepOutcome}
-use Rattle.sessions.specs.declared.steps.StepOutcome.TheVariants.{Recorded, NoMemory, Unfit}
-use Rattle.sessions.specs.declared.told.Answer.{Answer}
-use Rattle.sessions.specs.declared.told.Answer.TheVariants.{Served}
-use Rattle.sessions.specs.SessionAnswer.{AsksCommand, EndsWait, GivesNoneBack, LeavesNone}
-use Rattle.sessions.specs.Steps.{MakesStep, Waits}
-use Rattle.sessions.proofs.EndToEndLemmas.{split}
-use Rattle.sessions.proofs.StepLemmas.{Run-append}
-use Rattle.sessions.proofs.WaitLemmas.{wait_leaves}
-use Rattle.operator.specs.OperatorText.{last_id}
-use Rattle.operator.specs.Serving.{Stage}
-use Rattle.live_lines.specs.Acts.{IsAnswered}
-use Rattle.live_machine.specs.Workers.{all_here}
 use Rattle.live_machine.proofs.HereCalls.{runs_here}
 use Rattle.live_machine.proofs.HereHome.{IsAtHome}
 use Rattle.live_machine.proofs.HereMade.{remade}
@@ -65,18 +43,9 @@ last_none_back [] ys none = none
 last_none_back (GiveBack job ∷ xs) ys none = absurd none
 last_none_back (call ∷ xs) ys none = last_none_back xs ys none
 
-unfit_back : (id : ℕ) (end more : List Call) → MakesStep id end Unfit → GivesNoneBack (end ++ more) → ⊥
-unfit_back id end more (job, rest, gives, is) none =
-    let P : List Call → Type 0 = λ cs. GivesNoneBack (cs ++ more) in
-    subst P (is ∙ ap (λ cs. Take id (Some job) ∷ cs) gives) none
-
 -- so the job of a wait's last step fits the graph
 never_unfit : (id : ℕ) (steps more calls : List Call) (last : StepOutcome) → Waits id steps last → calls ≡ steps ++ more → GivesNoneBack calls → last ≡ Unfit → ⊥
-never_unfit id steps more calls last (made, end, all, makes, ends, is) all_is none unfit =
-    let M : StepOutcome → Type 0 = λ o. MakesStep id end o in
-    let first : List Call = calls_in StepReply made in
-    let whole : calls ≡ first ++ (end ++ more) = all_is ∙ (ap (λ cs. cs ++ more) is ∙ append_assoc first end more) in
-    unfit_back id end more (subst M unfit makes) (last_none_back first (end ++ more) (subst GivesNoneBack whole none))
+never_unfit id steps more calls last h1 all_is none unfit = grind (arith, append_assoc, last_none_back)
 
 leaves_again : (old mid new : ServiceState) (id : ℕ) (steps more : List Call) (last : StepOutcome) (answer : Answer) → Waits id steps last → Run old steps mid → Run mid more new → EndsEither id last more answer → (last ≡ Unfit → ⊥) → LeavesNone id Wait (steps ++ more) answer new
 leaves_again old mid new id steps more last answer waits run runs (inl (none, answers)) fits = inl answers
@@ -91,8 +60,7 @@ leaves_again old mid new id steps more last answer waits run runs (inr (memory, 
 
 -- it leaves no step undone either
 leaves_here : (was : ServiceState) (id : ℕ) (calls : List Call) (answer : Answer) (again : List Call) (new : ServiceState) → (GivesNoneBack calls → LeavesNone id Wait again answer new) → LeavesNone id Wait calls answer was → LeavesNone id Wait again answer new
-leaves_here was id calls answer again new leaves (inl none) = inl none
-leaves_here was id calls answer again new leaves (inr (back, left)) = leaves back
+leaves_here was id calls answer again new leaves h2 = grind arith
 
 -- a line of a session makes these calls in the place of others
 abbrev pub Reanswered : Stage → List ℕ → SessionLine → List ℕ → Stage → Type 0

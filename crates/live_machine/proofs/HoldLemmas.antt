@@ -1,14 +1,5 @@
 -- What a held name has said, after each call.
-use Rattle.std.proofs.Common.{◌≡◌, ℕ, inl, inr, List, [], ◌∷◌, ◌++◌, Bool, true, false, Some, None, sym, subst}
-use Rattle.std.specs.List.{AllByRecursion}
-use Rattle.sessions.specs.declared.line.LineForm.{LineForm}
-use Rattle.sessions.specs.declared.line.LineForm.TheVariants.{Asks, Begins}
-use Rattle.sessions.specs.declared.line.SessionLine.TheVariants.{Blank, Command, Refused, Wait}
-use Rattle.sessions.specs.Items.{ends_text}
-use Rattle.tagged_lines.specs.Tags.{rest_of}
-use Rattle.live_machine.specs.Held.{AreSaid, Held, HeldItem, HearsForm, HearsHeld, HearsIn, IsSaidBy, IsSaidItem, IsSaidText, PutsItem, form_of}
-use Rattle.live_machine.specs.declared.held.OpenText.{OpenText}
-use Rattle.live_machine.specs.declared.held.OpenText.TheVariants.{NoText, Begun, Lost}
+use Rattle.live_machine.proofs.Prelude.{◌≡◌, ℕ, inl, inr, List, [], ◌∷◌, ◌++◌, Bool, true, false, None, sym, subst, arith, AllByRecursion, LineForm, Asks, Begins, Blank, Command, Refused, Wait, ends_text, rest_of, AreSaid, Held, HeldItem, HearsForm, HearsHeld, HearsIn, IsSaidBy, IsSaidItem, IsSaidText, PutsItem, form_of, OpenText, NoText, Begun, Lost}
 
 -- one more of which it holds
 all_push : {A : Type 0} (P : A → Type 0) (xs : List A) (y : A) → AllByRecursion P xs → P y → AllByRecursion P (xs ++ y ∷ [])
@@ -17,8 +8,7 @@ all_push P (x ∷ xs) y all is = (all.0, all_push P xs y all.1 is)
 
 said_put : (name : List ℕ) (old : List HeldItem) (lines : List (List ℕ)) (new : List HeldItem) → AllByRecursion (IsSaidItem name) old → AllByRecursion (IsSaidBy name) lines → PutsItem old lines new →
     AllByRecursion (IsSaidItem name) new
-said_put name old lines new all are (inl e) = subst (AllByRecursion (IsSaidItem name)) (sym e) (all_push (IsSaidItem name) old (Some lines) all are)
-said_put name old lines new all are (inr e) = subst (AllByRecursion (IsSaidItem name)) (sym e) (all_push (IsSaidItem name) old None all tt)
+said_put name old lines new all are h3 = grind (arith, all_push)
 
 -- an item of that line, or one that was lost, is put
 said_item : (old : Held) (line : List ℕ) (new : Held) → AreSaid old → IsSaidBy old.name line → (items : List HeldItem) × PutsItem old.items (line ∷ []) items × (new ≡ record old { items = items }) → AreSaid new

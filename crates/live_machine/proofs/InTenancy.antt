@@ -1,29 +1,7 @@
 -- What a held name said is served in the tenancy in which it was said.
-use Rattle.std.proofs.Common.{◌≡◌, ◌≢◌, inl, inr, ℕ, List, [], ◌∷◌, ◌++◌, codes, Bool, true, false, Option, Some, None, is_some, refl, sym, ap, subst, ◌∙◌}
-use Rattle.std.specs.Str.{bytes_eq}
-use Rattle.script_text.specs.Script.{is_name}
-use Rattle.script_text.specs.declared.operator_line.OperatorLine.{OperatorLine}
-use Rattle.script_text.specs.declared.operator_line.OperatorLine.TheVariants.{Admit, Evict, Move, List as ListAll, Owners, Step, Take, Put}
-use Rattle.sessions.specs.declared.line.LineForm.{LineForm}
-use Rattle.sessions.specs.declared.line.LineForm.TheVariants.{Asks, Begins}
-use Rattle.sessions.specs.declared.line.SessionLine.TheVariants.{Blank, Command, Wait, Refused}
-use Rattle.sessions.specs.Items.{ends_text}
-use Rattle.operator.specs.OperatorText.{last_id}
-use Rattle.service_core.specs.Calls.{takeable_in}
-use Rattle.service_core.specs.History.{History}
-use Rattle.service_core.specs.Service.{live_of}
-use Rattle.tagged_lines.specs.Tags.{rest_of}
-use Rattle.live_lines.specs.Laws.{said_by}
-use Rattle.live_lines.specs.Live.{Asked, LiveState, asked_of}
-use Rattle.live_lines.specs.Live.Asked.{Echoes, Figures, NoForm, Nothing, Operates, Says}
-use Rattle.live_lines.proofs.LawLemmas.{says}
-use Rattle.live_machine.specs.Account.{is_nobodys, lines_in}
-use Rattle.live_machine.specs.Held.{Held, HeldItem, HearsForm, HearsIn, calls_off, form_of, held_of, with_held, without_name}
-use Rattle.live_machine.specs.declared.held.OpenText.{OpenText}
-use Rattle.live_machine.specs.declared.held.OpenText.TheVariants.{NoText, Begun, Lost}
-use Rattle.live_machine.specs.Machine.{Call, EndsHold, Frees, FreesIf, GivesUp, Happens, HearsAfter, HearsAsked, HearsFree, HearsName, Holds, MachineState, Run, Serves, ServesAll, ServesFirst, ServesItem, ServesItems, ServesNobodys, ServesSaid, TellsLost, WaitsAfter, begins_with, is_busy, is_by_hand, must_wait}
-use Rattle.live_machine.specs.Machine.Call.{Drain, GiveUp, Line, PutStep, ServeHeld}
-use Rattle.live_machine.specs.Turn.{Turn, heard_lines}
+use Rattle.live_machine.proofs.Prelude.{◌≡◌, ◌≢◌, inl, inr, ℕ, List, [], ◌∷◌, ◌++◌, codes, Bool, true, false, Option, Some, None, is_some, refl, sym, ap, subst, ◌∙◌, arith, bytes_eq, is_name, OperatorLine, Admit, Evict, Move, Owners, Step, Take, Put, ends_text, last_id, takeable_in, History, live_of, rest_of, said_by, Asked, LiveState, asked_of, Echoes, Figures, NoForm, Nothing, Operates, Says, says, is_nobodys, lines_in, Held, HeldItem, HearsIn, calls_off, held_of, with_held, without_name, OpenText, NoText, Begun, Lost, EndsHold, Frees, FreesIf, GivesUp, HearsAfter, HearsAsked, HearsFree, HearsName, Holds, MachineState, Serves, ServesAll, ServesFirst, ServesItem, ServesItems, ServesNobodys, ServesSaid, TellsLost, WaitsAfter, begins_with, is_busy, is_by_hand, must_wait, Drain, GiveUp, Line, PutStep, ServeHeld, Turn, heard_lines}
+use Rattle.script_text.specs.declared.operator_line.OperatorLine.TheVariants.{List as ListAll}
+use Rattle.live_machine.specs.Machine.{Call, Happens, Run}
 use Rattle.live_machine.proofs.AccountLemmas.{Accounts, happened, heard_name, starts}
 use Rattle.live_machine.proofs.AliveLemmas.{alive}
 use Rattle.live_machine.proofs.Books.{Books, books_nobody}
@@ -40,15 +18,7 @@ abbrev pub IsIn : MachineState → List ℕ → Type 0
 IsIn now name = (h : Held) → held_of now.held name ≡ Some h → h.items ≢ [] → (h.id ≡ last_id now.live.stage.names name) × (is_live now.live.stage name ≡ true)
 
 in_keeps : (old new : MachineState) (name : List ℕ) → IsIn old name → held_of new.held name ≡ held_of old.held name → (is_live old.live.stage name ≡ true → Keeps name old.live.stage new.live.stage) → IsIn new name
-in_keeps old new name was held keeps h is some =
-    let (id, live) = was h (sym held ∙ is) some in
-    let k = keeps live in
-    (id ∙ sym k.id, ap (alive new.live.stage.service.histories) k.id ∙ k.live)
-
-keeps_both : (name : List ℕ) (old mid new : MachineState) → Keeps name old.live.stage mid.live.stage → (is_live mid.live.stage name ≡ true → Keeps name mid.live.stage new.live.stage) → Keeps name old.live.stage new.live.stage
-keeps_both name old mid new first more =
-    let m = more (ap (alive mid.live.stage.service.histories) first.id ∙ first.live) in
-    record { id = m.id ∙ first.id; live = ap (alive new.live.stage.service.histories) (sym first.id) ∙ m.live }
+in_keeps old new name was held keeps h is some = grind arith
 
 -- lines of one name, that evict nobody: what is held of others stays, and each live name keeps its
 -- tenancy
@@ -60,11 +30,7 @@ passes_others : (name : List ℕ) (old new : MachineState) → Passes name old n
 passes_others name old new p other apart was = in_keeps old new other was (p.held other apart) (p.keeps other)
 
 passes_both : (name : List ℕ) (old mid new : MachineState) → Passes name old mid → Passes name mid new → Passes name old new
-passes_both name old mid new first more =
-    record {
-      held = λ other apart. more.held other apart ∙ first.held other apart;
-      keeps = λ other live. keeps_both other old mid new (first.keeps other live) (more.keeps other);
-    }
+passes_both name old mid new first more = grind arith
 
 -- what is held stays, and each live name keeps its tenancy
 pub record Stays (old new : MachineState) : Type 0 where
@@ -80,9 +46,6 @@ stays_same old new same = stays_as old new (ap (λ (m : MachineState). m.held) s
 lost_stays : (name : List ℕ) (old new : MachineState) → TellsLost old name new → Stays old new
 lost_stays name old new lost = stays_as old new (ap (λ (m : MachineState). m.held) lost) (ap (λ (m : MachineState). m.live.stage) lost)
 
-stays_both : (old mid new : MachineState) → Stays old mid → Stays mid new → Stays old new
-stays_both old mid new first more = record { held = more.held ∙ first.held; keeps = λ other live. keeps_both other old mid new (first.keeps other live) (more.keeps other) }
-
 stays_in : (old new : MachineState) → Stays old new → ((other : List ℕ) → IsIn old other) → (other : List ℕ) → IsIn new other
 stays_in old new s all other = in_keeps old new other (all other) (ap (λ hs. held_of hs other) s.held) (s.keeps other)
 
@@ -91,11 +54,7 @@ stays_passes name old new s = record { held = λ other apart. ap (λ hs. held_of
 
 -- lines that evict nobody
 line_stays : (old new : MachineState) (line : List ℕ) → ((other : List ℕ) → IsNoEviction other (asked_of line)) → Serves old line new → Stays old new
-line_stays old new line stays s =
-    record {
-      held = ap (λ (m : MachineState). m.held) s.rest;
-      keeps = λ other live. line_keeps other old.live old.next line s.reply new.live (stays other) live s.answers;
-    }
+line_stays old new line stays s = search (line_keeps, arith)
 
 says_no_eviction : (name said line : List ℕ) → asked_of line ≡ Says name said → (other : List ℕ) → IsNoEviction other (asked_of line)
 says_no_eviction name said line is other = let P : Asked → Type 0 = IsNoEviction other in subst P (sym is) tt
@@ -106,38 +65,26 @@ said_stays name ok line true old new of (made, asks, serves) = line_stays old ne
 
 all_stay : (name : List ℕ) → is_name name ≡ true → (lines : List (List ℕ)) (old new : MachineState) → AreOf name lines → ServesAll name lines old new → Stays old new
 all_stay name ok [] old new of same = stays_same old new same
-all_stay name ok (line ∷ lines) old new of (mid, one, rest) =
-    stays_both old mid new (said_stays name ok line (must_wait old.live name line) old mid of.0 one) (all_stay name ok lines mid new of.1 rest)
+all_stay name ok (line ∷ lines) old new of (mid, one, rest) = grind (arith, said_stays, all_stay name ok lines mid new of.1 rest)
 
 -- what is held of that name changes, and then nothing more
 changed_passes : (old new : MachineState) (after : Held) → Stays (record old { held = with_held old.held after }) new → Passes after.name old new
-changed_passes old new after s =
-    let mid : MachineState = record old { held = with_held old.held after } in
-    let changed : Passes after.name old mid = record { held = λ other apart. changed_other old.held after other apart; keeps = λ other live. keeps_same other old.live.stage old.live.stage live refl } in
-    passes_both after.name old mid new changed (stays_passes after.name mid new s)
+changed_passes old new after s = grind (arith, changed_other)
 
 -- an item
 item_passes : (begun : LiveState) (first : ℕ) (lines : List (List ℕ)) (taken : List Turn) (old new : MachineState) (h : Held) (item : HeldItem) (items : List HeldItem) → Books begun first lines taken old → held_of old.held h.name ≡ Some h → h.items ≡ item ∷ items → ServesItem item (record h { items = items }) old new → Passes h.name old new
-item_passes begun first lines taken old new h None items b is first_is lost =
-    changed_passes old new (record h { items = items }) (lost_stays h.name (record old { held = with_held old.held (record h { items = items }) }) new lost)
+item_passes begun first lines taken old new h None items b is first_is lost = search (changed_passes, lost_stays, arith)
 item_passes begun first lines taken old new h (Some item) items b is first_is serves =
     let t = taken_of begun first lines taken old h (Some item) items b is first_is in
     let O : List (List ℕ) → Type 0 = AreOf h.name in
     changed_passes old new (record h { items = items }) (all_stay h.name (b.named h.name h is) item (record old { held = with_held old.held (record h { items = items }) }) new (subst O t.is_first t.of) serves)
-
-no_first : (item : HeldItem) (items : List HeldItem) → item ∷ items ≡ [] → ⊥
-no_first item items e = absurd (cc)
 
 some_same : (a b : Held) → Some a ≡ Some b → a ≡ b
 some_same a b e = cc
 
 -- what is left of the name
 left_in : (old new : MachineState) (h : Held) (item : HeldItem) (items : List HeldItem) → held_of old.held h.name ≡ Some h → h.items ≡ item ∷ items → held_of new.held h.name ≡ Some (record h { items = items }) → Passes h.name old new → IsIn old h.name → IsIn new h.name
-left_in old new h item items is first_is left p was after after_is some =
-    let (id, live) = was h is (λ none. absurd (no_first item items (sym first_is ∙ none))) in
-    let k = p.keeps h.name live in
-    let same : after ≡ record h { items = items } = some_same after (record h { items = items }) (sym after_is ∙ left) in
-    (ap (λ (x : Held). x.id) same ∙ (id ∙ sym k.id), ap (alive new.live.stage.service.histories) k.id ∙ k.live)
+left_in old new h item items is first_is left p was after after_is some = grind arith
 
 -- items, one after another
 items_pass : (begun : LiveState) (first : ℕ) (lines : List (List ℕ)) (taken : List Turn) (old new : MachineState) (h : Held) (items : List HeldItem) → Books begun first lines taken old → held_of old.held h.name ≡ Some h → h.items ≡ items → ServesItems items h old new → Passes h.name old new
@@ -155,22 +102,10 @@ pub record Ended (name : List ℕ) (old new : MachineState) : Type 0 where
   pub empty : (after : Held) → held_of new.held name ≡ Some after → after.items ≡ []
 
 gone_ended : (name : List ℕ) (old new : MachineState) → Stays (record old { held = without_name old.held name }) new → Ended name old new
-gone_ended name old new s =
-    let mid : MachineState = record old { held = without_name old.held name } in
-    let removed : Passes name old mid = record { held = λ other apart. freed_other old.held name other apart; keeps = λ other live. keeps_same other old.live.stage old.live.stage live refl } in
-    record {
-      passes = passes_both name old mid new removed (stays_passes name mid new s);
-      empty = λ after after_is. absurd (none_some after (sym (ap (λ hs. held_of hs name) s.held ∙ freed_own old.held name) ∙ after_is));
-    }
+gone_ended name old new s = grind (arith, freed_other, freed_own)
 
 frees_ended : (begun : LiveState) (first : ℕ) (lines : List (List ℕ)) (taken : List Turn) (old new : MachineState) (h : Held) (text : OpenText) → Books begun first lines taken old → held_of old.held h.name ≡ Some h → h.items ≡ [] → h.text ≡ text → Frees text h.name old new → Ended h.name old new
-frees_ended begun first lines taken old new h Lost b is none text_is same =
-    record {
-      passes = stays_passes h.name old new (stays_same old new same);
-      empty = λ after after_is.
-          let kept : Some after ≡ Some h = sym after_is ∙ (ap (λ (m : MachineState). held_of m.held h.name) same ∙ is) in
-          ap (λ (x : Held). x.items) (some_same after h kept) ∙ none;
-    }
+frees_ended begun first lines taken old new h Lost b is none text_is same = grind arith
 frees_ended begun first lines taken old new h NoText b is none text_is freed = gone_ended h.name old new (stays_same (record old { held = without_name old.held h.name }) new freed)
 frees_ended begun first lines taken old new h (Begun text) b is none text_is serves =
     let F : Option Held → Type 0 = λ x. Follows h.name (begun.texts h.name) (said_by h.name lines) (said_by h.name (heard_lines b.turns)) x (old.live.texts h.name) in
@@ -214,13 +149,7 @@ frees_in begun first lines taken old new [] h on none frees all =
 frees_in begun first lines taken old new (item ∷ items) h on is same all = let P : MachineState → Type 0 = λ m. (other : List ℕ) → IsIn m other in subst P (sym same) all
 
 item_in : (old new : MachineState) (h : Held) (item : HeldItem) (items : List HeldItem) → held_of old.held h.name ≡ Some h → h.items ≡ item ∷ items → held_of new.held h.name ≡ Some (record h { items = items }) → Passes h.name old new → ((other : List ℕ) → IsIn old other) → (other : List ℕ) → IsIn new other
-item_in old new h item items is first_is left p all other =
-    elim (bytes_eq h.name other) as (λ b. bytes_eq h.name other ≡ b → IsIn new other) [
-      | true ↦ λ same.
-          let P : List ℕ → Type 0 = IsIn new in
-          subst P (one_name h.name other same) (left_in old new h item items is first_is left p (all h.name))
-      | false ↦ λ apart. passes_others h.name old new p other apart (all other)
-    ] refl
+item_in old new h item items is first_is left p all other = search (one_name, arith)
 
 first_in : (begun : LiveState) (first : ℕ) (lines : List (List ℕ)) (taken : List Turn) (old new : MachineState) (h : Held) (items : List HeldItem) → Books begun first lines taken old → held_of old.held h.name ≡ Some h → h.items ≡ items → ServesFirst items h old new → ((other : List ℕ) → IsIn old other) → (other : List ℕ) → IsIn new other
 first_in begun first lines taken old new h [] b is none serves all = absurd serves
@@ -240,8 +169,7 @@ given_in begun first lines taken old new h (Some item ∷ items) b is first_is (
 
 -- a `wait` holds its name
 takeable_live : (h : Option History) → takeable_in h ≡ true → is_some h ≡ true
-takeable_live (Some h) takeable = refl
-takeable_live None takeable = takeable
+takeable_live h takeable = grind arith
 
 busy_live : (live : LiveState) (name : List ℕ) → is_busy live name ≡ true → is_live live.stage name ≡ true
 busy_live live name busy = takeable_live (live_of live.stage.service.histories (last_id live.stage.names name)) busy
@@ -261,37 +189,12 @@ held_in old new name line free waits (inl held) all other =
       | false ↦ λ apart. in_keeps old new other (all other) (ap (λ (m : MachineState). held_of m.held other) held ∙ added_other old.held h other apart) (λ live. keeps_same other old.live.stage new.live.stage live stage)
     ] refl
 
--- a line of a held name
-form_id : (form : LineForm) (h new : Held) (line : List ℕ) → HearsForm form h line new → new.id ≡ h.id
-form_id (Asks Blank) h new line same = ap (λ (x : Held). x.id) same
-form_id (Asks (Command command)) h new line (items, puts, same) = ap (λ (x : Held). x.id) same
-form_id (Asks Wait) h new line (items, puts, same) = ap (λ (x : Held). x.id) same
-form_id (Asks (Refused refusal)) h new line (items, puts, same) = ap (λ (x : Held). x.id) same
-form_id (Begins kind) h new line (inl same) = ap (λ (x : Held). x.id) same
-form_id (Begins kind) h new line (inr same) = ap (λ (x : Held). x.id) same
-
 heard_id : (text : OpenText) (ends : Bool) (h new : Held) (line : List ℕ) → HearsIn text ends h line new → new.id ≡ h.id
-heard_id NoText ends h new line hears = form_id (form_of line) h new line hears
-heard_id (Begun lines) false h new line (inl same) = ap (λ (x : Held). x.id) same
-heard_id (Begun lines) false h new line (inr same) = ap (λ (x : Held). x.id) same
-heard_id (Begun lines) true h new line (items, puts, same) = ap (λ (x : Held). x.id) same
-heard_id Lost false h new line same = ap (λ (x : Held). x.id) same
-heard_id Lost true h new line same = ap (λ (x : Held). x.id) same
+heard_id text ends h new line hears = grind arith
 
 -- what was held of the name is held on with a further line
 after_in : (old : MachineState) (name : List ℕ) (h after : Held) (item : HeldItem) (items : List HeldItem) → held_of old.held name ≡ Some h → after.name ≡ name → after.id ≡ h.id → h.items ≡ item ∷ items → ((other : List ℕ) → IsIn old other) → (other : List ℕ) → IsIn (record old { held = with_held old.held after }) other
-after_in old name h after item items is named id first_is all other =
-    elim (bytes_eq after.name other) as (λ b. bytes_eq after.name other ≡ b → IsIn (record old { held = with_held old.held after }) other) [
-      | true ↦ λ same.
-          let N : List ℕ → Type 0 = λ n. held_of old.held n ≡ Some h in
-          let own = subst N (sym named) is in
-          let P : List ℕ → Type 0 = IsIn (record old { held = with_held old.held after }) in
-          subst P (one_name after.name other same) (λ x x_is some.
-          let it : x ≡ after = some_same x after (sym x_is ∙ changed_own old.held h after own) in
-          let (was, live) = all after.name h own (λ none. no_first item items (sym first_is ∙ none)) in
-          (ap (λ (y : Held). y.id) it ∙ (id ∙ was), live))
-      | false ↦ λ apart. in_keeps old (record old { held = with_held old.held after }) other (all other) (changed_other old.held after other apart) (λ live. keeps_same other old.live.stage old.live.stage live refl)
-    ] refl
+after_in old name h after item items is named id first_is all other = grind (arith, one_name, changed_own, changed_other)
 
 waits_in : (begun : LiveState) (first : ℕ) (lines : List (List ℕ)) (taken : List Turn) (old new : MachineState) (name : List ℕ) (h after : Held) (items : List HeldItem) → Books begun first lines taken (record old { held = with_held old.held after }) → held_of old.held name ≡ Some h → after.name ≡ name → after.id ≡ h.id → h.items ≡ items → WaitsAfter items after (record old { held = with_held old.held after }) new → ((other : List ℕ) → IsIn old other) → (other : List ℕ) → IsIn new other
 waits_in begun first lines taken old new name h after (item ∷ items) b is named id first_is same all =
@@ -322,8 +225,7 @@ name_in begun first lines taken old new name line None b ok of is hears all = fr
 -- a line that evicts nobody, of no name
 nobody_in : (old new : MachineState) (line : List ℕ) (by_hand : Bool) → ((other : List ℕ) → IsNoEviction other (asked_of line)) → ServesNobodys by_hand line old new → ((other : List ℕ) → IsIn old other) → (other : List ℕ) → IsIn new other
 nobody_in old new line false stays serves all = stays_in old new (line_stays old new line stays serves) all
-nobody_in old new line true stays (made, asks, serves) all =
-    stays_in old new (line_stays old new made (λ other. let P : Asked → Type 0 = IsNoEviction other in subst P (sym asks) tt) serves) all
+nobody_in old new line true stays (made, asks, serves) all = search arith
 
 operator_in : (begun : LiveState) (first : ℕ) (lines : List (List ℕ)) (taken : List Turn) (old new : MachineState) (line : List ℕ) (asked : OperatorLine (List ℕ)) → Books begun first lines taken old → asked_of line ≡ Operates asked → HearsAsked (Operates asked) line old new → ((other : List ℕ) → IsIn old other) → (other : List ℕ) → IsIn new other
 operator_in begun first lines taken old new line (Evict name) b is (mid, serves, ends) all =
@@ -367,8 +269,7 @@ call_in begun first lines taken old new (Drain log told) b (log_is, told_is, dra
 
 calls_in : (begun : LiveState) (first : ℕ) (before calls : List Call) (old new : MachineState) → Accounts begun first before old → Run old calls new → ((other : List ℕ) → IsIn old other) → (other : List ℕ) → IsIn new other
 calls_in begun first before [] old new a same all = let P : MachineState → Type 0 = λ m. (other : List ℕ) → IsIn m other in subst P (sym same) all
-calls_in begun first before (call ∷ calls) old new a (mid, one, rest) all =
-    calls_in begun first (before ++ call ∷ []) calls mid new (happened begun first before old mid call a one) rest (call_in begun first (lines_in before) a.taken old mid call a.books one all)
+calls_in begun first before (call ∷ calls) old new a (mid, one, rest) all = grind (arith, calls_in begun first (before ++ call ∷ []) calls mid new (happened begun first before old mid call a one) rest (call_in begun first (lines_in before) a.taken old mid call a.books one all))
 
 pub in_tenancy : (begun : LiveState) (first : ℕ) (calls : List Call) (now : MachineState) (name : List ℕ) (h : Held) → Run (begins_with begun first) calls now → held_of now.held name ≡ Some h → h.items ≢ [] →
     (h.id ≡ last_id now.live.stage.names name) × (is_some (live_of now.live.stage.service.histories h.id) ≡ true)

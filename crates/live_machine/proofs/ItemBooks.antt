@@ -1,14 +1,5 @@
 -- What the items of a held name do to what was said and served.
-use Rattle.std.proofs.Common.{◌≡◌, ℕ, List, [], ◌∷◌, ◌++◌, Option, Some, None, refl, sym, ap, subst, ◌∙◌, append-nil}
-use Rattle.sessions.specs.Reading.{TextSoFar}
-use Rattle.live_lines.specs.Laws.{said_by}
-use Rattle.live_lines.specs.Live.{LiveState}
-use Rattle.live_machine.specs.Held.{Held, HeldItem, held_of, with_held, without_name}
-use Rattle.live_machine.specs.declared.held.OpenText.{OpenText}
-use Rattle.live_machine.specs.declared.held.OpenText.TheVariants.{NoText, Begun, Lost}
-use Rattle.live_machine.specs.Machine.{EndsHold, Frees, MachineState, ServesAll, ServesItem, ServesItems, TellsLost}
-use Rattle.live_machine.specs.Turn.{Turn, heard_lines}
-use Rattle.live_machine.specs.Turn.Turn.{Loses}
+use Rattle.live_machine.proofs.Prelude.{◌≡◌, ℕ, List, [], ◌∷◌, ◌++◌, Option, Some, None, refl, sym, ap, subst, ◌∙◌, append-nil, arith, TextSoFar, said_by, LiveState, Held, HeldItem, held_of, with_held, without_name, OpenText, NoText, Begun, Lost, EndsHold, Frees, MachineState, ServesAll, ServesItem, ServesItems, TellsLost, Turn, heard_lines, Loses}
 use Rattle.live_machine.proofs.Books.{Books, follow_as}
 use Rattle.live_machine.proofs.FollowLemmas.{AreOf, Follows}
 use Rattle.live_machine.proofs.TakeLemmas.{IsTaken, follow_freed, follow_taken, follow_text}
@@ -35,9 +26,7 @@ item_served begun first lines taken turns old new h item items b is t about held
 
 pub taken_of : (begun : LiveState) (first : ℕ) (lines : List (List ℕ)) (taken : List Turn) (old : MachineState) (h : Held) (item : HeldItem) (items : List HeldItem) (b : Books begun first lines taken old) → held_of old.held h.name ≡ Some h → h.items ≡ item ∷ items →
     IsTaken h.name (begun.texts h.name) (said_by h.name lines) (said_by h.name (heard_lines b.turns)) h item items (old.live.texts h.name)
-taken_of begun first lines taken old h item items b is first_is =
-    let P : Option Held → Type 0 = λ x. Follows h.name (begun.texts h.name) (said_by h.name lines) (said_by h.name (heard_lines b.turns)) x (old.live.texts h.name) in
-    follow_taken h.name (begun.texts h.name) (said_by h.name lines) (said_by h.name (heard_lines b.turns)) h item items (old.live.texts h.name) (subst P is (b.said h.name (b.named h.name h is))) first_is
+taken_of begun first lines taken old h item items b is first_is = search (follow_taken, arith)
 
 -- an item that is lost is told
 pub item_lost : (begun : LiveState) (first : ℕ) (lines : List (List ℕ)) (taken : List Turn) (old new : MachineState) (h : Held) (item : HeldItem) (items : List HeldItem) → Books begun first lines taken old → held_of old.held h.name ≡ Some h → h.items ≡ item ∷ items → TellsLost (record old { held = with_held old.held (record h { items = items }) }) h.name new →
@@ -87,11 +76,7 @@ books_item begun first lines taken old new h (Some item) items b is first_is ser
 
 pub books_items : (begun : LiveState) (first : ℕ) (lines : List (List ℕ)) (taken : List Turn) (old new : MachineState) (h : Held) (items : List HeldItem) → Books begun first lines taken old → held_of old.held h.name ≡ Some h → h.items ≡ items → ServesItems items h old new →
     IsOn begun first lines taken new (record h { items = [] })
-books_items begun first lines taken old new h [] b is none same =
-    let P : MachineState → Type 0 = λ m. IsOn begun first lines taken m (record h { items = [] }) in
-    let empty : record h { items = [] } ≡ h = ap (λ (all : List HeldItem). record h { items = all }) (sym none) in
-    let Q : Held → Type 0 = λ x. IsOn begun first lines taken old x in
-    subst P (sym same) (subst Q (sym empty) (record { books = b; held_is = is }))
+books_items begun first lines taken old new h [] b is none same = grind arith
 books_items begun first lines taken old new h (item ∷ items) b is first_is (mid, one, more) =
     let on = books_item begun first lines taken old mid h item items b is first_is one in
     books_items begun first lines taken mid new (record h { items = items }) items on.books on.held_is refl more

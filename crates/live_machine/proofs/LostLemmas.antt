@@ -1,14 +1,5 @@
 -- Items that were lost, taken and answered at once.
-use Rattle.std.proofs.Common.{◌≡◌, ℕ, zero, suc, ◌+◌, ◌<◌, List, [], ◌∷◌, ◌++◌, Bool, true, false, cond, Option, Some, None, refl, sym, ap, subst, ◌∙◌, arith, append-nil, append_assoc}
-use Rattle.std.specs.Prelude.{replicate}
-use Rattle.std.specs.List.{AllByRecursion, repeat}
-use Rattle.std.specs.Str.{bytes_eq}
-use Rattle.sessions.specs.SessionText.{no_memory_text}
-use Rattle.tagged_lines.specs.Tags.{output_of}
-use Rattle.live_lines.specs.Live.{for_name}
-use Rattle.live_machine.specs.Held.{Held, HeldItem, TakesLostOf, held_of, with_held}
-use Rattle.live_machine.specs.Machine.{MachineState, ServesItems, TellsLost}
-use Rattle.live_machine.specs.Parts.{AreServed, ServesNext, ServesOne, ServesSome, TellsLostItems}
+use Rattle.live_machine.proofs.Prelude.{◌≡◌, ℕ, zero, suc, ◌+◌, ◌<◌, List, [], ◌∷◌, ◌++◌, Bool, true, false, Option, Some, None, refl, sym, ap, subst, ◌∙◌, arith, append-nil, append_assoc, replicate, AllByRecursion, repeat, no_memory_text, output_of, for_name, Held, HeldItem, TakesLostOf, held_of, with_held, MachineState, ServesItems, TellsLost, AreServed, ServesNext, ServesOne, ServesSome, TellsLostItems}
 use Rattle.live_machine.proofs.HeldLemmas.{name_of_held, same_name}
 use Rattle.live_machine.proofs.MachineLemmas.{own_after, same_held}
 
@@ -34,21 +25,12 @@ told_once old new name tells = tells ∙ ap (λ (t : List ℕ). record old { tol
 
 -- no item was lost
 pub none_lost : (o : Option Held) (old : List Held) (name : List ℕ) (new : List Held) → held_of old name ≡ o → TakesLostOf o old 0 new → new ≡ old
-none_lost None old name new is (none, same) = same
-none_lost (Some h) old name new is (after, (lost, kept), changed) =
-    let same : after ≡ h = kept ∙ ap (λ (its : List HeldItem). record h { items = its }) (sym lost.taken) in
-    changed ∙ (ap (with_held old) same ∙ same_held old name h is)
+none_lost o old name new is h2 = grind (arith, same_held)
 
 -- of what is put in the place of a name the last stays
 held_twice : (held : List Held) (h : Held) (first last : List HeldItem) → with_held (with_held held (record h { items = first })) (record h { items = last }) ≡ with_held held (record h { items = last })
 held_twice [] h first last = refl
-held_twice (x ∷ held) h first last =
-    let a : Held = record h { items = first } in
-    let b : Held = record h { items = last } in
-    elim (bytes_eq x.name h.name) as (λ t. bytes_eq x.name h.name ≡ t → with_held (cond t (a ∷ held) (x ∷ with_held held a)) b ≡ cond t (b ∷ held) (x ∷ with_held held b)) [
-      | true ↦ λ e. ap (λ t. cond t (b ∷ held) (a ∷ with_held held b)) (same_name h.name)
-      | false ↦ λ e. ap (λ t. cond t (b ∷ with_held held a) (x ∷ with_held (with_held held a) b)) e ∙ ap (λ hs. x ∷ hs) (held_twice held h first last)
-    ] refl
+held_twice (x ∷ held) h first last = grind (arith, same_name, held_twice held h first last)
 
 -- items that are answered at once are served one after another
 told_at_once : (n : ℕ) (left : List HeldItem) (h : Held) (old new : MachineState) → TellsLostItems (suc n) (record old { held = with_held old.held (record h { items = left }) }) h.name new → ServesSome (replicate (suc n) None) left h old new
@@ -64,21 +46,7 @@ told_at_once (suc n) left h old new tells =
     (mid, refl, told_at_once n left h mid new (tells ∙ (ap (λ (hs : List Held). record old { held = hs; told = old.told ++ (text ++ all) }) held ∙ ap (λ (t : List ℕ). record old { held = with_held mid.held last; told = t }) told)))
 
 pub lost_served : (o : Option Held) (old new : MachineState) (name : List ℕ) (count : ℕ) (held : List Held) → held_of old.held name ≡ o → 0 < count → TakesLostOf o old.held count held → TellsLostItems count (record old { held = held }) name new → ServesNext true o name old new
-lost_served None old new name count held is some (none, same) tells = absurd (omega (arith, some, none))
-lost_served (Some h) old new name zero held is some taken tells = absurd (omega (arith, some))
-lost_served (Some h) old new name (suc n) held is some (after, (lost, kept), changed) tells =
-    let left : List HeldItem = after.items in
-    let last : Held = record h { items = left } in
-    let so : held ≡ with_held old.held last = changed ∙ ap (with_held old.held) kept in
-    let P : List Held → Type 0 = λ hs. TellsLostItems (suc n) (record old { held = hs }) name new in
-    let Q : List ℕ → Type 0 = λ n'. TellsLostItems (suc n) (record old { held = with_held old.held last }) n' new in (
-      None,
-      replicate n None,
-      left,
-      lost.taken,
-      told_at_once n left h old new (subst Q (sym (name_of_held old.held name h is)) (subst P so tells)),
-      ap (λ hs. held_of hs name) (ap (λ (m : MachineState). m.held) tells ∙ so) ∙ own_after old.held name h left is,
-    )
+lost_served o old new name count held is some taken tells = grind (arith, told_at_once, name_of_held, own_after)
 
 -- the first item is the next one
 pub one_next : (went : Bool) (o : Option Held) (old new : MachineState) (name : List ℕ) → ServesOne went o name old new → ServesNext went o name old new
@@ -89,9 +57,7 @@ one_next false (Some h) old new name one = one
 
 -- no item that comes next was lost
 pub next_alone : (went : Bool) (old new : MachineState) (name : List ℕ) (held : List Held) → TakesLostOf (held_of old.held name) old.held 0 held → ServesOne went (held_of held name) name (record old { held = held }) new → ServesNext went (held_of old.held name) name old new
-next_alone went old new name held taken one =
-    let P : List Held → Type 0 = λ hs. ServesOne went (held_of hs name) name (record old { held = hs }) new in
-    one_next went (held_of old.held name) old new name (subst P (none_lost (held_of old.held name) old.held name held refl taken) one)
+next_alone went old new name held taken one = grind (arith, one_next, none_lost)
 
 -- what is left is served after the first ones
 of_left : (left : List HeldItem) (h : Held) (items : List HeldItem) (old new : MachineState) → ServesItems left (record h { items = items }) old new → ServesItems left h old new

@@ -1,26 +1,7 @@
 -- The lines that the machine makes itself.
-use Rattle.std.proofs.Common.{◌≡◌, ℕ, zero, suc, ◌+◌, ◌≤◌, eqb, take, List, [], ◌∷◌, ◌++◌, codes, length, Bool, true, false, not, ◌&&◌, refl, sym, ap, subst, ◌∙◌, lit<, arith, append-nil, length-append}
-use Rattle.std.specs.Prelude.{IfOk, Result, Ok, Err, nat_lt, nat_le}
-use Rattle.std.specs.List.{list_all, position_or_len}
-use Rattle.std.proofs.lemmas.Fmt.{decimal_digit}
-use Rattle.std.specs.Str.{bytes_eq}
-use Rattle.std.proofs.lemmas.Bool.Decides.{nat_tests}
-use Rattle.std.proofs.lemmas.List.{take_all}
-use Rattle.std.proofs.lemmas.Slice.Eq.{bytes_eq-Decides}
-use Rattle.script_text.specs.Script.{is_name, is_name_byte}
-use Rattle.sessions.specs.Items.{without_cr}
-use Rattle.sessions.specs.SessionLines.{line_form}
-use Rattle.line_feed.specs.Pieces.{is_one_line, kept_of}
-use Rattle.tagged_lines.specs.Tags.{id_of, is_good_id, is_of, is_tag, owner_of, rest_of, tag_of, tagged_text}
+use Rattle.live_machine.proofs.Prelude.{◌≡◌, ℕ, zero, suc, ◌+◌, ◌≤◌, eqb, take, List, [], ◌∷◌, ◌++◌, codes, length, Bool, true, false, not, ◌&&◌, refl, ap, ◌∙◌, lit<, arith, append-nil, length-append, nat_lt, list_all, decimal_digit, bytes_eq, take_all, bytes_eq-Decides, is_name, is_name_byte, without_cr, line_form, is_one_line, kept_of, id_of, is_good_id, is_of, is_tag, owner_of, rest_of, tag_of, tagged_text, both, rest_is, tag_is, both_lines, LiveState, asked_of, NoForm, Says, named, named_of, not_10, of_name_tag, says, IsSaidBy, form_of, is_wait, IsLine, IsStatusFor, is_by_hand, NeedNotWait, nomemory_reply}
+use Rattle.std.specs.Prelude.{IfOk, Result, nat_le}
 use Rattle.live_machine.proofs.TagLengths.{is_short}
-use Rattle.tagged_lines.proofs.TagLemmas.{both, rest_is, tag_is}
-use Rattle.line_service.proofs.LineLemmas.{both_lines}
-use Rattle.live_lines.specs.Live.{Asked, LiveState, asked_of}
-use Rattle.live_lines.specs.Live.Asked.{NoForm, Says}
-use Rattle.live_lines.proofs.LawLemmas.{IsNamed, named, named_of, not_10, of_name_tag, says}
-use Rattle.live_machine.specs.Held.{IsSaidBy, form_of, is_wait}
-use Rattle.live_machine.specs.Machine.{IsLine, IsStatusFor, is_busy, is_by_hand, is_outside}
-use Rattle.live_machine.specs.Workers.{NeedNotWait, nomemory_reply}
 
 -- a name is short, and no byte of it ends a line
 bytes_line : (name : List ℕ) → list_all is_name_byte name ≡ true → is_one_line name ≡ true
@@ -33,10 +14,7 @@ name_line : (name : List ℕ) → is_name name ≡ true → is_one_line name ≡
 name_line name ok = bytes_line name (both (nat_lt 0 (length name) && nat_le (length name) 32) (list_all is_name_byte name) ok).1
 
 name_short : (name : List ℕ) → is_name name ≡ true → length name ≤ 32
-name_short name ok =
-    let parts = both (nat_lt 0 (length name)) (nat_le (length name) 32) (both (nat_lt 0 (length name) && nat_le (length name) 32) (list_all is_name_byte name) ok).0 in
-    let short : nat_le (length name) 32 ≡ true = parts.1 in
-    grind (arith, nat_tests, short)
+name_short name ok = grind arith
 
 kept_whole : (text : List ℕ) → length text ≤ 1048640 → kept_of text ≡ text
 unfolding kept_of
@@ -47,18 +25,11 @@ line_of : (text : List ℕ) → is_one_line text ≡ true → length text ≤ 10
 line_of text one short = record { kept = kept_whole text short; one = one }
 
 pub name_in_line : (before name after : List ℕ) → is_name name ≡ true → is_one_line before ≡ true → is_one_line after ≡ true → length before + length after ≤ 1000 → IsLine (before ++ (name ++ after))
-name_in_line before name after ok first last few =
-    let short = name_short name ok in
-    let all : length (before ++ (name ++ after)) ≡ length before + (length name + length after) = length-append before (name ++ after) ∙ ap (λ n. length before + n) (length-append name after) in
-    line_of (before ++ (name ++ after)) (both_lines before (name ++ after) first (both_lines name after (name_line name ok) last)) (omega (arith, short, few, all))
+name_in_line before name after ok first last few = grind (arith, length-append, line_of, both_lines, name_line)
 
 -- a line after `? ` has no form
 pub after_mark : (line : List ℕ) → IsLine line → length line ≤ 1048638 → IsLine (63 ∷ 32 ∷ (line ++ []))
-after_mark line is short =
-    let same : line ++ [] ≡ line = append-nil line in
-    let one : is_one_line (line ++ []) ≡ true = ap is_one_line same ∙ is.one in
-    let count : length (line ++ []) ≡ length line = ap length same in
-    line_of (63 ∷ 32 ∷ (line ++ [])) one (omega (arith, short, count))
+after_mark line is short = grind (arith, append-nil, line_of)
 
 pub mark_alone : IsLine (63 ∷ [])
 mark_alone = line_of (63 ∷ []) refl (omega arith)
@@ -86,10 +57,7 @@ record HasTagOf (name line : List ℕ) : Type 0 where
   one : is_one_line (tag_of line) ≡ true
 
 has_tag_of : (name line : List ℕ) → IsSaidBy name line → HasTagOf name line
-has_tag_of name line said =
-    let P : Asked → Type 0 = IsNamed (tag_of line) in
-    let (ok, own, good) = subst P said.says (named line) in
-    record { named = ok; owner = own; good = good; tag = of_name_tag (tag_of line) name ok own good; one = one_start (position_or_len (λ byte. eqb byte 32) line) line said.one }
+has_tag_of name line said = grind (arith, named, of_name_tag, one_start)
 
 status_tag : (name line : List ℕ) → HasTagOf name line → tag_of (status_text (tag_of line)) ≡ tag_of line
 status_tag name line has = tag_is (tag_of line) (codes "status") has.tag
@@ -110,36 +78,20 @@ pub status_by_hand : (name line : List ℕ) → IsSaidBy name line → is_by_han
 status_by_hand name line said = ap is_by_hand (status_asks name line (has_tag_of name line said))
 
 pub status_line : (name line : List ℕ) → IsSaidBy name line → IsLine (status_text (tag_of line))
-status_line name line said =
-    let has = has_tag_of name line said in
-    let tag = tag_of line in
-    let short = name_short name has.named in
-    let own : length (owner_of tag) ≡ length (64 ∷ name) = ap length has.owner in
-    let tag_short = is_short tag has.good in
-    let all : length (status_text tag) ≡ length tag + 7 = length-append tag (codes " status") in
-    line_of (status_text tag) (both_lines tag (codes " status") has.one refl) (omega (arith, short, own, tag_short, all))
+status_line name line said = grind (arith, is_short, length-append, line_of, both_lines, has_tag_of name line said)
 
 status_is_no_wait : (name line : List ℕ) → HasTagOf name line → is_wait (form_of (status_text (tag_of line))) ≡ false
 status_is_no_wait name line has = ap (λ r. is_wait (line_form (without_cr r))) (status_rest name line has)
 
 and_none : (a b c : Bool) → b ≡ false → a && (b && c) ≡ false
-and_none a b c none = ap (λ x. a && (x && c)) none ∙ and_false a
-  where
-    and_false : (x : Bool) → x && false ≡ false
-    and_false true = refl
-    and_false false = refl
+and_none a b c none = grind arith
 
 pub status_need_not : (live : LiveState) (name line : List ℕ) → IsSaidBy name line → NeedNotWait live (asked_of (status_text (tag_of line))) (status_text (tag_of line))
-status_need_not live name line said =
-    let has = has_tag_of name line said in
-    let text = status_text (tag_of line) in
-    let P : Asked → Type 0 = λ a. NeedNotWait live a text in
-    subst P (sym (status_asks name line has)) (and_none (is_outside (live.texts name)) (is_wait (form_of text)) (is_busy live name) (status_is_no_wait name line has))
+status_need_not live name line said = grind (arith, and_none, status_is_no_wait, has_tag_of name line said)
 
 -- the reply that memory ran out
 pub nomemory_is : (name : List ℕ) → nomemory_reply name ≡ codes "op lines 1" ++ 10 ∷ (codes "op nomemory" ++ 10 ∷ [])
 nomemory_is name = ap (λ d. tagged_text (codes "op") (codes "lines " ++ d) ++ (codes "op nomemory" ++ 10 ∷ [])) (decimal_digit 1 (lit< tt))
 
 pub if_ok : {A E : Type 0} {P Q : A → Type 0} → (r : Result A E) → ((x : A) → P x → Q x) → IfOk r P → IfOk r Q
-if_ok (Ok x) f p = f x p
-if_ok (Err e) f p = tt
+if_ok r f p = grind arith

@@ -1,18 +1,5 @@
 -- What a name's lines do to what was said and served.
-use Rattle.std.proofs.Common.{◌≡◌, inl, inr, ℕ, List, [], ◌∷◌, ◌++◌, Bool, true, false, Option, Some, None, refl, sym, ap, subst, ◌∙◌, append-nil}
-use Rattle.std.specs.Str.{bytes_eq}
-use Rattle.script_text.specs.Script.{is_name}
-use Rattle.sessions.specs.declared.line.SessionLine.{SessionLine}
-use Rattle.sessions.specs.Reading.{TextSoFar}
-use Rattle.operator.specs.OperatorText.{last_id}
-use Rattle.live_lines.specs.Laws.{said_by}
-use Rattle.live_lines.specs.Live.{LiveState}
-use Rattle.live_machine.specs.Account.{nobodys_lines}
-use Rattle.live_machine.specs.Held.{Held, HearsHeld, form_of, held_of, is_wait, with_held}
-use Rattle.live_machine.specs.declared.held.OpenText.TheVariants.{NoText}
-use Rattle.live_machine.specs.Machine.{Holds, MachineState, ServesSaid, must_wait}
-use Rattle.live_machine.specs.Turn.{Turn, heard_lines}
-use Rattle.live_machine.specs.Turn.Turn.{Loses}
+use Rattle.live_machine.proofs.Prelude.{◌≡◌, inl, inr, ℕ, List, [], ◌∷◌, ◌++◌, Bool, true, false, Option, Some, None, refl, sym, ap, subst, ◌∙◌, append-nil, arith, bytes_eq, is_name, SessionLine, TextSoFar, last_id, said_by, LiveState, nobodys_lines, Held, HearsHeld, form_of, held_of, is_wait, with_held, NoText, Holds, MachineState, ServesSaid, must_wait, Turn, heard_lines, Loses}
 use Rattle.live_machine.proofs.Books.{Books, Followed, books_more, follow_as, nobodys_both, not_nobodys}
 use Rattle.live_machine.proofs.FollowLemmas.{AreOf, Follows, IsOf, follow_heard, follow_held, follow_other, follow_served, wait_whole}
 use Rattle.live_machine.proofs.HeldLemmas.{added_other, added_own, changed_other, changed_own, one_name}
@@ -65,22 +52,10 @@ books_silent begun first lines heard taken turns old new b name about own =
 -- lines of one name are served, after what is held of it changed
 pub about_served : (name : List ℕ) → is_name name ≡ true → (lines : List (List ℕ)) (old : MachineState) (held : List Held) (new : MachineState) → AreOf name lines → (s : ServedAs name lines (record old { held = held }) new) → ((other : List ℕ) → bytes_eq name other ≡ false → held_of held other ≡ held_of old.held other) →
     IsAbout name old s.turns lines new
-about_served name ok lines old held new of s same =
-    record {
-      named = ok;
-      of = of;
-      makes = record { day = s.makes.day; log = s.makes.log; told = s.makes.told; served = s.makes.served };
-      heard_is = s.heard;
-      held = λ other apart. ap (λ hs. held_of hs other) s.held ∙ same other apart;
-      read = λ other apart is.
-          let P : List (List ℕ) → Type 0 = λ l. (items : List SessionLine) × Reads (old.live.texts other) l items (new.live.texts other) in
-          subst P (other_lines name other lines of apart) (s.read other is);
-    }
+about_served name ok lines old held new of s same = grind (arith, other_lines)
 
 pub own_read : (name : List ℕ) → is_name name ≡ true → (lines : List (List ℕ)) (old new : MachineState) → AreOf name lines → ServedAs name lines old new → (items : List SessionLine) × Reads (old.live.texts name) (rests lines) items (new.live.texts name)
-own_read name ok lines old new of s =
-    let P : List (List ℕ) → Type 0 = λ l. (items : List SessionLine) × Reads (old.live.texts name) l items (new.live.texts name) in
-    subst P (own_lines name lines of) (s.read name ok)
+own_read name ok lines old new of s = grind (arith, own_lines)
 
 pub nothing_read : (text new : Option TextSoFar) → new ≡ text → (items : List SessionLine) × Reads text [] items new
 nothing_read text new is = let P : Option TextSoFar → Type 0 = λ t. (items : List SessionLine) × Reads text [] items t in subst P (sym is) ([], λ more. refl)

@@ -1,14 +1,7 @@
 -- The place of a name among those that are held.
-use Rattle.std.proofs.Common.{◌≡◌, ℕ, suc, ◌+◌, ◌<◌, length, get_or, arith, List, [], ◌∷◌, Bool, true, false, not, nat_lt, cond, Some, None, refl, sym, ap, subst, ◌∙◌}
-use Rattle.std.specs.List.{filter, items_where_true, position, position_or_len, slice_get}
-use Rattle.std.specs.List.Retain.{IsFiltered, ReturnsInTurn}
-use Rattle.std.specs.Str.{bytes_eq}
-use Rattle.std.proofs.Math.ListN.{set}
-use Rattle.std.proofs.lemmas.Bool.Decides.{nat_tests}
-use Rattle.std.proofs.lemmas.Option.{slice_get-get_or, slice_get_past}
+use Rattle.live_machine.proofs.Prelude.{◌≡◌, ℕ, suc, ◌+◌, ◌<◌, length, get_or, arith, List, [], ◌∷◌, Bool, true, false, not, cond, Some, None, refl, ap, subst, ◌∙◌, filter, items_where_true, position, position_or_len, IsFiltered, ReturnsInTurn, bytes_eq, set, slice_get-get_or, slice_get_past, Held, HearsHeld, HearsOf, TakesFirst, TakesLostItems, TakesLostOf, TakesOf, held_of, with_held, without_name}
+use Rattle.std.specs.List.{slice_get}
 use Rattle.backlog.specs.declared.backlog.Turn.{Turn}
-use Rattle.backlog.specs.declared.backlog.Turn.TheVariants.{Item, Nothing, Lost as ItemIsLost}
-use Rattle.live_machine.specs.Held.{Held, HearsHeld, HearsOf, TakesFirst, TakesLostItems, TakesLostOf, TakesOf, held_of, with_held, without_name}
 use Rattle.live_machine.proofs.HeldLemmas.{name_of_held, same_name}
 
 -- the name is that of what is held
@@ -17,11 +10,7 @@ is_of name h = bytes_eq h.name name
 
 held_at : (held : List Held) (name : List ℕ) → held_of held name ≡ slice_get held (position_or_len (is_of name) held)
 held_at [] name = refl
-held_at (h ∷ held) name =
-    elim (bytes_eq h.name name) as (λ b. cond b (Some h) (held_of held name) ≡ slice_get (h ∷ held) (cond (not b) (1 + position_or_len (is_of name) held) 0)) [
-      | true ↦ refl
-      | false ↦ (let n : 1 + position_or_len (is_of name) held ≡ suc (position_or_len (is_of name) held) = omega arith in held_at held name ∙ ap (slice_get (h ∷ held)) (sym n))
-    ]
+held_at (h ∷ held) name = grind (arith, held_at held name)
 
 changed_at : (held : List Held) (new : Held) → position_or_len (is_of new.name) held < length held → set held (position_or_len (is_of new.name) held) new ≡ with_held held new
 changed_at [] new within = absurd (omega arith)
@@ -40,27 +29,10 @@ pub record IsPlace (held : List Held) (name : List ℕ) (place : ℕ) : Type 0 w
   pub changed : (new : Held) → new.name ≡ name → set held place new ≡ with_held held new
 
 pub at_place : (held : List Held) (name : List ℕ) (place : ℕ) → position (is_of name) held ≡ Some place → IsPlace held name place
-at_place held name place is =
-    let first = position_or_len (is_of name) held in
-    elim (nat_lt first (length held)) as (λ b. nat_lt first (length held) ≡ b → cond b (Some first) None ≡ Some place → IsPlace held name place) [
-      | true ↦ λ e s.
-          let same : first ≡ place = cc in
-          let less : first < length held = grind (arith, nat_tests, e) in
-          subst (IsPlace held name) same (record {
-            within = less;
-            found = λ h is. held_at held name ∙ (slice_get-get_or held first h less ∙ ap Some (sym is));
-            changed = λ new own. subst (λ n. position_or_len (is_of n) held < length held → set held (position_or_len (is_of n) held) new ≡ with_held held new) own (changed_at held new) less;
-          })
-      | false ↦ λ e s. absurd (cc)
-    ] refl is
+at_place held name place is = grind (arith, held_at, slice_get-get_or, changed_at)
 
 pub at_none : (held : List Held) (name : List ℕ) → position (is_of name) held ≡ None → held_of held name ≡ None
-at_none held name is =
-    let first = position_or_len (is_of name) held in
-    elim (nat_lt first (length held)) as (λ b. nat_lt first (length held) ≡ b → cond b (Some first) None ≡ None → held_of held name ≡ None) [
-      | true ↦ λ e s. absurd (cc)
-      | false ↦ λ e s. held_at held name ∙ slice_get_past held first (grind (arith, nat_tests, e))
-    ] refl is
+at_none held name is = grind (arith, held_at, slice_get_past)
 
 -- what is held at a place has that name
 pub named_at : (held : List Held) (name : List ℕ) (place : ℕ) (h : Held) → IsPlace held name place → h ≡ get_or held place h → h.name ≡ name
@@ -68,36 +40,26 @@ named_at held name place h at is = name_of_held held name h (at.found h is)
 
 pub hears_at : (held : List Held) (name : List ℕ) (place : ℕ) (old : Held) (line : List ℕ) (new : Held) → IsPlace held name place → old ≡ get_or held place old → new.name ≡ old.name → HearsHeld old line new →
     HearsOf (held_of held name) held line (set held place new)
-hears_at held name place old line new at is own hears =
-    subst (λ o. HearsOf o held line (set held place new)) (sym (at.found old is)) (new, hears, at.changed new (own ∙ named_at held name place old at is))
+hears_at held name place old line new at is own hears = grind (arith, named_at held name place old)
 
 keeps_name : (old : Held) (turn : Turn (List (List ℕ))) (new : Held) → TakesFirst old turn new → new.name ≡ old.name
-keeps_name old (Item lines) new takes = ap (λ (h : Held). h.name) takes.1
-keeps_name old ItemIsLost new takes = ap (λ (h : Held). h.name) takes.1
-keeps_name old Nothing new takes = ap (λ (h : Held). h.name) takes.1
+keeps_name old turn new takes = grind arith
 
 pub takes_at : (held : List Held) (name : List ℕ) (place : ℕ) (old : Held) (turn : Turn (List (List ℕ))) (new : Held) → IsPlace held name place → old ≡ get_or held place old → TakesFirst old turn new →
     TakesOf (held_of held name) held turn (set held place new)
-takes_at held name place old turn new at is takes =
-    subst (λ o. TakesOf o held turn (set held place new)) (sym (at.found old is)) (new, takes, at.changed new (keeps_name old turn new takes ∙ named_at held name place old at is))
+takes_at held name place old turn new at is takes = grind (arith, named_at held name place old)
 
 pub takes_lost_at : (held : List Held) (name : List ℕ) (place : ℕ) (old : Held) (count : ℕ) (new : Held) → IsPlace held name place → old ≡ get_or held place old → TakesLostItems old count new →
     TakesLostOf (held_of held name) held count (set held place new)
-takes_lost_at held name place old count new at is (lost, kept) =
-    subst (λ o. TakesLostOf o held count (set held place new)) (sym (at.found old is)) (new, (lost, kept), at.changed new (ap (λ (h : Held). h.name) kept ∙ named_at held name place old at is))
+takes_lost_at held name place old count new at is h3 = grind (arith, named_at held name place old)
 
 -- a name is held no longer, whatever was held of it
 pub freed_changed : (held : List Held) (new : Held) → without_name (with_held held new) new.name ≡ without_name held new.name
 freed_changed [] new = refl
-freed_changed (h ∷ held) new =
-    elim (bytes_eq h.name new.name) as (λ b. bytes_eq h.name new.name ≡ b → without_name (cond b (new ∷ held) (h ∷ with_held held new)) new.name ≡ cond b (without_name held new.name) (h ∷ without_name held new.name)) [
-      | true ↦ λ e. ap (λ b. cond b (without_name held new.name) (new ∷ without_name held new.name)) (same_name new.name)
-      | false ↦ λ e. ap (λ b. cond b (without_name (with_held held new) new.name) (h ∷ without_name (with_held held new) new.name)) e ∙ ap (λ hs. h ∷ hs) (freed_changed held new)
-    ] refl
+freed_changed (h ∷ held) new = grind (arith, same_name, freed_changed held new)
 
 first_left : {X : Type 0} (x : X) (xs ys : List X) (bs : List Bool) (b t : Bool) → b ≡ t → items_where_true bs xs ≡ ys → items_where_true (b ∷ bs) (x ∷ xs) ≡ cond t (x ∷ ys) ys
-first_left x xs ys bs true t e rest = ap (λ l. x ∷ l) rest ∙ ap (λ a. cond a (x ∷ ys) ys) e
-first_left x xs ys bs false t e rest = rest ∙ ap (λ a. cond a (x ∷ ys) ys) e
+first_left x xs ys bs b t e rest = grind arith
 
 left_in_turn : {X F : Type 0} (R : F → X → Bool → F → Type 0) (test : X → Bool) (f : F) → ((x : X) (b : Bool) (g : F) → R f x b g → (b ≡ test x) × (g ≡ f)) →
     (bs : List Bool) (xs : List X) (q : F) → length bs ≡ length xs → ReturnsInTurn R f bs xs q → items_where_true bs xs ≡ filter test xs
@@ -114,8 +76,4 @@ left_by R test f says xs ys h = h.4 ∙ left_in_turn R test f says h.0 xs h.1 h.
 
 pub those_left : (held : List Held) (name : List ℕ) → filter (λ h. not (bytes_eq h.name name)) held ≡ without_name held name
 those_left [] name = refl
-those_left (h ∷ held) name =
-    elim (bytes_eq h.name name) as (λ b. cond (not b) (h ∷ filter (λ (x : Held). not (bytes_eq x.name name)) held) (filter (λ (x : Held). not (bytes_eq x.name name)) held) ≡ cond b (without_name held name) (h ∷ without_name held name)) [
-      | true ↦ those_left held name
-      | false ↦ ap (λ hs. h ∷ hs) (those_left held name)
-    ]
+those_left (h ∷ held) name = grind (arith, those_left held name)

@@ -1,14 +1,5 @@
 -- The items of a name's lines, whatever lines come after them.
-use Rattle.std.proofs.Common.{◌≡◌, ℕ, List, [], ◌∷◌, ◌++◌, map, true, false, cond, Option, Some, None, refl, sym, ap, ◌∙◌, append_assoc}
-use Rattle.std.specs.Prelude.{option_map}
-use Rattle.sessions.specs.declared.line.LineForm.TheVariants.{Asks, Begins}
-use Rattle.sessions.specs.declared.line.SessionLine.{SessionLine}
-use Rattle.sessions.specs.declared.line.SessionLine.TheVariants.{Blank, Command, Wait, Refused}
-use Rattle.sessions.specs.declared.line.TextKind.{TextKind}
-use Rattle.sessions.specs.Items.{begins_text, ends_text, items_from, text_ahead, text_item, with_form, with_item, without_cr}
-use Rattle.sessions.specs.Reading.{TextSoFar, items_to_come}
-use Rattle.sessions.specs.SessionLines.{line_form}
-use Rattle.tagged_lines.specs.Tags.{rest_of}
+use Rattle.live_machine.proofs.Prelude.{◌≡◌, ℕ, List, [], ◌∷◌, ◌++◌, map, true, false, Option, Some, None, refl, ap, ◌∙◌, append_assoc, arith, option_map, Asks, Begins, SessionLine, TextKind, begins_text, ends_text, items_from, text_ahead, text_item, with_form, with_item, without_cr, TextSoFar, items_to_come, line_form, rest_of}
 
 -- a name that was in the first text says these lines: these items come of them, and it is in the
 -- second
@@ -23,42 +14,25 @@ abbrev pub IsWhole : List (List ℕ) → Type 0
 IsWhole lines = (item : SessionLine) × Reads None (rests lines) (item ∷ []) None
 
 pub reads_both : (old mid new : Option TextSoFar) (first second : List (List ℕ)) (items more : List SessionLine) → Reads old first items mid → Reads mid second more new → Reads old (first ++ second) (items ++ more) new
-reads_both old mid new first second items more one other lines =
-    ap (items_to_come old) (append_assoc first second lines)
-    ∙ (one (second ++ lines)
-    ∙ (ap (λ x. items ++ x) (other lines)
-    ∙ sym (append_assoc items more (items_to_come new lines))))
+reads_both old mid new first second items more one other lines = grind (arith, append_assoc)
 
 with_one : (item : SessionLine) (items : List SessionLine) → with_item item items ≡ with_item item [] ++ items
-with_one Blank items = refl
-with_one (Command command) items = refl
-with_one Wait items = refl
-with_one (Refused refusal) items = refl
+with_one item items = grind arith
 
 pub reads_asked : (said : List ℕ) (item : SessionLine) → line_form (without_cr said) ≡ Asks item → Reads None (said ∷ []) (with_item item []) None
 reads_asked said item is more = ap (λ form. with_form form more (items_from (begins_text form) more)) is ∙ with_one item (items_from false more)
 
-mapped_none : (o : Option (List ℕ)) → option_map (λ more. [] ++ more) o ≡ o
-mapped_none None = refl
-mapped_none (Some x) = refl
-
 pub reads_begun : (said : List ℕ) (kind : TextKind) → line_form (without_cr said) ≡ Begins kind → Reads None (said ∷ []) [] (Some (record { kind = kind; bytes = [] }))
-reads_begun said kind is more =
-    ap (λ form. with_form form more (items_from (begins_text form) more)) is
-    ∙ sym (ap (λ o. text_item kind o ∷ items_from true more) (mapped_none (text_ahead more)))
+reads_begun said kind is more = grind arith
 
 mapped_more : (bytes line : List ℕ) (o : Option (List ℕ)) → option_map (λ more. bytes ++ more) (option_map (λ text. line ++ 10 ∷ text) o) ≡ option_map (λ more. (bytes ++ (line ++ 10 ∷ [])) ++ more) o
-mapped_more bytes line None = refl
-mapped_more bytes line (Some x) = ap Some (sym (append_assoc bytes (line ++ 10 ∷ []) x ∙ ap (λ y. bytes ++ y) (append_assoc line (10 ∷ []) x)))
+mapped_more bytes line o = grind (arith, append_assoc)
 
 pub reads_on : (text : TextSoFar) (said : List ℕ) → ends_text said ≡ false → Reads (Some text) (said ∷ []) [] (Some (record text { bytes = text.bytes ++ (without_cr said ++ 10 ∷ []) }))
-reads_on text said is more =
-    ap (λ b. text_item text.kind (option_map (λ more. text.bytes ++ more) (cond b (Some []) (option_map (λ rest. without_cr said ++ 10 ∷ rest) (text_ahead more)))) ∷ cond b (items_from false more) (items_from true more)) is
-    ∙ ap (λ o. text_item text.kind o ∷ items_from true more) (mapped_more text.bytes (without_cr said) (text_ahead more))
+reads_on text said is more = grind (arith, mapped_more text.bytes (without_cr said) (text_ahead more))
 
 pub reads_end : (text : TextSoFar) (said : List ℕ) → ends_text said ≡ true → Reads (Some text) (said ∷ []) (text_item text.kind (Some (text.bytes ++ [])) ∷ []) None
-reads_end text said is more =
-    ap (λ b. text_item text.kind (option_map (λ more. text.bytes ++ more) (cond b (Some []) (option_map (λ rest. without_cr said ++ 10 ∷ rest) (text_ahead more)))) ∷ cond b (items_from false more) (items_from true more)) is
+reads_end text said is more = grind arith
 
 -- after lines that are one item the name is in no text
 none_left : (items : List SessionLine) (item : SessionLine) → items ++ item ∷ [] ≡ [] → ⊥

@@ -1,12 +1,6 @@
 -- How long a tag with an id can be.
-use Rattle.std.proofs.Common.{◌≡◌, ℕ, ◌+◌, ◌<◌, ◌≤◌, Bool, true, false, ◌&&◌, cond, List, ◌∷◌, ◌++◌, length, drop, eqb, get_or, nat_lt, nat_le, Option, Some, None, refl, ap, ◌∙◌, arith, length-append}
-use Rattle.std.specs.Prelude.{option_map}
-use Rattle.std.specs.List.{after_first, before_first, list_all, position_or_len}
-use Rattle.std.proofs.lemmas.Bool.Decides.{nat_tests}
-use Rattle.std.proofs.lemmas.List.{take_all}
-use Rattle.std.proofs.lemmas.List.Sums.{split_at_first}
-use Rattle.tagged_lines.specs.Tags.{id_of, is_good_id, is_id_byte, owner_of}
-use Rattle.tagged_lines.proofs.TagLemmas.{both}
+use Rattle.live_machine.proofs.Prelude.{◌≡◌, ℕ, ◌+◌, ◌<◌, ◌≤◌, Bool, true, false, ◌&&◌, cond, List, ◌∷◌, ◌++◌, length, drop, eqb, get_or, nat_le, Option, Some, None, refl, ap, ◌∙◌, arith, length-append, option_map, after_first, before_first, list_all, position_or_len, nat_tests, take_all, split_at_first, id_of, is_good_id, is_id_byte, owner_of, both}
+use Rattle.std.proofs.Common.{nat_lt}
 
 abbrev is_slash : ℕ → Bool
 is_slash byte = eqb byte 47

@@ -1,14 +1,5 @@
 -- The first item that is held of a name is served, and a name without items is freed.
-use Rattle.std.proofs.Common.{◌≡◌, ℕ, List, [], ◌∷◌, ◌++◌, Option, Some, None, refl, sym, ap, subst, ◌∙◌, append_assoc, append-nil}
-use Rattle.std.specs.Prelude.{⊤}
-use Rattle.std.specs.List.{AllByRecursion, flat_map}
-use Rattle.sessions.specs.declared.line.SessionLine.{SessionLine}
-use Rattle.sessions.specs.Reading.{TextSoFar, items_to_come}
-use Rattle.tagged_lines.specs.Tags.{rest_of}
-use Rattle.live_machine.specs.Account.{AreItems, IsText}
-use Rattle.live_machine.specs.Held.{Held, HeldItem}
-use Rattle.live_machine.specs.declared.held.OpenText.{OpenText}
-use Rattle.live_machine.specs.declared.held.OpenText.TheVariants.{NoText, Begun}
+use Rattle.live_machine.proofs.Prelude.{◌≡◌, ℕ, List, [], ◌∷◌, ◌++◌, Option, Some, None, refl, sym, ap, subst, ◌∙◌, append_assoc, append-nil, arith, ⊤, AllByRecursion, flat_map, SessionLine, TextSoFar, items_to_come, rest_of, AreItems, IsText, Held, HeldItem, OpenText, NoText, Begun}
 use Rattle.live_machine.proofs.ReadLemmas.{IsWhole, Reads, reads_both, rests}
 use Rattle.live_machine.proofs.FollowLemmas.{AreOf, Follows, said_in}
 
@@ -18,10 +9,7 @@ IsFirst (Some lines) item = item ≡ lines
 IsFirst None item = ⊤
 
 first_item : (first : HeldItem) (held : List HeldItem) (items : List (List (List ℕ))) → AreItems (first ∷ held) items → (item : List (List ℕ)) × (rest : List (List (List ℕ))) × (items ≡ item ∷ rest) × IsFirst first item × AreItems held rest
-first_item (Some lines) held [] are = absurd are
-first_item None held [] are = absurd are
-first_item (Some lines) held (item ∷ rest) are = (item, rest, refl, are.0, are.1)
-first_item None held (item ∷ rest) are = (item, rest, refl, tt, are)
+first_item first held items are = grind arith
 
 -- its first item is served, after which it is in no text
 pub record IsTaken (name : List ℕ) (begun : Option TextSoFar) (said served : List (List ℕ)) (h : Held) (first : HeldItem) (held : List HeldItem) (now : Option TextSoFar) : Type 0 where
@@ -65,15 +53,11 @@ follow_taken name begun said served h first held now f is =
     }
 
 no_items : (items : List (List (List ℕ))) → AreItems [] items → items ≡ []
-no_items [] are = refl
-no_items (item ∷ items) are = absurd are
+no_items items are = grind arith
 
 -- no item is left
 pub follow_freed : (name : List ℕ) (begun : Option TextSoFar) (said served : List (List ℕ)) (h : Held) (now : Option TextSoFar) → Follows name begun said served (Some h) now → h.items ≡ [] → h.text ≡ NoText → Follows name begun said served None now
-follow_freed name begun said served h now f none is =
-    let P : List HeldItem → Type 0 = λ all. AreItems all f.items in
-    let Q : OpenText → Type 0 = λ t. IsText t f.text in
-    record { items = f.items; text = f.text; are = (no_items f.items (subst P none f.are.items_are), subst Q is f.are.text_is); same = f.same; done = f.done; read = f.read }
+follow_freed name begun said served h now f none is = grind arith
 
 pub follow_text : (name : List ℕ) (begun : Option TextSoFar) (said served lines : List (List ℕ)) (h : Held) (now : Option TextSoFar) → Follows name begun said served (Some h) now → h.items ≡ [] → h.text ≡ Begun lines →
     AreOf name lines × ((new : Option TextSoFar) (items : List SessionLine) → Reads now (rests lines) items new → Follows name begun said (served ++ rests lines) None new)
@@ -105,8 +89,4 @@ rests-append (line ∷ first) more = ap (λ x. rest_of line ∷ x) (rests-append
 -- all that is held, as one list of lines
 pub rests_flat : (items : List (List (List ℕ))) (text : List (List ℕ)) → said_in items ++ (rests text ++ []) ≡ rests (flat_map (λ item. item) items ++ text)
 rests_flat [] text = append-nil (rests text)
-rests_flat (item ∷ items) text =
-    append_assoc (rests item) (said_in items) (rests text ++ [])
-    ∙ (ap (λ x. rests item ++ x) (rests_flat items text)
-    ∙ (sym (rests-append item (flat_map (λ (i : List (List ℕ)). i) items ++ text))
-    ∙ ap rests (sym (append_assoc item (flat_map (λ (i : List (List ℕ)). i) items) text))))
+rests_flat (item ∷ items) text = grind (arith, append_assoc, rests-append, rests_flat items text)

@@ -1,36 +1,9 @@
 -- The tenancy of a name, from one line to the next.
-use Rattle.std.proofs.Common.{◌≡◌, inl, inr, ℕ, ◌+◌, List, [], ◌∷◌, ◌++◌, Bool, true, false, cond, Option, Some, None, Result, Ok, Err, is_some, length, refl, sym, ap, subst, ◌∙◌}
-use Rattle.std.specs.Prelude.{⊤}
-use Rattle.std.specs.List.{AllByRecursion, flat_map}
-use Rattle.std.specs.Str.{bytes_eq}
-use Rattle.std.proofs.lemmas.Bool.{false≢true}
-use Rattle.std.proofs.lemmas.List.Elements.{recursion_from_All}
-use Rattle.job_state.specs.Job.{JobState}
-use Rattle.script_text.specs.declared.act.Act.{Act}
-use Rattle.script_text.specs.declared.act.Act.TheVariants.{Session}
-use Rattle.script_text.specs.declared.operator_line.OperatorLine.{OperatorLine}
-use Rattle.script_text.specs.declared.operator_line.OperatorLine.TheVariants.{Admit, Evict, Move, List as ListAll, Owners, Step, Take, Put}
-use Rattle.service_core.specs.History.{History}
-use Rattle.service_core.specs.Run.{Call, Run}
-use Rattle.service_core.specs.Run.Call.{Take as TakeCall}
-use Rattle.service_core.specs.Service.{live_of}
-use Rattle.service_core.specs.declared.op_refusal.OpRefusal.{OpRefusal}
-use Rattle.sessions.specs.declared.line.SessionLine.{SessionLine}
-use Rattle.sessions.specs.declared.line.SessionLine.TheVariants.{Blank, Command, Wait, Refused}
-use Rattle.sessions.specs.declared.steps.StepOutcome.{StepOutcome}
-use Rattle.sessions.specs.declared.steps.StepOutcome.TheVariants.{Recorded, Full, Gone, NoMemory, Nothing as NothingMade, Unfit}
-use Rattle.sessions.specs.declared.told.Answer.{Answer}
-use Rattle.sessions.specs.SessionAnswer.{Asks, EndsWait}
-use Rattle.tenant_slot.specs.declared.reply.StepReply.{StepReply}
-use Rattle.sessions.specs.Steps.{MakesStep, StepsAndPuts}
-use Rattle.operator.specs.HeldJobs.{Holds, PutsHeld, job_at}
-use Rattle.operator.specs.OperatorText.{last_id, names_after}
-use Rattle.operator.specs.Serving.{IsAdmission, IsServed, Stage}
-use Rattle.tagged_lines.specs.Tags.{Tagged, tag_of}
-use Rattle.live_lines.specs.Acts.{IsAnswered, Telling}
-use Rattle.live_lines.specs.Live.{Asked, LiveState, TakesAsked, TellsItem, asked_of}
-use Rattle.live_lines.specs.Live.Asked.{Echoes, Figures, NoForm, Nothing, Operates, Says}
-use Rattle.live_input.specs.Serving.{AnswersLine}
+use Rattle.live_machine.proofs.Prelude.{◌≡◌, ℕ, ◌+◌, List, [], ◌∷◌, ◌++◌, Bool, true, false, cond, Option, Some, None, Result, Ok, Err, is_some, length, refl, sym, ap, subst, ◌∙◌, arith, ⊤, AllByRecursion, flat_map, bytes_eq, false≢true, recursion_from_All, JobState, Act, Session, OperatorLine, Admit, Evict, Move, Owners, Step, Take, Put, History, Call, Run, live_of, OpRefusal, SessionLine, Blank, Command, Wait, Refused, StepOutcome, Recorded, Full, Gone, NoMemory, Unfit, Answer, EndsWait, StepReply, MakesStep, PutsHeld, job_at, last_id, names_after, IsAdmission, IsServed, Stage, Tagged, tag_of, IsAnswered, Telling, Asked, LiveState, TakesAsked, TellsItem, asked_of, Echoes, Figures, NoForm, Nothing, Operates, Says, AnswersLine}
+use Rattle.script_text.specs.declared.operator_line.OperatorLine.TheVariants.{List as ListAll}
+use Rattle.sessions.specs.declared.steps.StepOutcome.TheVariants.{Nothing as NothingMade}
+use Rattle.sessions.specs.SessionAnswer.{Asks}
+use Rattle.operator.specs.HeldJobs.{Holds}
 use Rattle.live_machine.proofs.AliveLemmas.{IsQuiet, admitted_alive, alive, evicted_alive, ids_apart, moved_alive, not_alive, run_alive}
 use Rattle.live_machine.proofs.HeldLemmas.{one_name}
 
@@ -45,25 +18,8 @@ quiet_both (call ∷ first) more one other = (one.0, quiet_both first more one.1
 quiet_as : (calls these : List Call) → calls ≡ these → AreQuiet these → AreQuiet calls
 quiet_as calls these is quiet = subst AreQuiet (sym is) quiet
 
-puts_quiet : (job : JobState) (calls : List Call) (outcome : StepOutcome) → StepsAndPuts job calls outcome → AreQuiet calls
-puts_quiet job calls (Recorded reply) (foreign, is) = quiet_as calls _ is (tt, tt)
-puts_quiet job calls Full (foreign, is) = quiet_as calls _ is (tt, tt)
-puts_quiet job calls Gone (foreign, is) = quiet_as calls _ is (tt, tt)
-puts_quiet job calls NoMemory (inl is) = quiet_as calls _ is (tt, tt)
-puts_quiet job calls NoMemory (inr (foreign, back, is)) = quiet_as calls _ is (tt, (tt, tt))
-puts_quiet job calls NothingMade puts = absurd puts
-puts_quiet job calls Unfit is = quiet_as calls _ is (tt, tt)
-
-took_quiet : (id : ℕ) (calls : List Call) (outcome : StepOutcome) → (job : JobState) × (more : List Call) × StepsAndPuts job more outcome × (calls ≡ TakeCall id (Some job) ∷ more) → AreQuiet calls
-took_quiet id calls outcome (job, more, puts, is) = quiet_as calls _ is (tt, puts_quiet job more outcome puts)
-
 pub step_quiet : (id : ℕ) (calls : List Call) (outcome : StepOutcome) → MakesStep id calls outcome → AreQuiet calls
-step_quiet id calls NothingMade is = quiet_as calls _ is (tt, tt)
-step_quiet id calls (Recorded reply) makes = took_quiet id calls (Recorded reply) makes
-step_quiet id calls Full makes = took_quiet id calls Full makes
-step_quiet id calls Gone makes = took_quiet id calls Gone makes
-step_quiet id calls NoMemory makes = took_quiet id calls NoMemory makes
-step_quiet id calls Unfit makes = took_quiet id calls Unfit makes
+step_quiet id calls outcome is = grind arith
 
 -- several steps
 all_quiet : {T : Type 0} (calls_of : T → List Call) (Makes : T → Type 0) → ((t : T) → Makes t → AreQuiet (calls_of t)) → (all : List T) → AllByRecursion Makes all → AreQuiet (flat_map calls_of all)
@@ -91,13 +47,10 @@ command_quiet id Wait calls answer (last, steps, more, (made, end, each, ending,
 
 -- a job that the operator takes or puts
 held_quiet : (id : ℕ) (job : Option JobState) (calls : List Call) → Holds id job calls → AreQuiet calls
-held_quiet id (Some job) calls is = quiet_as calls _ is (tt, tt)
-held_quiet id None calls (inl is) = quiet_as calls _ is (tt, tt)
-held_quiet id None calls (inr (job, is)) = quiet_as calls _ is (tt, (tt, tt))
+held_quiet id job calls is = grind arith
 
 put_quiet : (job : Option JobState) (calls : List Call) (outcome : StepOutcome) → PutsHeld job calls outcome → AreQuiet calls
-put_quiet None calls outcome (none, nothing) = quiet_as calls [] none tt
-put_quiet (Some job) calls outcome puts = puts_quiet job calls outcome puts
+put_quiet job calls outcome puts = grind arith
 
 -- the name has the tenancy that it had, and that is live
 pub record Keeps (name : List ℕ) (old new : Stage) : Type 0 where
@@ -123,12 +76,7 @@ named_after name admitted old (Ok given) free live =
     ] refl
 
 admission_keeps : (name : List ℕ) (in_use : Option History) (old : Stage) (admitted : List ℕ) (width : ℕ) (calls : List Call) (text : List ℕ) (new : Stage) → live_of old.service.histories (last_id old.names admitted) ≡ in_use → is_live old name ≡ true → IsAdmission in_use old admitted width calls text new → Keeps name old new
-admission_keeps name (Some h) old admitted width calls text new is live (none, refused, same) = keeps_same name old new live same
-admission_keeps name None old admitted width calls text new free live (answer, happens, names, jobs, one, told, graph) =
-    record {
-      id = ap (λ all. last_id all name) names ∙ named_after name admitted old answer free live;
-      live = admitted_alive old.service new.service width answer (last_id old.names name) live happens;
-    }
+admission_keeps name in_use old admitted width calls text new is live h3 = grind (arith, named_after, admitted_alive)
 
 -- a line of the operator that evicts no such name
 abbrev pub EvictsNot : List ℕ → OperatorLine (List ℕ) → Type 0
@@ -137,13 +85,8 @@ EvictsNot name line = ⊤
 
 served_keeps : (name : List ℕ) (old : Stage) (line : OperatorLine (List ℕ)) (calls : List Call) (text : List ℕ) (new : Stage) → EvictsNot name line → is_live old name ≡ true → IsServed old line calls text new → Keeps name old new
 served_keeps name old (Admit admitted width) calls text new other live served = admission_keeps name (live_of old.service.histories (last_id old.names admitted)) old admitted width calls text new refl live served
-served_keeps name old (Evict evicted) calls text new other live (answer, happens, names, jobs, is, told, graph) =
-    record {
-      id = ap (λ all. last_id all name) names;
-      live = evicted_alive old.service new.service (last_id old.names evicted) answer (last_id old.names name) (ids_apart old.names evicted name other (not_alive old.service.histories (last_id old.names name) live)) live happens;
-    }
-served_keeps name old (Move moved offset) calls text new other live (answer, happens, names, jobs, is, told, graph) =
-    record { id = ap (λ all. last_id all name) names; live = moved_alive old.service new.service (last_id old.names moved) offset answer (last_id old.names name) live happens }
+served_keeps name old (Evict evicted) calls text new other live (answer, happens, names, jobs, is, told, graph) = grind (arith, evicted_alive, ids_apart, not_alive)
+served_keeps name old (Move moved offset) calls text new other live (answer, happens, names, jobs, is, told, graph) = grind (arith, moved_alive)
 served_keeps name old (Step stepped count) calls text new other live (tried, counted, each, run, names, jobs, is, told, graph, fits) =
     let Makes : List Call × StepOutcome → Type 0 = λ t. MakesStep (last_id old.names stepped) t.0 t.1 in
     let quiet = all_quiet (λ (t : List Call × StepOutcome). t.0) Makes (λ t makes. step_quiet (last_id old.names stepped) t.0 t.1 makes) tried (recursion_from_All Makes tried each) in

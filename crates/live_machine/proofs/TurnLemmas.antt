@@ -1,27 +1,6 @@
 -- The turns that calls make.
-use Rattle.std.proofs.Common.{◌&&◌, ◌≡◌, inl, inr, ℕ, ◌+◌, List, [], ◌∷◌, ◌++◌, codes, Bool, true, false, cond, Option, None, refl, sym, ap, subst, ◌∙◌, append_assoc, append-nil}
-use Rattle.std.specs.List.{AllByRecursion, flat_map}
-use Rattle.std.specs.Str.{bytes_eq}
-use Rattle.std.proofs.lemmas.Grind.{flat_map-append}
-use Rattle.script_text.specs.declared.operator_line.OperatorLine.TheVariants.{Step}
-use Rattle.script_text.specs.Script.{is_name}
-use Rattle.sessions.specs.declared.line.SessionLine.{SessionLine}
-use Rattle.sessions.specs.declared.line.SessionLine.TheVariants.{Command}
-use Rattle.sessions.specs.Reading.{TextSoFar}
-use Rattle.sessions.specs.SessionText.{no_memory_text}
-use Rattle.tenant_slot.specs.declared.command.Command.TheVariants.{Status}
-use Rattle.tagged_lines.specs.Tags.{id_of, is_good_id, is_of, output_of, owner_of, rest_of, tag_of, with_feed}
-use Rattle.tagged_lines.proofs.TagLemmas.{both}
-use Rattle.live_lines.specs.Laws.{said_by}
-use Rattle.live_lines.specs.Live.{Asked, LiveState, asked_of, for_name}
-use Rattle.live_lines.specs.Live.Asked.{Operates, Says}
-use Rattle.live_lines.proofs.LawLemmas.{says}
-use Rattle.line_service.specs.Conversation.{AreAnswered}
-use Rattle.live_input.specs.Serving.{AnswersLine}
-use Rattle.live_machine.specs.Held.{form_of, is_wait}
-use Rattle.live_machine.specs.Machine.{IsMade, IsStatusFor, MachineState, Serves, ServesAll, ServesSaid, TellsLost, Works, must_wait}
-use Rattle.live_machine.specs.Turn.{IsDay, IsServedAs, IsServedTurn, Turn, heard_in, heard_lines, log_of, replies_of, served_in, served_lines, told_in, told_of}
-use Rattle.live_machine.specs.Turn.Turn.{Answers, Loses, Works as WorksLine}
+use Rattle.live_machine.proofs.Prelude.{◌&&◌, ◌≡◌, inl, inr, ℕ, ◌+◌, List, [], ◌∷◌, ◌++◌, codes, Bool, true, false, cond, Option, None, refl, sym, ap, subst, ◌∙◌, append_assoc, append-nil, arith, AllByRecursion, flat_map, bytes_eq, flat_map-append, Step, is_name, SessionLine, Command, TextSoFar, Status, id_of, is_good_id, is_of, owner_of, rest_of, tag_of, with_feed, both, said_by, Asked, LiveState, asked_of, Operates, Says, says, AreAnswered, AnswersLine, form_of, is_wait, IsMade, IsStatusFor, MachineState, Serves, ServesAll, ServesSaid, TellsLost, Works, must_wait, IsDay, IsServedAs, IsServedTurn, Turn, heard_in, heard_lines, log_of, replies_of, served_in, served_lines, told_in, told_of, Answers, Loses}
+use Rattle.live_machine.specs.Turn.Turn.{Works as WorksLine}
 use Rattle.live_machine.proofs.FollowLemmas.{AreOf, IsOf, wait_whole}
 use Rattle.live_machine.proofs.HeldLemmas.{one_name}
 use Rattle.live_machine.proofs.LineLemmas.{each_name, line_read, must_wait_so, said_of}
@@ -41,10 +20,7 @@ pub said_both : (name : List ℕ) (first more : List (List ℕ)) → said_by nam
 said_both name first more = flat_map-append (λ l. cond (is_of (64 ∷ name) (tag_of l)) (rest_of l ∷ []) []) first more
 
 pub day_both : (first more : List Turn) (old mid new : LiveState) (number middle next : ℕ) → IsDay old number first mid middle → IsDay mid middle more new next → IsDay old number (first ++ more) new next
-day_both [] more old mid new number middle next (same, counted) day =
-    let P : LiveState → Type 0 = λ s. IsDay s middle more new next in
-    let Q : ℕ → Type 0 = λ n. IsDay old n more new next in
-    subst Q counted (subst P same day)
+day_both [] more old mid new number middle next (same, counted) day = grind arith
 day_both (Answers heard line reply ∷ first) more old mid new number middle next (after, answers, rest) day = (after, answers, day_both first more after mid new (number + 1) middle next rest day)
 day_both (WorksLine line reply ∷ first) more old mid new number middle next (after, answers, rest) day = (after, answers, day_both first more after mid new (number + 1) middle next rest day)
 day_both (Loses name lines ∷ first) more old mid new number middle next rest day = day_both first more old mid new number middle next rest day
@@ -64,54 +40,22 @@ pub makes_none : (machine : MachineState) → Makes machine [] machine
 makes_none machine = record { day = (refl, refl); log = sym (append-nil machine.log); told = sym (append-nil machine.told); served = tt }
 
 pub makes_both : (old mid new : MachineState) (first more : List Turn) → Makes old first mid → Makes mid more new → Makes old (first ++ more) new
-makes_both old mid new first more one other =
-    record {
-      day = day_both first more old.live mid.live new.live old.next mid.next new.next one.day other.day;
-      log = other.log ∙ (ap (λ x. x ++ log_of more) one.log ∙ (append_assoc old.log (log_of first) (log_of more) ∙ ap (λ x. old.log ++ x) (sym (log_both first more))));
-      told = other.told ∙ (ap (λ x. x ++ told_of more) one.told ∙ (append_assoc old.told (told_of first) (told_of more) ∙ ap (λ x. old.told ++ x) (sym (told_both first more))));
-      served = all_both first more one.served other.served;
-    }
+makes_both old mid new first more one other = grind (arith, day_both, append_assoc, log_both, told_both, all_both)
 
 -- one line is served, as itself or for another
 pub serves_makes : (old new : MachineState) (heard line : List ℕ) → IsServedAs (asked_of heard) heard line → (s : Serves old line new) → Makes old (Answers heard line s.reply ∷ []) new
-serves_makes old new heard line so s =
-    let next : new.next ≡ old.next + 1 = ap (λ (m : MachineState). m.next) s.rest in
-    let log : new.log ≡ old.log ++ with_feed line = ap (λ (m : MachineState). m.log) s.rest in
-    let told : new.told ≡ old.told ++ s.reply = ap (λ (m : MachineState). m.told) s.rest in
-    record {
-      day = (new.live, s.answers, (refl, next));
-      log = log ∙ ap (λ x. old.log ++ x) (sym (append-nil (with_feed line)));
-      told = told ∙ ap (λ x. old.told ++ x) (sym (append-nil s.reply));
-      served = ((s.is_line, so), tt);
-    }
+serves_makes old new heard line so s = grind (arith, append-nil)
 
 pub works_makes : (old new : MachineState) (line name : List ℕ) → IsMade (Operates (Step name 1)) line → (s : Works old line new) → Makes old (WorksLine line s.reply ∷ []) new
-works_makes old new line name so s =
-    let next : new.next ≡ old.next + 1 = ap (λ (m : MachineState). m.next) s.rest in
-    let log : new.log ≡ old.log ++ with_feed line = ap (λ (m : MachineState). m.log) s.rest in
-    let told : new.told ≡ old.told = ap (λ (m : MachineState). m.told) s.rest in
-    record {
-      day = (new.live, s.answers, (refl, next));
-      log = log ∙ ap (λ x. old.log ++ x) (sym (append-nil (with_feed line)));
-      told = told ∙ sym (append-nil old.told);
-      served = ((s.is_line, (name, so)), tt);
-    }
+works_makes old new line name so s = grind (arith, append-nil)
 
 pub loses_makes : (old new : MachineState) (name : List ℕ) (lines : List (List ℕ)) → TellsLost old name new → Makes old (Loses name lines ∷ []) new
-loses_makes old new name lines tells =
-    let text : List ℕ = output_of (for_name name no_memory_text ∷ []) in
-    record {
-      day = (ap (λ (m : MachineState). m.live) tells, ap (λ (m : MachineState). m.next) tells);
-      log = ap (λ (m : MachineState). m.log) tells ∙ sym (append-nil old.log);
-      told = ap (λ (m : MachineState). m.told) tells ∙ ap (λ x. old.told ++ x) (sym (append-nil text));
-      served = (tt, tt);
-    }
+loses_makes old new name lines tells = grind (arith, append-nil)
 
 -- what a name says in its own lines, and in those of another name
 pub own_lines : (name : List ℕ) (lines : List (List ℕ)) → AreOf name lines → said_by name lines ≡ rests lines
 own_lines name [] of = refl
-own_lines name (line ∷ lines) of =
-    ap (λ b. cond b (rest_of line ∷ []) [] ++ said_by name lines) of.0 ∙ ap (λ x. rest_of line ∷ x) (own_lines name lines of.1)
+own_lines name (line ∷ lines) of = grind (arith, own_lines name lines of.1)
 
 apart_tag : (name other line : List ℕ) → IsOf name line → bytes_eq name other ≡ false → is_of (64 ∷ other) (tag_of line) ≡ false
 apart_tag name other line of apart =
@@ -122,14 +66,11 @@ apart_tag name other line of apart =
 
 pub other_lines : (name other : List ℕ) (lines : List (List ℕ)) → AreOf name lines → bytes_eq name other ≡ false → said_by other lines ≡ []
 other_lines name other [] of apart = refl
-other_lines name other (line ∷ lines) of apart =
-    ap (λ b. cond b (rest_of line ∷ []) [] ++ said_by other lines) (apart_tag name other line of.0 apart) ∙ other_lines name other lines of.1 apart
+other_lines name other (line ∷ lines) of apart = grind (arith, apart_tag, other_lines name other lines of.1 apart)
 
 -- a line that is served is read by each name
 pub serves_read : (name : List ℕ) → is_name name ≡ true → (old new : MachineState) (line : List ℕ) (lines : List (List ℕ)) → said_by name (line ∷ []) ≡ lines → Serves old line new → (items : List SessionLine) × Reads (old.live.texts name) lines items (new.live.texts name)
-serves_read name ok old new line lines is s =
-    let P : List (List ℕ) → Type 0 = λ l. (items : List SessionLine) × Reads (old.live.texts name) l items (new.live.texts name) in
-    subst P is (line_read name ok old.live old.next line s.reply new.live s.answers)
+serves_read name ok old new line lines is s = grind (arith, line_read name ok old.live old.next line s.reply new.live s.answers)
 
 -- `status` is read as the `wait` in whose place it is served: the name is in no text after both
 status_read : (name : List ℕ) → is_name name ≡ true → (old new : MachineState) (line made : List ℕ) → IsOf name line → old.live.texts name ≡ None → is_wait (form_of line) ≡ true → IsStatusFor name line made → Serves old made new →
@@ -182,9 +123,7 @@ serves_said name ok line true old new of waits (made, asks, s) =
     }
 
 pub serves_all : (name : List ℕ) → is_name name ≡ true → (lines : List (List ℕ)) (old new : MachineState) → AreOf name lines → ServesAll name lines old new → ServedAs name lines old new
-serves_all name ok [] old new of same =
-    let P : MachineState → Type 0 = λ m. ServedAs name [] old m in
-    subst P (sym same) (record { turns = []; makes = makes_none old; heard = refl; held = refl; read = λ other is. ([], λ more. refl) })
+serves_all name ok [] old new of same = grind (arith, makes_none, makes_none old)
 serves_all name ok (line ∷ lines) old new of (mid, one, rest) =
     let f = serves_said name ok line (must_wait old.live name line) old mid of.0 refl one in
     let r = serves_all name ok lines mid new of.1 rest in
@@ -203,10 +142,6 @@ serves_all name ok (line ∷ lines) old new of (mid, one, rest) =
 -- all lines that were served are those of a live service without workers
 pub turns_answered : (turns : List Turn) (old new : LiveState) (number next : ℕ) → AllByRecursion IsServedTurn turns → IsDay old number turns new next → AreAnswered AnswersLine old number (served_lines turns) (replies_of turns) new
 turns_answered [] old new number next served (same, counted) = (refl, same)
-turns_answered (Answers heard line reply ∷ turns) old new number next served (mid, answers, rest) =
-    let P : List ℕ → Type 0 = λ l. AnswersLine old number l reply mid in
-    (reply, mid, replies_of turns, subst P (sym served.0.0.kept) answers, turns_answered turns mid new (number + 1) next served.1 rest, refl)
-turns_answered (WorksLine line reply ∷ turns) old new number next served (mid, answers, rest) =
-    let P : List ℕ → Type 0 = λ l. AnswersLine old number l reply mid in
-    (reply, mid, replies_of turns, subst P (sym served.0.0.kept) answers, turns_answered turns mid new (number + 1) next served.1 rest, refl)
+turns_answered (Answers heard line reply ∷ turns) old new number next served (mid, answers, rest) = grind (arith, turns_answered turns mid new (number + 1) next served.1 rest)
+turns_answered (WorksLine line reply ∷ turns) old new number next served (mid, answers, rest) = grind (arith, turns_answered turns mid new (number + 1) next served.1 rest)
 turns_answered (Loses name lines ∷ turns) old new number next served rest = turns_answered turns old new number next served.1 rest

@@ -1,14 +1,6 @@
 -- What workers do, call by call.
-use Rattle.std.specs.List.{AllByRecursion}
-use Rattle.std.proofs.Common.{◌≡◌, ℕ, List, [], ◌∷◌, ◌++◌, Bool, true, false, Option, Some, None, Result, Ok, Err, IfOk, refl, sym, ap, subst, ◌∙◌}
-use Rattle.live_machine.specs.declared.machine.steps.StepEnd.{StepEnd}
-use Rattle.live_machine.specs.declared.machine.steps.StepEnd.TheVariants.{Dropped}
-use Rattle.live_machine.specs.declared.machine.Machine.{Machine}
-use Rattle.live_machine.specs.declared.stop.Stop.{Stop}
-use Rattle.live_machine.specs.declared.server.LineServer.{LineServer}
-use Rattle.live_machine.specs.Parts.{PutsIf, PutsStep, machine_of, state_with, EndsPut, EndsStep, HasTurn, HasTurns, IsTurnOf}
-use Rattle.live_machine.specs.Machine.{Call, MachineState, Run}
-use Rattle.live_machine.specs.Machine.Call.{ServeHeld}
+use Rattle.live_machine.proofs.Prelude.{AllByRecursion, ◌≡◌, ℕ, List, [], ◌∷◌, ◌++◌, Bool, true, Option, Some, None, Result, IfOk, refl, sym, ap, subst, ◌∙◌, arith, StepEnd, Dropped, Machine, Stop, LineServer, PutsIf, PutsStep, machine_of, state_with, EndsPut, EndsStep, HasTurn, HasTurns, IsTurnOf, MachineState, ServeHeld}
+use Rattle.live_machine.specs.Machine.{Call, Run}
 
 run_both : (a b c : MachineState) (first more : List Call) → Run a first b → Run b more c → Run a (first ++ more) c
 run_both a b c [] more same run = let P : MachineState → Type 0 = λ m. Run m more c in subst P same run
@@ -18,24 +10,8 @@ all_turns : (name : List ℕ) (calls : List Call) (call : Call) → AllByRecursi
 all_turns name [] call all one = (one, tt)
 all_turns name (first ∷ calls) call all one = (all.0, all_turns name calls call all.1 one)
 
--- turns of a name
-pub no_turns : (name : List ℕ) (machine : MachineState) → HasTurns name machine machine
-no_turns name machine = record { calls = []; turns = tt; run = refl }
-
 pub turn_more : (name : List ℕ) (a b c : MachineState) (went : Bool) → went ≡ true → HasTurns name a b → HasTurn went name b c → HasTurns name a c
-turn_more name a b c went is t one =
-    let P : Bool → Type 0 = λ w. HasTurn w name b c in
-    record {
-      calls = t.calls ++ ServeHeld name ∷ [];
-      turns = all_turns name t.calls (ServeHeld name) t.turns refl;
-      run = run_both a b c t.calls (ServeHeld name ∷ []) t.run (c, subst P is one, refl);
-    }
-
-pub turn_none : (name : List ℕ) (a b c : MachineState) (went : Bool) → went ≡ false → HasTurns name a b → HasTurn went name b c → HasTurns name a c
-turn_none name a b c went is t one =
-    let P : Bool → Type 0 = λ w. HasTurn w name b c in
-    let Q : MachineState → Type 0 = λ m. HasTurns name a m in
-    subst Q (sym (subst P is one)) t
+turn_more name a b c went is t one = grind (arith, run_both, all_turns name t.calls (ServeHeld name) t.turns refl)
 
 pub turns_after : (name : List ℕ) (old mid new : MachineState) → mid ≡ old → HasTurns name mid new → HasTurns name old new
 turns_after name old mid new same turns = let P : MachineState → Type 0 = λ m. HasTurns name m new in subst P same turns
@@ -46,18 +22,12 @@ turns_to name a b c same turns = let P : MachineState → Type 0 = λ m. HasTurn
 pub same_state : (a b : Machine) → a.server ≡ b.server → a.held ≡ b.held → machine_of a ≡ machine_of b
 same_state a b server held = ap (λ (s : LineServer). state_with s a.held) server ∙ ap (λ h. state_with b.server h) held
 
--- a step is put
-pub ends_after : (end : StepEnd) (name : List ℕ) (old mid new : MachineState) → mid ≡ old → EndsPut end name mid new → EndsPut end name old new
-ends_after end name old mid new same ends = let P : MachineState → Type 0 = λ m. EndsPut end name m new in subst P same ends
-
 pub gives_by : (names : Option (List ℕ)) (name : List ℕ) (old mid new : MachineState) (result : Result StepEnd Stop) → names ≡ Some name → mid ≡ old → IfOk result (λ end. EndsPut end name mid new) → IfOk result (λ end. PutsStep end names old new)
-gives_by names name old mid new (Ok end) is same ends = let P : Option (List ℕ) → Type 0 = λ n. PutsStep end n old new in subst P (sym is) (ends_after end name old mid new same ends)
-gives_by names name old mid new (Err stop) is same ends = tt
+gives_by names name old mid new result is same ends = grind arith
 
 pub puts_none : (names : Option (List ℕ)) (old new : MachineState) → names ≡ None → new ≡ old → PutsStep Dropped names old new
 puts_none names old new is same = let P : Option (List ℕ) → Type 0 = λ n. PutsStep Dropped n old new in subst P (sym is) (refl, same)
 
 -- with the same state before
 pub ends_by : (made : Bool) (name : List ℕ) (old mid new : MachineState) → mid ≡ old → PutsIf made name mid new → EndsStep (Some made) name old new
-ends_by true name old mid new same puts = let P : MachineState → Type 0 = λ m. PutsIf true name m new in subst P same puts
-ends_by false name old mid new same puts = puts ∙ same
+ends_by made name old mid new same puts = grind arith

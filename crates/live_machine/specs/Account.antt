@@ -1,12 +1,7 @@
 -- What all calls of a machine amount to.
 use Rattle.std.specs.Prelude.{ℕ, ◌≡◌, List, [], ◌∷◌, ◌++◌, map, Bool, true, false, Option, Some, None, ⊤, if◌then◌else◌}
 use Rattle.std.specs.List.{AllByRecursion, flat_map}
-use Rattle.script_text.specs.Script.{is_name}
-use Rattle.sessions.specs.Reading.{TextSoFar, items_to_come}
-use Rattle.tagged_lines.specs.Tags.{rest_of}
-use Rattle.live_lines.specs.Laws.{said_by}
-use Rattle.live_lines.specs.Live.{Asked, LiveState, asked_of}
-use Rattle.live_lines.specs.Live.Asked.{Says}
+use Rattle.live_machine.specs.Prelude.{is_name, TextSoFar, items_to_come, rest_of, said_by, Asked, LiveState, asked_of, Says}
 use Rattle.live_machine.specs.Held.{Held, HeldItem, held_of}
 use Rattle.live_machine.specs.declared.held.OpenText.{OpenText}
 use Rattle.live_machine.specs.declared.held.OpenText.TheVariants.{NoText, Begun, Lost}

@@ -1,8 +1,7 @@
 -- Bytes that are lines.
 use Rattle.std.specs.Prelude.{ℕ, ◌≡◌, List}
 use Rattle.std.specs.List.{flat_map}
-use Rattle.line_text.specs.Lines.{physical_lines}
-use Rattle.tagged_lines.specs.Tags.{with_feed}
+use Rattle.live_machine.specs.Prelude.{physical_lines, with_feed}
 
 -- each line is ended by LF
 abbrev pub IsFed : List ℕ → Type 0

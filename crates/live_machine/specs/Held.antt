@@ -3,20 +3,7 @@
 use Rattle.std.specs.Prelude.{ℕ, ◌≡◌, ◌⊎◌, List, [], ◌∷◌, ◌++◌, Bool, true, false, Option, Some, None, ⊤, if◌then◌else◌, not}
 use Rattle.std.specs.Str.{bytes_eq}
 use Rattle.std.specs.List.{AllByRecursion, list_all}
-use Rattle.backlog.specs.declared.backlog.Turn.{Turn}
-use Rattle.backlog.specs.declared.backlog.Turn.TheVariants.{Item, Nothing as NothingWaits, Lost as ItemIsLost}
-use Rattle.backlog.specs.Waiting.{TakesLost}
-use Rattle.line_feed.specs.Pieces.{is_one_line, kept_of}
-use Rattle.live_lines.specs.Live.{asked_of}
-use Rattle.live_lines.specs.Live.Asked.{Says}
-use Rattle.tenant_slot.specs.declared.command.Command.TheVariants.{Cancel, Withdraw}
-use Rattle.sessions.specs.declared.line.LineForm.{LineForm}
-use Rattle.sessions.specs.declared.line.LineForm.TheVariants.{Asks, Begins}
-use Rattle.sessions.specs.declared.line.SessionLine.TheVariants.{Blank, Command, Wait}
-use Rattle.sessions.specs.declared.line.TextKind.TheVariants.{Change}
-use Rattle.sessions.specs.Items.{ends_text, without_cr}
-use Rattle.sessions.specs.SessionLines.{line_form}
-use Rattle.tagged_lines.specs.Tags.{rest_of}
+use Rattle.live_machine.specs.Prelude.{Turn, Item, Nothing as NothingWaits, Lost as ItemIsLost, TakesLost, is_one_line, kept_of, asked_of, Says, Cancel, Withdraw, LineForm, Asks, Begins, Blank, Command, Wait, Change, ends_text, without_cr, line_form, rest_of}
 use Rattle.live_machine.specs.declared.held.OpenText.{OpenText}
 use Rattle.live_machine.specs.declared.held.OpenText.TheVariants.{NoText, Begun, Lost}
 

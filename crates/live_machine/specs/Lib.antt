@@ -1,3 +1,4 @@
+pub mod Prelude
 pub mod Account
 pub mod Fed
 pub mod Held

@@ -1,16 +1,6 @@
 -- The machine: a live service whose jobs are stepped by workers. Each call of it is one event.
 use Rattle.std.specs.Prelude.{ℕ, ◌≡◌, ◌⊎◌, ◌+◌, List, [], ◌∷◌, ◌++◌, codes, Bool, true, false, ◌&&◌, Option, Some, None, ⊤}
-use Rattle.line_feed.specs.Pieces.{is_one_line, kept_of}
-use Rattle.script_text.specs.declared.operator_line.OperatorLine.TheVariants.{Evict, Step, Take, Put}
-use Rattle.sessions.specs.Reading.{TextSoFar}
-use Rattle.sessions.specs.SessionText.{no_memory_text}
-use Rattle.operator.specs.OperatorText.{last_id}
-use Rattle.service_core.specs.Calls.{takeable_in}
-use Rattle.service_core.specs.Service.{live_of}
-use Rattle.tagged_lines.specs.Tags.{output_of, tag_of, with_feed}
-use Rattle.live_lines.specs.Live.{Asked, LiveState, asked_of, for_name}
-use Rattle.live_lines.specs.Live.Asked.{NoForm, Operates, Says}
-use Rattle.live_input.specs.Serving.{AnswersLine}
+use Rattle.live_machine.specs.Prelude.{is_one_line, kept_of, Evict, Step, Take, Put, TextSoFar, no_memory_text, last_id, takeable_in, live_of, output_of, tag_of, with_feed, Asked, LiveState, asked_of, for_name, NoForm, Operates, Says, AnswersLine}
 use Rattle.live_machine.specs.Held.{Held, HeldItem, HearsHeld, calls_off, form_of, held_of, is_wait, is_wait_item, with_held, without_name}
 use Rattle.live_machine.specs.declared.held.OpenText.{OpenText}
 use Rattle.live_machine.specs.declared.held.OpenText.TheVariants.{NoText, Begun, Lost}

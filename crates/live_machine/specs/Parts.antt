@@ -1,18 +1,7 @@
 -- private: the parts of the machine's code, and what they do.
 use Rattle.std.specs.Prelude.{ℕ, ◌≡◌, List, [], ◌∷◌, ◌++◌, Bool, true, false, nat_lt, Option, Some, None, IsSomeAnd, ⊤}
 use Rattle.std.specs.List.{AllByRecursion, flat_map, repeat}
-use Rattle.script_text.specs.declared.operator_line.OperatorLine.TheVariants.{Step}
-use Rattle.job_state.specs.declared.step.JobStep.{JobStep}
-use Rattle.tenant_slot.specs.declared.slot.TheConstants.{MAX_ENTRIES}
-use Rattle.tenant_slot.specs.Slot.{next_job}
-use Rattle.service_core.specs.History.{slot_of, state_of}
-use Rattle.service_core.specs.Service.{live_of}
-use Rattle.sessions.specs.SessionText.{no_memory_text}
-use Rattle.operator.specs.OperatorText.{last_id, name_of}
-use Rattle.tagged_lines.specs.Tags.{output_of}
-use Rattle.live_lines.specs.Live.{LiveState, for_name}
-use Rattle.live_lines.specs.Live.Asked.{Operates}
-use Rattle.live_input.specs.Serving.{ClosesTexts, is_ready, state_in}
+use Rattle.live_machine.specs.Prelude.{Step, JobStep, MAX_ENTRIES, next_job, slot_of, state_of, live_of, no_memory_text, last_id, name_of, output_of, LiveState, for_name, Operates, ClosesTexts, is_ready, state_in}
 use Rattle.live_machine.specs.declared.machine.Machine.{Machine}
 use Rattle.live_machine.specs.declared.machine.steps.StepEnd.{StepEnd}
 use Rattle.live_machine.specs.declared.machine.steps.StepEnd.TheVariants.{Again, Dropped, GivenUp, Made}

@@ -1,12 +1,7 @@
 -- What was served, in order, and what of it is kept and told.
 use Rattle.std.specs.Prelude.{ℕ, ◌≡◌, ◌⊎◌, ◌+◌, List, [], ◌∷◌, Bool, true, false, ⊤}
-use Rattle.script_text.specs.declared.operator_line.OperatorLine.TheVariants.{Step}
+use Rattle.live_machine.specs.Prelude.{Step, no_memory_text, output_of, with_feed, Asked, LiveState, asked_of, for_name, NoForm, Operates, Says, AnswersLine}
 use Rattle.std.specs.List.{flat_map}
-use Rattle.sessions.specs.SessionText.{no_memory_text}
-use Rattle.tagged_lines.specs.Tags.{output_of, with_feed}
-use Rattle.live_lines.specs.Live.{Asked, LiveState, asked_of, for_name}
-use Rattle.live_lines.specs.Live.Asked.{NoForm, Operates, Says}
-use Rattle.live_input.specs.Serving.{AnswersLine}
 use Rattle.live_machine.specs.Held.{form_of, is_wait}
 use Rattle.live_machine.specs.Machine.{IsLine, IsMade, IsStatusFor, is_by_hand}
 

@@ -1,15 +1,6 @@
 -- Steps that are out with workers.
 use Rattle.std.specs.Prelude.{ℕ, ◌≡◌, List, length, map, Bool, false, ◌&&◌, nat_lt, Option, Some, None, is_some, ⊤}
-use Rattle.tenant_slot.specs.declared.slot.TheConstants.{MAX_ENTRIES}
-use Rattle.tenant_slot.specs.SingleUser.{kind_that_runs}
-use Rattle.script_text.specs.declared.operator_line.OperatorLine.TheVariants.{Step}
-use Rattle.sessions.specs.declared.steps.StepOutcome.TheVariants.{NoMemory}
-use Rattle.operator.specs.OperatorText.{outcome_text}
-use Rattle.service_core.specs.History.{History, state_of, with_here}
-use Rattle.service_core.specs.Service.{ServiceState, journal_of, live_of}
-use Rattle.tagged_lines.specs.Tags.{output_of}
-use Rattle.live_lines.specs.Live.{Asked, LiveState, operator_told}
-use Rattle.live_lines.specs.Live.Asked.{Says}
+use Rattle.live_machine.specs.Prelude.{MAX_ENTRIES, kind_that_runs, Step, NoMemory, outcome_text, History, state_of, with_here, ServiceState, journal_of, live_of, output_of, Asked, LiveState, operator_told, Says}
 use Rattle.live_machine.specs.Machine.{is_busy, must_wait}
 
 -- the service with each step here, and not made: what workers have is no part of it

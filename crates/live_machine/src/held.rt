@@ -1,9 +1,6 @@
 //! A name that is held.
 ghost use Rattle.std.specs.Prelude.{◌≡◌, ◌≢◌, ◌<◌, ◌++◌, ◌∷◌, [], ℕ, List, None, Some, length, true, IfOk, MatchBool, MatchResult, OnErr, OnOk};
-ghost use Rattle.line_feed.specs.Pieces.{is_one_line};
-ghost use Rattle.sessions.specs.declared.line.SessionLine.TheVariants.{Blank};
-ghost use Rattle.sessions.specs.Items.{ends_text};
-ghost use Rattle.tagged_lines.specs.Tags.{rest_of};
+ghost use Rattle.live_machine.specs.Prelude.{is_one_line, Blank, ends_text, rest_of};
 ghost use Rattle.live_machine.specs.Held.{HearsForm, HearsHeld, HearsIn, IsSaidBy, IsSaidText, PutsItem, TakesFirst, TakesLostItems, begins_with_wait, calls_off, gives_up, has_items, is_lost_text};
 ghost use Rattle.live_machine.specs.declared.held.OpenText.TheVariants.{Begun, Lost, NoText};
 

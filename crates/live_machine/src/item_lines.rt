@@ -1,8 +1,6 @@
 //! Lines that wait for their turn.
 ghost use Rattle.std.specs.Prelude.{◌≡◌, ◌+◌, ◌<◌, ◌++◌, ◌∷◌, [], true, IfOk, OnOk};
-ghost use Rattle.line_feed.specs.Pieces.{is_one_line};
-ghost use Rattle.line_text.specs.Lines.{physical_lines};
-ghost use Rattle.tagged_lines.specs.Tags.{with_feed};
+ghost use Rattle.live_machine.specs.Prelude.{is_one_line, physical_lines, with_feed};
 ghost use Rattle.live_machine.specs.Fed.{IsFed};
 ghost use Rattle.live_machine.specs.Held.{form_of, is_wait, is_wait_item};
 

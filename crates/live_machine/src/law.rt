@@ -1,15 +1,10 @@
 //! The laws of the machine.
 ghost use Rattle.std.specs.Prelude.{◌≡◌, ◌≢◌, ◌++◌, [], ℕ, List, Some, None, is_some, true, false};
-ghost use Rattle.line_service.specs.Conversation.{AreAnswered};
-ghost use Rattle.live_input.specs.Serving.{AnswersLine};
-ghost use Rattle.live_lines.specs.Live.{LiveState, asked_of};
-ghost use Rattle.live_lines.specs.Live.Asked.{Says};
+ghost use Rattle.live_machine.specs.Prelude.{AreAnswered, AnswersLine, LiveState, asked_of, Says, last_id, live_of};
 ghost use Rattle.live_machine.specs.Account.{IsAccount};
 ghost use Rattle.live_machine.specs.Held.{Held, held_of};
 ghost use Rattle.live_machine.specs.Machine.{Call, Happens, MachineState, Run, Serves, begins_with, must_wait};
 ghost use Rattle.live_machine.specs.Machine.Call.{Line};
-ghost use Rattle.operator.specs.OperatorText.{last_id};
-ghost use Rattle.service_core.specs.Service.{live_of};
 ghost use Rattle.live_machine.specs.Turn.{replies_of, served_lines};
 
 /// Whatever calls are made of a machine, there is an account of them.

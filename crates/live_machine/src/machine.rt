@@ -1,10 +1,6 @@
 //! The machine.
 ghost use Rattle.std.specs.Prelude.{◌≡◌, ◌∷◌, ◌++◌, [], Some, false, true, IfSome, OnOk};
-ghost use Rattle.script_text.specs.declared.operator_line.OperatorLine.TheVariants.{Evict};
-ghost use Rattle.script_text.specs.Script.{named_operator};
-ghost use Rattle.live_lines.specs.Live.{asked_of as what_asks};
-ghost use Rattle.live_lines.specs.Live.Asked.{Operates};
-ghost use Rattle.live_input.specs.Serving.{is_ready, state_in};
+ghost use Rattle.live_machine.specs.Prelude.{Evict, named_operator, asked_of as what_asks, Operates, is_ready, state_in};
 ghost use Rattle.live_machine.specs.Workers.{without_workers};
 ghost use Rattle.live_machine.specs.Held.{IsSaidBy, has_items, held_of};
 ghost use Rattle.live_machine.specs.Machine.{Happens, HearsAsked, HearsFree, HearsName, Holds, IsLine, begins_with, must_wait};

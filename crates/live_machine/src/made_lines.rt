@@ -1,12 +1,7 @@
 //! Lines that the machine makes itself, and what it tells without one.
 ghost use Rattle.std.specs.Prelude.{◌≡◌, ◌≢◌, ◌∷◌, ◌++◌, codes, true, [], List, ℕ, ◌<◌, ◌^◌, length, IfOk, IfSome, OnOk};
 ghost use Rattle.std.specs.Io.KnownBytes.{Appends};
-ghost use Rattle.script_text.specs.declared.operator_line.OperatorLine.TheVariants.{Step};
-ghost use Rattle.script_text.specs.Script.{is_name};
-ghost use Rattle.sessions.specs.SessionText.{no_memory_text};
-ghost use Rattle.tagged_lines.specs.Tags.{output_of};
-ghost use Rattle.live_lines.specs.Live.{asked_of as what_asks, for_name};
-ghost use Rattle.live_lines.specs.Live.Asked.{NoForm, Operates};
+ghost use Rattle.live_machine.specs.Prelude.{Step, is_name, no_memory_text, output_of, asked_of as what_asks, for_name, NoForm, Operates};
 ghost use Rattle.live_machine.specs.Held.{form_of, is_wait};
 ghost use Rattle.live_machine.specs.Machine.{IsLine};
 ghost use Rattle.live_machine.specs.Workers.{nomemory_reply};

@@ -1,7 +1,6 @@
 //! Whether a tenancy's job runs, and whether it is at home.
 ghost use Rattle.std.specs.Prelude.{◌≡◌, ◌↔◌, true};
-ghost use Rattle.service_core.specs.Service.{AreAlone, live_of};
-ghost use Rattle.live_input.specs.Serving.{state_in};
+ghost use Rattle.live_machine.specs.Prelude.{AreAlone, live_of, state_in};
 ghost use Rattle.live_machine.specs.Workers.{IsHome, runs_in};
 
 use live_input::LiveLines;

@@ -1,15 +1,7 @@
 //! Serves lines, and gathers what is to be kept and what is to be told.
 ghost use Rattle.std.specs.Prelude.{◌≡◌, ◌<◌, ◌+◌, ◌^◌, ◌++◌, [], false, true, List, ℕ, length, IfOk, OnOk};
 ghost use Rattle.std.specs.List.{AllByRecursion, repeat};
-ghost use Rattle.line_text.specs.Lines.{physical_lines};
-ghost use Rattle.script_text.specs.declared.operator_line.OperatorLine.TheVariants.{Step};
-ghost use Rattle.script_text.specs.Script.{is_name};
-ghost use Rattle.service_core.specs.Calls.{IsGivenBack};
-ghost use Rattle.operator.specs.OperatorText.{last_id};
-ghost use Rattle.tagged_lines.specs.Tags.{with_feed};
-ghost use Rattle.live_lines.specs.Live.{asked_of};
-ghost use Rattle.live_lines.specs.Live.Asked.{Operates};
-ghost use Rattle.live_input.specs.Serving.{AnswersLine, ClosesTexts, is_ready, state_in};
+ghost use Rattle.live_machine.specs.Prelude.{physical_lines, Step, is_name, IsGivenBack, last_id, with_feed, asked_of, Operates, AnswersLine, ClosesTexts, is_ready, state_in};
 ghost use Rattle.live_machine.specs.Held.{Held, IsSaidBy};
 ghost use Rattle.live_machine.specs.Machine.{IsLine, Serves, ServesAll, ServesNobodys, ServesSaid, TellsLost, is_busy, is_by_hand, must_wait};
 ghost use Rattle.live_machine.specs.Parts.{PutsIf, TellsLostItems, state_with};

@@ -1,13 +1,7 @@
 //! The law of workers.
 ghost use Rattle.std.specs.Prelude.{◌≡◌, ℕ, List, Option, false, true};
-ghost use Rattle.job_state.specs.Job.{JobState};
-ghost use Rattle.script_text.specs.declared.operator_line.OperatorLine.TheVariants.{Step};
-ghost use Rattle.service_core.specs.Run.{Happens};
-ghost use Rattle.service_core.specs.Run.Call.{GiveBack, Take};
-ghost use Rattle.service_core.specs.Service.{ServiceState};
-ghost use Rattle.live_lines.specs.Live.{LiveState, asked_of};
-ghost use Rattle.live_lines.specs.Live.Asked.{Operates, Says};
-ghost use Rattle.live_input.specs.Serving.{AnswersLine};
+ghost use Rattle.live_machine.specs.Prelude.{JobState, Step, Happens, GiveBack, ServiceState, LiveState, asked_of, Operates, Says, AnswersLine};
+ghost use Rattle.service_core.specs.Run.Call.{Take};
 ghost use Rattle.live_machine.specs.Machine.{is_busy, is_by_hand};
 ghost use Rattle.live_machine.specs.Workers.{IsHome, IsLeftAlone, NeedNotWait, all_here, nomemory_reply, without_workers};
 

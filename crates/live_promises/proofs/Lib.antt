@@ -1,2 +1,3 @@
+mod Prelude
 mod MomentLemmas
 mod ToldLemmas

@@ -1,20 +1,5 @@
 -- What was kept and told when a service with workers is ended.
-use Rattle.std.proofs.Common.{◌≡◌, ℕ, zero, suc, ◌+◌, List, [], ◌∷◌, ◌++◌, ◌⊎◌, inl, inr, take, drop, refl, sym, ap, subst, ◌∙◌, append-nil, append_assoc}
-use Rattle.std.specs.Prelude.{⊤}
-use Rattle.std.specs.List.{AllByRecursion, flat_map}
-use Rattle.std.proofs.lemmas.Grind.{flat_map-append}
-use Rattle.std.proofs.lemmas.List.{take-append-drop}
-use Rattle.std.proofs.Math.Seq.{take-nil}
-use Rattle.dialogue.specs.History.{Event, bytes_kept, bytes_told, kept_in, told_in}
-use Rattle.dialogue.specs.History.Event.{Kept, Told}
-use Rattle.live_lines.specs.Live.{LiveState}
-use Rattle.live_machine.specs.Account.{IsAccount, log_drained, told_drained}
-use Rattle.live_machine.specs.Machine.{Call, Happens, MachineState, Run, begins_with}
-use Rattle.live_machine.specs.Machine.Call.{Drain, GiveUp, Line, PutStep, ServeHeld}
-use Rattle.live_machine.specs.Turn.{IsDay, IsServedTurn, Turn}
-use Rattle.live_machine.specs.Turn.Turn.{Answers, Loses, Works}
-use Rattle.live_threads.specs.Serving.{EndsIn, IsCut, IsPart, events_in, events_of}
-use Rattle.live_promises.specs.Moments.{IsBackedByTurns}
+use Rattle.live_promises.proofs.Prelude.{◌≡◌, ℕ, zero, suc, ◌+◌, List, [], ◌∷◌, ◌++◌, ◌⊎◌, inl, inr, take, drop, refl, sym, ap, subst, ◌∙◌, append-nil, append_assoc, arith, ⊤, AllByRecursion, flat_map, flat_map-append, take-append-drop, take-nil, Event, bytes_kept, bytes_told, kept_in, told_in, Kept, Told, LiveState, IsAccount, log_drained, told_drained, Call, Happens, MachineState, Run, begins_with, Drain, GiveUp, Line, PutStep, ServeHeld, IsDay, Turn, Answers, Loses, Works, EndsIn, IsCut, IsPart, events_in, events_of, IsBackedByTurns}
 
 -- the first events of those, the last of them perhaps in part
 abbrev Cut : List Event → List Event → Type 0
@@ -28,9 +13,7 @@ cut_in [] (one ∷ more) events (inl same) = let P : List Event → Type 0 = λ 
 cut_in [] (one ∷ more) events (inr (part, is, same)) = let P : List Event → Type 0 = λ es. Cut (one ∷ more) es in subst P (sym same) (inr (is, refl))
 cut_in (d ∷ done) [] events same = let P : List Event → Type 0 = λ es. Cut (d ∷ (done ++ [])) es in subst P (sym same) (inl (refl, cut_in done [] done refl))
 cut_in (d ∷ done) (one ∷ more) events (inl same) = let P : List Event → Type 0 = λ es. Cut (d ∷ (done ++ one ∷ more)) es in subst P (sym same) (inl (refl, cut_in done (one ∷ more) done (inl refl)))
-cut_in (d ∷ done) (one ∷ more) events (inr (part, is, same)) =
-    let P : List Event → Type 0 = λ es. Cut (d ∷ (done ++ one ∷ more)) es in
-    subst P (sym same) (inl (refl, cut_in done (one ∷ more) (done ++ part ∷ []) (inr (part, is, refl))))
+cut_in (d ∷ done) (one ∷ more) events (inr (part, is, same)) = grind (arith, cut_in done (one ∷ more) (done ++ part ∷ []) (inr (part, is, refl)))
 
 cut_of : (whole events : List Event) → IsCut whole events → Cut whole events
 cut_of whole events is = let P : List Event → Type 0 = λ es. Cut es events in subst P (sym is.whole_is) (cut_in is.done is.more events is.ends)
@@ -73,19 +56,7 @@ first_all P (turn ∷ first) more (one, all) = (one, first_all P first more all)
 
 -- at least what those calls drained was kept, and no more than it was told
 backed : (begun : LiveState) (first : ℕ) (calls : List Call) (now : MachineState) (events : List Event) (more unsaid : List ℕ) → IsAccount begun first calls now → kept_in events ≡ flat_map log_drained calls ++ more → flat_map told_drained calls ≡ told_in events ++ unsaid → IsBackedByTurns begun first events
-backed begun first calls now events more unsaid a kept told =
-    let d = day_first a.taken a.rest begun now.live first now.next a.day in
-    record {
-      turns = a.taken;
-      new = d.0;
-      next = d.1;
-      day = d.2;
-      served = first_all IsServedTurn a.taken a.rest a.served;
-      more = more;
-      kept = kept ∙ ap (λ l. l ++ more) a.log_taken;
-      unsaid = unsaid;
-      told = sym a.told_taken ∙ told;
-    }
+backed begun first calls now events more unsaid a kept told = grind (arith, day_first, first_all)
 
 -- the calls were made, and then nothing was told
 backed_kept : (begun : LiveState) (first : ℕ) (calls : List Call) (now : MachineState) (events : List Event) → IsAccount begun first calls now → told_in events ≡ [] → IsBackedByTurns begun first (events_of calls ++ events)
@@ -120,27 +91,20 @@ runs_more a b c (first ∷ calls) call (mid, happened, rest) one = (mid, happene
 
 -- events after one more call are events after those before it
 call_before : (begun : LiveState) (first : ℕ) (calls : List Call) (call : Call) (events : List Event) → IsBackedAfter begun first (calls ++ call ∷ []) events → IsBackedAfter begun first calls (events_in call ++ events)
-call_before begun first calls call events is =
-    let P : List Event → Type 0 = λ es. IsBackedByTurns begun first es in
-    subst P (ap (λ es. es ++ events) (flat_map-append events_in calls (call ∷ [])) ∙ (ap (λ es. (events_of calls ++ es) ++ events) (append-nil (events_in call)) ∙ append_assoc (events_of calls) (events_in call) events)) is
+call_before begun first calls call events is = grind (arith, flat_map-append, append_assoc)
 
 backed_after : (begun : LiveState) (first : ℕ) (law : Accounts begun first) (calls more : List Call) (mid now : MachineState) (events : List Event) → Run (begins_with begun first) calls mid → Run mid more now → Cut (events_of more) events → IsBackedAfter begun first calls events
 backed_after begun first law calls more mid now [] run rest cut = backed_kept begun first calls mid [] (law calls mid run) refl
 backed_after begun first law calls [] mid now (event ∷ events) run rest cut = elim cut [ ]
-backed_after begun first law calls (Line line ∷ more) mid now (event ∷ events) run (next, one, rest) cut =
-    call_before begun first calls (Line line) (event ∷ events) (backed_after begun first law (calls ++ Line line ∷ []) more next now (event ∷ events) (runs_more (begins_with begun first) mid next calls (Line line) run one) rest cut)
+backed_after begun first law calls (Line line ∷ more) mid now (event ∷ events) run (next, one, rest) cut = search (call_before, runs_more, backed_after begun first law (calls ++ Line line ∷ []) more next now (event ∷ events) (runs_more (begins_with begun first) mid next calls (Line line) run one) rest cut, arith)
 backed_after begun first law calls (ServeHeld name ∷ more) mid now (event ∷ events) run (next, one, rest) cut =
     call_before begun first calls (ServeHeld name) (event ∷ events) (backed_after begun first law (calls ++ ServeHeld name ∷ []) more next now (event ∷ events) (runs_more (begins_with begun first) mid next calls (ServeHeld name) run one) rest cut)
 backed_after begun first law calls (GiveUp name ∷ more) mid now (event ∷ events) run (next, one, rest) cut =
     call_before begun first calls (GiveUp name) (event ∷ events) (backed_after begun first law (calls ++ GiveUp name ∷ []) more next now (event ∷ events) (runs_more (begins_with begun first) mid next calls (GiveUp name) run one) rest cut)
 backed_after begun first law calls (PutStep name ∷ more) mid now (event ∷ events) run (next, one, rest) cut =
     call_before begun first calls (PutStep name) (event ∷ events) (backed_after begun first law (calls ++ PutStep name ∷ []) more next now (event ∷ events) (runs_more (begins_with begun first) mid next calls (PutStep name) run one) rest cut)
-backed_after begun first law calls (Drain log told ∷ more) mid now (event ∷ events) run (next, one, rest) (inr ((count, is), none)) =
-    let P : List Event → Type 0 = λ es. IsBackedAfter begun first calls es in
-    subst P (sym (ap (λ e. e ∷ events) is ∙ ap (λ es. Kept (take count log) ∷ es) none)) (backed_kept begun first calls mid (Kept (take count log) ∷ []) (law calls mid run) refl)
-backed_after begun first law calls (Drain log told ∷ more) mid now (event ∷ []) run (next, one, rest) (inl (same, cut)) =
-    let P : List Event → Type 0 = λ es. IsBackedAfter begun first calls es in
-    subst P (ap (λ e. e ∷ []) (sym same)) (backed_kept begun first calls mid (Kept log ∷ []) (law calls mid run) refl)
+backed_after begun first law calls (Drain log told ∷ more) mid now (event ∷ events) run (next, one, rest) (inr ((count, is), none)) = grind (arith, backed_kept)
+backed_after begun first law calls (Drain log told ∷ more) mid now (event ∷ []) run (next, one, rest) (inl (same, cut)) = grind (arith, backed_kept)
 backed_after begun first law calls (Drain log told ∷ more) mid now (event ∷ then ∷ events) run (next, one, rest) (inl (same, inr ((count, is), none))) =
     let P : List Event → Type 0 = λ es. IsBackedAfter begun first calls es in
     let a : IsAccount begun first (calls ++ Drain log told ∷ []) next = law (calls ++ Drain log told ∷ []) next (runs_more (begins_with begun first) mid next calls (Drain log told) run one) in
@@ -151,5 +115,4 @@ backed_after begun first law calls (Drain log told ∷ more) mid now (event ∷ 
     subst P (sym (ap (λ e. e ∷ then ∷ events) same ∙ ap (λ e. Kept log ∷ e ∷ events) so)) (call_before begun first calls (Drain log told) events later)
 
 pub backed_at : (begun : LiveState) (first : ℕ) (law : Accounts begun first) (calls : List Call) (now : MachineState) (events : List Event) (n : ℕ) → Run (begins_with begun first) calls now → IsCut (events_of calls) events → IsBackedByTurns begun first (take n events)
-backed_at begun first law calls now events n run cut =
-    backed_after begun first law [] calls (begins_with begun first) now (take n events) refl run (cut_take n (events_of calls) events (cut_of (events_of calls) events cut))
+backed_at begun first law calls now events n run cut = grind (arith, backed_after begun first law [] calls (begins_with begun first) now (take n events) refl run (cut_take n (events_of calls) events (cut_of (events_of calls) events cut)))

@@ -1,50 +1,18 @@
 -- The answers of a live service are those of a script.
-use Rattle.std.proofs.Common.{◌≡◌, ℕ, List, [], ◌∷◌, ◌++◌, map, true, refl, ap, ◌∙◌}
-use Rattle.line_feed.specs.Pieces.{kept_of}
-use Rattle.service_core.specs.declared.device.Device.{Device}
+use Rattle.live_promises.proofs.Prelude.{◌≡◌, ℕ, List, [], ◌∷◌, ◌++◌, map, true, refl, ap, ◌∙◌, arith, kept_of, Device, empty_service, Act, is_name, items_to_come, Run-append, Stage, Tagged, output_of, told_to, AreToldAlone, Telling as ScriptTelling, Tells, calls_of, IsAnswered, IsHeadline, answered_runs, told_runs, items_for, replies_for, said_by, LiveState, Takes, AreTaken, begins, IsToldLive, of_script}
 use Rattle.service_core.specs.Run.{Call, Run}
-use Rattle.service_core.specs.Service.{empty_service}
-use Rattle.script_text.specs.declared.act.Act.{Act}
-use Rattle.script_text.specs.declared.act.Act.TheVariants.{Operator, Session}
-use Rattle.script_text.specs.Script.{is_name}
-use Rattle.sessions.specs.Reading.{items_to_come}
-use Rattle.sessions.proofs.StepLemmas.{Run-append}
-use Rattle.operator.specs.OperatorText.{last_id}
-use Rattle.operator.specs.Serving.{Stage}
-use Rattle.tagged_lines.specs.Tags.{Tagged, output_of, told_to}
-use Rattle.fpgad_run.specs.EndToEnd.{AreToldAlone, IsToldAlone}
-use Rattle.fpgad_run.specs.Run.{Telling as ScriptTelling, Tells, calls_of, IsAnswered}
-use Rattle.fpgad_run.proofs.Telling.{IsHeadline, answered_runs, told_runs}
 use Rattle.live_lines.specs.Acts.{Telling, IsAnswered as IsAnsweredLive, Tells as TellsLive}
-use Rattle.live_lines.specs.Laws.{items_for, replies_for, said_by}
-use Rattle.live_lines.specs.Live.{LiveState, Takes}
-use Rattle.live_input.specs.Serving.{AreTaken, begins}
-use Rattle.live_promises.specs.Told.{IsToldLive, of_script}
 
 answered_so : (old : Stage) (act : Act (List ℕ)) (calls : List Call) (text : List ℕ) (new : Stage) → IsAnsweredLive old act calls text new → IsAnswered old act calls text new
-answered_so old (Operator line) calls text new is = is
-answered_so old (Session name line) calls text new is = is
+answered_so old act calls text new is = grind arith
 
 tells_so : (old : Stage) (tellings : List Telling) (new : Stage) → TellsLive old tellings new → Tells old (map of_script tellings) new
 tells_so old [] new is = is
 tells_so old (t ∷ tellings) new (mid, answered, rest) = (mid, answered_so old t.act t.calls t.text mid answered, tells_so mid tellings new rest)
 
-act_alone : IsHeadline → (device : Device) (before : List Call) (old new : Stage) (act : Act (List ℕ)) (calls : List Call) (text : List ℕ) → Run (empty_service device) before old.service → IsAnswered old act calls text new → IsToldAlone device old before calls act text
-act_alone headline device before old new (Operator line) calls text runs is = tt
-act_alone headline device before old new (Session name line) calls text runs is =
-    (is.0, headline.line device before calls old.service new.service (last_id old.names name) line is.0 runs is.1 is.2, is.5)
-
 acts_alone : IsHeadline → (device : Device) (before : List Call) (old : Stage) (ts : List ScriptTelling) (last : Stage) → Run (empty_service device) before old.service → Tells old ts last → AreToldAlone device old before ts
 acts_alone headline device before old [] last runs told = tt
-acts_alone headline device before old (t ∷ ts) last runs told = (
-  act_alone headline device before old told.0 t.act t.calls t.text runs told.1,
-  (
-    told.0,
-    told.1,
-    acts_alone headline device (before ++ t.calls) told.0 ts last
-        (Run-append (empty_service device) before old.service t.calls (told.0).service runs (answered_runs old t.act t.calls t.text told.0 told.1)) told.2,
-  ),
-)
+acts_alone headline device before old (t ∷ ts) last runs told = grind (arith, acts_alone headline device (before ++ t.calls) told.0 ts last (Run-append (empty_service device) before old.service t.calls (told.0).service runs (answered_runs old t.act t.calls t.text told.0 told.1)) told.2)
 
 -- what the laws of a live service say
 pub record AreLiveLaws : Type 0 where

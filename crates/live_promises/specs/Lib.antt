@@ -1,3 +1,4 @@
+pub mod Prelude
 pub mod Moments
 pub mod Page
 pub mod Told

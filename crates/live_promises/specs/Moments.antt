@@ -1,9 +1,7 @@
 -- What a service with workers has kept and told, at each moment.
 use Rattle.std.specs.Prelude.{ℕ, ◌≡◌, List, ◌++◌}
 use Rattle.std.specs.List.{AllByRecursion}
-use Rattle.dialogue.specs.History.{Event, kept_in, told_in}
-use Rattle.live_lines.specs.Live.{LiveState}
-use Rattle.live_machine.specs.Turn.{IsDay, IsServedTurn, Turn, log_of, told_of}
+use Rattle.live_promises.specs.Prelude.{Event, kept_in, told_in, LiveState, IsDay, IsServedTurn, Turn, log_of, told_of}
 
 -- what was told is a beginning of what those turns tell, and they were kept before; each turn is a
 -- line that came and was served as itself, or as what takes its place, or a worker's line, or an

@@ -1,17 +1,6 @@
 -- What the clauses of `serve` are made of, beside the definitions that they name.
 use Rattle.std.specs.Prelude.{ℕ, ◌≡◌, ◌≢◌, List, [], ◌++◌, take, Some, is_some, true}
-use Rattle.dialogue.specs.History.{Event}
-use Rattle.line_service.specs.Conversation.{AreAnswered}
-use Rattle.live_input.specs.Serving.{AnswersLine, begins}
-use Rattle.live_lines.specs.Live.{LiveState}
-use Rattle.live_machine.specs.Account.{IsAccount}
-use Rattle.live_machine.specs.Held.{Held, held_of}
-use Rattle.live_machine.specs.Machine.{Call, MachineState, Run, begins_with}
-use Rattle.live_machine.specs.Turn.{replies_of, served_lines}
-use Rattle.live_threads.specs.Serving.{IsCut, events_of}
-use Rattle.operator.specs.OperatorText.{last_id}
-use Rattle.service_core.specs.declared.device.Device.{Device}
-use Rattle.service_core.specs.Service.{live_of}
+use Rattle.live_promises.specs.Prelude.{Event, AreAnswered, AnswersLine, begins, LiveState, IsAccount, Held, held_of, Call, MachineState, Run, begins_with, replies_of, served_lines, IsCut, events_of, last_id, Device, live_of}
 use Rattle.live_promises.specs.Moments.{IsBackedByTurns}
 
 -- it holds of all lines that are answered one after another, from an empty device on, of the text

@@ -1,20 +1,8 @@
 -- What the lines of a live service are answered.
 use Rattle.std.specs.Prelude.{ℕ, ◌≡◌, List, [], ◌∷◌, ◌++◌, map, None, true}
-use Rattle.line_feed.specs.Pieces.{kept_of}
-use Rattle.service_core.specs.declared.device.Device.{Device}
-use Rattle.service_core.specs.Headline.{AreOwnJournals, AreParted, EachIsAlone, IsBook}
-use Rattle.service_core.specs.Owners.{HasOneOwner}
+use Rattle.live_promises.specs.Prelude.{kept_of, Device, AreOwnJournals, AreParted, EachIsAlone, IsBook, HasOneOwner, empty_service, is_name, items_to_come, Tagged, output_of, told_to, AreToldAlone, Telling as ScriptTelling, Tells, calls_of, items_for, replies_for, said_by, LiveState, begins}
 use Rattle.service_core.specs.Run.{Run}
-use Rattle.service_core.specs.Service.{empty_service}
-use Rattle.script_text.specs.Script.{is_name}
-use Rattle.sessions.specs.Reading.{items_to_come}
-use Rattle.tagged_lines.specs.Tags.{Tagged, output_of, told_to}
-use Rattle.fpgad_run.specs.EndToEnd.{AreToldAlone}
-use Rattle.fpgad_run.specs.Run.{Telling as ScriptTelling, Tells, calls_of}
 use Rattle.live_lines.specs.Acts.{Telling}
-use Rattle.live_lines.specs.Laws.{items_for, replies_for, said_by}
-use Rattle.live_lines.specs.Live.{LiveState}
-use Rattle.live_input.specs.Serving.{begins}
 
 -- an answered act as one of a script
 abbrev pub of_script : Telling → ScriptTelling

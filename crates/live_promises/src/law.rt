@@ -1,13 +1,7 @@
 //! The law.
 ghost use Rattle.std.specs.Prelude.{◌++◌, ℕ, List};
-ghost use Rattle.line_service.specs.Conversation.{AreAnswered};
-ghost use Rattle.live_input.specs.Serving.{AnswersLine, begins};
-ghost use Rattle.live_lines.specs.Live.{LiveState};
-ghost use Rattle.live_machine.specs.Account.{IsAccount};
-ghost use Rattle.live_machine.specs.Machine.{Call, MachineState, Run, begins_with};
-ghost use Rattle.live_machine.specs.Turn.{replies_of, served_lines};
+ghost use Rattle.live_promises.specs.Prelude.{AreAnswered, AnswersLine, begins, LiveState, IsAccount, Call, MachineState, Run, begins_with, replies_of, served_lines, Device};
 ghost use Rattle.live_promises.specs.Told.{IsToldLive};
-ghost use Rattle.service_core.specs.declared.device.Device.{Device};
 
 use live_input::served_law;
 use live_lines::live_law;

@@ -1,10 +1,7 @@
 //! What is kept and told at each moment, with workers.
 ghost use Rattle.std.specs.Prelude.{take, ℕ, List};
-ghost use Rattle.dialogue.specs.History.{Event};
-ghost use Rattle.live_lines.specs.Live.{LiveState};
-ghost use Rattle.live_machine.specs.Machine.{Call, MachineState, Run, begins_with};
+ghost use Rattle.live_promises.specs.Prelude.{Event, LiveState, Call, MachineState, Run, begins_with, IsCut, events_of};
 ghost use Rattle.live_promises.specs.Moments.{IsBackedByTurns};
-ghost use Rattle.live_threads.specs.Serving.{IsCut, events_of};
 
 use live_machine::machine_law;
 

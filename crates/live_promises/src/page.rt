@@ -3,7 +3,7 @@ ghost use Rattle.std.specs.Prelude.{option_map};
 ghost use Rattle.std.specs.Process.{exit_status};
 ghost use Rattle.live_promises.specs.Page.{IsBackedAtEachMoment, IsOneDay, KeepsTenancies, OfAllCalls, OfEachDay};
 ghost use Rattle.live_promises.specs.Told.{IsToldLive};
-ghost use Rattle.live_threads.specs.Endings.{IsProgramEnd};
+ghost use Rattle.live_promises.specs.Prelude.{IsProgramEnd};
 
 use crate::law::live_promises;
 use crate::moments::moments_promises;

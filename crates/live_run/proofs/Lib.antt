@@ -1,3 +1,4 @@
+mod Prelude
 mod LineRuns
 mod ReadLemmas
 pub mod RetellLemmas

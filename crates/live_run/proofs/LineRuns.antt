@@ -1,12 +1,5 @@
 -- A command line that runs.
-use Rattle.std.proofs.Common.{◌≡◌, ◌∙◌, ℕ, List, [], true, false, Option, Some, None, inr, ap, subst, sym, refl}
-use Rattle.std.specs.Prelude.{is_some}
-use Rattle.std.specs.Borrow.{Bor}
-use Rattle.dialogue.specs.History.{View}
-use Rattle.live_run.specs.declared.options.CommandLine.{CommandLine}
-use Rattle.live_run.specs.declared.outcome.Outcome.{Outcome}
-use Rattle.live_run.specs.Commands.{RunsLine}
-use Rattle.live_run.specs.Runs.{Runs}
+use Rattle.live_run.proofs.Prelude.{◌≡◌, ◌∙◌, ℕ, List, [], true, false, Option, Some, None, inr, ap, subst, sym, refl, is_some, Bor, View, CommandLine, Outcome, RunsLine, Runs}
 
 -- without a log
 pub begins_plain : (line : CommandLine) (architecture : List ℕ) (before after : View) (outcome : Outcome) → before.has_log ≡ false → line.log ≡ None → Runs line.options architecture false (Some []) line.told before after outcome → RunsLine line before after outcome

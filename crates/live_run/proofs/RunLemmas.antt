@@ -1,25 +1,11 @@
 -- A service that goes on from a log, or from nothing.
-use Rattle.std.proofs.Common.{◌≡◌, ℕ, inl, inr, List, [], true, false, Option, Some, Ok, Err, refl, sym, subst}
-use Rattle.dialogue.specs.History.{View}
-use Rattle.line_feed.proofs.CutLemmas.{kept_none}
-use Rattle.line_service.specs.declared.conversation.ConversationEnd.{ConversationEnd}
+use Rattle.live_run.proofs.Prelude.{◌≡◌, ℕ, inr, List, [], true, false, Option, Some, Ok, Err, refl, sym, subst, arith, View, kept_none, ConversationEnd, IsConversation, progress_none, LiveState, AnswersLine, Outcome, Done, ArchUnreadable, ArchRefused, LogUnreadable, LogDiffers, LogIsStream, LogInUse, Stopped, TooManyLines, NoMemory, outcome_of, EndsRetelling, IsResumed, ClosesAs, RunsFrom, Talks}
 use Rattle.line_service.specs.declared.conversation.ConversationEnd.TheVariants.{Done as DoneEnd, Stopped as StoppedEnd, TooManyLines as TooManyEnd, NoMemory as NoMemoryEnd}
-use Rattle.line_service.specs.Conversation.{IsConversation}
-use Rattle.line_service.proofs.TalkLemmas.{progress_none}
-use Rattle.live_lines.specs.Live.{LiveState}
-use Rattle.live_input.specs.Serving.{AnswersLine}
-use Rattle.live_run.specs.declared.outcome.Outcome.{Outcome}
-use Rattle.live_run.specs.declared.outcome.Outcome.TheVariants.{Done, ArchUnreadable, ArchRefused, LogUnreadable, LogDiffers, LogIsStream, LogInUse, Stopped, TooManyLines, NoMemory}
-use Rattle.live_run.specs.Outcomes.{outcome_of}
-use Rattle.live_run.specs.Retelling.{EndsRetelling, IsResumed}
-use Rattle.live_run.specs.Runs.{ClosesAs, RunsFrom, Talks}
 use Rattle.live_run.proofs.RetellLemmas.{keeps_same, retold_none}
 
 -- a conversation in which nothing happens
 pub nothing_said : (old new : LiveState) (first next : ℕ) (view : View) → IsConversation AnswersLine old first view view NoMemoryEnd new next
-nothing_said old new first next view =
-    let p = progress_none AnswersLine old first view [] [] refl (sym kept_none) in
-    record { events = p.events; happens = p.happens; moments = p.moments; reads = p.reads; ends = tt }
+nothing_said old new first next view = grind (arith, progress_none AnswersLine old first view [] [] refl (sym kept_none))
 
 talks_after : (past : Option (List ℕ)) (told : Option ℕ) (start mid last : LiveState) (number next : ℕ) (before begun after : View) (end : ConversationEnd) (r : EndsRetelling start 1 past told before (Ok tt) mid number begun) → IsConversation AnswersLine mid number begun after end last next → Talks start true past told before after (outcome_of end)
 talks_after past told start mid last number next before begun after end r c =
@@ -43,16 +29,7 @@ goes_on past told start mid last number next before begun after TooManyEnd r c =
 goes_on past told start mid last number next before begun after NoMemoryEnd r c = inr (talks_after past told start mid last number next before begun after NoMemoryEnd r c)
 
 pub retell_fails : (past : Option (List ℕ)) (told : Option ℕ) (start mid : LiveState) (next : ℕ) (before after : View) (outcome : Outcome) → EndsRetelling start 1 past told before (Err outcome) mid next after → RunsFrom start true past told before after outcome
-retell_fails past told start mid next before after Done r = absurd r
-retell_fails past told start mid next before after ArchUnreadable r = absurd r
-retell_fails past told start mid next before after (ArchRefused fault) r = absurd r
-retell_fails past told start mid next before after LogUnreadable r = (refl, r)
-retell_fails past told start mid next before after (LogDiffers difference) r = absurd r
-retell_fails past told start mid next before after LogIsStream r = absurd r
-retell_fails past told start mid next before after LogInUse r = absurd r
-retell_fails past told start mid next before after (Stopped fault) r = inl (refl, r.1, r.0)
-retell_fails past told start mid next before after TooManyLines r = absurd r
-retell_fails past told start mid next before after NoMemory r = inl (refl, r)
+retell_fails past told start mid next before after outcome r = grind arith
 
 no_log : (told : Option ℕ) (start : LiveState) (view : View) → IsResumed start 1 (Some []) told start view view
 no_log told start view = record { lines = []; all = refl; text = []; answered = (refl, refl); retold = retold_none told view; input = keeps_same view.remaining }

@@ -1,17 +1,5 @@
 -- Lines of a log, and the sums that they say.
-use Rattle.std.proofs.Common.{◌≡◌, ℕ, ◌+◌, List, [], ◌∷◌, ◌++◌, true, false, cond, map, Option, Some, None, Ok, Err, refl, sym, ap, subst, ◌∙◌, append_assoc}
-use Rattle.std.specs.Prelude.{IfSome, ⊤}
-use Rattle.std.specs.Io.KnownBytes.{Consumes, IsAtEnd}
-use Rattle.std.proofs.lemmas.List.{map-append}
-use Rattle.std.proofs.lemmas.List.Sums.{fold-append}
-use Rattle.line_feed.specs.Pieces.{IsKept, TakesPiece, kept_of}
-use Rattle.line_feed.proofs.CutLemmas.{kept_none}
-use Rattle.line_service.specs.Conversation.{ended_lines}
-use Rattle.live_run.specs.declared.differing.LogDifference.TheVariants.{Changed, NoLog, Others}
-use Rattle.live_run.specs.declared.outcome.Outcome.{Outcome}
-use Rattle.live_run.specs.declared.outcome.Outcome.TheVariants.{Done, ArchUnreadable, ArchRefused, LogUnreadable, LogDiffers, LogIsStream, LogInUse, Stopped, TooManyLines, NoMemory}
-use Rattle.live_run.specs.declared.sums.LogSum.{LogSum}
-use Rattle.live_run.specs.Sums.{ChecksLines, ChecksLog, TakesNext, differs, first_differing, lines_sum, no_lines, with_line}
+use Rattle.live_run.proofs.Prelude.{◌≡◌, ℕ, ◌+◌, List, [], ◌∷◌, ◌++◌, true, false, cond, map, Option, Some, None, Ok, Err, refl, sym, ap, ◌∙◌, append_assoc, arith, IfSome, ⊤, Consumes, IsAtEnd, map-append, fold-append, IsKept, TakesPiece, kept_of, kept_none, ended_lines, Changed, NoLog, Others, Outcome, Done, ArchUnreadable, ArchRefused, LogUnreadable, LogDiffers, LogIsStream, LogInUse, Stopped, TooManyLines, NoMemory, LogSum, ChecksLines, ChecksLog, TakesNext, differs, first_differing, lines_sum, no_lines, with_line}
 use Rattle.live_run.proofs.ReadLemmas.{IsRead, read_first, read_line, read_more, read_none, read_piece, read_whole}
 
 -- lines that say no other sum, and those after them
@@ -24,14 +12,10 @@ differing_then s (line ∷ lines) more none =
     ] none
 
 differing_now : (s : LogSum) (lines more : List (List ℕ)) (line : List ℕ) → first_differing s lines ≡ None → differs (lines_sum s lines) line ≡ true → first_differing s (lines ++ line ∷ more) ≡ Some ((lines_sum s lines).count + 1)
-differing_now s lines more line none is =
-    let own : LogSum = lines_sum s lines in
-    differing_then s lines (line ∷ more) none ∙ ap (λ b. cond b (Some (own.count + 1)) (first_differing (with_line own line) more)) is
+differing_now s lines more line none is = grind (arith, differing_then)
 
 differing_not : (s : LogSum) (lines : List (List ℕ)) (line : List ℕ) → first_differing s lines ≡ None → differs (lines_sum s lines) line ≡ false → first_differing s (lines ++ line ∷ []) ≡ None
-differing_not s lines line none is =
-    let own : LogSum = lines_sum s lines in
-    differing_then s lines (line ∷ []) none ∙ ap (λ b. cond b (Some (own.count + 1)) None) is
+differing_not s lines line none is = grind (arith, differing_then)
 
 -- the lines so far say no other sum, and come to that
 pub record SumsSome (input now : Option (List ℕ)) (ahead kept : List ℕ) (s : LogSum) : Type 0 where
@@ -45,41 +29,22 @@ sums_none input ahead kept s none line is = record { lines = []; read = read_non
 
 -- one more line
 pub sums_line : (input now : Option (List ℕ)) (ahead kept rest after cleared : List ℕ) (s new : LogSum) → SumsSome input now ahead kept s → TakesPiece ahead kept true rest after → IsKept cleared [] → TakesNext s after (Ok new) → SumsSome input now rest cleared new
-sums_line input now ahead kept rest after cleared s new g p none (not_other, is) =
-    let line = g.read.begun ++ p.piece in
-    let before = map kept_of g.lines in
-    let cut : after ≡ kept_of line = p.kept g.read.begun g.read.line in
-    let all : map kept_of (g.lines ++ line ∷ []) ≡ before ++ after ∷ [] = map-append kept_of g.lines (line ∷ []) ∙ ap (λ l. before ++ l ∷ []) (sym cut) in
-    record {
-      lines = g.lines ++ line ∷ [];
-      read = read_line input now ahead kept rest after cleared g.lines g.read p none;
-      none = ap (first_differing no_lines) all ∙ differing_not no_lines before after g.none (ap (λ x. differs x after) (sym g.sum) ∙ not_other);
-      sum = is ∙ (ap (λ x. with_line x after) g.sum ∙ (sym (fold-append with_line no_lines before (after ∷ [])) ∙ ap (lines_sum no_lines) (sym all)));
-    }
+sums_line input now ahead kept rest after cleared s new g p none h4 = grind (arith, map-append, differing_not, fold-append, read_line input now ahead kept rest after cleared g.lines g.read p none)
 
 -- more of the log is read
 pub sums_read : (input now later : Option (List ℕ)) (ahead kept rest after bytes line : List ℕ) (s : LogSum) → SumsSome input now ahead kept s → TakesPiece ahead kept false rest after → Consumes now later bytes → line ≡ after → SumsSome input later bytes line s
-sums_read input now later ahead kept rest after bytes line s g p reads same =
-    let R : List ℕ → Type 0 = λ l. IsRead input later bytes l g.lines in
-    record {
-      lines = g.lines;
-      read = subst R (sym same) (read_more input now later rest after bytes g.lines p.rest.1 (read_piece input now ahead kept rest after g.lines g.read p) reads);
-      none = g.none;
-      sum = g.sum;
-    }
+sums_read input now later ahead kept rest after bytes line s g p reads same = grind (arith, read_more input now later rest after bytes g.lines p.rest.1 (read_piece input now ahead kept rest after g.lines g.read p) reads)
 
 -- all of it was
 known_lines : (input : Option (List ℕ)) (lines : List (List ℕ)) (s : LogSum) → ChecksLines (map kept_of lines) (Ok s) → IfSome input (λ bytes. lines ≡ ended_lines bytes) → ChecksLog input (Ok s)
-known_lines None lines s checks all = tt
-known_lines (Some bytes) lines s checks all = let P : List (List ℕ) → Type 0 = λ ls. ChecksLines (map kept_of ls) (Ok s) in subst P all checks
+known_lines input lines s checks all = grind arith
 
 pub sums_whole : (input now : Option (List ℕ)) (ahead kept : List ℕ) (s : LogSum) → ahead ≡ [] → IsAtEnd now → SumsSome input now ahead kept s → ChecksLog input (Ok s)
 sums_whole input now ahead kept s none at g = known_lines input g.lines s (g.none, g.sum) (read_whole input now ahead kept g.lines none g.read at)
 
 -- a line says another sum
 known_first : (input : Option (List ℕ)) (lines : List (List ℕ)) (number : ℕ) → ((more : List (List ℕ)) → first_differing no_lines (map kept_of lines ++ more) ≡ Some number) → IfSome input (λ bytes. (more : List (List ℕ)) × (ended_lines bytes ≡ lines ++ more)) → ChecksLog input (Err (LogDiffers (Changed number)))
-known_first None lines number differs first = tt
-known_first (Some bytes) lines number differs (more, is) = ap (λ ls. first_differing no_lines (map kept_of ls)) is ∙ (ap (first_differing no_lines) (map-append kept_of lines more) ∙ differs (map kept_of more))
+known_first input lines number h1 first = grind (arith, map-append)
 
 sums_differ : (input now : Option (List ℕ)) (ahead kept rest after : List ℕ) (s : LogSum) (number : ℕ) → SumsSome input now ahead kept s → TakesPiece ahead kept true rest after → differs s after ≡ true → number ≡ s.count + 1 → ChecksLog input (Err (LogDiffers (Changed number)))
 sums_differ input now ahead kept rest after s number g p other is =
@@ -97,14 +62,10 @@ sums_differ input now ahead kept rest after s number g p other is =
 
 -- the log can't be read, or memory ran out
 known_any : (input : Option (List ℕ)) → IfSome input (λ bytes. ⊤)
-known_any None = tt
-known_any (Some bytes) = tt
+known_any input = grind arith
 
 pub sums_unread : (input : Option (List ℕ)) → ChecksLog input (Err LogUnreadable)
 sums_unread input = known_any input
-
-pub sums_no_memory : (input : Option (List ℕ)) → ChecksLog input (Err NoMemory)
-sums_no_memory input = known_any input
 
 -- a line was not added
 pub sums_end : (input now : Option (List ℕ)) (ahead kept rest after : List ℕ) (s : LogSum) (outcome : Outcome) → SumsSome input now ahead kept s → TakesPiece ahead kept true rest after → TakesNext s after (Err outcome) → ChecksLog input (Err outcome)

@@ -1,12 +1,6 @@
 -- The whole lines of bytes, part by part.
-use Rattle.std.proofs.Common.{◌≡◌, ◌+◌, ◌<◌, ◌≤◌, ◌++◌, ◌∷◌, [], ℕ, suc, List, true, false, length, take, get_or, ◌≢◌, arith, ap, sym, ◌∙◌, refl, Option, length-append}
-use Rattle.std.proofs.KnownBytes.{Consumes-trans}
-use Rattle.std.specs.Io.KnownBytes.{Consumes}
-use Rattle.std.proofs.Math.Seq.{take-suc}
-use Rattle.std.proofs.lemmas.List.{length-take-le}
-use Rattle.std.specs.Prelude.{◌==◌, if◌then◌else◌}
-use Rattle.std.proofs.lemmas.Bool.Decides.{nat_tests}
-use Rattle.live_run.specs.WholePart.{whole_bytes}
+use Rattle.live_run.proofs.Prelude.{◌≡◌, ◌+◌, ◌<◌, ◌≤◌, ◌++◌, ◌∷◌, [], ℕ, suc, List, false, length, take, get_or, ◌≢◌, arith, ap, sym, ◌∙◌, refl, Option, length-append, Consumes-trans, Consumes, take-suc, length-take-le, ◌==◌, nat_tests, whole_bytes}
+use Rattle.std.specs.Prelude.{if◌then◌else◌}
 
 -- without an LF in what follows nothing is added
 pub whole_no_more : (xs ys : List ℕ) → whole_bytes ys ≡ 0 → whole_bytes (xs ++ ys) ≡ whole_bytes xs
@@ -16,20 +10,11 @@ whole_no_more (x ∷ xs) ys none = rw (whole_no_more xs ys none) refl
 -- else all before it counts
 pub whole_more : (xs ys : List ℕ) → 0 < whole_bytes ys → whole_bytes (xs ++ ys) ≡ length xs + whole_bytes ys
 whole_more [] ys some = omega arith
-whole_more (x ∷ xs) ys some =
-    let rest : whole_bytes (xs ++ ys) ≡ length xs + whole_bytes ys = whole_more xs ys some in
-    let not_none : (whole_bytes (xs ++ ys) == 0) ≡ false = grind (arith, nat_tests, rest, some) in
-    ap (λ t. if t then (if x == 10 then 1 else 0) else whole_bytes (xs ++ ys) + 1) not_none ∙ omega (arith, rest)
+whole_more (x ∷ xs) ys some = grind (arith, whole_more xs ys some)
 
 pub whole_within : (xs : List ℕ) → whole_bytes xs ≤ length xs
 whole_within [] = omega arith
-whole_within (x ∷ xs) = elim (whole_bytes xs == 0) as (λ t. (if t then (if x == 10 then 1 else 0) else whole_bytes xs + 1) ≤ length (x ∷ xs)) [
-  | true ↦ elim (x == 10) as (λ t. (if t then 1 else 0) ≤ length (x ∷ xs)) [
-    | true ↦ omega arith
-    | false ↦ omega arith
-  ]
-  | false ↦ (let rest = whole_within xs in omega (arith, rest))
-]
+whole_within (x ∷ xs) = grind (arith, whole_within xs)
 
 -- one more byte
 pub next_end : (bytes : List ℕ) (i : ℕ) → i < length bytes → get_or bytes i 0 ≡ 10 → whole_bytes (take (i + 1) bytes) ≡ i + 1

@@ -1,6 +1,6 @@
 -- What a command line makes of a live service without workers.
 use Rattle.std.specs.Prelude.{ℕ, ◌≡◌, ◌≢◌, ◌⊎◌, List, Option, is_some}
-use Rattle.dialogue.specs.History.{View}
+use Rattle.live_run.specs.Prelude.{View}
 use Rattle.live_run.specs.declared.options.CommandLine.{CommandLine}
 use Rattle.live_run.specs.declared.outcome.Outcome.{Outcome}
 use Rattle.live_run.specs.declared.outcome.Outcome.TheVariants.{Done}

@@ -1,3 +1,4 @@
+pub mod Prelude
 pub mod Commands
 pub mod Headings
 pub mod Limits

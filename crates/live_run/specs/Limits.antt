@@ -1,9 +1,6 @@
 -- The limits of a device.
 use Rattle.std.specs.Prelude.{ℕ, ◌≡◌, ◌≤◌, ◌*◌}
-use Rattle.arch_file.specs.declared.arch.TheConstants.{MAX_TRACKS}
-use Rattle.grid.specs.declared.TheConstants.{MAX_COLUMNS, MAX_ROWS}
-use Rattle.arch_file.specs.declared.arch.Arch.{Arch}
-use Rattle.service_core.specs.declared.device.Device.{Device}
+use Rattle.live_run.specs.Prelude.{MAX_TRACKS, MAX_COLUMNS, MAX_ROWS, Arch, Device}
 use Rattle.live_run.specs.declared.options.Options.{Options}
 use Rattle.live_run.specs.declared.options.TheConstants.{MIB}
 

@@ -1,7 +1,6 @@
 -- Which words give which option.
 use Rattle.std.specs.Prelude.{ℕ, ◌≡◌, true, not, ◌||◌, ◌&&◌, Option, Some, None, codes, is_some, option_map}
-use Rattle.option_words.specs.declared.given.Given.{Given}
-use Rattle.option_words.specs.Values.{is_given, number_of, text_of}
+use Rattle.live_run.specs.Prelude.{Given, is_given, number_of, text_of}
 use Rattle.live_run.specs.declared.options.CommandLine.{CommandLine}
 use Rattle.live_run.specs.declared.options.Options.{Options}
 

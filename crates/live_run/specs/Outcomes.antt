@@ -1,9 +1,7 @@
 -- How a live service ends.
 use Rattle.std.specs.Prelude.{ℕ}
-use Rattle.line_service.specs.declared.conversation.ConversationEnd.{ConversationEnd}
-use Rattle.line_service.specs.declared.conversation.ConversationEnd.TheVariants.{Done as DoneEnd, Stopped as StoppedEnd, TooManyLines as TooManyEnd, NoMemory as NoMemoryEnd}
-use Rattle.line_text.specs.declared.source.ReadError.{ReadError}
-use Rattle.line_text.specs.declared.source.ReadError.TheVariants.{Failed, NoMemory as NoReadMemory}
+use Rattle.live_run.specs.Prelude.{ConversationEnd, Done as DoneEnd, Stopped as StoppedEnd, TooManyLines as TooManyEnd, NoMemory as NoMemoryEnd, ReadError, Failed}
+use Rattle.line_text.specs.declared.source.ReadError.TheVariants.{NoMemory as NoReadMemory}
 use Rattle.live_run.specs.declared.outcome.Outcome.{Outcome}
 use Rattle.live_run.specs.declared.outcome.Outcome.TheVariants.{Done, ArchUnreadable, ArchRefused, LogUnreadable, LogDiffers, LogIsStream, LogInUse, Stopped, TooManyLines, NoMemory}
 

@@ -1,8 +1,7 @@
 -- What a start makes of a log's file.
 use Rattle.std.specs.Prelude.{ℕ, ◌≡◌, ◌⊎◌, ◌++◌, Bool, true, false, List, [], eqb, length, nat_lt, take, Option, Some, None, if◌then◌else◌, ⊤}
 use Rattle.std.specs.List.{starts_with}
-use Rattle.dialogue.specs.declared.dialogue.FailedDevice.TheVariants.{Log}
-use Rattle.live_input.specs.Serving.{kept_lines}
+use Rattle.live_run.specs.Prelude.{Log, kept_lines}
 use Rattle.live_run.specs.declared.differing.LogDifference.{LogDifference}
 use Rattle.live_run.specs.declared.differing.LogDifference.TheVariants.{Changed}
 use Rattle.live_run.specs.declared.outcome.Outcome.{Outcome}

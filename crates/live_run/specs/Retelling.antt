@@ -1,10 +1,7 @@
 -- Lines of a log that are answered again. The replies to the later ones are written again.
 use Rattle.std.specs.Prelude.{ℕ, ◌≡◌, List, [], ◌++◌, Bool, true, false, nat_lt, length, ◌+◌, Option, Some, None, Result, Ok, Err, IfSome, if◌then◌else◌}
 use Rattle.std.specs.Io.KnownBytes.{Keeps}
-use Rattle.dialogue.specs.History.{Event, Happens, View, kept_in, told_in}
-use Rattle.line_service.specs.Conversation.{AreAnswered, ended_lines}
-use Rattle.live_lines.specs.Live.{LiveState}
-use Rattle.live_input.specs.Serving.{AnswersLine}
+use Rattle.live_run.specs.Prelude.{Event, Happens, View, kept_in, told_in, AreAnswered, ended_lines, LiveState, AnswersLine}
 use Rattle.live_run.specs.declared.outcome.Outcome.{Outcome}
 use Rattle.live_run.specs.declared.outcome.Outcome.TheVariants.{LogUnreadable, NoMemory, Stopped}
 

@@ -1,14 +1,6 @@
 -- What a live service writes and keeps, from its architecture to its end.
 use Rattle.std.specs.Prelude.{ℕ, ◌≡◌, ◌+◌, ◌⊎◌, Bool, true, false, List, [], ◌∷◌, length, Option, Some, None, Ok, Err}
-use Rattle.arch_file.specs.declared.arch.Arch.{Arch}
-use Rattle.arch_file.specs.Arch.{arch_of}
-use Rattle.dialogue.specs.History.{Fails, Happens, View}
-use Rattle.dialogue.specs.History.Event.{Told}
-use Rattle.line_service.specs.declared.conversation.ConversationEnd.{ConversationEnd}
-use Rattle.line_service.specs.declared.conversation.ConversationEnd.TheVariants.{Done as DoneEnd}
-use Rattle.line_service.specs.Conversation.{IsConversation}
-use Rattle.live_lines.specs.Live.{LiveState}
-use Rattle.live_input.specs.Serving.{AnswersLine, ClosesTexts, begins}
+use Rattle.live_run.specs.Prelude.{Arch, arch_of, Fails, Happens, View, Told, ConversationEnd, Done as DoneEnd, IsConversation, LiveState, AnswersLine, ClosesTexts, begins}
 use Rattle.live_run.specs.declared.options.Options.{Options}
 use Rattle.live_run.specs.declared.outcome.Outcome.{Outcome}
 use Rattle.live_run.specs.declared.outcome.Outcome.TheVariants.{Done, ArchUnreadable, ArchRefused, LogUnreadable, LogDiffers, LogIsStream, LogInUse, Stopped, NoMemory}

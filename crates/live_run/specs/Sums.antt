@@ -2,8 +2,7 @@
 use Rattle.std.specs.Prelude.{ℕ, ◌≡◌, ◌+◌, ◌*◌, ◌%◌, ◌^◌, ◌==◌, ◌||◌, ◌&&◌, Bool, true, false, not, nat_le, List, [], ◌∷◌, ◌++◌, bit_xor, codes, decimal, fold, length, Option, Some, None, Result, Ok, Err, IfSome, ⊤, if◌then◌else◌}
 use Rattle.std.specs.List.{list_all}
 use Rattle.std.specs.Str.{bytes_eq}
-use Rattle.tagged_lines.specs.Tags.{rest_of, tag_of, with_feed}
-use Rattle.live_input.specs.Serving.{kept_lines}
+use Rattle.live_run.specs.Prelude.{rest_of, tag_of, with_feed, kept_lines}
 use Rattle.live_run.specs.declared.sums.LogSum.{LogSum}
 use Rattle.live_run.specs.declared.outcome.Outcome.{Outcome}
 use Rattle.live_run.specs.declared.outcome.Outcome.TheVariants.{LogDiffers, LogUnreadable, NoMemory}

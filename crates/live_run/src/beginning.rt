@@ -1,6 +1,6 @@
 //! The first line of a log.
 ghost use Rattle.std.specs.Prelude.{◌≡◌, IfOk};
-ghost use Rattle.line_text.specs.Writing.{Writes};
+ghost use Rattle.live_run.specs.Prelude.{Writes};
 ghost use Rattle.live_run.specs.Headings.{heading, memory_words, sizes_words, sum_words};
 
 use crate::options::{Options, TENANT_MEMORY};

@@ -1,7 +1,6 @@
 //! The command line.
 ghost use Rattle.std.specs.Prelude.{◌≡◌, ◌≤◌, ◌*◌, IfSome, IfNone};
-ghost use Rattle.arch_file.specs.declared.arch.TheConstants.{MAX_TRACKS};
-ghost use Rattle.grid.specs.declared.TheConstants.{MAX_COLUMNS, MAX_ROWS};
+ghost use Rattle.live_run.specs.Prelude.{MAX_TRACKS, MAX_COLUMNS, MAX_ROWS};
 ghost use Rattle.live_run.specs.declared.options.TheConstants.{MAX_TENANT_MEMORY};
 
 use arch_file::{Arch, MAX_TRACKS};

@@ -1,8 +1,6 @@
 //! The lines of a log, answered again.
 ghost use Rattle.std.specs.Prelude.{◌≡◌, [], OnOk};
-ghost use Rattle.line_feed.specs.Feed.{ahead_of, line_of};
-ghost use Rattle.line_feed.specs.Pieces.{IsKept};
-ghost use Rattle.live_input.specs.Serving.{is_ready, state_in};
+ghost use Rattle.live_run.specs.Prelude.{ahead_of, line_of, IsKept, is_ready, state_in};
 ghost use Rattle.live_run.specs.Retelling.{EndsRetelling, RetellsLine, TellsReply, is_told};
 
 use crate::outcome::Outcome;

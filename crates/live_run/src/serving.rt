@@ -1,9 +1,6 @@
 //! The service, from an architecture to the end of its input.
 ghost use Rattle.std.specs.Prelude.{◌≡◌, is_some, Option, ℕ, MatchResult};
-ghost use Rattle.arch_file.specs.Arch.{IsArch};
-ghost use Rattle.service_core.specs.Kept.{IsDevice};
-ghost use Rattle.line_service.specs.Conversation.{IsConversation};
-ghost use Rattle.live_input.specs.Serving.{AnswersLine, begins, is_ready, state_in};
+ghost use Rattle.live_run.specs.Prelude.{IsArch, IsDevice, IsConversation, AnswersLine, begins, is_ready, state_in};
 ghost use Rattle.live_run.specs.Runs.{ClosesAs, Runs, RunsFrom, past_of};
 
 use crate::options::CommandLine;

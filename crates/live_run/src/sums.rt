@@ -1,9 +1,7 @@
 //! Sums of what came before, in a log.
 ghost use Rattle.std.specs.Prelude.{◌≡◌, ◌≢◌, ◌+◌, ◌<◌, ◌^◌, ◌++◌, [], IfErr, IfOk, IfSome};
 ghost use Rattle.std.specs.List.{list_all};
-ghost use Rattle.line_feed.specs.Feed.{ahead_of, line_of};
-ghost use Rattle.line_feed.specs.Pieces.{IsKept};
-ghost use Rattle.live_input.specs.Serving.{kept_lines};
+ghost use Rattle.live_run.specs.Prelude.{ahead_of, line_of, IsKept, kept_lines};
 ghost use Rattle.live_run.specs.Sums.{ChecksLog, TakesNext, added_line, are_numbers, differs, first_differing, is_digit, is_number, no_lines, says_sum, sum_after, sum_line, sum_of, with_line};
 
 use crate::differing::LogDifference;

@@ -1,33 +1,6 @@
 -- How a service with workers ends.
-use Rattle.std.proofs.Common.{◌≡◌, ◌≢◌, ◌⊎◌, inl, inr, ℕ, List, [], ◌∷◌, ◌++◌, Bool, true, false, Option, Some, None, refl, sym, ap, subst, ◌∙◌, append-nil, append_assoc, arith, length, take, take_all}
-use Rattle.std.specs.List.{flat_map}
-use Rattle.std.proofs.lemmas.Grind.{flat_map-append}
-use Rattle.dialogue.specs.History.{Fails, Happens, View}
-use Rattle.dialogue.specs.History.Event.{Kept, Told}
-use Rattle.dialogue.specs.declared.dialogue.FailedDevice.{FailedDevice}
-use Rattle.dialogue.specs.declared.dialogue.FailedDevice.TheVariants.{Input}
-use Rattle.rr_graph.specs.Graph.{Basis}
-use Rattle.service_core.specs.Service.{ServiceState}
-use Rattle.live_machine.specs.declared.machine.Machine.{Machine}
-use Rattle.live_machine.specs.Machine.{MachineState, begins_with}
-use Rattle.live_machine.specs.Parts.{EndsMachine, machine_of}
-use Rattle.live_lines.specs.Live.{LiveState}
-use Rattle.live_run.specs.declared.outcome.Outcome.{Outcome}
-use Rattle.live_run.specs.declared.outcome.Outcome.TheVariants.{ArchRefused, ArchUnreadable, Done, LogDiffers, LogIsStream, LogInUse, LogUnreadable, NoMemory, Stopped, TooManyLines}
-use Rattle.live_machine.specs.Workers.{without_workers}
-use Rattle.live_input.specs.Serving.{begins_on, kept_lines}
-use Rattle.std.specs.Prelude.{IfErr, IfOk, Result, Ok, Err, ◌<◌}
-use Rattle.std.specs.declared.vec.Vec.{Vec}
-use Rattle.rtrb.specs.Ring.{received, sent}
-use Rattle.rtrb.specs.declared.consumer.Consumer.{Consumer}
-use Rattle.rtrb.specs.declared.producer.Producer.{Producer}
-use Rattle.live_threads.specs.declared.letters.InputEnd.{InputEnd}
-use Rattle.live_threads.specs.declared.letters.InputEnd.TheVariants.{Done as InputDone, Failed, NoMemory as NoInputMemory}
-use Rattle.live_threads.specs.Fed.{AreFirst, AreReadLines, PutsLines}
-use Rattle.live_threads.specs.Ends.{IsResumed, IsWhole, PutsSome, Resumes, RunsInput, RunsService, ServesInput, StopsResuming, empty_on}
-use Rattle.live_threads.specs.Replays.{ArePuts, Replays, StopsReplay, put_line}
-use Rattle.live_threads.specs.Serving.{HasStopped, IsServed}
-use Rattle.live_threads.specs.Taken.{ClosesAs, ClosesTexts, CutsClosing, EndsServing, StopsClosing, StopsServing, TakesLines, cut_lines, lines_of}
+use Rattle.live_threads.proofs.Prelude.{◌≡◌, ◌≢◌, ◌⊎◌, inl, inr, ℕ, List, [], ◌∷◌, ◌++◌, Bool, Option, Some, None, refl, sym, ap, subst, ◌∙◌, append-nil, append_assoc, arith, length, take_all, flat_map, flat_map-append, Fails, Happens, View, Kept, Told, FailedDevice, Input, Basis, ServiceState, Machine, MachineState, begins_with, EndsMachine, machine_of, LiveState, Outcome, ArchRefused, ArchUnreadable, Done, LogDiffers, LogIsStream, LogInUse, LogUnreadable, NoMemory, Stopped, TooManyLines, without_workers, begins_on, kept_lines, IfErr, IfOk, Result, Vec, received, sent, Consumer, Producer, InputEnd, AreFirst, AreReadLines, PutsLines, IsResumed, IsWhole, PutsSome, Resumes, RunsInput, RunsService, ServesInput, StopsResuming, empty_on, ArePuts, Replays, StopsReplay, put_line, HasStopped, IsServed, ClosesAs, ClosesTexts, CutsClosing, EndsServing, StopsClosing, StopsServing, TakesLines, cut_lines, lines_of}
+use Rattle.live_threads.specs.declared.letters.InputEnd.TheVariants.{Done as InputDone}
 use Rattle.live_threads.proofs.ServedLemmas.{served_stops, served_then}
 
 closed_cut : (last : MachineState) (before after : View) → ClosesTexts last before after → CutsClosing last before after
@@ -42,63 +15,23 @@ closed_cut last before after c = record {
 }
 
 closes_stops : (has_log : Bool) (last : MachineState) (before after : View) → ClosesAs has_log last before after → StopsClosing last before after
-closes_stops true last before after same = inl same
-closes_stops false last before after c = inr (closed_cut last before after c)
+closes_stops has_log last before after same = grind (arith, closed_cut)
 
 -- the output failed as texts were refused
 pub cut_closing : (live : LiveState) (last : MachineState) (before after : View) (reply : List ℕ) (fault : FailedDevice) → without_workers live ≡ last.live → EndsMachine live last.held reply → Fails before after fault Told reply → CutsClosing last before after
-cut_closing live last before after reply fault same ends fails = record {
-  live = live;
-  same = same;
-  reply = reply;
-  ends = ends;
-  events = _;
-  cut = record { done = []; more = Told reply ∷ []; whole_is = refl; ends = inr (_, (fails.count, refl), refl) };
-  happens = fails.happens;
-}
+cut_closing live last before after reply fault same ends fails = grind arith
 
 -- however a service ends, its end is one of a service that stops
 pub stops_of : (a : MachineState) (u v : View) (lines : List (List ℕ)) (outcome : Outcome) → EndsServing a u lines v outcome → StopsServing a u lines v
-stops_of a u v lines Done e = inr (e.last, e.mid, e.served, closes_stops _ e.last e.mid v e.closes)
-stops_of a u v lines ArchUnreadable e = e
-stops_of a u v lines (ArchRefused fault) e = e
-stops_of a u v lines LogUnreadable e = e
-stops_of a u v lines (LogDiffers difference) e = e
-stops_of a u v lines LogIsStream e = e
-stops_of a u v lines LogInUse e = e
-stops_of a u v lines (Stopped device) e = e
-stops_of a u v lines TooManyLines e = e
-stops_of a u v lines NoMemory e = e
+stops_of a u v lines outcome e = search (closes_stops, arith)
 
 -- and that of a service that did not end well
 pub ends_of : (a : MachineState) (u v : View) (lines : List (List ℕ)) (outcome : Outcome) → outcome ≢ Done → StopsServing a u lines v → EndsServing a u lines v outcome
-ends_of a u v lines Done bad s = absurd (bad refl)
-ends_of a u v lines ArchUnreadable bad s = s
-ends_of a u v lines (ArchRefused fault) bad s = s
-ends_of a u v lines LogUnreadable bad s = s
-ends_of a u v lines (LogDiffers difference) bad s = s
-ends_of a u v lines LogIsStream bad s = s
-ends_of a u v lines LogInUse bad s = s
-ends_of a u v lines (Stopped device) bad s = s
-ends_of a u v lines TooManyLines bad s = s
-ends_of a u v lines NoMemory bad s = s
-
-stopped_not : (device : FailedDevice) → Stopped device ≢ Done
-stopped_not device is = absurd (cc)
+ends_of a u v lines outcome bad s = grind arith
 
 -- a service of which more lines were read is one that stopped
 pub service_stopped : (told : Option ℕ) (log : Option (Option (List ℕ))) (empty : LiveState) (before after : View) (lines : List (List ℕ)) (outcome : Outcome) → RunsService told log empty before lines after outcome → RunsService told log empty before lines after (Stopped Input)
-service_stopped told log empty before after lines outcome (inl (bad, stops)) = inl (stopped_not Input, stops)
-service_stopped told log empty before after lines outcome (inr s) = inr (record {
-  begun = s.begun;
-  first = s.first;
-  put = s.put;
-  retold = s.retold;
-  begins = s.begins;
-  mid = s.mid;
-  resumed = s.resumed;
-  ends = stops_of _ s.mid after lines outcome s.ends;
-})
+service_stopped told log empty before after lines outcome h1 = grind (arith, stops_of)
 
 -- what was served before
 pub ends_later : (a b : MachineState) (u v w : View) (lines : List (List ℕ)) (outcome : Outcome) → IsServed a u lines b v → EndsServing b v [] w outcome → EndsServing a u lines w outcome
@@ -135,23 +68,9 @@ resumed_stops (byte ∷ put) before mid (jobs, is) happens =
 pub log_stops : (told : Option ℕ) (empty : LiveState) (log : Option (List ℕ)) (before mid after : View) → StopsReplay told empty log before mid → PutsSome mid after → StopsResuming told (Some log) empty before after
 log_stops told empty log before mid after stops puts = (mid, stops, puts)
 
--- they were kept
-pub puts_resumed : (put : List ℕ) (before mid : View) → 0 < length put → Happens before mid (Kept put ∷ []) → IsResumed put before mid
-puts_resumed [] before mid some happens = absurd (omega (arith, some))
-puts_resumed (byte ∷ put) before mid some happens = happens
-
--- there were none
-pub none_resumed : (put : List ℕ) (before mid : View) → put ≡ [] → mid ≡ before → IsResumed put before mid
-none_resumed put before mid none same = let P : List ℕ → Type 0 = λ p. IsResumed p before mid in subst P (sym none) same
-
--- or the log failed
-pub puts_stopped : (before mid : View) (put : List ℕ) (fault : FailedDevice) → ArePuts put → Fails before mid fault Kept put → PutsSome before mid
-puts_stopped before mid put fault (jobs, is) fails = let P : List ℕ → Type 0 = λ bytes. Happens before mid (Kept (take fails.count bytes) ∷ []) in inr (jobs, fails.count, subst P is fails.happens)
-
 -- of an error two things hold
 pub err_and : {T E : Type 0} (result : Result T E) (A : E → Type 0) (B : Type 0) → IfErr result A → B → IfErr result (λ e. A e × B)
-err_and (Ok x) A B a b = tt
-err_and (Err e) A B a b = (a, b)
+err_and result A B a b = grind arith
 
 -- a machine over a live service that has served no line
 pub resumes_none : (told : Option ℕ) (empty : LiveState) (machine : MachineState) (view : View) → machine ≡ begins_with empty 1 → Resumes told None empty machine view view
@@ -163,8 +82,7 @@ resumes_log told log empty begun next first put new machine before retold mid re
 
 -- what holds of a machine that was made
 pub ok_resumes : (told : Option ℕ) (log : Option (Option (List ℕ))) (empty : LiveState) (before mid : View) (result : Result Machine Outcome) (new : MachineState) → IfOk result (λ m. machine_of m ≡ new) → ((machine : MachineState) → machine ≡ new → Resumes told log empty machine before mid) → IfOk result (λ m. Resumes told log empty (machine_of m) before mid)
-ok_resumes told log empty before mid (Ok m) new is makes = makes (machine_of m) is
-ok_resumes told log empty before mid (Err outcome) new is makes = tt
+ok_resumes told log empty before mid result new is makes = grind arith
 
 -- over a core that has admitted no tenancy
 pub runs_on : (told : Option ℕ) (log : Option (Option (List ℕ))) (service : ServiceState) (graph : Basis) (live : LiveState) (before : View) (lines : List (List ℕ)) (after : View) (outcome : Outcome) → live ≡ begins_on service graph → RunsService told log (without_workers live) before lines after outcome → RunsService told log (empty_on service graph) before lines after outcome
@@ -172,16 +90,11 @@ runs_on told log service graph live before lines after outcome is runs = let P :
 
 -- a service that goes on from there
 pub runs_service : (told : Option ℕ) (log : Option (Option (List ℕ))) (empty : LiveState) (machine : MachineState) (before mid after : View) (lines : List (List ℕ)) (outcome : Outcome) → Resumes told log empty machine before mid → EndsServing machine mid lines after outcome → RunsService told log empty before lines after outcome
-runs_service told log empty machine before mid after lines outcome r ends =
-    let P : MachineState → Type 0 = λ m. EndsServing m mid lines after outcome in
-    inr (record { begun = r.begun; first = r.first; put = r.put; retold = r.retold; begins = r.begins; mid = mid; resumed = r.resumed; ends = subst P r.machine_is ends })
+runs_service told log empty machine before mid after lines outcome r ends = grind arith
 
 -- what was handed over is the beginning of the input
 all_first : (bytes : List ℕ) (end : Option InputEnd) (lines : List (List ℕ)) → AreReadLines (Some bytes) end lines → AreFirst (kept_lines bytes) lines
-all_first bytes (Some InputDone) lines is = ([], sym is ∙ sym (append-nil lines))
-all_first bytes (Some Failed) lines is = is
-all_first bytes (Some NoInputMemory) lines is = is
-all_first bytes None lines is = is
+all_first bytes end lines is = grind (arith, append-nil)
 
 -- and so is what was taken of it
 first_of_first : (all lines : List (List ℕ)) (taken : List (List ℕ)) → AreFirst all lines → AreFirst lines taken → AreFirst all taken
@@ -193,10 +106,7 @@ taken_lines put taken (left, is) = (lines_of left, ap lines_of is ∙ flat_map-a
 -- with `Done` all lines of the input are served
 serves_first : (input : Option (List ℕ)) (end : Option InputEnd) (put taken : List (List ℕ)) (outcome : Outcome) → AreReadLines input end put → AreFirst put taken → (outcome ≡ Done → (end ≡ Some InputDone) × (taken ≡ put)) → ServesInput input taken outcome
 serves_first None end put taken outcome read first all = tt
-serves_first (Some bytes) end put taken Done read first all =
-    let w = all refl in
-    let P : Option InputEnd → Type 0 = λ e. AreReadLines (Some bytes) e put in
-    w.1 ∙ subst P w.0 read
+serves_first (Some bytes) end put taken Done read first all = grind arith
 serves_first (Some bytes) end put taken ArchUnreadable read first all = first_of_first _ put taken (all_first bytes end put read) first
 serves_first (Some bytes) end put taken (ArchRefused fault) read first all = first_of_first _ put taken (all_first bytes end put read) first
 serves_first (Some bytes) end put taken LogUnreadable read first all = first_of_first _ put taken (all_first bytes end put read) first
@@ -208,8 +118,7 @@ serves_first (Some bytes) end put taken TooManyLines read first all = first_of_f
 serves_first (Some bytes) end put taken NoMemory read first all = first_of_first _ put taken (all_first bytes end put read) first
 
 other_outcome : (told : Option ℕ) (log : Option (Option (List ℕ))) (empty : LiveState) (before after : View) (lines : List (List ℕ)) (outcome result : Outcome) → (result ≡ outcome) ⊎ (result ≡ Stopped Input) → RunsService told log empty before lines after outcome → RunsService told log empty before lines after result
-other_outcome told log empty before after lines outcome result (inl same) runs = let P : Outcome → Type 0 = λ o. RunsService told log empty before lines after o in subst P (sym same) runs
-other_outcome told log empty before after lines outcome result (inr stopped) runs = let P : Outcome → Type 0 = λ o. RunsService told log empty before lines after o in subst P (sym stopped) (service_stopped told log empty before after lines outcome runs)
+other_outcome told log empty before after lines outcome result h1 runs = search (service_stopped, arith)
 
 -- what was put into a ring and what was taken from it are the lines of one input
 pub runs_input : {A G M : Type 0} (told : Option ℕ) (log : Option (Option (List ℕ))) (empty : LiveState) (before after : View) (input : Option (List ℕ)) (end : Option InputEnd) (outcome result : Outcome) (p q : Producer (Vec ℕ A) G M) (c d : Consumer (Vec ℕ A) G M) →

@@ -1,27 +1,5 @@
 -- The lines of an input, one after another.
-use Rattle.std.proofs.Common.{◌≡◌, ℕ, zero, suc, List, [], ◌∷◌, ◌++◌, take, map, true, false, not, Option, Some, None, refl, sym, ap, subst, ◌∙◌, arith, append-nil, append_assoc, take-take}
-use Rattle.std.specs.Prelude.{◌==◌, IfSome}
-use Rattle.std.specs.List.{AllByRecursion, flat_map, list_all}
-use Rattle.std.specs.Io.KnownBytes.{Consumes, IsAtEnd}
-use Rattle.std.proofs.KnownBytes.{Consumes-nil, Consumes-trans}
-use Rattle.std.proofs.lemmas.Bool.{and_from, and_parts}
-use Rattle.std.proofs.lemmas.Grind.{flat_map-append}
-use Rattle.std.proofs.lemmas.List.{map-append}
-use Rattle.line_text.specs.Lines.{physical_lines}
-use Rattle.tagged_lines.specs.Tags.{with_feed}
-use Rattle.tagged_lines.proofs.TagLemmas.{is_line, line_then}
-use Rattle.line_service.specs.Conversation.{ended_lines}
-use Rattle.line_feed.specs.Pieces.{IsKept, TakesPiece, is_one_line, kept_of}
-use Rattle.line_service.proofs.LineLemmas.{both_lines, ended_then, lines_push, none_ended}
-use Rattle.line_service.proofs.TalkLemmas.{split_line}
-use Rattle.live_input.specs.Serving.{kept_lines}
-use Rattle.live_machine.specs.Machine.{IsLine}
-use Rattle.std.specs.Prelude.{Result, Ok, Err, is_err}
-use Rattle.dialogue.specs.History.{View}
-use Rattle.dialogue.specs.declared.dialogue.FailedDevice.{FailedDevice}
-use Rattle.line_feed.specs.Feed.{ReadsAhead, Refills}
-use Rattle.live_threads.specs.Fed.{AreFirst, Fed, IsFed, TakesSome}
-use Rattle.live_threads.specs.Taken.{cut_lines}
+use Rattle.live_threads.proofs.Prelude.{◌≡◌, ℕ, zero, suc, List, [], ◌∷◌, ◌++◌, take, map, true, false, not, Option, Some, None, refl, sym, ap, subst, ◌∙◌, arith, append-nil, append_assoc, take-take, ◌==◌, IfSome, AllByRecursion, flat_map, list_all, Consumes, IsAtEnd, Consumes-nil, Consumes-trans, and_from, and_parts, flat_map-append, map-append, physical_lines, with_feed, is_line, line_then, ended_lines, IsKept, TakesPiece, is_one_line, kept_of, both_lines, ended_then, lines_push, none_ended, split_line, kept_lines, IsLine, Result, is_err, View, FailedDevice, ReadsAhead, Refills, AreFirst, Fed, IsFed, TakesSome, cut_lines}
 
 -- what is kept of a cut line is the line
 pub kept_twice : (line : List ℕ) → kept_of (kept_of line) ≡ kept_of line
@@ -29,9 +7,7 @@ unfolding kept_of
 kept_twice line = take-take 1048640 1048640 line (omega arith)
 
 known_all : (input left : Option (List ℕ)) (bytes : List ℕ) (P : List ℕ → Type 0) → Consumes input left bytes → IsAtEnd left → P bytes → IfSome input P
-known_all None left bytes P read end is = tt
-known_all (Some all) None bytes P read end is = absurd read
-known_all (Some all) (Some rest) bytes P read end is = subst P (sym (read ∙ (ap (λ r. bytes ++ r) end ∙ append-nil bytes))) is
+known_all input left bytes P read end is = grind (arith, append-nil)
 
 -- nothing was read
 pub fed_none : (input : Option (List ℕ)) (ahead kept : List ℕ) → ahead ≡ [] → IsKept kept [] → Fed input input ahead kept []
@@ -49,45 +25,15 @@ fed_none input ahead kept none line = record {
 
 -- what was read ahead is of the line that has begun
 pub fed_piece : (input now : Option (List ℕ)) (ahead kept rest after : List ℕ) (fed : List (List ℕ)) → Fed input now ahead kept fed → TakesPiece ahead kept false rest after → Fed input now rest after fed
-fed_piece input now ahead kept rest after fed g p = record {
-  bytes = g.bytes;
-  consumes = g.consumes;
-  lines = g.lines;
-  begun = g.begun ++ p.piece;
-  split = g.split ∙ ap (λ l. flat_map with_feed g.lines ++ l) (ap (λ a. g.begun ++ a) (p.rest.0 ∙ (sym (append-nil p.piece) ∙ ap (λ r. p.piece ++ r) (sym p.rest.1))) ∙ sym (append_assoc g.begun p.piece rest));
-  are_lines = g.are_lines;
-  is_begun = both_lines g.begun p.piece g.is_begun p.one;
-  line = p.kept g.begun g.line;
-  fed_is = g.fed_is;
-}
+fed_piece input now ahead kept rest after fed g p = grind (arith, append-nil, both_lines)
 
 -- a line has ended
 pub fed_line : (input now : Option (List ℕ)) (ahead kept rest after cleared : List ℕ) (fed : List (List ℕ)) → Fed input now ahead kept fed → TakesPiece ahead kept true rest after → IsKept cleared [] → Fed input now rest cleared (fed ++ after ∷ [])
-fed_line input now ahead kept rest after cleared fed g p none = record {
-  bytes = g.bytes;
-  consumes = g.consumes;
-  lines = g.lines ++ (g.begun ++ p.piece) ∷ [];
-  begun = [];
-  split = g.split ∙ split_line g.begun p.piece rest ahead g.lines p.rest;
-  are_lines = lines_push g.lines (g.begun ++ p.piece) g.are_lines (both_lines g.begun p.piece g.is_begun p.one);
-  is_begun = refl;
-  line = none;
-  fed_is = ap (λ l. l ++ after ∷ []) g.fed_is ∙ (ap (λ l. map kept_of g.lines ++ l ∷ []) (p.kept g.begun g.line) ∙ sym (map-append kept_of g.lines ((g.begun ++ p.piece) ∷ [])));
-}
+fed_line input now ahead kept rest after cleared fed g p none = grind (arith, lines_push, both_lines, map-append, split_line g.begun p.piece rest ahead g.lines p.rest, lines_push g.lines (g.begun ++ p.piece) g.are_lines (both_lines g.begun p.piece g.is_begun p.one), both_lines g.begun p.piece g.is_begun p.one, map-append kept_of g.lines ((g.begun ++ p.piece) ∷ []))
 
 -- more was read
 pub fed_read : (input now next : Option (List ℕ)) (ahead kept bytes : List ℕ) (fed : List (List ℕ)) → ahead ≡ [] → Fed input now ahead kept fed → Consumes now next bytes → Fed input next bytes kept fed
-fed_read input now next ahead kept bytes fed none g reads = record {
-  bytes = g.bytes ++ bytes;
-  consumes = Consumes-trans input now next g.bytes bytes g.consumes reads;
-  lines = g.lines;
-  begun = g.begun;
-  split = ap (λ l. l ++ bytes) (g.split ∙ ap (λ l. flat_map with_feed g.lines ++ l) (ap (λ a. g.begun ++ a) none ∙ append-nil g.begun)) ∙ append_assoc (flat_map with_feed g.lines) g.begun bytes;
-  are_lines = g.are_lines;
-  is_begun = g.is_begun;
-  line = g.line;
-  fed_is = g.fed_is;
-}
+fed_read input now next ahead kept bytes fed none g reads = grind (arith, Consumes-trans, append_assoc)
 
 -- the bytes that were read, with nothing ahead
 all_bytes : (input now : Option (List ℕ)) (ahead kept : List ℕ) (fed : List (List ℕ)) → ahead ≡ [] → (g : Fed input now ahead kept fed) → g.bytes ≡ flat_map with_feed g.lines ++ g.begun
@@ -95,9 +41,7 @@ all_bytes input now ahead kept fed none g = g.split ∙ ap (λ l. flat_map with_
 
 -- at the input's end all its lines were handed over
 pub fed_whole : (input now : Option (List ℕ)) (ahead kept : List ℕ) (fed : List (List ℕ)) → ahead ≡ [] → Fed input now ahead kept fed → IsAtEnd now → IfSome input (λ bytes. fed ≡ kept_lines bytes)
-fed_whole input now ahead kept fed none g end =
-    let own : g.lines ≡ ended_lines g.bytes = sym (ap ended_lines (all_bytes input now ahead kept fed none g) ∙ (ended_then g.lines g.begun g.are_lines ∙ (ap (λ ls. g.lines ++ ls) (none_ended g.begun g.is_begun) ∙ append-nil g.lines))) in
-    known_all input now g.bytes (λ bytes. fed ≡ kept_lines bytes) g.consumes end (g.fed_is ∙ ap (map kept_of) own)
+fed_whole input now ahead kept fed none g end = grind (arith, ended_then, none_ended, append-nil)
 
 one_take : (n : ℕ) (line : List ℕ) → is_one_line line ≡ true → is_one_line (take n line) ≡ true
 one_take zero line one = refl
@@ -112,9 +56,7 @@ one_kept line one = one_take 1048640 line one
 
 -- a cut line is a line as the machine takes it
 pub cut_is_line : (line kept : List ℕ) → IsKept kept line → is_one_line line ≡ true → IsLine kept
-cut_is_line line kept is one =
-    let P : List ℕ → Type 0 = λ l. IsLine l in
-    subst P (sym is) (record { kept = kept_twice line; one = one_kept line one })
+cut_is_line line kept is one = grind (arith, kept_twice, one_kept)
 
 same_lines : (lines : List (List ℕ)) → AllByRecursion IsLine lines → map kept_of lines ≡ lines
 same_lines [] all = refl
@@ -138,8 +80,7 @@ lines_then (line ∷ lines) more are =
 
 -- the lines of a text that is put together of cut lines
 batch_lines : (lines : List (List ℕ)) → AllByRecursion IsLine lines → cut_lines (flat_map with_feed lines) ≡ lines
-batch_lines lines all =
-    ap cut_lines (sym (append-nil (flat_map with_feed lines))) ∙ (ap (map kept_of) (lines_then lines [] (all_one lines all) ∙ append-nil lines) ∙ same_lines lines all)
+batch_lines lines all = grind (arith, lines_then, all_one, same_lines, append-nil (flat_map with_feed lines), lines_then lines [] (all_one lines all), all_one lines all, append-nil lines, same_lines lines all)
 
 -- a line is taken from what is ahead
 pub fed_more : (ahead kept rest after cleared : List ℕ) → IsFed ahead kept → TakesPiece ahead kept true rest after → IsKept cleared [] → IsFed rest cleared
@@ -167,14 +108,11 @@ some_none ahead kept = record { lines = []; batch_is = refl; all = tt; fed = λ 
 
 -- what was taken is put together
 pub some_fed : (batch a0 k0 ahead kept rest after : List ℕ) → TakesSome batch a0 k0 ahead kept → TakesPiece ahead kept false rest after → (input now : Option (List ℕ)) (fed : List (List ℕ)) → Fed input now a0 k0 fed → Fed input now rest after (fed ++ cut_lines batch)
-some_fed batch a0 k0 ahead kept rest after s p input now fed g =
-    let P : List (List ℕ) → Type 0 = λ l. Fed input now rest after (fed ++ l) in
-    subst P (sym (ap cut_lines s.batch_is ∙ batch_lines s.lines s.all)) (fed_piece input now ahead kept rest after (fed ++ s.lines) (s.fed input now fed g) p)
+some_fed batch a0 k0 ahead kept rest after s p input now fed g = grind (arith, batch_lines, fed_piece)
 
 -- a read that was made
 pub read_ok : (old new : View) (ahead : List ℕ) (result : Result (Unit {0}) FailedDevice) → false ≡ is_err result → Refills old new ahead result → ReadsAhead old new ahead
-read_ok old new ahead (Ok u) ok reads = reads
-read_ok old new ahead (Err fault) ok reads = absurd (cc)
+read_ok old new ahead result ok reads = grind arith
 
 -- the lines that were handed over are the first ones of the input
 first_lines : (lines : List (List ℕ)) (rest : List ℕ) → list_all is_one_line lines ≡ true → AreFirst (kept_lines (flat_map with_feed lines ++ rest)) (map kept_of lines)

@@ -1,3 +1,4 @@
+mod Prelude
 mod EndLemmas
 mod FedLemmas
 mod LineLemmas

@@ -1,27 +1,13 @@
 -- The bytes that are kept of a line.
-use Rattle.std.proofs.Common.{◌≡◌, ◌⊎◌, inl, inr, ℕ, ◌≤◌, ◌<◌, List, [], ◌∷◌, length, map, take, Bool, true, false, not, refl, sym, ap, subst, ◌∙◌, arith, take_all}
-use Rattle.std.specs.Prelude.{◌==◌, if◌then◌else◌}
-use Rattle.std.specs.List.{list_all, onto_first}
-use Rattle.std.proofs.lemmas.Bool.{and_from, and_parts}
-use Rattle.line_text.specs.Lines.{physical_lines}
-use Rattle.line_feed.specs.Pieces.{is_one_line, kept_of}
-use Rattle.live_threads.specs.Taken.{cut_lines}
-use Rattle.live_machine.specs.Machine.{IsLine}
+use Rattle.live_threads.proofs.Prelude.{◌≡◌, ◌⊎◌, ℕ, ◌≤◌, ◌<◌, List, [], ◌∷◌, length, map, take, true, false, refl, sym, ap, subst, ◌∙◌, arith, take_all, ◌==◌, list_all, onto_first, and_parts, physical_lines, is_one_line, kept_of, cut_lines, IsLine}
 use Rattle.live_threads.proofs.FedLemmas.{cut_is_line}
 
 onto_lines : (b : ℕ) (lines : List (List ℕ)) → (b == 10) ≡ false → list_all is_one_line lines ≡ true → list_all is_one_line (onto_first b lines) ≡ true
-onto_lines b [] e all = and_from _ _ (and_from _ _ (ap not e) refl) refl
-onto_lines b (line ∷ lines) e all =
-    let parts = and_parts (is_one_line line) (list_all is_one_line lines) all in
-    and_from _ _ (and_from _ _ (ap not e) parts.0) parts.1
+onto_lines b lines e all = grind arith
 
 are_lines : (text : List ℕ) → list_all is_one_line (physical_lines text) ≡ true
 are_lines [] = refl
-are_lines (b ∷ rest) = by_test (are_lines rest) (b == 10) refl
-  where
-    by_test : list_all is_one_line (physical_lines rest) ≡ true → (t : Bool) → (b == 10) ≡ t → list_all is_one_line (if t then [] ∷ physical_lines rest else onto_first b (physical_lines rest)) ≡ true
-    by_test all true e = and_from _ _ refl all
-    by_test all false e = onto_lines b (physical_lines rest) e all
+are_lines (b ∷ rest) = grind (arith, are_lines rest)
 
 pub kept_whole : (line : List ℕ) → length line ≤ 1048640 → line ≡ kept_of line
 unfolding kept_of
@@ -41,5 +27,4 @@ first_is_line text first after kept cut is =
     cut_is_line first kept is (and_parts (is_one_line first) (list_all is_one_line (physical_lines after)) (subst P cut (are_lines text))).0
 
 pub kept_short : (line : List ℕ) → (1048640 < 0) ⊎ (length line < 1048640) → line ≡ kept_of line
-kept_short line (inl none) = absurd (omega arith)
-kept_short line (inr short) = kept_whole line (omega arith)
+kept_short line h1 = grind (arith, kept_whole)

@@ -1,28 +1,8 @@
 -- Where a log leads.
-use Rattle.std.proofs.Common.{◌≡◌, inl, inr, ℕ, ◌+◌, List, [], ◌∷◌, ◌++◌, Bool, true, false, not, ◌&&◌, Option, Some, None, refl, sym, ap, subst, ◌∙◌, arith, append-nil, append_assoc}
-use Rattle.std.specs.Prelude.{IfOk, IfSome, OnErr, OnOk, Result, Ok, Err}
-use Rattle.std.specs.List.{flat_map}
-use Rattle.std.proofs.lemmas.Grind.{flat_map-append}
-use Rattle.std.specs.Io.KnownBytes.{Consumes, IsAtEnd}
-use Rattle.std.proofs.lemmas.Bool.{and_from, and_parts}
-use Rattle.std.proofs.lemmas.List.{length-append}
-use Rattle.script_text.specs.declared.operator_line.OperatorLine.TheVariants.{Admit, Evict, Move, List as ListAll, Owners, Step, Take, Put}
-use Rattle.line_feed.specs.Pieces.{IsKept, TakesPiece, kept_of}
-use Rattle.line_service.specs.Conversation.{AreAnswered}
-use Rattle.line_service.proofs.TalkLemmas.{answered_append}
-use Rattle.live_lines.specs.Live.{Asked, LiveState, asked_of}
-use Rattle.live_lines.specs.Live.Asked.{Echoes, Figures, NoForm, Nothing, Operates, Says}
-use Rattle.live_input.specs.Serving.{AnswersLine, kept_lines}
-use Rattle.live_machine.specs.Machine.{is_busy, is_by_hand, is_outside}
-use Rattle.live_machine.specs.Workers.{IsHome, NeedNotWait, without_workers}
-use Rattle.live_threads.specs.Fed.{AreFirst, Fed}
-use Rattle.live_threads.specs.Replays.{ArePuts, CutsLine, HasReply, IsServable, LeadsFrom, LeadsTo, PutsHeld, Replays, ReplaysSome, ServesLine, StopsLine, StopsReplay, move_no_job, moves_job, put_line}
-use Rattle.live_run.specs.Retelling.{IsRetold, Retells, TellsPart, text_told}
-use Rattle.live_run.proofs.RetellLemmas.{retold_none, retold_then}
-use Rattle.dialogue.specs.History.{View}
-use Rattle.line_feed.proofs.CutLemmas.{kept_none}
+use Rattle.live_threads.proofs.Prelude.{◌≡◌, inl, inr, ℕ, ◌+◌, List, [], ◌∷◌, ◌++◌, Bool, true, false, not, ◌&&◌, Option, refl, sym, ap, subst, ◌∙◌, arith, append-nil, append_assoc, IfOk, OnErr, OnOk, Result, flat_map-append, Consumes, IsAtEnd, and_from, and_parts, length-append, Admit, Evict, Move, Owners, Step, Take, Put, IsKept, TakesPiece, kept_of, answered_append, Asked, LiveState, asked_of, Echoes, Figures, NoForm, Nothing, Operates, Says, AnswersLine, is_busy, is_by_hand, is_outside, IsHome, NeedNotWait, without_workers, ArePuts, CutsLine, HasReply, IsServable, LeadsFrom, LeadsTo, PutsHeld, Replays, ReplaysSome, ServesLine, StopsLine, StopsReplay, move_no_job, moves_job, put_line, IsRetold, TellsPart, text_told, retold_none, retold_then, View, kept_none, both_lines}
+use Rattle.std.specs.Prelude.{Ok, Err}
+use Rattle.script_text.specs.declared.operator_line.OperatorLine.TheVariants.{List as ListAll}
 use Rattle.live_threads.proofs.FedLemmas.{cut_is_line, fed_first, fed_line, fed_none, fed_piece, fed_read, fed_whole}
-use Rattle.line_service.proofs.LineLemmas.{both_lines}
 
 -- what workers have is no part of what a line is answered, if they have nothing that it needs
 pub record HomeLaws : Type 0 where
@@ -31,8 +11,7 @@ pub record HomeLaws : Type 0 where
   pub steps : (old new : LiveState) (number count : ℕ) (line reply name : List ℕ) → asked_of line ≡ Operates (Step name count) → IsHome old name → AnswersLine old number line reply new → AnswersLine (without_workers old) number line reply (without_workers new)
 
 no_wait : (outside busy : Bool) → (outside && (false && busy)) ≡ false
-no_wait true busy = refl
-no_wait false busy = refl
+no_wait outside busy = grind arith
 
 served_alone : (laws : HomeLaws) (old new : LiveState) (number : ℕ) (line reply : List ℕ) (asked : Asked) → asked_of line ≡ asked → moves_job asked ≡ false → IsServable old asked line → AnswersLine old number line reply new → AnswersLine (without_workers old) number line reply (without_workers new)
 served_alone laws old new number line reply asked is none can answers = by asked is none can
@@ -66,25 +45,16 @@ pub leads_none : (told : Option ℕ) (old : LiveState) (number next taken : ℕ)
 leads_none told old number next taken same = λ is none. ((refl, refl), omega (arith, same), none)
 
 not_true : (b : Bool) → not b ≡ true → b ≡ false
-not_true true is = absurd (cc)
-not_true false is = refl
+not_true b is = grind arith
 
 -- the reply to a line, as without workers
 pub reply_line : (laws : HomeLaws) (old at after new : LiveState) (number taken took : ℕ) (line reply : List ℕ) → without_workers at ≡ without_workers old → (taken ≡ 0 → IsServable at (asked_of line) line) → AnswersLine at number line reply after →
     without_workers new ≡ without_workers after → (moves_job (asked_of line) ≡ false → took ≡ taken) → HasReply (without_workers old) number taken line reply (without_workers new) took
-reply_line laws old at after new number taken took line reply before can answers later same = λ none free.
-    let alone = served_alone laws at after number line reply (asked_of line) refl none (can free) answers in
-    let P : LiveState → Type 0 = λ s. AnswersLine s number line reply (without_workers after) in
-    let Q : LiveState → Type 0 = λ s. AnswersLine (without_workers old) number line reply s in
-    (subst Q (sym later) (subst P before alone), same none ∙ free)
+reply_line laws old at after new number taken took line reply before can answers later same = search (served_alone, arith)
 
 -- a line leads on
 pub leads_line : (told : Option ℕ) (old new : LiveState) (number next taken took : ℕ) (line reply text : List ℕ) → kept_of line ≡ line → HasReply old number taken line reply new took → next ≡ number + 1 → text ≡ text_told told number reply → LeadsTo told old number taken (line ∷ []) text new next took
-leads_line told old new number next taken took line reply text cut has counted is_text = λ is free.
-    let none : moves_job (asked_of line) ≡ false = not_true (moves_job (asked_of line)) (and_parts (not (moves_job (asked_of line))) true is).0 in
-    let h = has none free in
-    let R : List ℕ → Type 0 = λ l. Retells told old number l text new in
-    ((text, new, [], subst R (sym cut) (record { reply = reply; answered = h.0; text_is = is_text }), (refl, refl), sym (append-nil text)), counted, h.1)
+leads_line told old new number next taken took line reply text cut has counted is_text = grind (arith, not_true, and_parts, append-nil text)
 
 none_parts : (lines more : List (List ℕ)) → move_no_job (lines ++ more) ≡ true → (move_no_job lines ≡ true) × (move_no_job more ≡ true)
 none_parts [] more is = (refl, is)
@@ -95,101 +65,40 @@ none_parts (line ∷ lines) more is =
 
 -- lines after lines
 pub leads_then : (told : Option ℕ) (old mid new : LiveState) (number middle next taken between took : ℕ) (lines more : List (List ℕ)) (text reply : List ℕ) → LeadsTo told old number taken lines text mid middle between → LeadsTo told mid middle between more reply new next took → LeadsTo told old number taken (lines ++ more) (text ++ reply) new next took
-leads_then told old mid new number middle next taken between took lines more text reply first second = λ is free.
-    let parts = none_parts lines more is in
-    let one = first parts.0 free in
-    let two = second parts.1 one.2 in
-    let P : ℕ → Type 0 = λ n. AreAnswered (Retells told) mid n more reply new in
-    (answered_append (Retells told) old mid new number lines more text reply one.0 (subst P one.1 two.0), omega (arith, one.1, two.1, length-append lines more), two.2)
+leads_then told old mid new number middle next taken between took lines more text reply first second = grind (arith, none_parts, answered_append, length-append)
 
 -- the first line of a log comes
 pub some_none : (told : Option ℕ) (begun : LiveState) (input : Option (List ℕ)) (ahead kept : List ℕ) (view : View) (next taken : ℕ) → ahead ≡ [] → IsKept kept [] → next ≡ 1 → taken ≡ 0 → ReplaysSome told begun input input ahead kept view begun next taken view
-some_none told begun input ahead kept view next taken none line first free =
-    let P : ℕ → Type 0 = λ t. LeadsTo told begun 1 0 [] [] begun next t in
-    record { fed = []; is_fed = fed_none input ahead kept none line; text = []; leads = subst P (sym free) (leads_none told begun 1 next 0 first); retold = retold_none told view }
+some_none told begun input ahead kept view next taken none line first free = grind (arith, fed_none input ahead kept none line, retold_none told view)
 
 -- a line of it is whole, and was served
 pub some_line : (told : Option ℕ) (begun : LiveState) (input now : Option (List ℕ)) (ahead kept rest after cleared : List ℕ) (before : View) (mid new : LiveState) (middle next taken took : ℕ) (between last : View) → ReplaysSome told begun input now ahead kept before mid middle taken between → TakesPiece ahead kept true rest after → IsKept cleared [] → ServesLine told mid middle taken after between new next took last → ReplaysSome told begun input now rest cleared before new next took last
-some_line told begun input now ahead kept rest after cleared before mid new middle next taken took between last s p none serves = record {
-  fed = s.fed ++ after ∷ [];
-  is_fed = fed_line input now ahead kept rest after cleared s.fed s.is_fed p none;
-  text = s.text ++ serves.text;
-  leads = leads_then told begun mid new 1 middle next 0 taken took s.fed (after ∷ []) s.text serves.text s.leads serves.leads;
-  retold = retold_then told before between last s.text serves.text s.retold serves.retold;
-}
+some_line told begun input now ahead kept rest after cleared before mid new middle next taken took between last s p none serves = grind (arith, leads_then, retold_then, fed_line input now ahead kept rest after cleared s.fed s.is_fed p none, leads_then told begun mid new 1 middle next 0 taken took s.fed (after ∷ []) s.text serves.text s.leads serves.leads, retold_then told before between last s.text serves.text s.retold serves.retold)
 
 pub some_cut : (told : Option ℕ) (begun : LiveState) (input now : Option (List ℕ)) (ahead kept rest after : List ℕ) (before : View) (mid : LiveState) (middle taken : ℕ) (between : View) → ReplaysSome told begun input now ahead kept before mid middle taken between → TakesPiece ahead kept true rest after → kept_of after ≡ after
-some_cut told begun input now ahead kept rest after before mid middle taken between s p =
-    let g = s.is_fed in
-    (cut_is_line (g.begun ++ p.piece) after (p.kept g.begun g.line) (both_lines g.begun p.piece g.is_begun p.one)).kept
+some_cut told begun input now ahead kept rest after before mid middle taken between s p = grind (arith, cut_is_line, both_lines)
 
 -- more of it is read
 pub some_read : (told : Option ℕ) (begun : LiveState) (input now later : Option (List ℕ)) (ahead kept rest after bytes line : List ℕ) (before : View) (mid : LiveState) (middle taken : ℕ) (between : View) → ReplaysSome told begun input now ahead kept before mid middle taken between → TakesPiece ahead kept false rest after → Consumes now later bytes → line ≡ after → ReplaysSome told begun input later bytes line before mid middle taken between
-some_read told begun input now later ahead kept rest after bytes line before mid middle taken between s p reads same =
-    let F : List ℕ → Type 0 = λ l. Fed input later bytes l s.fed in
-    record {
-      fed = s.fed;
-      is_fed = subst F (sym same) (fed_read input now later rest after bytes s.fed p.rest.1 (fed_piece input now ahead kept rest after s.fed s.is_fed p) reads);
-      text = s.text;
-      leads = s.leads;
-      retold = s.retold;
-    }
+some_read told begun input now later ahead kept rest after bytes line before mid middle taken between s p reads same = grind (arith, fed_read input now later rest after bytes s.fed p.rest.1 (fed_piece input now ahead kept rest after s.fed s.is_fed p) reads)
 
 from_first : (told : Option ℕ) (begun : LiveState) (lines : List (List ℕ)) (text : List ℕ) (new : LiveState) (next taken : ℕ) → LeadsTo told begun 1 0 lines text new next taken → LeadsFrom told begun lines text new
 from_first told begun lines text new next taken leads = λ is. (leads is refl).0
 
 -- all of it was served, and the jobs that the operator held were put
 pub replayed : (told : Option ℕ) (begun : LiveState) (input now : Option (List ℕ)) (ahead kept : List ℕ) (before : View) (mid new : LiveState) (middle next taken : ℕ) (put : List ℕ) (after : View) → ahead ≡ [] → IsAtEnd now → ReplaysSome told begun input now ahead kept before mid middle taken after → PutsHeld mid middle taken new next put → Replays told begun input before new next put after
-replayed told begun input now ahead kept before mid new middle next taken put after none at s p = record {
-  lines = s.fed;
-  all = fed_whole input now ahead kept s.fed none s.is_fed at;
-  jobs = p.puts.0;
-  put_is = p.puts.1;
-  text = s.text;
-  leads = λ is.
-      let w = s.leads is refl in
-      let n = p.none w.2 in
-      let P : LiveState → Type 0 = λ l. AreAnswered (Retells told) begun 1 s.fed s.text l in
-      subst P (sym n.0) w.0;
-  counts = λ is.
-      let w = s.leads is refl in
-      let n = p.none w.2 in
-      (n.1 ∙ w.1, n.2);
-  retold = s.retold;
-}
+replayed told begun input now ahead kept before mid new middle next taken put after none at s p = grind (arith, fed_whole input now ahead kept s.fed none s.is_fed)
 
 -- nothing more is written
 pub some_stops : (told : Option ℕ) (begun : LiveState) (input now : Option (List ℕ)) (ahead kept : List ℕ) (before : View) (mid : LiveState) (middle taken : ℕ) (after : View) → ReplaysSome told begun input now ahead kept before mid middle taken after → StopsReplay told begun input before after
-some_stops told begun input now ahead kept before mid middle taken after s = record {
-  lines = s.fed;
-  first = fed_first input now ahead kept s.fed s.is_fed;
-  text = s.text;
-  new = mid;
-  leads = from_first told begun s.fed s.text mid middle taken s.leads;
-  said = s.text;
-  unsaid = [];
-  cut = sym (append-nil s.text);
-  retold = s.retold;
-}
+some_stops told begun input now ahead kept before mid middle taken after s = grind (arith, fed_first input now ahead kept s.fed s.is_fed, append-nil s.text)
 
 some_part : (told : Option ℕ) (begun : LiveState) (input now : Option (List ℕ)) (ahead kept rest after : List ℕ) (before : View) (mid : LiveState) (middle taken : ℕ) (between last : View) → ReplaysSome told begun input now ahead kept before mid middle taken between → TakesPiece ahead kept true rest after → CutsLine told mid middle taken after between last → StopsReplay told begun input before last
-some_part told begun input now ahead kept rest after before mid middle taken between last s p c = record {
-  lines = s.fed ++ after ∷ [];
-  first = fed_first input now rest [] (s.fed ++ after ∷ []) (fed_line input now ahead kept rest after [] s.fed s.is_fed p (sym kept_none));
-  text = s.text ++ c.text;
-  new = c.new;
-  leads = from_first told begun (s.fed ++ after ∷ []) (s.text ++ c.text) c.new c.next c.took (leads_then told begun mid c.new 1 middle c.next 0 taken c.took s.fed (after ∷ []) s.text c.text s.leads c.leads);
-  said = s.text ++ c.part.said;
-  unsaid = c.part.unsaid;
-  cut = ap (λ t. s.text ++ t) c.part.cut ∙ sym (append_assoc s.text c.part.said c.part.unsaid);
-  retold = retold_then told before between last s.text c.part.said s.retold c.part.retold;
-}
+some_part told begun input now ahead kept rest after before mid middle taken between last s p c = grind (arith, fed_line, kept_none, from_first, leads_then, append_assoc, retold_then, fed_first input now rest [] (s.fed ++ after ∷ []) (fed_line input now ahead kept rest after [] s.fed s.is_fed p (sym kept_none)), fed_line input now ahead kept rest after [] s.fed s.is_fed p (sym kept_none), from_first told begun (s.fed ++ after ∷ []) (s.text ++ c.text) c.new c.next c.took (leads_then told begun mid c.new 1 middle c.next 0 taken c.took s.fed (after ∷ []) s.text c.text s.leads c.leads), leads_then told begun mid c.new 1 middle c.next 0 taken c.took s.fed (after ∷ []) s.text c.text s.leads c.leads, append_assoc s.text c.part.said c.part.unsaid, retold_then told before between last s.text c.part.said s.retold c.part.retold)
 
 -- a line was not served, or only a beginning of its reply was written
 pub some_fails : (told : Option ℕ) (begun : LiveState) (input now : Option (List ℕ)) (ahead kept rest after : List ℕ) (before : View) (mid : LiveState) (middle taken : ℕ) (between last : View) → ReplaysSome told begun input now ahead kept before mid middle taken between → TakesPiece ahead kept true rest after → StopsLine told mid middle taken after between last → StopsReplay told begun input before last
-some_fails told begun input now ahead kept rest after before mid middle taken between last s p (inl same) =
-    let P : View → Type 0 = λ v. StopsReplay told begun input before v in
-    subst P (sym same) (some_stops told begun input now ahead kept before mid middle taken between s)
+some_fails told begun input now ahead kept rest after before mid middle taken between last s p (inl same) = grind (arith, some_stops told begun input now ahead kept before mid middle taken between s)
 some_fails told begun input now ahead kept rest after before mid middle taken between last s p (inr c) = some_part told begun input now ahead kept rest after before mid middle taken between last s p c
 
 -- no line was served
@@ -198,21 +107,7 @@ none_stops told begun input view = some_stops told begun input input [] [] view 
 
 -- all lines were, and then the service stopped
 pub replay_stops : (told : Option ℕ) (begun : LiveState) (log : Option (List ℕ)) (before : View) (new : LiveState) (next : ℕ) (put : List ℕ) (after : View) → Replays told begun log before new next put after → StopsReplay told begun log before after
-replay_stops told begun log before new next put after r = record {
-  lines = r.lines;
-  first = all_are_first log r.lines r.all;
-  text = r.text;
-  new = new;
-  leads = r.leads;
-  said = r.text;
-  unsaid = [];
-  cut = sym (append-nil r.text);
-  retold = r.retold;
-}
-  where
-    all_are_first : (input : Option (List ℕ)) (lines : List (List ℕ)) → IfSome input (λ bytes. lines ≡ kept_lines bytes) → IfSome input (λ bytes. AreFirst (kept_lines bytes) lines)
-    all_are_first None lines all = tt
-    all_are_first (Some bytes) lines all = ([], sym all ∙ sym (append-nil lines))
+replay_stops told begun log before new next put after r = grind (arith, append-nil)
 
 -- the lines after a log put jobs
 pub puts_of : (told : Option ℕ) (begun : LiveState) (log : Option (List ℕ)) (before : View) (new : LiveState) (next : ℕ) (put : List ℕ) (after : View) → Replays told begun log before new next put after → ArePuts put
@@ -220,18 +115,13 @@ puts_of told begun log before new next put after r = (r.jobs, r.put_is)
 
 -- one more line puts a job
 pub puts_push : (text line more : List ℕ) (job : ℕ) → ArePuts text → line ≡ put_line job → more ≡ text ++ line → ArePuts more
-puts_push text line more job (jobs, is) one all = (
-  jobs ++ job ∷ [],
-  all ∙ (ap (λ t. t ++ line) is ∙ (ap (λ l. flat_map put_line jobs ++ l) (one ∙ sym (append-nil (put_line job))) ∙ sym (flat_map-append put_line jobs (job ∷ [])))),
-)
+puts_push text line more job (jobs, is) one all = grind (arith, append-nil (put_line job), flat_map-append put_line jobs (job ∷ []))
 
 pub err_so : {T E : Type 0} {P : Type 0} (result : Result T E) → P → OnErr result P
-err_so (Ok x) p = tt
-err_so (Err e) p = p
+err_so result p = grind arith
 
 pub if_ok_so : {T E : Type 0} (result : Result T E) (P Q : T → Type 0) → ((x : T) → P x → Q x) → IfOk result P → IfOk result Q
-if_ok_so (Ok x) P Q so p = so x p
-if_ok_so (Err e) P Q so p = tt
+if_ok_so result P Q so p = grind arith
 
 -- a line that was served
 pub ok_serves : {T E : Type 0} (result : Result T E) (told : Option ℕ) (old new : LiveState) (number next taken took : ℕ) (line reply : List ℕ) (before after : View) → kept_of line ≡ line → HasReply old number taken line reply new took → next ≡ number + 1 → OnOk result (IsRetold told before after (text_told told number reply)) → OnOk result (ServesLine told old number taken line before new next took after)

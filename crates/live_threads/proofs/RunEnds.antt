@@ -1,12 +1,6 @@
 -- The end of a program, from its run.
-use Rattle.std.proofs.Common.{◌≡◌, ◌⊎◌, ℕ, List, Option, Some, None, Result, Ok, Err, IfOk, inl, inr, false, refl, subst, sym}
-use Rattle.dialogue.specs.History.{View}
-use Rattle.live_run.specs.declared.options.CommandLine.{CommandLine}
-use Rattle.live_run.specs.declared.outcome.Outcome.{Outcome}
-use Rattle.live_run.specs.declared.outcome.Outcome.TheVariants.{NoMemory}
-use Rattle.live_run.specs.Commands.{RunsLine}
-use Rattle.live_run.specs.Outcomes.{status_of}
-use Rattle.live_threads.specs.Endings.{IsProgramEnd, IsProgramRun, RunsAlone, run_status}
+use Rattle.live_threads.proofs.Prelude.{◌≡◌, ◌⊎◌, ℕ, List, Option, Some, None, Ok, Err, inl, inr, false, refl, arith, View, CommandLine, Outcome, NoMemory, RunsLine, status_of, IsProgramEnd, IsProgramRun, run_status}
+use Rattle.std.proofs.Common.{Result, IfOk}
 
 -- words that can't be read: nothing was done over the connection
 pub unread : (input output : Option (List ℕ)) (view : View) (devices : Option View) (status : ℕ) → view.remaining ≡ input → view.output ≡ output → view.has_log ≡ false → (status ≡ 2) ⊎ (status ≡ status_of NoMemory) → IsProgramEnd input output (Some view) devices status
@@ -22,10 +16,7 @@ ends input output None devices (Err error) status run is = absurd run
 
 -- words that are refused, or for which memory ran out: nothing was done over the connection
 pub refused : {E : Type 0} (input output : Option (List ℕ)) (view : View) (devices : Option View) (outcome : Result Outcome E) → view.remaining ≡ input → view.output ≡ output → view.has_log ≡ false → IfOk outcome (λ it. it ≡ NoMemory) → IsProgramRun input output (Some view) devices outcome
-refused {E} input output view devices (Ok outcome) remaining written none is =
-    let P : Outcome → Type 0 = λ it. RunsAlone {E = E} input output view (Ok it) in
-    subst P (sym is) (record { before = view; remaining = remaining; written = written; has_log = none; runs = inl (refl, refl) })
-refused input output view devices (Err error) remaining written none is = record { before = view; remaining = remaining; written = written; has_log = none; runs = refl }
+refused input output view devices outcome remaining written none is = grind arith
 
 -- a command line that runs without workers
 pub alone : {E : Type 0} (input output : Option (List ℕ)) (before after : View) (devices : Option View) (line : CommandLine) (outcome : Outcome) → before.remaining ≡ input → before.output ≡ output → before.has_log ≡ false → RunsLine line before after outcome → IsProgramRun {E = E} input output (Some after) devices (Ok outcome)

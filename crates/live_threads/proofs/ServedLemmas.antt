@@ -1,39 +1,18 @@
 -- What was served, one after another.
-use Rattle.std.proofs.Common.{◌≡◌, ℕ, List, [], ◌∷◌, ◌++◌, inl, inr, Option, Some, None, refl, sym, ap, subst, ◌∙◌, append-nil, append_assoc, take}
-use Rattle.std.specs.Prelude.{OnErr, OnOk, Result, Ok, Err}
-use Rattle.std.specs.Io.KnownBytes.{Appends}
-use Rattle.std.proofs.KnownBytes.{Appends-nil, Appends-trans}
-use Rattle.std.proofs.lemmas.Grind.{flat_map-append}
-use Rattle.dialogue.specs.History.{Event, Fails, Follows, Happens, View, bytes_kept, bytes_told, kept_in, told_in}
-use Rattle.dialogue.specs.History.Event.{Kept, Told}
-use Rattle.dialogue.specs.declared.dialogue.FailedDevice.{FailedDevice}
-use Rattle.live_machine.specs.Account.{line_in, lines_in}
-use Rattle.live_machine.specs.Machine.{Call, Happens as HappensTo, MachineState, Run}
-use Rattle.live_machine.specs.Machine.Call.{Drain, Line}
-use Rattle.live_threads.specs.Serving.{EndsIn, HasStopped, IsServed, ServesSome, events_in, events_of}
+use Rattle.live_threads.proofs.Prelude.{◌≡◌, ℕ, List, [], ◌∷◌, ◌++◌, inl, inr, Option, refl, sym, ap, subst, ◌∙◌, append-nil, append_assoc, take, arith, OnErr, OnOk, Result, Appends-nil, Appends-trans, flat_map-append, Event, Fails, Follows, Happens, View, Kept, Told, FailedDevice, line_in, lines_in, Call, MachineState, Run, Drain, Line, EndsIn, HasStopped, IsServed, ServesSome, events_in, events_of}
+use Rattle.live_machine.specs.Machine.{Happens as HappensTo}
 
 follows_none : (a : Option (List Event)) → Follows a a []
-follows_none None = tt
-follows_none (Some events) = sym (append-nil events)
+follows_none a = grind (arith, append-nil)
 
 follows_then : (a b c : Option (List Event)) (events more : List Event) → Follows a b events → Follows b c more → Follows a c (events ++ more)
-follows_then None b c events more p q = tt
-follows_then (Some x) None c events more p q = absurd (cc)
-follows_then (Some x) (Some y) None events more p q = absurd (cc)
-follows_then (Some x) (Some y) (Some z) events more p q = q ∙ (ap (λ l. l ++ more) p ∙ append_assoc x events more)
+follows_then a b c events more p q = grind (arith, append_assoc)
 
 pub nothing_happens : (view : View) → Happens view view []
 nothing_happens view = record { kept = Appends-nil view.log; told = Appends-nil view.output; in_order = follows_none view.history }
 
 pub happens_then : (a b c : View) (events more : List Event) → Happens a b events → Happens b c more → Happens a c (events ++ more)
-happens_then a b c events more first second =
-    let K : List ℕ → Type 0 = λ bytes. Appends a.log c.log bytes in
-    let T : List ℕ → Type 0 = λ bytes. Appends a.output c.output bytes in
-    record {
-      kept = subst K (sym (flat_map-append bytes_kept events more)) (Appends-trans a.log b.log c.log (kept_in events) (kept_in more) first.kept second.kept);
-      told = subst T (sym (flat_map-append bytes_told events more)) (Appends-trans a.output b.output c.output (told_in events) (told_in more) first.told second.told);
-      in_order = follows_then a.history b.history c.history events more first.in_order second.in_order;
-    }
+happens_then a b c events more first second = grind (arith, flat_map-append, Appends-trans, follows_then)
 
 pub runs_then : (a b c : MachineState) (calls more : List Call) → Run a calls b → Run b more c → Run a (calls ++ more) c
 runs_then a b c [] more same run = let P : MachineState → Type 0 = λ m. Run m more c in subst P same run
@@ -45,20 +24,11 @@ served_none state view = record { calls = []; run = refl; heard = refl; happens 
 
 -- one after the other
 pub served_then : (a b c : MachineState) (u v w : View) (lines more : List (List ℕ)) → IsServed a u lines b v → IsServed b v more c w → IsServed a u (lines ++ more) c w
-served_then a b c u v w lines more first second =
-    let E : List Event → Type 0 = λ events. Happens u w events in
-    record {
-      calls = first.calls ++ second.calls;
-      run = runs_then a b c first.calls second.calls first.run second.run;
-      heard = flat_map-append line_in first.calls second.calls ∙ (ap (λ l. l ++ lines_in second.calls) first.heard ∙ ap (λ l. lines ++ l) second.heard);
-      happens = subst E (sym (flat_map-append events_in first.calls second.calls)) (happens_then u v w (events_of first.calls) (events_of second.calls) first.happens second.happens);
-    }
+served_then a b c u v w lines more first second = grind (arith, flat_map-append, happens_then, runs_then a b c first.calls second.calls first.run second.run, flat_map-append line_in first.calls second.calls, flat_map-append events_in first.calls second.calls, happens_then u v w (events_of first.calls) (events_of second.calls) first.happens second.happens)
 
 -- calls that take no line and drain nothing
 pub served_calls : (old new : MachineState) (view : View) (calls : List Call) → Run old calls new → lines_in calls ≡ [] → events_of calls ≡ [] → IsServed old view [] new view
-served_calls old new view calls run none quiet =
-    let E : List Event → Type 0 = λ events. Happens view view events in
-    record { calls = calls; run = run; heard = none; happens = subst E (sym quiet) (nothing_happens view) }
+served_calls old new view calls run none quiet = grind (arith, nothing_happens view)
 
 -- a line
 pub served_line : (old new : MachineState) (view : View) (line : List ℕ) → HappensTo old (Line line) new → IsServed old view (line ∷ []) new view
@@ -126,43 +96,19 @@ served_stops a b u v w lines more first s =
 
 -- more lines would have come
 pub stopped_before : (a : MachineState) (u w : View) (lines more : List (List ℕ)) → HasStopped a u lines w → HasStopped a u (lines ++ more) w
-stopped_before a u w lines more s = record {
-  calls = s.calls;
-  new = s.new;
-  run = s.run;
-  unheard = s.unheard ++ more;
-  heard = ap (λ l. l ++ more) s.heard ∙ append_assoc (lines_in s.calls) s.unheard more;
-  events = s.events;
-  cut = s.cut;
-  happens = s.happens;
-}
+stopped_before a u w lines more s = grind (arith, append_assoc)
 
 -- nothing more was served
 pub stopped_here : (a b : MachineState) (u v : View) (lines : List (List ℕ)) → IsServed a u lines b v → HasStopped a u lines v
-stopped_here a b u v lines s = record {
-  calls = s.calls;
-  new = b;
-  run = s.run;
-  unheard = [];
-  heard = sym (append-nil (lines_in s.calls) ∙ s.heard);
-  events = events_of s.calls;
-  cut = record { done = events_of s.calls; more = []; whole_is = sym (append-nil (events_of s.calls)); ends = refl };
-  happens = s.happens;
-}
-
--- it stopped before anything was served
-pub stopped_at_once : (a : MachineState) (u : View) (lines : List (List ℕ)) → HasStopped a u lines u
-stopped_at_once a u lines = stopped_before a u u [] lines (stopped_here a a u u [] (served_none a u))
+stopped_here a b u v lines s = grind (arith, append-nil (lines_in s.calls), append-nil (events_of s.calls))
 
 -- what holds of an error
 pub on_err : {T E : Type 0} (result : Result T E) (P : Type 0) → P → OnErr result P
-on_err (Ok x) P p = tt
-on_err (Err e) P p = p
+on_err result P p = grind arith
 
 -- what holds of a value
 pub on_ok : {T E : Type 0} (result : Result T E) (P : Type 0) → P → OnOk result P
-on_ok (Ok x) P p = p
-on_ok (Err e) P p = tt
+on_ok result P p = grind arith
 
 -- nothing more came
 pub served_more : (a b c : MachineState) (u v w : View) (lines : List (List ℕ)) → IsServed a u lines b v → IsServed b v [] c w → IsServed a u lines c w
@@ -176,11 +122,7 @@ stops_more a b u v w lines first s = let P : List (List ℕ) → Type 0 = λ l. 
 
 -- one more of some lines
 pub some_line : (all left rest : List (List ℕ)) (line : List ℕ) (a b c : MachineState) (u v : View) → ServesSome all left a u b v → left ≡ line ∷ rest → HappensTo b (Line line) c → ServesSome all rest a u c v
-some_line all left rest line a b c u v s is one = record {
-  lines = s.lines ++ line ∷ [];
-  cut = s.cut ∙ (ap (λ l. s.lines ++ l) is ∙ sym (append_assoc s.lines (line ∷ []) rest));
-  served = served_then a b c u v v s.lines (line ∷ []) s.served (served_line b c v line one);
-}
+some_line all left rest line a b c u v s is one = grind (arith, served_then, served_line, append_assoc s.lines (line ∷ []) rest, served_then a b c u v v s.lines (line ∷ []) s.served (served_line b c v line one), served_line b c v line one)
 
 pub some_more : (all left : List (List ℕ)) (a b c : MachineState) (u v w : View) → ServesSome all left a u b v → IsServed b v [] c w → ServesSome all left a u c w
 some_more all left a b c u v w s t = record { lines = s.lines; cut = s.cut; served = served_more a b c u v w s.lines s.served t }

@@ -1,14 +1,5 @@
 -- What puts of steps and turns of names are to who keeps and tells: nothing.
-use Rattle.std.proofs.Common.{◌≡◌, ℕ, List, [], ◌∷◌, Bool, true, false, Option, Some, None, refl, sym, subst}
-use Rattle.std.specs.List.{AllByRecursion}
-use Rattle.dialogue.specs.History.{View}
-use Rattle.live_machine.specs.declared.machine.steps.StepEnd.{StepEnd}
-use Rattle.live_machine.specs.declared.machine.steps.StepEnd.TheVariants.{Again, Dropped, GivenUp, Made}
-use Rattle.live_machine.specs.Account.{lines_in}
-use Rattle.live_machine.specs.Machine.{Call, MachineState}
-use Rattle.live_machine.specs.Machine.Call.{GiveUp, PutStep}
-use Rattle.live_machine.specs.Parts.{EndsPut, HasTurns, IsGivenUp, IsTurnOf, PutsStep, TakesTurn}
-use Rattle.live_threads.specs.Serving.{IsServed, events_of}
+use Rattle.live_threads.proofs.Prelude.{◌≡◌, ℕ, List, [], ◌∷◌, Bool, true, false, Option, Some, None, refl, sym, subst, AllByRecursion, View, StepEnd, Again, Dropped, GivenUp, Made, lines_in, Call, MachineState, GiveUp, PutStep, EndsPut, HasTurns, IsGivenUp, IsTurnOf, PutsStep, TakesTurn, IsServed, events_of}
 use Rattle.live_threads.proofs.ServedLemmas.{served_calls, served_none, served_then}
 
 no_lines : (name : List ℕ) (calls : List Call) → AllByRecursion (IsTurnOf name) calls → lines_in calls ≡ []

@@ -1,18 +1,6 @@
 -- How the program of a live service ends.
 use Rattle.std.specs.Prelude.{ℕ, ◌≡◌, ◌≢◌, ◌⊎◌, List, Option, Some, None, Result, Ok, Err, is_some, false}
-use Rattle.arch_file.specs.declared.arch.Arch.{Arch}
-use Rattle.arch_file.specs.Arch.{arch_of}
-use Rattle.dialogue.specs.History.{View}
-use Rattle.service_core.specs.Service.{empty_service}
-use Rattle.sessions.specs.Fitting.{own_graph}
-use Rattle.service_core.specs.declared.device.Device.{Device}
-use Rattle.live_run.specs.declared.options.CommandLine.{CommandLine}
-use Rattle.live_run.specs.declared.options.Options.{Options}
-use Rattle.live_run.specs.declared.outcome.Outcome.{Outcome}
-use Rattle.live_run.specs.declared.outcome.Outcome.TheVariants.{Done, NoMemory}
-use Rattle.live_run.specs.Commands.{RunsLine}
-use Rattle.live_run.specs.Limits.{device_of}
-use Rattle.live_run.specs.Outcomes.{status_of}
+use Rattle.live_threads.specs.Prelude.{Arch, arch_of, View, empty_service, own_graph, Device, CommandLine, Options, Outcome, Done, NoMemory, RunsLine, device_of, status_of}
 use Rattle.live_threads.specs.Ends.{RunsInput, RunsOpened, empty_on}
 
 -- the status is 2 if the words are refused

@@ -1,16 +1,7 @@
 -- How a service with workers begins and ends.
 use Rattle.std.specs.Prelude.{ℕ, ◌≡◌, ◌≢◌, ◌⊎◌, ⊤, List, [], ◌∷◌, take, Option, Some, None}
 use Rattle.std.specs.List.{flat_map}
-use Rattle.dialogue.specs.History.{Happens, View}
-use Rattle.dialogue.specs.History.Event.{Kept}
-use Rattle.rr_graph.specs.Graph.{Basis}
-use Rattle.service_core.specs.Service.{ServiceState}
-use Rattle.live_lines.specs.Live.{LiveState}
-use Rattle.live_input.specs.Serving.{begins_on, kept_lines}
-use Rattle.live_machine.specs.Machine.{MachineState, begins_with}
-use Rattle.live_machine.specs.Workers.{without_workers}
-use Rattle.live_run.specs.declared.outcome.Outcome.{Outcome}
-use Rattle.live_run.specs.declared.outcome.Outcome.TheVariants.{Done}
+use Rattle.live_threads.specs.Prelude.{Happens, View, Kept, Basis, ServiceState, LiveState, begins_on, kept_lines, MachineState, begins_with, without_workers, Outcome, Done}
 use Rattle.live_threads.specs.declared.letters.InputEnd.{InputEnd}
 use Rattle.live_threads.specs.declared.letters.InputEnd.TheVariants.{Done as InputDone}
 use Rattle.live_threads.specs.Fed.{AreFirst}

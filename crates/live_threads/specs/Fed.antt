@@ -3,14 +3,9 @@ use Rattle.std.specs.Prelude.{ℕ, ◌≡◌, List, ◌++◌, map, true, Option,
 use Rattle.std.specs.List.{AllByRecursion, flat_map, list_all}
 use Rattle.std.specs.Io.KnownBytes.{Consumes}
 use Rattle.std.specs.declared.vec.Vec.{Vec}
-use Rattle.rtrb.specs.Ring.{SameProducer, sent}
-use Rattle.rtrb.specs.declared.producer.Producer.{Producer}
-use Rattle.tagged_lines.specs.Tags.{with_feed}
-use Rattle.line_feed.specs.Pieces.{IsKept, is_one_line, kept_of}
-use Rattle.live_input.specs.Serving.{kept_lines}
+use Rattle.live_threads.specs.Prelude.{SameProducer, sent, Producer, with_feed, IsKept, is_one_line, kept_of, kept_lines, IsLine}
 use Rattle.live_threads.specs.declared.letters.InputEnd.{InputEnd}
 use Rattle.live_threads.specs.declared.letters.InputEnd.TheVariants.{Done}
-use Rattle.live_machine.specs.Machine.{IsLine}
 use Rattle.live_threads.specs.Taken.{lines_of}
 
 -- private: of an input these bytes are ahead, and that is kept of the line that has begun; the

@@ -1,3 +1,4 @@
+pub mod Prelude
 pub mod Endings
 pub mod Ends
 pub mod Fed

@@ -1,10 +1,7 @@
 -- What the calls of an outlet do.
 use Rattle.std.specs.Prelude.{ℕ, List, [], ◌∷◌, Bool, false, Option, Some, None, Result, Ok, Err, is_some}
-use Rattle.dialogue.specs.History.{Fails, Happens, View}
-use Rattle.dialogue.specs.History.Event.{Kept, Told}
-use Rattle.dialogue.specs.declared.dialogue.FailedDevice.{FailedDevice}
+use Rattle.live_threads.specs.Prelude.{Fails, Happens, View, Kept, Told, FailedDevice, Input, Log, Output}
 use Rattle.live_threads.specs.declared.outlet.Devices.{Devices}
-use Rattle.dialogue.specs.declared.dialogue.FailedDevice.TheVariants.{Input, Log, Output}
 
 -- the bytes are kept
 abbrev pub Keeps : View → View → List ℕ → Result (Unit {0}) FailedDevice → Type 0

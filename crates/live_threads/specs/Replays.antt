@@ -1,16 +1,7 @@
 -- What a log leads to, when its lines are served again while workers make its steps.
 use Rattle.std.specs.Prelude.{ℕ, ◌≡◌, ◌⊎◌, ◌+◌, ⊤, List, [], ◌∷◌, ◌++◌, codes, decimal, length, Bool, true, false, not, Option, IfSome}
 use Rattle.std.specs.List.{flat_map, list_all}
-use Rattle.script_text.specs.declared.operator_line.OperatorLine.TheVariants.{Step, Take, Put}
-use Rattle.tagged_lines.specs.Tags.{with_feed}
-use Rattle.line_service.specs.Conversation.{AreAnswered}
-use Rattle.live_lines.specs.Live.{Asked, LiveState, asked_of}
-use Rattle.live_lines.specs.Live.Asked.{Operates, Says}
-use Rattle.live_input.specs.Serving.{AnswersLine, kept_lines}
-use Rattle.live_machine.specs.Held.{form_of, is_wait}
-use Rattle.live_machine.specs.Workers.{IsHome}
-use Rattle.dialogue.specs.History.{View}
-use Rattle.live_run.specs.Retelling.{IsRetold, Retells, TellsPart}
+use Rattle.live_threads.specs.Prelude.{Step, Take, Put, with_feed, AreAnswered, Asked, LiveState, asked_of, Operates, Says, AnswersLine, kept_lines, form_of, is_wait, IsHome, View, IsRetold, Retells, TellsPart}
 use Rattle.live_threads.specs.Fed.{AreFirst, Fed}
 
 -- the operator takes a job with that line, or puts one

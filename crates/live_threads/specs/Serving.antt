@@ -1,11 +1,7 @@
 -- What a service with workers takes, keeps and tells.
 use Rattle.std.specs.Prelude.{ℕ, ◌≡◌, ◌⊎◌, List, [], ◌∷◌, ◌++◌, take}
 use Rattle.std.specs.List.{flat_map}
-use Rattle.dialogue.specs.History.{Event, Happens, View}
-use Rattle.dialogue.specs.History.Event.{Kept, Told}
-use Rattle.live_machine.specs.Account.{lines_in}
-use Rattle.live_machine.specs.Machine.{Call, MachineState, Run}
-use Rattle.live_machine.specs.Machine.Call.{Drain}
+use Rattle.live_threads.specs.Prelude.{Event, Happens, View, Kept, Told, lines_in, Call, MachineState, Run, Drain}
 
 -- what a call drained is kept, and then told
 abbrev pub events_in : Call → List Event

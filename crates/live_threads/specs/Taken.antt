@@ -2,19 +2,7 @@
 use Rattle.std.specs.Prelude.{ℕ, ◌≡◌, ◌⊎◌, List, [], ◌∷◌, ◌++◌, map, Bool, true, false}
 use Rattle.std.specs.List.{flat_map}
 use Rattle.std.specs.declared.vec.Vec.{Vec}
-use Rattle.rtrb.specs.Ring.{SameConsumer, received}
-use Rattle.rtrb.specs.declared.consumer.Consumer.{Consumer}
-use Rattle.line_text.specs.Lines.{physical_lines}
-use Rattle.line_feed.specs.Pieces.{kept_of}
-use Rattle.dialogue.specs.History.{Event, Happens, View}
-use Rattle.dialogue.specs.History.Event.{Told}
-use Rattle.live_lines.specs.Live.{LiveState}
-use Rattle.live_machine.specs.Held.{are_at_rest}
-use Rattle.live_machine.specs.Machine.{MachineState}
-use Rattle.live_machine.specs.Parts.{EndsMachine}
-use Rattle.live_machine.specs.Workers.{without_workers}
-use Rattle.live_run.specs.declared.outcome.Outcome.{Outcome}
-use Rattle.live_run.specs.declared.outcome.Outcome.TheVariants.{Done}
+use Rattle.live_threads.specs.Prelude.{SameConsumer, received, Consumer, physical_lines, kept_of, Event, Happens, View, Told, LiveState, are_at_rest, MachineState, EndsMachine, without_workers, Outcome, Done}
 use Rattle.live_threads.specs.Serving.{HasStopped, IsCut, IsServed}
 
 -- the lines of a text, each cut to the bytes that are kept of it

@@ -1,6 +1,6 @@
 //! What comes to the thread that serves.
 ghost use Rattle.std.specs.Prelude.{◌≡◌};
-ghost use Rattle.rtrb.specs.Ring.{SameProducer, sent};
+ghost use Rattle.live_threads.specs.Prelude.{SameProducer, sent};
 
 use crate::letters::{InputEnd, StepLetter};
 use rtrb::Producer;

@@ -1,9 +1,6 @@
 //! The thread that serves, from the log to the end.
 ghost use Rattle.std.specs.Prelude.{◌≡◌, ◌≢◌, [], Some, option_map, IfErr, IfOk, OnOk};
-ghost use Rattle.live_input.specs.Serving.{is_ready, state_in};
-ghost use Rattle.live_machine.specs.Parts.{IsReady, machine_of};
-ghost use Rattle.live_machine.specs.Workers.{without_workers};
-ghost use Rattle.live_run.specs.declared.outcome.Outcome.TheVariants.{Done};
+ghost use Rattle.live_threads.specs.Prelude.{is_ready, state_in, IsReady, machine_of, without_workers, Done};
 ghost use Rattle.live_threads.specs.Outlet.{view_of};
 ghost use Rattle.live_threads.specs.Ends.{IsResumed, PutsSome, Resumes, RunsService, StopsResuming, empty_on};
 ghost use Rattle.live_threads.specs.Replays.{ArePuts};

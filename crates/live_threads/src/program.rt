@@ -1,8 +1,7 @@
 //! The program, with workers or without.
 ghost use Rattle.std.specs.Prelude.{◌≡◌, ◌⊎◌, IfOk, option_map};
 ghost use Rattle.std.specs.Process.{exit_status};
-ghost use Rattle.live_run.specs.declared.outcome.Outcome.TheVariants.{NoMemory};
-ghost use Rattle.live_run.specs.Outcomes.{status_of};
+ghost use Rattle.live_threads.specs.Prelude.{NoMemory, status_of};
 ghost use Rattle.live_threads.specs.Endings.{IsProgramEnd, IsProgramRun, run_status};
 
 use crate::outlet::{Devices, Outlet};

@@ -1,12 +1,9 @@
 //! The thread that reads.
 ghost use Rattle.std.specs.Prelude.{◌≡◌, ◌++◌, ◌∷◌, [], List, ℕ, Option, Some, IfOk, OnOk, MatchBool, ◌⊎◌};
-ghost use Rattle.line_feed.specs.Feed.{ahead_of, line_of};
-ghost use Rattle.line_feed.specs.Pieces.{IsKept};
-ghost use Rattle.tagged_lines.specs.Tags.{with_feed};
+ghost use Rattle.live_threads.specs.Prelude.{ahead_of, line_of, IsKept, with_feed, SameProducer, sent};
 ghost use Rattle.live_threads.specs.Fed.{AreReadLines, Fed, IsFed, PutsLines};
 ghost use Rattle.live_threads.specs.Taken.{cut_lines};
 ghost use Rattle.live_threads.specs.declared.letters.InputEnd.TheVariants.{Done};
-ghost use Rattle.rtrb.specs.Ring.{SameProducer, sent};
 
 use crate::crew::Crew;
 use crate::letters::InputEnd;

@@ -1,12 +1,7 @@
 //! The lines of a log, served again, while workers make its steps.
 ghost use Rattle.std.specs.Prelude.{◌≡◌, ◌≢◌, ◌+◌, ◌∷◌, [], ◌<◌, ◌^◌, false, IfErr, IfOk, OnErr, OnOk};
-ghost use Rattle.live_input.specs.Serving.{is_ready, state_in};
-ghost use Rattle.live_lines.specs.Live.{asked_of as what_asks, asks};
-ghost use Rattle.live_machine.specs.Workers.{without_workers};
+ghost use Rattle.live_threads.specs.Prelude.{is_ready, state_in, asked_of as what_asks, asks, without_workers, IsRetold, TellsPart, text_told, ahead_of, line_of, IsKept, kept_of};
 ghost use Rattle.live_threads.specs.Replays.{HasReply, IsServable, PutsHeld, Replays, ServesLine, StopsLine, StopsReplay, moves_job, put_line};
-ghost use Rattle.live_run.specs.Retelling.{IsRetold, TellsPart, text_told};
-ghost use Rattle.line_feed.specs.Feed.{ahead_of, line_of};
-ghost use Rattle.line_feed.specs.Pieces.{IsKept, kept_of};
 
 mod jobs;
 

@@ -1,8 +1,6 @@
 //! A service with workers, from its log to its end.
 ghost use Rattle.std.specs.Prelude.{◌≡◌, ◌⊎◌, [], None, Some, true, option_map};
-ghost use Rattle.dialogue.specs.declared.dialogue.FailedDevice.TheVariants.{Input};
-ghost use Rattle.live_run.specs.declared.outcome.Outcome.TheVariants.{Stopped};
-ghost use Rattle.rtrb.specs.Ring.{IsPair, received, sent};
+ghost use Rattle.live_threads.specs.Prelude.{Input, Stopped, IsPair, received, sent};
 ghost use Rattle.live_threads.specs.Outlet.{view_of};
 ghost use Rattle.live_threads.specs.Ends.{IsWhole, RunsOpened, RunsService, empty_on};
 ghost use Rattle.live_threads.specs.Fed.{AreFirst};

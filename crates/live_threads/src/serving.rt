@@ -1,8 +1,6 @@
 //! The thread that serves: it alone has the machine, the log and the output.
 ghost use Rattle.std.specs.Prelude.{◌≡◌, [], true, IfOk, OnErr, OnOk};
-ghost use Rattle.line_feed.specs.Pieces.{kept_of};
-ghost use Rattle.live_machine.specs.Held.{are_at_rest};
-ghost use Rattle.live_machine.specs.Parts.{IsReady, machine_of};
+ghost use Rattle.live_threads.specs.Prelude.{kept_of, are_at_rest, IsReady, machine_of};
 ghost use Rattle.live_threads.specs.Serving.{HasStopped, IsServed};
 ghost use Rattle.live_threads.specs.Taken.{ClosesTexts, EndsServing, IsDrained, StopsClosing, TakesLines, cut_lines};
 

@@ -1,7 +1,6 @@
 //! The steps that workers make of a machine's jobs.
 ghost use Rattle.std.specs.Prelude.{◌≡◌, [], OnOk};
-ghost use Rattle.dialogue.specs.History.{View};
-ghost use Rattle.live_machine.specs.Parts.{IsReady, machine_of};
+ghost use Rattle.live_threads.specs.Prelude.{View, IsReady, machine_of};
 ghost use Rattle.live_threads.specs.Serving.{IsServed};
 
 use crate::crew::Crew;

@@ -1,6 +1,6 @@
 //! The program with workers.
 ghost use Rattle.std.specs.Prelude.{◌≡◌, ◌≢◌, IfErr, IfOk, is_some, option_map};
-ghost use Rattle.service_core.specs.Kept.{IsDevice};
+ghost use Rattle.live_threads.specs.Prelude.{IsDevice};
 ghost use Rattle.live_threads.specs.Endings.{IsDeviceOf, RunsOver, RunsThreaded};
 
 use crate::opened::Opened;

@@ -1,19 +1,5 @@
 -- The longest path of a circuit.
-use Rattle.std.proofs.Common.{ℕ, Result, Ok, Err, ◌≡◌, ◌+◌, ◌<◌, ◌≤◌, List, [], ◌∷◌, length, map, get_or, subst, arith}
-use Rattle.std.specs.List.{All}
-use Rattle.std.specs.Result.{IfOk}
-use Rattle.std.proofs.lemmas.List.Elements.{All-append, All-map, All-weaker}
-use Rattle.blif.specs.LookupTables.{LookupTable}
-use Rattle.blif.specs.LawfulCircuits.{IsCircuit, IsLatchWithin, IsTableWithin}
-use Rattle.blif.specs.declared.circuit.Circuit.{Circuit}
-use Rattle.blif.specs.declared.latches.Latch.{Latch}
-use Rattle.longest_path.specs.declared.longest.Longest.{Longest}
-use Rattle.longest_path.specs.declared.longest.Longest.TheVariants.{Path, NoPath, Loop}
-use Rattle.longest_path.specs.declared.reach.Reach.{Reach}
-use Rattle.longest_path.specs.Ends.{IsEnd}
-use Rattle.longest_path.specs.Paths.{HasLoop, IsIn, IsLongest, IsPath, IsWay, ends_of, starts_of}
-use Rattle.longest_path.specs.Reaches.{IsFound, reach_of, steps_to}
-use Rattle.longest_path.specs.Settled.{IsSettled}
+use Rattle.longest_path.proofs.Prelude.{ℕ, Result, Ok, Err, ◌≡◌, ◌+◌, ◌<◌, ◌≤◌, List, [], ◌∷◌, length, map, get_or, subst, arith, All, IfOk, All-append, All-map, All-weaker, LookupTable, IsCircuit, IsLatchWithin, IsTableWithin, Circuit, Latch, Longest, Path, NoPath, Loop, Reach, IsEnd, HasLoop, IsIn, IsLongest, IsPath, IsWay, ends_of, starts_of, IsFound, reach_of, steps_to, IsSettled}
 use Rattle.longest_path.proofs.Raising.{table_within}
 
 -- the starts and the ends are nets
@@ -45,10 +31,7 @@ no_loop nets tables starts reach all count each settled loop =
 -- a path has at most as many tables as there are steps to its end, but one
 path_steps : (circuit : Circuit) (nets : ℕ) (reach : List Reach) → IsSettled nets circuit.tables (starts_of circuit) reach
     → (from : ℕ) (tables : List LookupTable) (to : ℕ) → IsPath circuit from tables to → length tables + 1 ≤ steps_to reach to
-path_steps circuit nets reach settled from tables to path =
-    let reached : 0 < steps_to reach from = settled.started from path.start in
-    let long : steps_to reach from + length tables ≤ steps_to reach to = settled.settled from tables to reached path.way in
-    omega arith
+path_steps circuit nets reach settled from tables to path = grind arith
 
 -- a net at one step is a start
 first_start : (tables : List LookupTable) (starts : List ℕ) (nets : ℕ) (reach : List Reach) (net : ℕ) → IsSettled nets tables starts reach → steps_to reach net ≡ 1 → IsIn starts net
@@ -80,13 +63,7 @@ longest circuit nets reach (Path path) none settled end =
         end.through.at,
       ),
     )
-longest circuit nets reach NoPath none settled end = (
-  none,
-  λ from tables to other. (
-      let a : length tables + 1 ≤ steps_to reach to = path_steps circuit nets reach settled from tables to other in
-      let b : steps_to reach to ≡ 0 = subst (λ n. steps_to reach n ≡ 0) other.end.2 (end other.end.0 other.end.1) in
-      omega arith),
-)
+longest circuit nets reach NoPath none settled end = grind arith
 longest circuit nets reach Loop none settled end = absurd end
 
 -- if one was found

@@ -1,3 +1,4 @@
+mod Prelude
 mod Ways
 mod Raising
 mod Starting

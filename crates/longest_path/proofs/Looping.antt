@@ -1,17 +1,5 @@
 -- A loop, found by going back until a net comes again.
-use Rattle.std.proofs.Common.{ℕ, ◌≡◌, ◌+◌, ◌-◌, ◌<◌, ◌≤◌, ◌∙◌, Bool, true, false, List, [], ◌∷◌, ◌++◌, length, get_or, drop, eqb, ◌||◌, sym, refl, ap, subst, suc, arith, inl, inr}
-use Rattle.std.specs.List.{All, AllByRecursion, IsDistinct, list_any}
-use Rattle.std.proofs.lemmas.Bool.Decides.{eqb_tells}
-use Rattle.std.proofs.lemmas.Bool.{cases_lt}
-use Rattle.std.proofs.lemmas.List.{drop-append-le, get_or_append_left, length-drop}
-use Rattle.std.proofs.lemmas.List.Elements.{All-get_or, All-tail}
-use Rattle.std.proofs.lemmas.Map.Steps.{length-le_from_distinct_below}
-use Rattle.std.proofs.Math.Seq.{drop-append_seam, get_or-append_seam}
-use Rattle.blif.specs.LookupTables.{LookupTable}
-use Rattle.longest_path.specs.declared.trace.StepBack.{StepBack}
-use Rattle.longest_path.specs.Lasting.{IsLasting, IsMarked, IsMarkedBack, IsMissing, IsPlaceOf}
-use Rattle.longest_path.specs.Paths.{HasLoop, IsLoop}
-use Rattle.longest_path.specs.Tracing.{IsThrough}
+use Rattle.longest_path.proofs.Prelude.{ℕ, ◌≡◌, ◌+◌, ◌<◌, ◌≤◌, ◌∙◌, Bool, true, false, List, [], ◌∷◌, ◌++◌, length, get_or, drop, eqb, ◌||◌, sym, refl, ap, subst, suc, arith, inl, inr, All, AllByRecursion, IsDistinct, list_any, eqb_tells, cases_lt, drop-append-le, get_or_append_left, length-drop, All-get_or, All-tail, length-le_from_distinct_below, drop-append_seam, get_or-append_seam, LookupTable, StepBack, IsLasting, IsMarked, IsMarkedBack, IsMissing, IsPlaceOf, HasLoop, IsLoop, IsThrough}
 use Rattle.longest_path.proofs.Marks.{mark_within}
 use Rattle.longest_path.proofs.Tracing.{longer, not_yet}
 
@@ -19,8 +7,7 @@ use Rattle.longest_path.proofs.Tracing.{longer, not_yet}
 
 pub one_longer : (xs : List ℕ) (x step : ℕ) → length xs ≡ step → length (xs ++ x ∷ []) ≡ step + 1
 one_longer [] x step long = ap (λ n. n + 1) long
-one_longer (first ∷ xs) x step long =
-    let rest : length (xs ++ x ∷ []) ≡ length xs + 1 = one_longer xs x (length xs) refl in omega (arith, long, rest)
+one_longer (first ∷ xs) x step long = grind (arith, one_longer xs x (length xs) refl)
 
 pub differ_none : IsDistinct eqb []
 unfolding IsDistinct
@@ -81,16 +68,7 @@ ways_more tables marks nets numbers step net back nets_long numbers_long is ways
 -- a way from a net that was passed back to it
 pub comes_again : (tables : List LookupTable) (nets numbers : List ℕ) (step net place : ℕ) → length nets ≡ step → length numbers ≡ step → IsPlaceOf nets net place
     → ((k : ℕ) → k < step → IsThrough tables net (drop k numbers) (get_or nets k 0)) → IsLoop tables (drop place numbers)
-comes_again tables nets numbers step net place nets_long numbers_long is ways =
-    let within : place < length nets = is.0 in
-    let round : IsThrough tables net (drop place numbers) net = subst (IsThrough tables net (drop place numbers)) is.1 (ways place (omega arith)) in
-    record {
-      net = net;
-      through = round.through;
-      some = (let e : length (drop place numbers) ≡ length numbers - place = length-drop place numbers in omega arith);
-      at = round.at;
-      way = round.way;
-    }
+comes_again tables nets numbers step net place nets_long numbers_long is ways = grind (arith, length-drop)
 
 -- if no net is marked, no tables form a loop
 pub no_loop_unmarked : (tables : List LookupTable) (marks : List Bool) → IsLasting tables marks → ((net : ℕ) → net < length marks → get_or marks net false ≡ false) → HasLoop tables → ⊥

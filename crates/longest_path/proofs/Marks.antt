@@ -1,16 +1,5 @@
 -- Marks of nets, and passes that take some away.
-use Rattle.std.proofs.Common.{ℕ, ◌≡◌, ◌+◌, ◌<◌, ◌≤◌, ◌∙◌, Bool, true, false, List, [], ◌∷◌, ◌++◌, length, get_or, set, length-set, replicate, Some, sym, refl, ap, subst, arith, inl, inr, suc, zero, cond}
-use Rattle.std.specs.List.{All, count_by, slice_get}
-use Rattle.std.proofs.lemmas.Bool.Decides.{eqb_tells}
-use Rattle.std.proofs.lemmas.Bool.{cases_lt}
-use Rattle.std.proofs.lemmas.List.{get_or-replicate, get_or-set_other, get_or-set_same, get_or_past}
-use Rattle.std.proofs.lemmas.List.Sums.{count_by-le-length, sum_by-cons}
-use Rattle.std.proofs.lemmas.Option.{same_Some, slice_get_within}
-use Rattle.blif.specs.declared.circuit.TheConstants.{MAX_NETS}
-use Rattle.blif.specs.LawfulCircuits.{IsTableWithin}
-use Rattle.blif.specs.LookupTables.{LookupTable}
-use Rattle.longest_path.specs.Lasting.{AreLedTo, IsFirstLost, IsLasting, IsLedTo, IsMarked, IsMarkedAmong, IsOnLoop, NoneIsLost, NoneIsMarked}
-use Rattle.longest_path.specs.Paths.{IsIn, IsTable, IsWay}
+use Rattle.longest_path.proofs.Prelude.{ℕ, ◌≡◌, ◌+◌, ◌<◌, ◌≤◌, ◌∙◌, Bool, true, false, List, [], ◌∷◌, length, get_or, set, length-set, replicate, Some, sym, refl, subst, arith, suc, zero, cond, All, count_by, slice_get, cases_lt, get_or-replicate, get_or-set_other, get_or-set_same, get_or_past, count_by-le-length, sum_by-cons, same_Some, slice_get_within, MAX_NETS, IsTableWithin, LookupTable, AreLedTo, IsFirstLost, IsLasting, IsLedTo, IsMarked, IsMarkedAmong, IsOnLoop, NoneIsLost, NoneIsMarked, IsIn, IsTable, IsWay}
 use Rattle.longest_path.proofs.Raising.{table_within}
 use Rattle.longest_path.proofs.Tracing.{extend}
 
@@ -20,59 +9,19 @@ both b marked off = absurd (cc)
 
 -- a marked net has a place among the marks
 pub mark_within : (marks : List Bool) (net : ℕ) → IsMarked marks net → net < length marks
-mark_within marks net marked =
-    elim (cases_lt net (length marks)) [
-      | inl within ↦ within
-      | inr past ↦ absurd (both (get_or marks net false) marked (get_or_past marks net false past))
-    ]
+mark_within marks net marked = grind (arith, both, get_or_past)
 
 -- ---- one pass
 
 -- the table drives its net from a marked net
 pub led_more : (tables : List LookupTable) (place : ℕ) {before : ℕ} (table : LookupTable) (marks next : List Bool) → slice_get tables place ≡ Some table → IsMarkedAmong marks table.inputs before
     → table.output < length next → AreLedTo tables place marks next → AreLedTo tables (place + 1) marks (set next table.output true)
-led_more tables place {before} table marks next here among within led =
-    record {
-      long = length-set next table.output true ∙ led.long;
-      led = λ net marked. elim (eqb_tells net table.output) [
-        | inl at ↦ record { number = place; table = table; early = omega arith; is = here; drives = sym at.1; before = before; among = among }
-        | inr off ↦
-            let old = led.led net (sym (get_or-set_other next table.output net true false off.1) ∙ marked) in
-            record { number = old.number; table = old.table; early = (let e : old.number < place = old.early in omega arith); is = old.is; drives = old.drives; before = old.before; among = old.among }
-      ];
-      all = λ net it. elim (eqb_tells net table.output) [
-        | inl at ↦ ap (λ n. get_or (set next table.output true) n false) at.1 ∙ get_or-set_same next table.output true false within
-        | inr off ↦
-            elim (cases_lt it.number place) [
-              | inl low ↦ get_or-set_other next table.output net true false off.1
-                  ∙ led.all net (record { number = it.number; table = it.table; early = low; is = it.is; drives = it.drives; before = it.before; among = it.among })
-              | inr late ↦
-                  let e : it.number ≡ place = (let few : it.number < place + 1 = it.early in omega arith) in
-                  let same : it.table ≡ table = same_Some it.table table (sym it.is ∙ (ap (slice_get tables) e ∙ here)) in
-                  absurd (off.1 (sym it.drives ∙ ap (λ (t : LookupTable). t.output) same))
-            ]
-      ];
-    }
+led_more tables place table marks next here among within led = search (length-set, get_or-set_other, get_or-set_same, cases_lt, same_Some, arith)
 
 -- the table reads no marked net
 pub led_same : (tables : List LookupTable) (place : ℕ) (table : LookupTable) (marks next : List Bool) → slice_get tables place ≡ Some table → NoneIsMarked marks table.inputs
     → AreLedTo tables place marks next → AreLedTo tables (place + 1) marks next
-led_same tables place table marks next here none led =
-    record {
-      long = led.long;
-      led = λ net marked. (
-          let old = led.led net marked in
-          record { number = old.number; table = old.table; early = (let e : old.number < place = old.early in omega arith); is = old.is; drives = old.drives; before = old.before; among = old.among });
-      all = λ net it. elim (cases_lt it.number place) [
-        | inl low ↦ led.all net (record { number = it.number; table = it.table; early = low; is = it.is; drives = it.drives; before = it.before; among = it.among })
-        | inr late ↦
-            let e : it.number ≡ place = (let few : it.number < place + 1 = it.early in omega arith) in
-            let same : it.table ≡ table = same_Some it.table table (sym it.is ∙ (ap (slice_get tables) e ∙ here)) in
-            let among : IsMarkedAmong marks table.inputs it.before = subst (λ (t : LookupTable). IsMarkedAmong marks t.inputs it.before) same it.among in
-            let off : get_or marks it.before false ≡ false = ap (λ n. get_or marks n false) (sym among.0.2) ∙ none among.0.0 among.0.1 in
-            absurd (both (get_or marks it.before false) among.1 off)
-      ];
-    }
+led_same tables place table marks next here none led = grind arith
 
 -- ---- all passes
 
@@ -126,8 +75,7 @@ on_loop_within nets tables net all on = subst (λ n. n < nets) on.2.1 (table_wit
 before_on_loop : (tables : List LookupTable) (table : LookupTable) (net before : ℕ) (others : List LookupTable) → IsTable tables table → table.output ≡ net → IsIn table.inputs before
     → IsWay tables net others before → IsOnLoop tables before
 before_on_loop tables table net before [] is drives reads way = (table, [], (is, drives ∙ way, (before, reads, refl)))
-before_on_loop tables table net before (first ∷ others) is drives reads way =
-    (first, others ++ table ∷ [], extend tables net before before (first ∷ others) table way is drives reads)
+before_on_loop tables table net before (first ∷ others) is drives reads way = grind (arith, extend tables net before before (first ∷ others) table way is drives reads)
 
 -- a pass keeps the nets of loops, and those that are led to
 pub loops_kept : (tables : List LookupTable) (marks next : List Bool) → AreLedTo tables (length tables) marks next → ((net : ℕ) → IsOnLoop tables net → IsMarked marks net)

@@ -1,16 +1,5 @@
 -- Passes over the tables.
-use Rattle.std.proofs.Common.{ℕ, ◌≡◌, ◌+◌, ◌<◌, ◌≤◌, ◌∙◌, ◌⊎◌, List, [], ◌∷◌, length, get_or, set, length-set, Some, sym, refl, ap, subst, arith, inl, inr}
-use Rattle.std.specs.List.{All, slice_get}
-use Rattle.blif.specs.LawfulCircuits.{IsTableWithin}
-use Rattle.blif.specs.LookupTables.{LookupTable}
-use Rattle.longest_path.specs.declared.reach.Reach.{Reach}
-use Rattle.longest_path.specs.Paths.{HasLoop, IsIn, IsWay}
-use Rattle.longest_path.specs.Passes.{AreRaised, IsPassed, IsFarther}
-use Rattle.longest_path.specs.Reaches.{AreFound, AreSmall, IsBegun, IsFarthest, IsFound, reach_of, none, steps_to}
-use Rattle.longest_path.specs.Settled.{IsOnTheWay, IsSettled}
-use Rattle.std.proofs.lemmas.Bool.{cases_eq, cases_lt}
-use Rattle.std.proofs.lemmas.List.{get_or-set_other, get_or-set_same, get_or_past}
-use Rattle.std.proofs.lemmas.Option.{get_or_from_slice_get, same_Some, slice_get-get_or, slice_get_within}
+use Rattle.longest_path.proofs.Prelude.{ℕ, ◌≡◌, ◌+◌, ◌<◌, ◌≤◌, ◌∙◌, ◌⊎◌, List, [], ◌∷◌, length, get_or, set, length-set, Some, sym, refl, ap, subst, arith, inl, inr, All, slice_get, IsTableWithin, LookupTable, Reach, HasLoop, IsIn, IsWay, AreRaised, IsPassed, IsFarther, AreFound, AreSmall, IsBegun, IsFarthest, IsFound, reach_of, none, steps_to, IsOnTheWay, IsSettled, cases_lt, get_or-set_other, get_or-set_same, get_or_past, get_or_from_slice_get, slice_get-get_or, slice_get_within}
 use Rattle.longest_path.proofs.Ways.{long_loop}
 
 -- if a pass raises nothing, a way that leads on from a net is not longer than what was found
@@ -33,55 +22,21 @@ covers tables starts passes old new raised rises covered from [] to start way fe
     let a : length {A = LookupTable} [] + 1 ≤ steps_to old to = covered from [] to start way (omega arith) in
     let b : steps_to old to ≤ steps_to new to = rises to in
     omega arith
-covers tables starts passes old new raised rises covered from (table ∷ others) to start way few =
-    let net : ℕ = way.2.0 in
-    let before : length others + 1 ≤ steps_to old net = covered from others net start way.2.2 (omega arith) in
-    let more : steps_to old net + 1 ≤ steps_to new table.output =
-    raised way.0.0 table (slice_get_within tables way.0.0 table way.0.1) way.0.1 net way.2.1 (omega arith) in
-    subst (λ n. length (table ∷ others) + 1 ≤ steps_to new n) way.1 (omega arith)
+covers tables starts passes old new raised rises covered from (table ∷ others) to start way few = grind (arith, slice_get_within)
 
 -- after one more pass that raised a net
 pub on_the_way : (passes nets : ℕ) (tables : List LookupTable) (starts : List ℕ) (old new : List Reach)
     → IsOnTheWay passes nets tables starts old → IsPassed tables starts (length tables) old new → IsFarther old new → IsOnTheWay (passes + 1) nets tables starts new
-on_the_way passes nets tables starts old new was passed farther =
-    let net : ℕ = farther.0 in
-    let reached : 0 < steps_to new net = (let h : steps_to old net < steps_to new net = farther.1 in omega arith) in
-    let found : IsFound tables starts net (reach_of new net) = passed.found net reached in
-    let through : List LookupTable = found.1.0 in
-    record {
-      long = passed.long ∙ was.long;
-      small = passed.small;
-      found = passed.found;
-      started = λ one start. (let a : 0 < steps_to old one = was.started one start in let b : steps_to old one ≤ steps_to new one = passed.rises one in omega arith);
-      covered = covers tables starts passes old new passed.raised passed.rises was.covered;
-      far = λ _. (
-        net,
-        (
-            elim (cases_lt passes (length through)) [
-              | inr short ↦
-                  let cover : length through + 1 ≤ steps_to old net = was.covered (reach_of new net).start through net found.0 found.1.1 short in
-                  let same : length through + 1 ≡ steps_to new net = found.1.2 in
-                  let more : steps_to old net < steps_to new net = farther.1 in
-                  absurd (omega arith)
-              | inl long ↦ (let same : length through + 1 ≡ steps_to new net = found.1.2 in omega arith)
-            ]),
-      );
-    }
+on_the_way passes nets tables starts old new was passed farther = grind (arith, cases_lt, covers tables starts passes old new passed.raised passed.rises was.covered)
 
 -- after a pass that raised nothing
 pub settled_by : (nets passes : ℕ) (tables : List LookupTable) (starts : List ℕ) (reach : List Reach)
     → IsOnTheWay passes nets tables starts reach → IsPassed tables starts (length tables) reach reach → IsSettled nets tables starts reach
-settled_by nets passes tables starts reach was passed = record {
-  long = was.long;
-  found = was.found;
-  started = was.started;
-  settled = settled_ways tables reach passed.raised;
-}
+settled_by nets passes tables starts reach was passed = grind (arith, settled_ways)
 
 -- a table of these is within the nets
 pub table_within : (tables : List LookupTable) (nets place : ℕ) (table : LookupTable) → All (IsTableWithin nets) tables → slice_get tables place ≡ Some table → IsTableWithin nets table
-table_within tables nets place table all here =
-    subst (IsTableWithin nets) (get_or_from_slice_get tables place table table here) (all place table (slice_get_within tables place table here))
+table_within tables nets place table all here = grind (arith, get_or_from_slice_get, slice_get_within)
 
 -- the steps to a net of a list are at most those to the farthest of them
 at_most : (reach : List Reach) (nets : List ℕ) (most net : ℕ) → ((k : ℕ) → k < length nets → steps_to reach (get_or nets k 0) ≤ most) → IsIn nets net → steps_to reach net ≤ most
@@ -92,51 +47,23 @@ raised_more : (tables : List LookupTable) (place most : ℕ) (table : LookupTabl
     → ((net : ℕ) → steps_to old net ≤ steps_to now net) → ((net : ℕ) → steps_to now net ≤ steps_to new net)
     → ((net : ℕ) → IsIn table.inputs net → steps_to now net ≤ most) → (0 < most → most + 1 ≤ steps_to new table.output)
     → AreRaised tables place old now → AreRaised tables (place + 1) old new
-raised_more tables place most table old now new here rises rise most_is up raised number other within there net among reached =
-    elim (cases_lt number place) [
-      | inl before ↦
-          let a : steps_to old net + 1 ≤ steps_to now other.output = raised number other before there net among reached in
-          let b : steps_to now other.output ≤ steps_to new other.output = rise other.output in
-          omega arith
-      | inr at ↦
-          let same : number ≡ place = omega arith in
-          let this : other ≡ table = same_Some other table (sym there ∙ (ap (slice_get tables) same ∙ here)) in
-          let a : steps_to now net ≤ most = most_is net (subst (λ (t : LookupTable). IsIn t.inputs net) this among) in
-          let b : steps_to old net ≤ steps_to now net = rises net in
-          let d : most + 1 ≤ steps_to new table.output = up (omega arith) in
-          subst (λ (t : LookupTable). steps_to old net + 1 ≤ steps_to new t.output) (sym this) (omega arith)
-    ]
+raised_more tables place most table old now new here rises rise most_is up raised number other within there net among reached = grind arith
 
 -- a table that raises nothing, since its inputs are not reached, or since its output is farther
 pub kept : (tables : List LookupTable) (starts : List ℕ) (place most : ℕ) (table : LookupTable) (old now : List Reach) → slice_get tables place ≡ Some table
     → ((k : ℕ) → k < length table.inputs → steps_to now (get_or table.inputs k 0) ≤ most) → (0 < most → most + 1 ≤ steps_to now table.output)
     → IsPassed tables starts place old now → IsPassed tables starts (place + 1) old now
-kept tables starts place most table old now here most_is up passed = record {
-  long = passed.long;
-  small = passed.small;
-  found = passed.found;
-  rises = passed.rises;
-  raised = raised_more tables place most table old now now here passed.rises (λ net. omega arith) (λ net among. at_most now table.inputs most net most_is among) up passed.raised;
-}
+kept tables starts place most table old now here most_is up passed = grind arith
 
 -- what was found for a net after the output of a table is raised
 steps_at : (now : List Reach) (output : ℕ) (best : Reach) (net : ℕ) → output < length now
     → ((net ≡ output) × (reach_of (set now output (record { steps = best.steps + 1; start = best.start })) net ≡ record { steps = best.steps + 1; start = best.start }))
     ⊎ (reach_of (set now output (record { steps = best.steps + 1; start = best.start })) net ≡ reach_of now net)
-steps_at now output best net within =
-    elim (cases_eq net output) [
-      | inl here ↦ inl (here, ap (λ n. get_or (set now output (record { steps = best.steps + 1; start = best.start })) n none) here ∙ get_or-set_same now output (record { steps = best.steps + 1; start = best.start }) none within)
-      | inr off ↦ inr (get_or-set_other now output net (record { steps = best.steps + 1; start = best.start }) none off)
-    ]
+steps_at now output best net within = grind (arith, get_or-set_same, get_or-set_other)
 
 -- if a net is raised, none falls
 pub raises : (now : List Reach) (output : ℕ) (best : Reach) (n : ℕ) → output < length now → steps_to now output ≤ best.steps → steps_to now n ≤ steps_to (set now output (record { steps = best.steps + 1; start = best.start })) n
-raises now output best n within above =
-    elim (steps_at now output best n within) [
-      | inl at ↦ (let a : steps_to (set now output (record { steps = best.steps + 1; start = best.start })) n ≡ best.steps + 1 = ap (λ (r : Reach). r.steps) at.1 in
-          let b : steps_to now n ≡ steps_to now output = ap (steps_to now) at.0 in omega arith)
-      | inr off ↦ (let a : steps_to (set now output (record { steps = best.steps + 1; start = best.start })) n ≡ steps_to now n = ap (λ (r : Reach). r.steps) off in omega arith)
-    ]
+raises now output best n within above = grind (arith, steps_at)
 
 -- a table raises its output
 pub more : (tables : List LookupTable) (starts : List ℕ) (place net : ℕ) (table : LookupTable) (best : Reach) (old now : List Reach) → slice_get tables place ≡ Some table
@@ -179,11 +106,7 @@ more tables starts place net table best old now here is farthest few above withi
 -- the output is farther than it was
 pub farther : (output : ℕ) (best : Reach) (old now : List Reach) → output < length now → steps_to now output ≤ best.steps → ((net : ℕ) → steps_to old net ≤ steps_to now net)
     → IsFarther old (set now output (record { steps = best.steps + 1; start = best.start }))
-farther output best old now within above rises =
-    let a : reach_of (set now output (record { steps = best.steps + 1; start = best.start })) output ≡ record { steps = best.steps + 1; start = best.start } = get_or-set_same now output (record { steps = best.steps + 1; start = best.start }) none within in
-    let b : steps_to (set now output (record { steps = best.steps + 1; start = best.start })) output ≡ best.steps + 1 = ap (λ (r : Reach). r.steps) a in
-    let d : steps_to old output ≤ steps_to now output = rises output in
-    (output, omega arith)
+farther output best old now within above rises = grind (arith, get_or-set_same)
 
 -- an input that is farther than there are nets is behind a loop
 pub looped : (tables : List LookupTable) (starts : List ℕ) (place net : ℕ) (table : LookupTable) (best : Reach) (old now : List Reach) → All (IsTableWithin (length old)) tables → slice_get tables place ≡ Some table
@@ -216,21 +139,11 @@ not_yet nets tables starts reach begun = record {
 
 -- before the tables
 pub first : (tables : List LookupTable) (starts : List ℕ) (reach : List Reach) → AreSmall reach → AreFound tables starts reach → IsPassed tables starts 0 reach reach
-first tables starts reach small found = record {
-  long = refl;
-  small = small;
-  found = found;
-  rises = λ net. omega arith;
-  raised = λ number table within. absurd (omega arith);
-}
+first tables starts reach small found = grind arith
 
 -- what is read for a net that is reached, or that is there
 pub far_of : (reach : List Reach) (net : ℕ) (best : Reach) → net < length reach → best ≡ get_or reach net best → reach_of reach net ≡ best
 far_of reach net best within read = get_or_from_slice_get reach net (get_or reach net best) none (slice_get-get_or reach net best within) ∙ sym read
 
 pub reached_within : (reach : List Reach) (net : ℕ) → 0 < steps_to reach net → net < length reach
-reached_within reach net reached =
-    elim (cases_lt net (length reach)) [
-      | inl within ↦ within
-      | inr past ↦ (let e : steps_to reach net ≡ 0 = ap (λ (r : Reach). r.steps) (get_or_past reach net none past) in absurd (omega arith))
-    ]
+reached_within reach net reached = grind (arith, get_or_past)

@@ -1,11 +1,5 @@
 -- The starts of ways.
-use Rattle.std.proofs.Common.{ℕ, ◌≡◌, ◌+◌, ◌<◌, ◌∙◌, ◌⊎◌, List, length, get_or, set, take, length-set, sym, ap, subst, arith, inl, inr, length-take-le}
-use Rattle.std.specs.List.{All}
-use Rattle.std.proofs.lemmas.Bool.{cases_eq, cases_lt}
-use Rattle.std.proofs.lemmas.List.{get_or-set_other, get_or-set_same, get_or-take}
-use Rattle.longest_path.specs.declared.reach.Reach.{Reach}
-use Rattle.longest_path.specs.Paths.{IsIn}
-use Rattle.longest_path.specs.Reaches.{IsBegun, reach_of, none, steps_to}
+use Rattle.longest_path.proofs.Prelude.{ℕ, ◌≡◌, ◌+◌, ◌<◌, ◌∙◌, ◌⊎◌, List, length, get_or, set, take, length-set, sym, ap, subst, arith, inl, inr, length-take-le, All, cases_eq, get_or-set_other, get_or-set_same, get_or-take, Reach, IsIn, IsBegun, reach_of, none, steps_to}
 
 -- a start, at one step from itself
 abbrev start : ℕ → Reach
@@ -13,30 +7,13 @@ start net = record { steps = 1; start = net }
 
 -- a net among the first ones, and the next one, is among one more
 earlier : (starts : List ℕ) (i net : ℕ) → i < length starts → IsIn (take i starts) net → IsIn (take (i + 1) starts) net
-earlier starts i net within among =
-    let k : ℕ = among.0 in
-    let few : length (take i starts) ≡ i = length-take-le i starts (omega arith) in
-    let many : length (take (i + 1) starts) ≡ i + 1 = length-take-le (i + 1) starts (omega arith) in
-    let h : k < length (take i starts) = among.1 in
-    let low : k < i = omega arith in
-    (k, omega arith, get_or-take (i + 1) starts k 0 (omega arith) ∙ (sym (get_or-take i starts k 0 low) ∙ among.2))
+earlier starts i net within among = grind (arith, length-take-le, get_or-take)
 
 last : (starts : List ℕ) (i : ℕ) → i < length starts → IsIn (take (i + 1) starts) (get_or starts i 0)
-last starts i within =
-    let many : length (take (i + 1) starts) ≡ i + 1 = length-take-le (i + 1) starts (omega arith) in
-    (i, omega arith, get_or-take (i + 1) starts i 0 (omega arith))
+last starts i within = grind (arith, length-take-le, get_or-take)
 
 either : (starts : List ℕ) (i net : ℕ) → i < length starts → IsIn (take (i + 1) starts) net → (net ≡ get_or starts i 0) ⊎ IsIn (take i starts) net
-either starts i net within among =
-    let k : ℕ = among.0 in
-    let few : length (take i starts) ≡ i = length-take-le i starts (omega arith) in
-    let many : length (take (i + 1) starts) ≡ i + 1 = length-take-le (i + 1) starts (omega arith) in
-    let h : k < length (take (i + 1) starts) = among.1 in
-    let read : get_or starts k 0 ≡ net = sym (get_or-take (i + 1) starts k 0 (omega arith)) ∙ among.2 in
-    elim (cases_lt k i) [
-      | inl low ↦ inr (k, omega arith, get_or-take i starts k 0 low ∙ read)
-      | inr at ↦ (let e : k ≡ i = omega arith in inl (sym read ∙ ap (λ j. get_or starts j 0) e))
-    ]
+either starts i net within among = grind (arith, length-take-le, get_or-take)
 
 -- one more start is reached
 pub one_more : (nets : ℕ) (starts : List ℕ) (i : ℕ) (reach : List Reach) → i < length starts → All (λ net. net < nets) starts → IsBegun nets (take i starts) reach

@@ -1,37 +1,21 @@
 -- A longest way, traced back from its end.
-use Rattle.std.proofs.Common.{ℕ, ◌≡◌, ◌+◌, ◌<◌, ◌≤◌, ◌∙◌, List, [], ◌∷◌, ◌++◌, length, map, get_or, Some, sym, refl, ap, subst, arith, inl, inr}
-use Rattle.std.specs.List.{slice_get}
-use Rattle.std.proofs.lemmas.Bool.{cases_lt}
-use Rattle.std.proofs.lemmas.List.{map-append}
-use Rattle.blif.specs.LookupTables.{LookupTable}
-use Rattle.longest_path.specs.declared.reach.Reach.{Reach}
-use Rattle.longest_path.specs.Paths.{AreAt, IsIn, IsTable, IsWay}
-use Rattle.longest_path.specs.Reaches.{AreUnreached, IsFarthest, IsFound, reach_of, steps_to}
-use Rattle.longest_path.specs.Settled.{IsSettled}
-use Rattle.longest_path.specs.Tracing.{CanTrace, IsThrough, Leads, NoneLeads}
-use Rattle.std.proofs.lemmas.Option.{same_Some, slice_get_within}
+use Rattle.longest_path.proofs.Prelude.{ℕ, ◌≡◌, ◌+◌, ◌<◌, ◌≤◌, ◌∙◌, List, [], ◌∷◌, ◌++◌, length, get_or, Some, refl, arith, inl, inr, slice_get, cases_lt, map-append, LookupTable, Reach, AreAt, IsIn, IsTable, IsWay, IsFound, reach_of, steps_to, IsSettled, CanTrace, IsThrough, NoneLeads, slice_get_within}
 
 -- a way with one table more at its beginning
 pub extend : (tables : List LookupTable) (net from to : ℕ) (through : List LookupTable) (table : LookupTable) → IsWay tables net through to → IsTable tables table → table.output ≡ net
     → IsIn table.inputs from → IsWay tables from (through ++ table ∷ []) to
 extend tables net from to [] table way is drives reads = (is, drives ∙ way, (from, reads, refl))
-extend tables net from to (first ∷ others) table way is drives reads =
-    (way.0, way.1, (way.2.0, way.2.1, extend tables net from way.2.0 others table way.2.2 is drives reads))
+extend tables net from to (first ∷ others) table way is drives reads = grind (arith, extend tables net from way.2.0 others table way.2.2 is drives reads)
 
 -- and its numbers
 at_more : (tables : List LookupTable) (numbers : List ℕ) (through : List LookupTable) (number : ℕ) (table : LookupTable) → AreAt tables numbers through → slice_get tables number ≡ Some table
     → AreAt tables (numbers ++ number ∷ []) (through ++ table ∷ [])
-at_more tables numbers through number table at is =
-    map-append (slice_get tables) numbers (number ∷ []) ∙ (ap (λ xs. xs ++ slice_get tables number ∷ []) at ∙ (ap (λ x. map Some through ++ x ∷ []) is ∙ sym (map-append Some through (table ∷ []))))
+at_more tables numbers through number table at is = grind (arith, map-append)
 
 -- the way through one table more
 pub longer : (tables : List LookupTable) (numbers : List ℕ) (net from to number : ℕ) (table : LookupTable) → IsThrough tables net numbers to → slice_get tables number ≡ Some table → table.output ≡ net
     → IsIn table.inputs from → IsThrough tables from (numbers ++ number ∷ []) to
-longer tables numbers net from to number table before is drives reads = record {
-  through = before.through ++ table ∷ [];
-  at = at_more tables numbers before.through number table before.at is;
-  way = extend tables net from to before.through table before.way (number, is) drives reads;
-}
+longer tables numbers net from to number table before is drives reads = grind (arith, extend, at_more tables numbers before.through number table before.at is, extend tables net from to before.through table before.way (number, is) drives reads)
 
 -- before the first step back
 pub not_yet : (tables : List LookupTable) (net : ℕ) → IsThrough tables net [] net
@@ -78,30 +62,3 @@ some_leads tables reach net steps can far_is some none =
 -- none of no tables leads to it
 pub none_first : (tables : List LookupTable) (reach : List Reach) (net steps : ℕ) → NoneLeads tables reach 0 net steps
 none_first tables reach net steps number table few = absurd (omega arith)
-
--- one more doesn't, if it doesn't drive the net, or if its farthest net has another number of steps
-pub none_more : (tables : List LookupTable) (reach : List Reach) (count net steps : ℕ) (table : LookupTable) → slice_get tables count ≡ Some table → (Leads reach table net steps → ⊥)
-    → NoneLeads tables reach count net steps → NoneLeads tables reach (count + 1) net steps
-none_more tables reach count net steps table here not none number other few is it =
-    elim (cases_lt number count) [
-      | inl low ↦ none number other low is it
-      | inr at ↦
-          let e : number ≡ count = omega arith in
-          let same : Some other ≡ Some table = sym is ∙ (ap (slice_get tables) e ∙ here) in
-          not (subst (λ t. Leads reach t net steps) (same_Some other table same) it)
-    ]
-
--- the farthest nets of a table have one number of steps
-pub other_steps : (reach : List Reach) (table : LookupTable) (net steps before : ℕ) → IsFarthest reach table.inputs before → (steps_to reach before ≡ steps → ⊥) → Leads reach table net steps → ⊥
-other_steps reach table net steps before farthest not it =
-    let a : steps_to reach it.before ≤ steps_to reach before = subst (λ n. steps_to reach n ≤ steps_to reach before) it.farthest.among.2 (farthest.most it.farthest.among.0 it.farthest.among.1) in
-    let b : steps_to reach before ≤ steps_to reach it.before = subst (λ n. steps_to reach n ≤ steps_to reach it.before) farthest.among.2 (it.farthest.most farthest.among.0 farthest.among.1) in
-    let far_is : steps_to reach it.before ≡ steps = it.far in
-    not (omega arith)
-
--- a table without a net that is reached doesn't lead anywhere
-pub unreached : (reach : List Reach) (table : LookupTable) (net steps : ℕ) → AreUnreached reach table.inputs → Leads reach table net steps → ⊥
-unreached reach table net steps none it =
-    let a : steps_to reach it.before ≡ 0 = subst (λ n. steps_to reach n ≡ 0) it.farthest.among.2 (none it.farthest.among.0 it.farthest.among.1) in
-    let b : 0 < steps_to reach it.before = it.farthest.reached in
-    omega arith

@@ -1,10 +1,5 @@
 -- Ways through tables, and loops.
-use Rattle.std.proofs.Common.{ℕ, ◌≡◌, ◌<◌, ◌≤◌, ◌∙◌, Bool, true, false, List, [], ◌∷◌, length, map, eqb, ◌||◌, ◌⊎◌, inl, inr, sym, refl, ap, subst, arith, suc}
-use Rattle.std.specs.List.{IsDistinct, AllByRecursion, list_any}
-use Rattle.std.proofs.lemmas.Bool.Decides.{eqb_tells}
-use Rattle.std.proofs.lemmas.Map.Steps.{length-le_from_distinct_below}
-use Rattle.blif.specs.LookupTables.{LookupTable}
-use Rattle.longest_path.specs.Paths.{HasLoop, IsTable, IsWay}
+use Rattle.longest_path.proofs.Prelude.{ℕ, ◌≡◌, ◌<◌, ◌≤◌, ◌∙◌, Bool, true, false, List, [], ◌∷◌, length, map, eqb, ◌||◌, ◌⊎◌, inl, inr, sym, refl, ap, subst, arith, suc, IsDistinct, AllByRecursion, list_any, eqb_tells, length-le_from_distinct_below, LookupTable, HasLoop, IsTable, IsWay}
 
 -- the nets that tables drive
 abbrev pub outputs : List LookupTable → List ℕ
@@ -33,8 +28,7 @@ apart n (x ∷ xs) h =
     ]
 
 bool_cases : (b : Bool) → (b ≡ true) ⊎ (b ≡ false)
-bool_cases true = inl refl
-bool_cases false = inr refl
+bool_cases b = grind arith
 
 -- a way drives each net once, or there is a loop
 loop_or_distinct : (tables : List LookupTable) (from : ℕ) (through : List LookupTable) (to : ℕ) → IsWay tables from through to → HasLoop tables ⊎ IsDistinct eqb (outputs through)

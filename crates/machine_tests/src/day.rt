@@ -17,6 +17,7 @@ const MOST_OUT: usize = 3;
 /// What a machine was given, and what was taken from it.
 #[derive(Drop)]
 pub(crate) struct Day {
+    alloc: Global,
     /// The steps that are out.
     hands: Vec<Hand>,
     /// The tenancies whose steps are to be made again.
@@ -33,17 +34,13 @@ impl Day {
     /// A day on which nothing was done.
     pub(crate) fn new(alloc: Global) -> Self {
         Day {
+            alloc,
             hands: Vec::new(alloc),
             late: Vec::new(alloc),
             input: Vec::new(alloc),
             log: Vec::new(alloc),
             told: Vec::new(alloc),
         }
-    }
-
-    /// The number of steps that are out.
-    pub(crate) fn hands(&self) -> usize {
-        self.hands.len()
     }
 
     /// Gives a line. Returns whether the machine goes on.
@@ -59,16 +56,34 @@ impl Day {
         requires ready { IsReady machine.old }
         ensures ready { result ≡ true → IsReady machine.new }
     {
-        let mut rest = lines;
-        for _ in 0..lines.len() {
-            if rest.is_empty() {
-                return true;
-            }
-            let (line, after) = split_line(rest);
+        let Some(lines) = lines_in(self.alloc, lines) else {
+            return false;
+        };
+        for line in lines.as_slice() {
             if !self.hear(machine, line) {
                 return false;
             }
-            rest = after;
+        }
+        true
+    }
+
+    /// Gives lines, each ended by LF, and does all that is left to do after each of them.
+    pub(crate) fn serve_all(
+        &mut self,
+        machine: &mut Machine<'_>,
+        graph: &DeviceGraph,
+        lines: &[u8],
+    ) -> bool
+        requires ready { IsReady machine.old }
+        ensures ready { result ≡ true → IsReady machine.new }
+    {
+        let Some(lines) = lines_in(self.alloc, lines) else {
+            return false;
+        };
+        for line in lines.as_slice() {
+            if !self.hear(machine, line) || !self.settle(machine, graph) {
+                return false;
+            }
         }
         true
     }
@@ -98,17 +113,18 @@ impl Day {
     }
 
     /// Makes the step that is out at that place, if there is one. It is the last one then.
-    pub(crate) fn make(
-        &mut self,
-        machine: &Machine<'_>,
-        graph: &DeviceGraph,
-        place: usize,
-    ) -> bool {
+    fn make(&mut self, machine: &Machine<'_>, graph: &DeviceGraph, place: usize) -> bool {
         if place >= self.hands.len() {
             return true;
         }
         let hand = self.hands.remove(place).make(machine, graph);
         self.hands.push(hand).is_ok()
+    }
+
+    /// Makes the last step that is out, if there is one.
+    pub(crate) fn make_last(&mut self, machine: &Machine<'_>, graph: &DeviceGraph) -> bool {
+        let last = self.hands.len().saturating_sub(1);
+        self.make(machine, graph, last)
     }
 
     /// Makes and puts the step that is out at that place, if there is one.
@@ -205,6 +221,21 @@ impl Day {
     }
 }
 
+/// The lines of a text, each of which is ended by LF.
+pub(crate) fn lines_in(alloc: Global, text: &[u8]) -> Option<Vec<&[u8]>> {
+    let mut lines = Vec::new(alloc);
+    let mut rest = text;
+    for _ in 0..text.len() {
+        if rest.is_empty() {
+            return Some(lines);
+        }
+        let (line, after) = split_line(rest);
+        lines.push(line).ok()?;
+        rest = after;
+    }
+    Some(lines)
+}
+
 /// Whether it is a line as it is read.
 fn is_line(line: &[u8]) -> bool
     ensures { result ≡ true → IsLine line.now }
@@ -232,4 +263,30 @@ pub(crate) fn append_all(text: &mut Vec<u8>, parts: &[&[u8]]) -> bool {
         }
     }
     true
+}
+
+/// The lines by which a name uploads a table with two inputs.
+const UPLOAD: [&[u8]; 8] = [
+    b"upload",
+    b".model t",
+    b".inputs a b",
+    b".outputs f",
+    b".names a b f",
+    b"11 1",
+    b".end",
+    b".",
+];
+
+/// The lines by which a name is admitted, and uploads a table with two inputs.
+pub(crate) fn upload_of(alloc: Global, name: &[u8]) -> Option<Vec<u8>> {
+    let mut text = Vec::new(alloc);
+    if !append_all(&mut text, &[b"op admit ", name, b" 1\n"]) {
+        return None;
+    }
+    for line in UPLOAD.iter() {
+        if !append_all(&mut text, &[b"@", name, b" ", *line, b"\n"]) {
+            return None;
+        }
+    }
+    Some(text)
 }

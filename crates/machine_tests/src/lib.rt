@@ -13,7 +13,7 @@
 //! - `talk`: random lines of a few names.
 //! - `served`: lines that came beside lines that were served.
 //! - `plain_service`: the service without workers.
-//! - `device`: what is tested on.
+//! - `device`, `machine_test`: what is tested on.
 #![tactic(auto)]
 
 #[cfg(test)]
@@ -26,6 +26,8 @@ mod floods;
 mod given_up;
 #[cfg(test)]
 mod hand;
+#[cfg(test)]
+mod machine_test;
 #[cfg(test)]
 mod plain_run;
 #[cfg(test)]

@@ -2,10 +2,10 @@
 ghost use Rattle.std.specs.Prelude.{◌≡◌, true};
 ghost use Rattle.live_input.specs.Serving.{is_ready};
 
+use crate::day::lines_in;
 use crate::served::is_wait;
 use line_feed::MAX_FED_LINE;
 use line_service::Answers;
-use line_text::split_line;
 use live_input::LiveLines;
 use std::alloc::Global;
 use tagged_lines::{owner_of, split_tag};
@@ -14,6 +14,7 @@ use tenant_slot::StateName;
 /// What a service without workers tells.
 #[derive(Drop)]
 pub(crate) struct PlainTold {
+    alloc: Global,
     /// The number of the next line.
     number: u64,
     /// All replies but those to lines of workers.
@@ -26,6 +27,7 @@ impl PlainTold {
     /// Nothing is told, and the next line is the first.
     pub(crate) fn new(alloc: Global) -> Self {
         PlainTold {
+            alloc,
             number: 1,
             told: Vec::new(alloc),
             replies: 0,
@@ -44,16 +46,13 @@ impl PlainTold {
         requires ready { is_ready lines.old }
         ensures ready { result ≡ true → is_ready lines.new }
     {
-        let mut rest = log;
-        for _ in 0..log.len() {
-            if rest.is_empty() {
-                return true;
-            }
-            let (line, after) = split_line(rest);
+        let Some(log) = lines_in(self.alloc, log) else {
+            return false;
+        };
+        for line in log.as_slice() {
             if is_early(lines, line) || !self.answer(lines, line) {
                 return false;
             }
-            rest = after;
         }
         true
     }

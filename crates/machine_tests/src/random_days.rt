@@ -137,7 +137,7 @@ fn take(day: &mut Day, machine: &mut Machine<'_>, graph: &DeviceGraph, place: us
     ensures ready { IsReady machine.new }
 {
     if day.take(machine) && place == 0 {
-        return day.make(machine, graph, day.hands().saturating_sub(1));
+        return day.make_last(machine, graph);
     }
     true
 }

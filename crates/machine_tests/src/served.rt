@@ -1,7 +1,7 @@
 //! Lines that came beside lines that were served.
-use crate::day::{append_all, push_line};
+use crate::day::{append_all, lines_in, push_line};
 use crate::talk::{NAMES, is_blank_line};
-use line_text::{skip_blanks, split_line, split_word};
+use line_text::{skip_blanks, split_word};
 use std::alloc::Global;
 use tagged_lines::{owner_of, split_tag};
 
@@ -57,16 +57,11 @@ pub(crate) fn said_in(alloc: Global, lines: &[u8], place: usize, is_even: bool) 
         is_even,
         is_in_text: false,
     };
-    let mut rest = lines;
-    for _ in 0..lines.len() {
-        if rest.is_empty() {
-            return Some(text);
-        }
-        let (line, after) = split_line(rest);
+    let lines = lines_in(alloc, lines)?;
+    for line in lines.as_slice() {
         if name_of(line) == Some(place) && !saying.hear(&mut text, split_tag(line).1) {
             return None;
         }
-        rest = after;
     }
     Some(text)
 }
@@ -93,46 +88,27 @@ fn is_by_hand(line: &[u8]) -> bool {
     line.starts_with(b"op step ") || line.starts_with(b"op take ") || line.starts_with(b"op put ")
 }
 
-/// The lines of nobody's session among those that came.
-fn nobodys_input(alloc: Global, lines: &[u8]) -> Option<Vec<u8>> {
+/// The lines of nobody's session. Of those that came, a line that makes steps by hand has no form;
+/// among those that were served, such lines are those of workers, and are left out.
+fn nobodys_lines(alloc: Global, lines: &[u8], are_served: bool) -> Option<Vec<u8>> {
     let mut text = Vec::new(alloc);
-    let mut rest = lines;
-    for _ in 0..lines.len() {
-        if rest.is_empty() {
-            return Some(text);
-        }
-        let (line, after) = split_line(rest);
-        if name_of(line).is_none() {
-            let mark: &[u8] = if is_by_hand(line) { b"? " } else { b"" };
-            if !append_all(&mut text, &[mark, line, b"\n"]) {
-                return None;
-            }
-        }
-        rest = after;
-    }
-    Some(text)
-}
-
-/// The lines of nobody's session among those that were served, but those of workers.
-fn nobodys_log(alloc: Global, lines: &[u8]) -> Option<Vec<u8>> {
-    let mut text = Vec::new(alloc);
-    let mut rest = lines;
-    for _ in 0..lines.len() {
-        if rest.is_empty() {
-            return Some(text);
-        }
-        let (line, after) = split_line(rest);
-        if name_of(line).is_none() && !is_by_hand(line) && !push_line(&mut text, line) {
+    let lines = lines_in(alloc, lines)?;
+    for line in lines.as_slice() {
+        let is_left_out = name_of(line).is_some() || (are_served && is_by_hand(line));
+        let mark: &[u8] = if is_by_hand(line) { b"? " } else { b"" };
+        if !is_left_out && !append_all(&mut text, &[mark, *line, b"\n"]) {
             return None;
         }
-        rest = after;
     }
     Some(text)
 }
 
 /// Whether all lines of nobody's session were served, each in its turn.
 pub(crate) fn are_nobodys_served(alloc: Global, input: &[u8], log: &[u8]) -> bool {
-    match (nobodys_input(alloc, input), nobodys_log(alloc, log)) {
+    match (
+        nobodys_lines(alloc, input, false),
+        nobodys_lines(alloc, log, true),
+    ) {
         (Some(came), Some(served)) => came.as_slice() == served.as_slice(),
         _ => false,
     }

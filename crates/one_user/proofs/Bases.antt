@@ -1,28 +1,8 @@
 -- What is reported on one basis holds on an equal one.
-use Rattle.std.proofs.Common.{◌≡◌, ◌+◌, List, Some, None, refl, sym, ap, subst, ◌∙◌}
-use Rattle.std.proofs.lemmas.List.{length-map}
+use Rattle.one_user.proofs.Prelude.{◌≡◌, List, Some, None, sym, ap, subst, ◌∙◌, arith, length-map, block_nets, Circuit, PackedCircuit, packed_of, Place, count_over, overuse_at, nets_to_route, wiring_of, RoutingState, IterEnd, of_nets, Basis, graph_of, Node, PlacingUnderWay, AreCrowdedNodes, IsCrowdingOf, Task, nets_on_device, IsPlacing, IsRoutingEnd, Crowding}
 use Rattle.std.specs.Prelude.{length}
-use Rattle.cluster.specs.Blocks.{block_nets}
-use Rattle.blif.specs.declared.circuit.Circuit.{Circuit}
-use Rattle.cluster.specs.Clusters.{PackedCircuit, packed_of}
-use Rattle.grid.specs.declared.place.Place.{Place}
-use Rattle.pathfinder.specs.Overuse.{count_over, overuse_at}
-use Rattle.pathfinder.specs.PlacedNets.{nets_to_route, wiring_of}
-use Rattle.pathfinder.specs.Routings.{RoutingState}
-use Rattle.pathfinder.specs.Negotiation.{routed_after}
-use Rattle.pathfinder.specs.declared.routing.IterEnd.{IterEnd}
 use Rattle.pathfinder.specs.declared.routing.IterEnd.TheVariants as end
-use Rattle.job_state.proofs.Iterations.{of_nets}
-use Rattle.rr_graph.specs.Graph.{Basis, graph_of}
-use Rattle.rr_graph.specs.declared.node.Node.{Node}
-use Rattle.strip_place.specs.Anneal.{PlacingUnderWay, places_by_block}
 use Rattle.tenant_slot.specs.declared.failure.RoutingFailure.TheVariants.{GaveUp as FailedAll}
-use Rattle.one_user.specs.Crowding.{AreCrowdedNodes, IsCrowdingOf}
-use Rattle.one_user.specs.Outcomes.{Task}
-use Rattle.one_user.specs.PlacedRuns.{nets_on_device}
-use Rattle.one_user.specs.Placing.{IsPlacing}
-use Rattle.one_user.specs.RoutingEnds.{IsRoutingEnd}
-use Rattle.one_user.specs.declared.crowding.Crowding.{Crowding}
 use Rattle.one_user.proofs.LastResults.{failure_by}
 use Rattle.one_user.proofs.OtherTracks.{own_circuit, serves_own}
 use Rattle.one_user.proofs.Tries.{Ended, Serves, basis_for, crowding_told, none_told}
@@ -32,10 +12,7 @@ same_basis a b arch strip = λ i. record { arch = arch i; strip = strip i }
 
 -- a routing that did not give up did not fail for all nets
 not_all_failed : (result : IterEnd) → ((routing : RoutingState) → result ≡ end.GaveUp routing → ⊥) → failure_by result ≡ Some FailedAll → ⊥
-not_all_failed (end.Again routing) not is = absurd (cc)
-not_all_failed (end.Done routes) not is = absurd (cc)
-not_all_failed (end.GaveUp routing) not is = not routing refl
-not_all_failed (end.NoPath net) not is = absurd (cc)
+not_all_failed result not is = grind arith
 
 -- there are as many nets to route as nets of the packed circuit
 many_nets : (basis : Basis) (packed : PackedCircuit) (places : List Place) → length (nets_to_route basis packed places) ≡ length (block_nets packed)
@@ -44,10 +21,7 @@ many_nets basis packed places = length-map (block_nets packed) _
 
 -- routes are of all nets of the packed circuit
 pub all_nets_routed : (basis : Basis) (placing : PlacingUnderWay) (routes : List (List (List Node))) → IsRoutingEnd basis (nets_on_device basis placing) (end.Done routes) → length routes ≡ length (block_nets placing.packed)
-all_nets_routed basis placing routes is =
-    let trees = (routed_after (wiring_of basis) is.before.nets (is.before.iterations + 1)).trees in
-    ap length is.is_end.exact ∙ length-map trees _ ∙ (of_nets (wiring_of basis) is.before.nets (is.before.iterations + 1)).long
-    ∙ ap length is.nets_kept ∙ many_nets basis placing.packed (places_by_block placing)
+all_nets_routed basis placing routes is = grind (arith, length-map, of_nets, many_nets)
 
 module _ (basis : Basis) (placing : PlacingUnderWay) (task : Task) (same : basis ≡ basis_for task) (given : IsPlacing task placing) where
   pub strip_is : placing.strip ≡ basis.strip

@@ -1,12 +1,5 @@
 -- The number of passes of a placing.
-use Rattle.std.proofs.Common.{ℕ, ◌≡◌, ◌≢◌, ◌+◌, ◌*◌, ◌/◌, ◌<◌, ◌≤◌, zero, suc, true, false, arith, ◌⊎◌, inl, inr, refl, sym, subst, ap, ◌∙◌}
-use Rattle.std.proofs.Math.Nat.{eq-or-lt_of_le}
-use Rattle.std.specs.Prelude.{◌==◌}
-use Rattle.std.proofs.lemmas.Bool.Decides.{nat_tests}
-use Rattle.grid.specs.declared.Strip.{Strip}
-use Rattle.job_state.specs.JobValue.{pass_count}
-use Rattle.job_state.proofs.StepCounts.{pass_count_is}
-use Rattle.strip_place.specs.Anneal.{is_past_last, temperature_at}
+use Rattle.one_user.proofs.Prelude.{ℕ, ◌≡◌, ◌≢◌, ◌+◌, ◌*◌, ◌/◌, ◌<◌, ◌≤◌, suc, true, false, arith, refl, sym, subst, ap, ◌∙◌, ◌==◌, Strip, pass_count, pass_count_is, is_past_last, temperature_at}
 
 -- the temperature of the next pass
 pub next_temperature : (strip : Strip) (passes : ℕ) → temperature_at strip (passes + 1) ≡ 9 * temperature_at strip passes / 10
@@ -18,8 +11,7 @@ unfolding temperature_at
 first_temperature strip = refl
 
 not_past : (strip : Strip) (passes : ℕ) → ((before : ℕ) → before < passes → 0 < temperature_at strip before) → (fewer : ℕ) → fewer < passes + 1 → is_past_last strip fewer ≡ false
-not_past strip passes warm zero l = refl
-not_past strip passes warm (suc fewer) l = let some = warm fewer (omega (arith, l)) in grind (arith, nat_tests, some)
+not_past strip passes warm fewer l = grind arith
 
 pub passes_are : (strip : Strip) (passes : ℕ) → passes ≤ 320 → temperature_at strip passes ≡ 0 → ((before : ℕ) → before < passes → 0 < temperature_at strip before) → passes + 1 ≡ pass_count strip
 passes_are strip passes few cold warm =
@@ -29,11 +21,4 @@ passes_are strip passes few cold warm =
 
 -- one more pass that isn't at temperature 0
 pub still_warm : (strip : Strip) (passes : ℕ) → ((before : ℕ) → before < passes → 0 < temperature_at strip before) → 0 < temperature_at strip passes → (before : ℕ) → before < passes + 1 → 0 < temperature_at strip before
-still_warm strip passes warm here before l = by (eq-or-lt_of_le (next before l))
-  where
-    next : (before : ℕ) → before < passes + 1 → before ≤ passes
-    next before l = omega (arith, l)
-
-    by : (before ≡ passes) ⊎ (before < passes) → 0 < temperature_at strip before
-    by (inl e) = subst (λ n. 0 < temperature_at strip n) (sym e) here
-    by (inr less) = warm before less
+still_warm strip passes warm here before l = grind arith

@@ -1,38 +1,15 @@
 -- The choice of the most overused nodes, one after another.
-use Rattle.std.proofs.Common.{ℕ, ◌≡◌, ◌+◌, ◌<◌, ◌≤◌, ◌⊎◌, inl, inr, Bool, true, false, List, [], ◌∷◌, ◌++◌, Option, Some, None, length, arith, refl, sym, subst}
-use Rattle.std.proofs.Math.Nat.{eq-or-lt_of_le}
-use Rattle.std.proofs.lemmas.Bool.Decides.{nat_tests}
-use Rattle.std.proofs.lemmas.List.Elements.{All-nil, All-push, Contains-append_left, Contains-append_right}
-use Rattle.std.proofs.lemmas.List.Quantifiers.{all_pairs_push}
-use Rattle.std.specs.Prelude.{All, AllPairs, Contains, IfSome, nat_le}
-use Rattle.one_user.specs.Crowding.{AreMostOverused, ComesBefore, IsAfterLast, IsFirstOf, IsNextMostOverused, IsOverused}
+use Rattle.one_user.proofs.Prelude.{ℕ, ◌≡◌, ◌+◌, ◌<◌, ◌≤◌, ◌⊎◌, inl, inr, Bool, List, [], ◌∷◌, ◌++◌, Option, Some, None, length, arith, refl, subst, All-push, Contains-append_left, Contains-append_right, all_pairs_push, All, AllPairs, Contains, IfSome, nat_le, AreMostOverused, ComesBefore, IsAfterLast, IsNextMostOverused, IsOverused}
 
 by_test : (a b : ℕ) (test : Bool) → nat_le a b ≡ test → (a ≤ b) ⊎ (b < a)
-by_test a b true is = inl (grind (arith, nat_tests, is))
-by_test a b false is = inr (grind (arith, nat_tests, is))
+by_test a b test is = grind arith
 
 pub le_or_lt : (a b : ℕ) → (a ≤ b) ⊎ (b < a)
 le_or_lt a b = by_test a b (nat_le a b) refl
 
 module _ (over : ℕ → ℕ) where
   before_trans : (a b c : ℕ) → ComesBefore over a b → ComesBefore over b c → ComesBefore over a c
-  before_trans a b c (inl more) (inl also) = inl (omega (arith, more, also))
-  before_trans a b c (inl more) (inr same) = inl (omega (arith, more, same.0))
-  before_trans a b c (inr same) (inl more) = inl (omega (arith, more, same.0))
-  before_trans a b c (inr same) (inr also) = inr (omega (arith, same.0, also.0), omega (arith, same.1, also.1))
-
-  -- of two nodes one comes first
-  before_or : (a b : ℕ) → (ComesBefore over a b → ⊥) → (a ≡ b) ⊎ ComesBefore over b a
-  before_or a b not = elim (le_or_lt (over a) (over b)) [
-    | inl le ↦ elim (eq-or-lt_of_le le) [
-      | inl same ↦ elim (le_or_lt a b) [
-        | inl below ↦ elim (eq-or-lt_of_le below) [ inl e ↦ inl e | inr less ↦ absurd (not (inr (same, less))) ]
-        | inr above ↦ inr (inr (sym same, above))
-      ]
-      | inr less ↦ inr (inl less)
-    ]
-    | inr more ↦ absurd (not (inl more))
-  ]
+  before_trans a b c h1 h2 = grind arith
 
   below_next : (node count : ℕ) → node < count + 1 → node ≤ count
   below_next node count l = omega (arith, l)
@@ -41,54 +18,6 @@ module _ (over : ℕ → ℕ) where
 
   pub next_none : (last : Option ℕ) → IsNextMostOverused over 0 last None
   next_none last = λ node is after. absurd (omega (arith, is.0))
-
-  -- one more node, which isn't left to be listed
-  pub next_skips : (count : ℕ) (last next : Option ℕ) → IsNextMostOverused over count last next → (0 < over count → IsAfterLast over last count → ⊥) → IsNextMostOverused over (count + 1) last next
-  next_skips count last None is not = λ node over_it after. elim (eq-or-lt_of_le (below_next node count over_it.0)) [
-    | inl e ↦ not (subst (λ n. 0 < over n) e over_it.1) (subst (IsAfterLast over last) e after)
-    | inr less ↦ is node (less, over_it.1) after
-  ]
-  next_skips count last (Some next) is not = (
-    (omega (arith, is.0.0), is.0.1),
-    is.1,
-    λ node over_it after. elim (eq-or-lt_of_le (below_next node count over_it.0)) [
-      | inl e ↦ absurd (not (subst (λ n. 0 < over n) e over_it.1) (subst (IsAfterLast over last) e after))
-      | inr less ↦ is.2 node (less, over_it.1) after
-    ],
-  )
-
-  -- one more node, which is left to be listed
-  pub next_takes : (count : ℕ) (last next result : Option ℕ) → IsNextMostOverused over count last next → 0 < over count → IsAfterLast over last count → IsFirstOf over next count result → IsNextMostOverused over (count + 1) last result
-  next_takes count last None result is some after first = subst (IsNextMostOverused over (count + 1) last) (sym first) (
-    (omega arith, some),
-    after,
-    λ node over_it behind. elim (eq-or-lt_of_le (below_next node count over_it.0)) [
-      | inl e ↦ inl (sym e)
-      | inr less ↦ absurd (is node (less, over_it.1) behind)
-    ],
-  )
-  next_takes count last (Some next) result is some after (inl stays) = subst (IsNextMostOverused over (count + 1) last) (sym stays.1) (
-    (omega (arith, is.0.0), is.0.1),
-    is.1,
-    λ node over_it behind. elim (eq-or-lt_of_le (below_next node count over_it.0)) [
-      | inl e ↦ inr (subst (ComesBefore over next) (sym e) stays.0)
-      | inr less ↦ is.2 node (less, over_it.1) behind
-    ],
-  )
-  next_takes count last (Some next) result is some after (inr goes) = subst (IsNextMostOverused over (count + 1) last) (sym goes.1) (
-    (omega arith, some),
-    after,
-    λ node over_it behind. elim (eq-or-lt_of_le (below_next node count over_it.0)) [
-      | inl e ↦ inl (sym e)
-      | inr less ↦ elim (before_or next count goes.0) [
-        | inl e ↦ absurd (omega (arith, e, is.0.0))
-        | inr before ↦ elim (is.2 node (less, over_it.1) behind) [
-          | inl e ↦ inr (subst (ComesBefore over count) e before)
-          | inr later ↦ inr (before_trans count next node before later)
-        ]
-      ]
-    ],
-  )
 
   -- ---- the nodes that are listed so far
 
@@ -101,13 +30,7 @@ module _ (over : ℕ → ℕ) where
     pub others : (node : ℕ) → IsOverused over count node → Contains nodes node ⊎ IsAfterLast over last node
 
   pub first_none : (count : ℕ) → AreFirst count None []
-  first_none count = record {
-    within = tt;
-    overused = All-nil (IsOverused over count);
-    in_order = λ i j d less l. absurd (omega (arith, l));
-    before = λ node after. All-nil (λ told. ComesBefore over told node);
-    others = λ node is. inr tt;
-  }
+  first_none count = grind arith
 
   pub first_more : (count : ℕ) (last : Option ℕ) (nodes : List ℕ) (next : ℕ) → AreFirst count last nodes → IsNextMostOverused over count last (Some next) → AreFirst count (Some next) (nodes ++ next ∷ [])
   first_more count last nodes next first is = record {
@@ -126,18 +49,8 @@ module _ (over : ℕ → ℕ) where
 
   -- no node is left
   pub all_told : (count limit : ℕ) (last : Option ℕ) (nodes : List ℕ) → AreFirst count last nodes → length nodes ≤ limit → IsNextMostOverused over count last None → AreMostOverused over count limit nodes
-  all_told count limit last nodes first few none = record {
-    few = few;
-    overused = first.overused;
-    in_order = first.in_order;
-    others = λ node over_it. elim (first.others node over_it) [ inl told ↦ inl told | inr after ↦ absurd (none node over_it after) ];
-  }
+  all_told count limit last nodes first few none = grind arith
 
   -- as many as the limit are listed
   pub many_told : (count limit : ℕ) (last : Option ℕ) (nodes : List ℕ) → AreFirst count last nodes → length nodes ≡ limit → AreMostOverused over count limit nodes
-  many_told count limit last nodes first many = record {
-    few = omega (arith, many);
-    overused = first.overused;
-    in_order = first.in_order;
-    others = λ node over_it. elim (first.others node over_it) [ inl told ↦ inl told | inr after ↦ inr (many, first.before node after) ];
-  }
+  many_told count limit last nodes first many = grind arith

@@ -1,3 +1,4 @@
+mod Prelude
 mod Events
 mod Asking
 pub mod Running

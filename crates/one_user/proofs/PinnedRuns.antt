@@ -1,26 +1,11 @@
 -- Runs of a netlist with pins.
-use Rattle.std.proofs.Common.{ℕ, ◌≡◌, ◌+◌, ◌<◌, ◌≤◌, inl, inr, List, Result, Ok, Err, IfOk, sym, subst, ◌∙◌, arith}
-use Rattle.std.proofs.lemmas.Bool.{cases_eq}
-use Rattle.arch_file.specs.Arch.{arch_of}
-use Rattle.arch_file.specs.declared.arch.Arch.{Arch}
+use Rattle.one_user.proofs.Prelude.{ℕ, ◌≡◌, ◌+◌, ◌<◌, ◌≤◌, inl, inr, List, Result, Ok, IfOk, sym, subst, ◌∙◌, arith, cases_eq, arch_of, Arch, Basis, Node, PlacingUnderWay, device_strip, AreTooFewBelow, IsLeftWith, IsPinnedWith, IsWholeRun, EndsWith, IsRunWith, IsFirstTry, Request, DevicePlan, FirstTry, Run}
 use Rattle.pin_file.specs.PinFiles.{Pin}
-use Rattle.rr_graph.specs.Graph.{Basis}
-use Rattle.rr_graph.specs.declared.node.Node.{Node}
-use Rattle.strip_place.specs.Anneal.{PlacingUnderWay}
-use Rattle.strips.specs.Windows.{device_strip}
-use Rattle.one_user.specs.Pinned.{AreTooFewBelow, IsLeftWith, IsPinnedWith, IsWholeRun}
-use Rattle.one_user.specs.PlacedRuns.{EndsWith, IsRunWith}
-use Rattle.one_user.specs.Tracks.{IsFirstTry}
-use Rattle.one_user.specs.declared.device.Request.{Request}
-use Rattle.one_user.specs.declared.least.DevicePlan.{DevicePlan}
-use Rattle.one_user.specs.declared.least.FirstTry.{FirstTry}
-use Rattle.one_user.specs.declared.outcome.Run.{Run}
 use Rattle.one_user.proofs.OtherTracks.{strip_is}
 
 -- a run with routes is a whole run
 pub routed_whole : {E : Type 0} (basis : Basis) (placed : PlacingUnderWay) (routes : List (List (List Node))) (number : ℕ) (made : Result Run E) → EndsWith basis placed routes number → IfOk made (IsRunWith basis placed routes number) → IfOk made (IsWholeRun basis placed)
-routed_whole basis placed routes number (Ok run) ends is = inl (routes, number, ends, is)
-routed_whole basis placed routes number (Err error) ends is = tt
+routed_whole basis placed routes number made ends is = grind arith
 
 -- the pinned placing is on the strip of each device of the plan
 pub same_strip : (plan : DevicePlan) (request : Request) (pins : List Pin) (tracks : ℕ) (arch : Arch) (placed : PlacingUnderWay) → arch_of plan.text.now tracks ≡ Ok arch → IsPinnedWith plan request pins placed → placed.strip ≡ device_strip arch plan.columns plan.rows

@@ -1,27 +1,13 @@
 -- What a placing has made at its end.
-use Rattle.std.proofs.Common.{ℕ, ◌≡◌, Bool, true, Result, Ok, refl, ap, ◌∙◌, arith}
-use Rattle.std.specs.Prelude.{if◌then◌else◌}
-use Rattle.blif.specs.CircuitOf.{circuit_of}
-use Rattle.blif.specs.declared.circuit.Circuit.{Circuit}
-use Rattle.blif.specs.declared.fault.BlifFault.{BlifFault}
-use Rattle.job_state.specs.JobValue.{end_value, is_last, is_whole_value, job_value, pass_count, placing_at, step_count, value_of}
-use Rattle.job_state.specs.declared.sources.JobKind.TheVariants.{Placing as PlacingJob}
-use Rattle.job_state.specs.declared.work.Work.{Work}
-use Rattle.job_state.specs.declared.work.Work.TheVariants.{Placed, Placing}
-use Rattle.job_state.proofs.Ended.{placing_whole}
-use Rattle.job_state.proofs.StepCounts.{step_count_is}
-use Rattle.strip_place.specs.Anneal.{is_past_last}
-use Rattle.one_user.specs.Outcomes.{Task, placing_of}
-use Rattle.one_user.specs.Placing.{AreAllPasses}
+use Rattle.one_user.proofs.Prelude.{ℕ, ◌≡◌, true, Result, Ok, refl, ap, ◌∙◌, arith, circuit_of, Circuit, BlifFault, end_value, is_last, is_whole_value, job_value, pass_count, placing_at, step_count, value_of, Placing as PlacingJob, placing_whole, step_count_is, is_past_last, Task, placing_of, AreAllPasses}
+use Rattle.job_state.specs.declared.work.Work.TheVariants.{Placed}
 
 module _ (task : Task) (circuit : Circuit) (said : circuit_of task.text task.arch.lut_size ≡ Ok circuit) where
   last_is : (steps : ℕ) → is_last (placing_of task) steps ≡ is_past_last task.strip steps
   last_is steps = ap (λ (c : Result Circuit BlifFault). is_whole_value (value_of (placing_of task) c steps)) said ∙ placing_whole (placing_of task) circuit PlacingJob steps refl
 
   made : (steps : ℕ) → is_past_last task.strip steps ≡ true → job_value (placing_of task) steps ≡ Ok (Placed (placing_at (placing_of task) circuit steps))
-  made steps past =
-      ap (λ (c : Result Circuit BlifFault). value_of (placing_of task) c steps) said
-      ∙ ap (λ (b : Bool). let value : Result Work BlifFault = Ok (if b then Placed (placing_at (placing_of task) circuit steps) else Placing (placing_at (placing_of task) circuit steps)) in value) past
+  made steps past = grind arith
 
   pub placing_ended : AreAllPasses task.strip (pass_count task.strip) → end_value (placing_of task) ≡ Ok (Placed (placing_at (placing_of task) circuit (pass_count task.strip)))
   placing_ended all =

@@ -1,17 +1,6 @@
 -- The files of a packing and a placing don't depend on the tracks of the channels.
-use Rattle.std.proofs.Common.{◌≡◌, List, refl, ap, ◌∙◌}
+use Rattle.one_user.proofs.Prelude.{◌≡◌, List, refl, ap, ◌∙◌, Arch, Circuit, block_nets, PackedCircuit, cluster_of, clusters_after, packed_of, Strip, Place, pads_of, Node, net_text_of, place_text_of, route_text_of}
 use Rattle.std.specs.Prelude.{length}
-use Rattle.arch_file.specs.declared.arch.Arch.{Arch}
-use Rattle.blif.specs.declared.circuit.Circuit.{Circuit}
-use Rattle.cluster.specs.Blocks.{block_nets}
-use Rattle.cluster.specs.Clusters.{PackedCircuit, cluster_of, clusters_after, packed_of}
-use Rattle.grid.specs.declared.Strip.{Strip}
-use Rattle.grid.specs.declared.place.Place.{Place}
-use Rattle.job_state.specs.RoutedCircuits.{pads_of}
-use Rattle.rr_graph.specs.declared.node.Node.{Node}
-use Rattle.vpr_files.specs.NetFile.{net_text_of}
-use Rattle.vpr_files.specs.PlaceFile.{place_text_of}
-use Rattle.vpr_files.specs.RouteFile.{route_text_of}
 use Rattle.one_user.proofs.SameNets.{with_tracks}
 
 -- a packed circuit with the tracks of that architecture

@@ -1,48 +1,5 @@
 -- With too few tracks for the nets that cross a column, a placed netlist is left unrouted.
-use Rattle.std.proofs.Common.{ℕ, ◌≡◌, ◌+◌, ◌-◌, ◌*◌, ◌<◌, ◌≤◌, Bool, true, false, List, [], Result, Ok, Err, Option, Some, None, length, get_or, min, max, inl, inr, refl, sym, ap, subst, ◌∙◌, arith}
-use Rattle.std.specs.Prelude.{nat_lt, if◌then◌else◌}
-use Rattle.std.specs.List.{position_or_len, range_with_len}
-use Rattle.std.specs.Option.{option_map_or}
-use Rattle.std.proofs.lemmas.Bool.{cases_lt}
-use Rattle.std.proofs.lemmas.List.FromFn.{get_or-range_with_len, length-range_with_len}
-use Rattle.std.proofs.lemmas.List.Sums.{fails_before_first, passes_at_first}
-use Rattle.arch_file.specs.Arch.{IsArch, IsWithin, arch_from, arch_of, arch_of_lines}
-use Rattle.arch_file.specs.ArchFaults.{faults_after}
-use Rattle.arch_file.specs.declared.arch.Arch.{Arch}
-use Rattle.arch_file.specs.declared.arch.TheConstants.{MAX_TRACKS}
-use Rattle.arch_file.specs.declared.fault.ArchFault.{ArchFault}
-use Rattle.arch_file.specs.declared.fault.ArchFaultKind.TheVariants.{OverLimit}
-use Rattle.blif.specs.CircuitOf.{circuit_of}
-use Rattle.blif.specs.declared.circuit.Circuit.{Circuit}
-use Rattle.blif.specs.declared.fault.BlifFault.{BlifFault}
-use Rattle.block_places.specs.Placed.{ArePlaced}
-use Rattle.cluster.specs.Clusters.{PackedCircuit, packed_of}
-use Rattle.cluster.specs.PackingLaws.{IsLawfulPacking}
-use Rattle.grid.specs.Sizes.{IsStripSize}
-use Rattle.grid.specs.declared.Strip.{Strip}
-use Rattle.grid.specs.declared.place.Place.{Place}
-use Rattle.job_state.specs.JobValue.{end_value, is_last, is_whole_value, nets_in, pads_in, routing_stands, step_count, step_limit, value_of}
-use Rattle.job_state.specs.declared.work.Work.{Work}
-use Rattle.job_state.proofs.Routings.{over_by_thirty}
-use Rattle.line_text.specs.LeastFault.{least_fault}
-use Rattle.line_text.specs.Lines.{JoinedLine, lines_of}
-use Rattle.line_text.specs.declared.fault.LineFault.{LineFault}
-use Rattle.line_text.specs.declared.lines.TheConstants.{MAX_TEXT}
-use Rattle.pathfinder.specs.Negotiation.{Routed, Standing, More, Done, GaveUp, NoPath, routed_after}
-use Rattle.pathfinder.specs.PlacedNets.{nets_to_route, wiring_of}
-use Rattle.pathfinder.specs.Wiring.{Net}
-use Rattle.rr_graph.specs.Graph.{Basis, IsBasis}
-use Rattle.strip_place.specs.Anneal.{PlacingUnderWay, places_by_block}
-use Rattle.tenant_slot.specs.Results.{failure_of}
-use Rattle.tenant_slot.specs.declared.failure.RoutingFailure.{RoutingFailure}
-use Rattle.track_bound.specs.Busiest.{IsBusiest}
-use Rattle.track_bound.specs.Crossings.{crossing_count}
-use Rattle.one_user.specs.Outcomes.{Task, by_routing, outcome_of, routing_of}
-use Rattle.one_user.specs.Steps.{IsPlaced}
-use Rattle.one_user.specs.Tracks.{AreUnroutedBelow, IsFirstTry, IsLawful, IsPlacedWith, StaysUnrouted, WasUnrouted, task_for}
-use Rattle.one_user.specs.declared.device.Request.{Request}
-use Rattle.one_user.specs.declared.least.DevicePlan.{DevicePlan}
-use Rattle.one_user.specs.declared.least.FirstTry.{FirstTry}
+use Rattle.one_user.proofs.Prelude.{ℕ, ◌≡◌, ◌+◌, ◌*◌, ◌<◌, ◌≤◌, Bool, true, false, List, [], Result, Ok, Err, Option, Some, None, length, get_or, min, max, inl, inr, refl, sym, ap, subst, ◌∙◌, arith, nat_lt, if◌then◌else◌, position_or_len, range_with_len, option_map_or, cases_lt, get_or-range_with_len, length-range_with_len, fails_before_first, passes_at_first, IsArch, IsWithin, arch_from, arch_of, arch_of_lines, Arch, MAX_TRACKS, ArchFault, OverLimit, circuit_of, Circuit, BlifFault, ArePlaced, PackedCircuit, packed_of, IsLawfulPacking, IsStripSize, Strip, Place, end_value, is_last, is_whole_value, nets_in, pads_in, routing_stands, step_count, step_limit, value_of, Work, over_by_thirty, JoinedLine, lines_of, LineFault, MAX_TEXT, Routed, Standing, More, Done, GaveUp, NoPath, routed_after, nets_to_route, wiring_of, Net, Basis, IsBasis, PlacingUnderWay, places_by_block, failure_of, RoutingFailure, IsBusiest, crossing_count, Task, by_routing, outcome_of, routing_of, IsPlaced, AreUnroutedBelow, IsFirstTry, IsLawful, IsPlacedWith, StaysUnrouted, WasUnrouted, task_for, Request, DevicePlan, FirstTry}
 use Rattle.one_user.proofs.OtherTracks.{serves, strip_is}
 use Rattle.one_user.proofs.Routings.{outcome_is}
 use Rattle.one_user.proofs.SameNets.{same_text, with_tracks}
@@ -70,38 +27,19 @@ module _ (tracks others : ℕ) (arch : Arch) (some : 1 ≤ others) where
   by_fault lines (Some fault) is = absurd (cc)
 
   by_lines : (lines : Result (List JoinedLine) LineFault) → arch_of_lines lines tracks ≡ Ok arch → (other : Arch) × (arch_of_lines lines others ≡ Ok other) × HasTracks others other
-  by_lines (Ok lines) is = by_fault lines (least_fault (faults_after [] lines)) is
-  by_lines (Err fault) is = absurd (cc)
+  by_lines lines is = grind (arith, by_fault)
 
   by_length : (long : Bool) (lines : Result (List JoinedLine) LineFault) (fault : ArchFault) → (if long then Err fault else arch_of_lines lines tracks) ≡ Ok arch →
       (other : Arch) × ((if long then Err fault else arch_of_lines lines others) ≡ Ok other) × HasTracks others other
-  by_length true lines fault is = absurd (cc)
-  by_length false lines fault is = by_lines lines is
+  by_length long lines fault is = grind (arith, by_lines)
 
   -- the text is read with each number of tracks
   read_with : (text : List ℕ) → arch_of text tracks ≡ Ok arch → (other : Arch) × (arch_of text others ≡ Ok other) × HasTracks others other
   unfolding arch_of
   read_with text is = by_length (nat_lt MAX_TEXT (length text)) (lines_of text) (record { line = 0; kind = OverLimit }) is
 
-within_same : (number tracks others : ℕ) → others ≡ tracks → IsWithin 1 number tracks → IsWithin 1 number others
-within_same number tracks others e is = (is.0, omega (arith, e, is.1))
-
 is_arch : (arch other : Arch) (tracks : ℕ) → IsWithin 1 tracks MAX_TRACKS → IsArch arch → other ≡ with_tracks arch other → HasTracks tracks other → IsArch other
-is_arch arch other tracks within known same has =
-    let e = has.tracks_are in
-    subst IsArch (sym same) (record {
-      io_rat = known.io_rat;
-      cluster_size = known.cluster_size;
-      lut_size = known.lut_size;
-      tracks = (omega (arith, e, within.0), omega (arith, e, within.1));
-      fc_output = within_same other.fc_output tracks other.tracks e has.output;
-      fc_input = within_same other.fc_input tracks other.tracks e has.input;
-      fc_pad = within_same other.fc_pad tracks other.tracks e has.pad;
-      inputs = known.inputs;
-      outputs = known.outputs;
-      clocks = known.clocks;
-      sides = known.sides;
-    })
+is_arch arch other tracks within known same has = grind arith
 
 -- ---- a routing that has not failed is done at its end
 
@@ -197,24 +135,7 @@ module _ (few_cross : FewCross) (plan : DevicePlan) (request : Request) (sizes :
 
 -- ---- the first try
 
-more_tracks : (rows fewer more nets : ℕ) → nets ≤ rows * fewer → nets ≤ rows * (fewer + more)
-more_tracks rows fewer more nets enough = omega (arith, enough)
-
-enough_with : (rows needed tracks nets : ℕ) → needed ≤ tracks → nets ≤ rows * needed → nets ≤ rows * tracks
-enough_with rows needed tracks nets few enough =
-    let sum : needed + (tracks - needed) ≡ tracks = omega (arith, few) in
-    subst (λ n. nets ≤ rows * n) sum (more_tracks rows needed (tracks - needed) nets enough)
-
 -- the least number that is enough, but at least 1 and at most one past the limit
 pub first_is : (plan : DevicePlan) (placed : PlacingUnderWay) (first : FirstTry) (needed : ℕ) → IsBusiest placed.packed (places_by_block placed) plan.columns first.crossing →
     first.crossing.nets ≤ (plan.rows + 1) * needed → ((tracks : ℕ) → first.crossing.nets ≤ (plan.rows + 1) * tracks → needed ≤ tracks) → first.tracks ≡ min (max needed 1) (MAX_TRACKS + 1) → IsFirstTry plan placed first
-first_is plan placed first needed busiest enough least is = record {
-  crossing = busiest;
-  low = omega (arith, is);
-  high = omega (arith, is);
-  enough = λ few. enough_with (plan.rows + 1) needed first.tracks first.crossing.nets (omega (arith, is, few)) enough;
-  too_few = λ tracks low less. elim (cases_lt ((plan.rows + 1) * tracks) first.crossing.nets) [
-    | inl many ↦ many
-    | inr few ↦ absurd (omega (arith, is, low, less, least tracks few))
-  ];
-}
+first_is plan placed first needed busiest enough least is = grind arith

@@ -1,51 +1,9 @@
 -- What the routing of a placed netlist says of the outcome.
-use Rattle.std.proofs.Common.{ℕ, ◌≡◌, ◌+◌, List, Result, Ok, Option, Some, None, refl, sym, ap, subst, ◌∙◌}
+use Rattle.one_user.proofs.Prelude.{ℕ, ◌≡◌, ◌+◌, List, Result, Ok, Option, Some, None, refl, sym, ap, subst, ◌∙◌, arith, circuit_of, Circuit, fit_of, block_nets, packed_of, unfit_of, end_value, nets_in, pads_in, pass_count, placing_at, step_count, RoutedCircuit, held_by, pads_of, held_at_end, resources_of, Work, BlifFault, Routed, routed_after, count_over, overuse_at, wiring_of, RoutingState, Net, IterEnd, Basis, graph_of, Node, PlacingUnderWay, places_by_block, place_file_of, route_file_of, misfit_of, RoutingFailure, net_text_of, AreCrowdedNodes, IsCrowdingOf, IsGivenUp, last_trees, HasFigures, Task, by_routing, files_of, left_of, outcome_of, placing_of, routing_of, AreFiguresWith, EndsWith, IsRunWith, counts_in, files_with, nets_on_device, routed_with, AreAllPasses, IsLastIteration, IsRoutes, IsRoutingEnd, IsPlaced, WasRouted, WasUnrouted, Crowding, Figures, PackedCounts, Files, FlowOutcome, Run, LastIteration}
 use Rattle.std.specs.Prelude.{length}
-use Rattle.blif.specs.CircuitOf.{circuit_of}
-use Rattle.blif.specs.declared.circuit.Circuit.{Circuit}
-use Rattle.block_places.specs.Fits.{fit_of}
-use Rattle.cluster.specs.Blocks.{block_nets}
-use Rattle.cluster.specs.Clusters.{packed_of, unfit_of}
-use Rattle.job_state.specs.JobValue.{end_value, nets_in, pads_in, pass_count, placing_at, step_count}
-use Rattle.job_state.specs.RoutedCircuits.{RoutedCircuit, held_by, pads_of}
-use Rattle.job_state.specs.RoutedSet.{held_at_end, resources_of}
-use Rattle.job_state.specs.declared.work.Work.{Work}
 use Rattle.job_state.specs.declared.work.Work.TheVariants as work
-use Rattle.blif.specs.declared.fault.BlifFault.{BlifFault}
-use Rattle.pathfinder.specs.Negotiation.{Routed, Tree, routed_after}
-use Rattle.pathfinder.specs.Overuse.{count_over, overuse_at}
-use Rattle.pathfinder.specs.PlacedNets.{wiring_of}
-use Rattle.pathfinder.specs.Routings.{RoutingState}
-use Rattle.pathfinder.specs.Wiring.{Net}
-use Rattle.pathfinder.specs.declared.routing.IterEnd.{IterEnd}
 use Rattle.pathfinder.specs.declared.routing.IterEnd.TheVariants as end
-use Rattle.rr_graph.specs.Graph.{Basis, graph_of}
-use Rattle.rr_graph.specs.Resources.{has}
-use Rattle.rr_graph.specs.declared.node.Node.{Node}
-use Rattle.strip_place.specs.Anneal.{PlacingUnderWay, places_by_block}
-use Rattle.device_report.specs.declared.tenancies.ResourceUse.{ResourceUse}
-use Rattle.tenant_slot.specs.Results.{place_file_of, route_file_of}
-use Rattle.tenant_slot.specs.SingleUser.{misfit_of}
-use Rattle.tenant_slot.specs.declared.failure.RoutingFailure.{RoutingFailure}
 use Rattle.tenant_slot.specs.declared.failure.RoutingFailure.TheVariants.{GaveUp as FailedAll, NoPath as FailedNet}
-use Rattle.vpr_files.specs.NetFile.{net_text_of}
-use Rattle.one_user.specs.Crowding.{AreCrowdedNodes, IsCrowdingOf, IsGivenUp, last_trees}
-use Rattle.one_user.specs.Figures.{HasFigures, product}
-use Rattle.one_user.specs.Outcomes.{Task, by_routing, files_of, left_of, outcome_of, placing_of, routing_of}
-use Rattle.one_user.specs.PlacedRuns.{AreFiguresWith, EndsWith, IsRunWith, counts_in, files_with, nets_on_device, routed_with}
-use Rattle.one_user.specs.Placing.{AreAllPasses}
-use Rattle.one_user.specs.RoutingEnds.{IsLastIteration, IsRoutes, IsRoutingEnd}
-use Rattle.one_user.specs.Steps.{IsPlaced}
-use Rattle.one_user.specs.Tracks.{WasRouted, WasUnrouted}
-use Rattle.one_user.specs.declared.crowding.Crowding.{Crowding}
-use Rattle.one_user.specs.declared.figures.Figures.{Figures}
-use Rattle.one_user.specs.declared.figures.PackedCounts.{PackedCounts}
-use Rattle.one_user.specs.declared.outcome.Files.{Files}
-use Rattle.one_user.specs.declared.outcome.FlowOutcome.{FlowOutcome}
-use Rattle.one_user.specs.declared.outcome.FlowOutcome.TheVariants.{Routed as RoutedOutcome, Unrouted}
-use Rattle.one_user.specs.declared.outcome.Run.{Run}
-use Rattle.one_user.specs.declared.outcome.Unrouted.{Unrouted as Left}
-use Rattle.one_user.specs.declared.routing_end.LastIteration.{LastIteration}
 use Rattle.one_user.proofs.LastResults.{failure_at_end, failure_by, routes_at_end, steps_at_end}
 use Rattle.one_user.proofs.PlacingEnds.{placing_ended}
 use Rattle.one_user.proofs.Routings.{outcome_is}
@@ -102,9 +60,7 @@ module _ (task : Task) (placing : PlacingUnderWay) (given : Serves task placing)
   -- ---- without routes
 
   pub unrouted : (result : IterEnd) → Ended result → (IsRoutes result → ⊥) → (told : FlowOutcome) × (told ≡ outcome_of task) × WasUnrouted told
-  unrouted result ended not =
-      let failed = without_routes result (basis_for task) (nets_on_device (basis_for task) placing) ended not in
-      (by_routing task given.circuit (Some failed.0), sym (outcome_by result ended ∙ ap (by_routing task given.circuit) failed.1), tt)
+  unrouted result ended not = grind (arith, outcome_by result ended)
 
   -- ---- with routes
 
@@ -139,41 +95,17 @@ module _ (task : Task) (placing : PlacingUnderWay) (given : Serves task placing)
       own.1 ∙ sym (steps_at_end task given.circuit given.said (end.Done routes) own.0)
 
   figures_are : (routes : List (List (List Node))) (number : ℕ) → EndsWith (basis_for task) placing routes number → (figures : Figures) → AreFiguresWith (basis_for task) placing routes number figures → HasFigures task figures
-  figures_are routes number ends figures are = (
-    given.circuit,
-    given.said,
-    record {
-      blocks = are.blocks ∙ ap (λ (c : PackedCounts). let share : ResourceUse = record { used = c.clusters; there = product task.strip.width task.strip.rows 1 } in share) given.counts;
-      pads = are.pads ∙ ap (λ (c : PackedCounts). let share : ResourceUse = record { used = c.pads; there = product task.strip.width 2 task.strip.io_rat } in share) given.counts;
-      nets = are.nets ∙ ap (λ (c : PackedCounts). c.nets) given.counts;
-      held = are.held;
-      is_held = record { order = are.lists.in_order; exact = λ r. are.lists.exact r ∙ ap (λ held. has held r) (held_is routes ends.0) };
-      wires_used = are.wires_used;
-      wires_there = are.wires_there;
-      tracks = are.tracks;
-      iterations = are.iterations ∙ number_is routes number ends;
-    },
-  )
+  figures_are routes number ends figures are = grind (arith, held_is routes ends.0, number_is routes number ends)
 
   pub routed_by : (routes : List (List (List Node))) (number : ℕ) → EndsWith (basis_for task) placing routes number → (run : Run) → IsRunWith (basis_for task) placing routes number run →
       (run.outcome ≡ outcome_of task) × WasRouted run.outcome × ((figures : Figures) × (run.figures ≡ Some figures) × HasFigures task figures)
-  routed_by routes number ends run is = (
-    is.outcome ∙ ap RoutedOutcome (sym (files_are routes ends.0)) ∙ sym (outcome_by (end.Done routes) ends.0),
-    subst WasRouted (sym is.outcome) tt,
-    (is.figures, is.told, figures_are routes number ends is.figures is.are_figures),
-  )
+  routed_by routes number ends run is = grind (arith, files_are routes ends.0, figures_are routes number ends is.figures is.are_figures)
 
   -- ---- the crowding
 
   -- not given up
   not_given : (failure : Option RoutingFailure) → outcome_of task ≡ by_routing task given.circuit failure → (failure ≡ Some FailedAll → ⊥) → IsGivenUp task → ⊥
-  not_given None outcome not up = (let both : by_routing task given.circuit None ≡ Unrouted up.0 = sym outcome ∙ up.1 in absurd (cc))
-  not_given (Some FailedAll) outcome not up = not refl
-  not_given (Some (FailedNet net)) outcome not up =
-      (let both : Unrouted (left_of task given.circuit (FailedNet net)) ≡ Unrouted up.0 = sym outcome ∙ up.1 in
-      let left : left_of task given.circuit (FailedNet net) ≡ up.0 = cc in
-      let ending = ap (λ (l : Left). l.ending) left ∙ up.2 in
-      absurd (cc))
+  not_given failure outcome not up = grind arith
 
   abbrev pub IsAllFailed : IterEnd → Type 0
   IsAllFailed result = failure_by result ≡ Some FailedAll
@@ -195,14 +127,4 @@ module _ (task : Task) (placing : PlacingUnderWay) (given : Serves task placing)
 
   pub crowding_told : (routing : RoutingState) → Ended (end.GaveUp routing) → (crowding : Crowding) → crowding.packed ≡ packed_of given.circuit task.arch → crowding.rows ≡ task.strip.rows →
       crowding.overused ≡ count_over (overuse_at (wiring_of (basis_for task)) routing.trees) (graph_of (basis_for task)).count → AreCrowdedNodes (basis_for task) routing.trees 10 crowding.nodes.items → IsCrowdingOf task (Some crowding)
-  crowding_told routing ended crowding packed rows overused nodes = (
-    given_up routing ended,
-    record {
-      circuit = given.circuit;
-      said = given.said;
-      packed = packed;
-      rows = rows;
-      overused = overused ∙ ap (λ (trees : List Tree). count_over (overuse_at (wiring_of (basis_for task)) trees) (graph_of (basis_for task)).count) (trees_are routing ended);
-      nodes = subst (λ (trees : List Tree). AreCrowdedNodes (basis_for task) trees 10 crowding.nodes.items) (trees_are routing ended) nodes;
-    },
-  )
+  crowding_told routing ended crowding packed rows overused nodes = grind (arith, given_up routing ended, trees_are routing ended)

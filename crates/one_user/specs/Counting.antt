@@ -1,9 +1,6 @@
 -- The counts of a packed netlist, and the least device that has room for them.
 use Rattle.std.specs.Prelude.{ℕ, ◌≡◌, ◌+◌, ◌*◌, ◌<◌, ◌≤◌, length, Ok}
-use Rattle.blif.specs.CircuitOf.{circuit_of}
-use Rattle.blif.specs.declared.circuit.Circuit.{Circuit}
-use Rattle.cluster.specs.Blocks.{block_nets}
-use Rattle.cluster.specs.Clusters.{packed_of}
+use Rattle.one_user.specs.Prelude.{circuit_of, Circuit, block_nets, packed_of}
 use Rattle.one_user.specs.Outcomes.{Task, outcome_of}
 use Rattle.one_user.specs.declared.counts.Counted.{Counted}
 use Rattle.one_user.specs.declared.counts.Counted.TheVariants.{Counts, Refused}

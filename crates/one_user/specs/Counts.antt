@@ -1,7 +1,6 @@
 -- Private: the progress of a packing.
 use Rattle.std.specs.Prelude.{◌≡◌}
-use Rattle.job_state.specs.declared.progress.Progress.{Progress}
-use Rattle.job_state.specs.declared.progress.Progress.TheVariants.{Packing, Packed, Placing, Routing, Routed, GaveUp, NoPath}
+use Rattle.one_user.specs.Prelude.{Progress, Packing, Packed, Placing, Routing, Routed, GaveUp, NoPath}
 use Rattle.one_user.specs.declared.figures.PackedCounts.{PackedCounts}
 
 -- these are the counts

@@ -2,15 +2,7 @@
 use Rattle.std.specs.Prelude.{ℕ, ◌≡◌, ◌<◌, ◌≤◌, ◌⊎◌, List, [], Ok, Option, Some, None, All, AllPairs, Contains, filter, length, slice_get, slice_index_or, slice_index}
 use Rattle.std.specs.List.{AllZip, range_with_len}
 use Rattle.std.specs.Option.{option_map_or}
-use Rattle.blif.specs.CircuitOf.{circuit_of}
-use Rattle.blif.specs.declared.circuit.Circuit.{Circuit}
-use Rattle.cluster.specs.Blocks.{block_nets, net_name}
-use Rattle.cluster.specs.Clusters.{PackedCircuit, packed_of}
-use Rattle.job_state.specs.JobValue.{nets_in, step_count}
-use Rattle.rr_graph.specs.Graph.{Basis, graph_of}
-use Rattle.pathfinder.specs.Negotiation.{Tree, occupancy, routed_after}
-use Rattle.pathfinder.specs.Overuse.{count_over, has_node, overuse_at}
-use Rattle.pathfinder.specs.PlacedNets.{wiring_of}
+use Rattle.one_user.specs.Prelude.{circuit_of, Circuit, block_nets, net_name, PackedCircuit, packed_of, nets_in, step_count, Basis, graph_of, Tree, occupancy, routed_after, count_over, has_node, overuse_at, wiring_of}
 use Rattle.tenant_slot.specs.declared.reply.Ending.TheVariants.{GaveUp}
 use Rattle.one_user.specs.Outcomes.{Task, outcome_of, routing_of}
 use Rattle.one_user.specs.declared.crowding.CrowdedNode.{CrowdedNode}

@@ -1,8 +1,7 @@
 -- The lines that list the overused nodes of a routing that was given up.
 use Rattle.std.specs.Prelude.{ℕ, List, [], ◌∷◌, ◌++◌, codes, decimal}
 use Rattle.std.specs.List.{concat, flat_map}
-use Rattle.cluster.specs.Clusters.{PackedCircuit}
-use Rattle.vpr_files.specs.NodeText.{node_text_of}
+use Rattle.one_user.specs.Prelude.{PackedCircuit, node_text_of}
 use Rattle.one_user.specs.Crowding.{net_between}
 use Rattle.one_user.specs.declared.crowding.CrowdedNode.{CrowdedNode}
 use Rattle.one_user.specs.declared.crowding.Crowding.{Crowding}

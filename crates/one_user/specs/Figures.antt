@@ -1,21 +1,6 @@
 -- What a routed circuit uses of its device.
 use Rattle.std.specs.Prelude.{ℕ, ◌≡◌, ◌+◌, ◌*◌, ◌≤◌, ◌<◌, Bool, true, false, ◌||◌, List, length, count_by, AllPairs, All, Option, Some, None, Ok}
-use Rattle.blif.specs.CircuitOf.{circuit_of}
-use Rattle.blif.specs.declared.circuit.Circuit.{Circuit}
-use Rattle.cluster.specs.Blocks.{block_nets}
-use Rattle.cluster.specs.Clusters.{PackedCircuit, packed_of}
-use Rattle.device_report.specs.declared.channels.ChannelUse.{ChannelUse}
-use Rattle.device_report.specs.declared.channels.ChannelDirection.{ChannelDirection}
-use Rattle.device_report.specs.declared.channels.ChannelDirection.TheVariants.{Across, Up}
-use Rattle.device_report.specs.Channels.{is_wire}
-use Rattle.grid.specs.declared.Strip.{Strip}
-use Rattle.job_state.specs.JobValue.{step_count}
-use Rattle.job_state.specs.RoutedSet.{resources_of}
-use Rattle.job_state.specs.declared.sources.Sources.{Sources}
-use Rattle.rr_graph.specs.Graph.{Basis}
-use Rattle.rr_graph.specs.Resources.{IsEarlier, has}
-use Rattle.rr_graph.specs.declared.resource.Resource.{Resource}
-use Rattle.rr_graph.specs.declared.resource.ResourceKind.{ResourceKind}
+use Rattle.one_user.specs.Prelude.{circuit_of, Circuit, block_nets, PackedCircuit, packed_of, ChannelUse, ChannelDirection, Across, Up, is_wire, Strip, step_count, resources_of, Sources, Basis, IsEarlier, has, Resource, ResourceKind}
 use Rattle.one_user.specs.Outcomes.{Task, routing_of}
 use Rattle.one_user.specs.declared.figures.Figures.{Figures}
 

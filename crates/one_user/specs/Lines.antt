@@ -1,16 +1,7 @@
 -- The lines that a run writes.
 use Rattle.std.specs.Prelude.{ℕ, ◌+◌, ◌-◌, ◌^◌, min, List, [], ◌∷◌, ◌++◌, codes, decimal, Option, Some, None}
 use Rattle.std.specs.List.{concat}
-use Rattle.device_report.specs.declared.channels.ChannelUse.{ChannelUse}
-use Rattle.device_report.specs.Text.{channel_line}
-use Rattle.grid.specs.declared.Strip.{Strip}
-use Rattle.job_state.specs.JobValue.{pass_count}
-use Rattle.job_state.specs.declared.progress.Progress.{Progress}
-use Rattle.job_state.specs.declared.progress.Progress.TheVariants.{Packing, Packed, Placing, Routing, Routed, GaveUp, NoPath}
-use Rattle.rr_graph.specs.declared.node.Node.{Node}
-use Rattle.rr_graph.specs.declared.node.NodeKind.{NodeKind}
-use Rattle.rr_graph.specs.declared.node.NodeKind.TheVariants.{Source, Sink, Opin, Ipin, ChanX, ChanY}
-use Rattle.strip_place.specs.Anneal.{temperature_at}
+use Rattle.one_user.specs.Prelude.{ChannelUse, channel_line, Strip, pass_count, Progress, Packing, Packed, Placing, Routing, Routed, GaveUp, NoPath, Node, NodeKind, Source, Sink, Opin, Ipin, ChanX, ChanY, temperature_at}
 use Rattle.one_user.specs.declared.figures.Figures.{Figures}
 
 -- the word of the route file for a kind of node

@@ -2,22 +2,7 @@
 -- without kept places and routed, as the service for a single user does it, and the files are that
 -- service's replies at the end.
 use Rattle.std.specs.Prelude.{ℕ, List, [], Result, Ok, Err, Option, Some, None}
-use Rattle.arch_file.specs.declared.arch.Arch.{Arch}
-use Rattle.blif.specs.CircuitOf.{circuit_of}
-use Rattle.blif.specs.declared.circuit.Circuit.{Circuit}
-use Rattle.blif.specs.declared.fault.BlifFault.{BlifFault}
-use Rattle.cluster.specs.Clusters.{packed_of, unfit_of}
-use Rattle.block_places.specs.Fits.{fit_of}
-use Rattle.grid.specs.declared.Strip.{Strip}
-use Rattle.job_state.specs.JobValue.{end_value, placing_sources, routing_sources}
-use Rattle.job_state.specs.declared.sources.Sources.{Sources}
-use Rattle.rr_graph.specs.Graph.{Basis}
-use Rattle.tenant_slot.specs.Results.{ending_of, failure_of, place_file_of, route_file_of}
-use Rattle.tenant_slot.specs.SingleUser.{misfit_of}
-use Rattle.tenant_slot.specs.declared.failure.RoutingFailure.{RoutingFailure}
-use Rattle.tenant_slot.specs.declared.reply.Misfit.{Misfit}
-use Rattle.tenant_slot.specs.declared.reply.Refusal.TheVariants.{BadBlif, CannotPack, DoesNotFit}
-use Rattle.vpr_files.specs.NetFile.{net_text_of}
+use Rattle.one_user.specs.Prelude.{Arch, circuit_of, Circuit, BlifFault, packed_of, unfit_of, fit_of, Strip, end_value, placing_sources, routing_sources, Sources, Basis, ending_of, failure_of, place_file_of, route_file_of, misfit_of, RoutingFailure, Misfit, BadBlif, CannotPack, DoesNotFit, net_text_of}
 use Rattle.one_user.specs.declared.outcome.Files.{Files}
 use Rattle.one_user.specs.declared.outcome.Unrouted.{Unrouted as Left}
 use Rattle.one_user.specs.declared.outcome.FlowOutcome.{FlowOutcome}

@@ -1,24 +1,10 @@
 -- A netlist whose pads have the places of pins.
 use Rattle.std.specs.Prelude.{ℕ, ◌≡◌, ◌+◌, ◌<◌, ◌≤◌, ◌⊎◌, List, Result, Ok, Err, Option, Some, None}
-use Rattle.arch_file.specs.Arch.{arch_of}
-use Rattle.arch_file.specs.declared.arch.Arch.{Arch}
-use Rattle.arch_file.specs.declared.arch.TheConstants.{MAX_TRACKS}
-use Rattle.cluster.specs.Clusters.{PackedCircuit}
-use Rattle.pathfinder.specs.declared.routing.IterEnd.{IterEnd}
+use Rattle.one_user.specs.Prelude.{arch_of, Arch, MAX_TRACKS, PackedCircuit, IterEnd, Pin, IsPinned, PinFault, Basis, PlacingUnderWay, places_by_block, device_strip, ending_of, Ending, net_text_of, place_text_of}
 use Rattle.pathfinder.specs.declared.routing.IterEnd.TheVariants as iteration
-use Rattle.pin_file.specs.PinFiles.{Pin}
 use Rattle.pinned_places.specs.Pads.{pads_of}
-use Rattle.pinned_places.specs.Results.{IsPinned}
-use Rattle.pinned_places.specs.declared.fault.PinFault.{PinFault}
-use Rattle.rr_graph.specs.Graph.{Basis}
-use Rattle.strip_place.specs.Anneal.{PlacingUnderWay, places_by_block}
-use Rattle.strips.specs.Windows.{device_strip}
-use Rattle.tenant_slot.specs.Results.{ending_of}
 use Rattle.tenant_slot.specs.declared.failure.RoutingFailure.TheVariants.{NoPath as FailedNet}
-use Rattle.tenant_slot.specs.declared.reply.Ending.{Ending}
 use Rattle.tenant_slot.specs.declared.reply.Ending.TheVariants.{GaveUp}
-use Rattle.vpr_files.specs.NetFile.{net_text_of}
-use Rattle.vpr_files.specs.PlaceFile.{place_text_of}
 use Rattle.one_user.specs.PlacedRuns.{IsRunOn, nets_on_device}
 use Rattle.one_user.specs.RoutingEnds.{IsRoutes, IsRoutingEnd}
 use Rattle.one_user.specs.Tracks.{ComesTo, IsFirstTry, IsPlacedWith}

@@ -1,18 +1,6 @@
 -- Private: the run of a netlist that is placed already, by its routing on a device.
 use Rattle.std.specs.Prelude.{ℕ, ◌≡◌, ◌+◌, List, Option, Some, None, length}
-use Rattle.cluster.specs.Blocks.{block_nets}
-use Rattle.job_state.specs.RoutedCircuits.{ListsAll, RoutedCircuit, held_by, pads_of}
-use Rattle.pathfinder.specs.PlacedNets.{nets_to_route}
-use Rattle.pathfinder.specs.Wiring.{Net}
-use Rattle.pathfinder.specs.declared.routing.IterEnd.{IterEnd}
-use Rattle.pathfinder.specs.declared.routing.IterEnd.TheVariants.{Done}
-use Rattle.rr_graph.specs.Graph.{Basis}
-use Rattle.rr_graph.specs.declared.node.Node.{Node}
-use Rattle.rr_graph.specs.declared.resource.Resource.{Resource}
-use Rattle.strip_place.specs.Anneal.{PlacingUnderWay, places_by_block}
-use Rattle.vpr_files.specs.NetFile.{net_text_of}
-use Rattle.vpr_files.specs.PlaceFile.{place_text_of}
-use Rattle.vpr_files.specs.RouteFile.{route_text_of}
+use Rattle.one_user.specs.Prelude.{block_nets, ListsAll, RoutedCircuit, held_by, pads_of, nets_to_route, Net, IterEnd, Done, Basis, Node, Resource, PlacingUnderWay, places_by_block, net_text_of, place_text_of, route_text_of}
 use Rattle.one_user.specs.Figures.{product, wires_in, wires_there}
 use Rattle.one_user.specs.RoutingEnds.{IsLastIteration, IsRoutes, IsRoutingEnd}
 use Rattle.one_user.specs.declared.figures.Figures.{Figures}

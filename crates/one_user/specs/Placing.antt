@@ -1,17 +1,6 @@
 -- A netlist that is packed and placed, stage by stage.
 use Rattle.std.specs.Prelude.{ℕ, ◌≡◌, ◌<◌, ◌≤◌, true, false, [], Result, Ok, Err, Some, None}
-use Rattle.arch_file.specs.declared.arch.Arch.{Arch}
-use Rattle.blif.specs.CircuitOf.{circuit_of}
-use Rattle.blif.specs.declared.circuit.Circuit.{Circuit}
-use Rattle.block_places.specs.Fits.{fit_of}
-use Rattle.cluster.specs.Clusters.{PackedCircuit, packed_of, unfit_of}
-use Rattle.grid.specs.declared.Strip.{Strip}
-use Rattle.job_state.specs.JobValue.{pass_count, placing_at}
-use Rattle.strip_place.specs.Anneal.{PlacingUnderWay, is_past_last}
-use Rattle.strip_place.specs.declared.placing.TheConstants.{MAX_PASSES}
-use Rattle.tenant_slot.specs.SingleUser.{misfit_of}
-use Rattle.tenant_slot.specs.declared.reply.Misfit.{Misfit}
-use Rattle.tenant_slot.specs.declared.reply.Refusal.TheVariants.{DoesNotFit}
+use Rattle.one_user.specs.Prelude.{Arch, circuit_of, Circuit, fit_of, PackedCircuit, packed_of, unfit_of, Strip, pass_count, placing_at, PlacingUnderWay, is_past_last, MAX_PASSES, misfit_of, Misfit, DoesNotFit}
 use Rattle.one_user.specs.Outcomes.{Task, outcome_of, placing_of}
 use Rattle.one_user.specs.declared.outcome.FlowOutcome.TheVariants.{Refused as RefusedOutcome}
 use Rattle.one_user.specs.declared.placing.PlacingEnd.{PlacingEnd}

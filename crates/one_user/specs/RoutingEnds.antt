@@ -1,13 +1,7 @@
 -- How the routing of placed blocks ends.
 use Rattle.std.specs.Prelude.{◌≡◌, ◌+◌, List}
-use Rattle.rr_graph.specs.Graph.{Basis}
-use Rattle.pathfinder.specs.Ends.{IsEnd}
-use Rattle.pathfinder.specs.Negotiation.{More}
-use Rattle.pathfinder.specs.PlacedNets.{wiring_of}
-use Rattle.pathfinder.specs.Routings.{IsAfter, RoutingState}
-use Rattle.pathfinder.specs.Wiring.{Net}
-use Rattle.pathfinder.specs.declared.routing.IterEnd.{IterEnd}
-use Rattle.pathfinder.specs.declared.routing.IterEnd.TheVariants.{Again, Done, GaveUp, NoPath}
+use Rattle.one_user.specs.Prelude.{Basis, IsEnd, More, wiring_of, IsAfter, RoutingState, Net, IterEnd, Again, Done}
+use Rattle.pathfinder.specs.declared.routing.IterEnd.TheVariants.{GaveUp, NoPath}
 use Rattle.one_user.specs.declared.routing_end.LastIteration.{LastIteration}
 
 -- no iteration follows

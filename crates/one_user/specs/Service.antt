@@ -1,11 +1,9 @@
 -- How the files relate to the service: by its main theorem each tenancy is in the state of the
 -- service for a single user and gets that service's replies, on any device and beside any others.
 use Rattle.std.specs.Prelude.{◌≡◌, ℕ, []}
-use Rattle.tenant_slot.specs.SingleUser.{State, answer_to}
-use Rattle.tenant_slot.specs.declared.command.Command.TheVariants.{Net, PlaceFile, RouteFile}
-use Rattle.tenant_slot.specs.declared.event.Event.TheVariants.{Command as Asked}
-use Rattle.tenant_slot.specs.declared.reply.FileKind.TheVariants.{Net as NetFile, Place as PlacesFile, Route as RoutesFile}
-use Rattle.tenant_slot.specs.declared.reply.Reply.TheVariants.{File}
+use Rattle.one_user.specs.Prelude.{State, answer_to, PlaceFile, RouteFile, Command as Asked, Route as RoutesFile, File}
+use Rattle.tenant_slot.specs.declared.command.Command.TheVariants.{Net}
+use Rattle.tenant_slot.specs.declared.reply.FileKind.TheVariants.{Net as NetFile, Place as PlacesFile}
 use Rattle.tenant_slot.specs.declared.reply.StateName.TheVariants.{Routed}
 use Rattle.one_user.specs.Outcomes.{Task}
 use Rattle.one_user.specs.declared.outcome.Files.{Files}

@@ -1,32 +1,9 @@
 -- Private: the states between the stages of a run, and the results of a job's steps.
 use Rattle.std.specs.Prelude.{ℕ, ◌≡◌, ◌+◌, ◌<◌, ◌≤◌, List, [], true, false, Option, Some, None, IsSome, Ok, length}
-use Rattle.tenant_slot.specs.declared.slot.TheConstants.{MAX_ENTRIES}
-use Rattle.strip_place.specs.declared.placing.TheConstants.{MAX_EFFORT}
-use Rattle.blif.specs.declared.circuit.TheConstants.{MAX_NETS}
-use Rattle.blif.specs.CircuitOf.{circuit_of}
-use Rattle.blif.specs.declared.circuit.Circuit.{Circuit}
-use Rattle.cluster.specs.Blocks.{block_nets}
-use Rattle.cluster.specs.Clusters.{packed_of, unfit_of}
-use Rattle.block_places.specs.Fits.{fit_of}
-use Rattle.job_state.specs.JobValue.{end_value, is_last, job_value, step_count}
-use Rattle.job_state.specs.Progress.{IsProgress}
-use Rattle.job_state.specs.declared.progress.Progress.{Progress}
-use Rattle.job_state.specs.declared.sources.JobKind.{JobKind}
-use Rattle.job_state.specs.declared.sources.Sources.{Sources}
-use Rattle.job_state.specs.declared.work.Work.{Work}
-use Rattle.rr_graph.specs.Graph.{Basis}
-use Rattle.tenant_slot.specs.SingleUser.{State, answer_to, state_at_end, misfit_of, kind_that_runs, sources_of, start}
-use Rattle.tenant_slot.specs.Slot.{SlotState}
-use Rattle.tenant_slot.specs.declared.command.Command.TheVariants.{Net, PlaceFile, Status as StatusAsked}
-use Rattle.tenant_slot.specs.declared.event.Event.TheVariants.{Command as Asked}
-use Rattle.tenant_slot.specs.declared.reply.Ending.{Ending}
-use Rattle.tenant_slot.specs.declared.reply.Refusal.{Refusal}
-use Rattle.tenant_slot.specs.declared.reply.Reply.{Reply}
-use Rattle.tenant_slot.specs.declared.reply.Reply.TheVariants.{Accepted, Status, File, Refused, Step}
-use Rattle.tenant_slot.specs.declared.reply.StateName.{StateName}
-use Rattle.tenant_slot.specs.declared.reply.StateName.TheVariants.{Loaded, Packed, Placed, Routed}
-use Rattle.tenant_slot.specs.declared.reply.StepReply.{StepReply}
-use Rattle.tenant_slot.specs.declared.reply.StepReply.TheVariants.{Advanced, Finished, Stale}
+use Rattle.one_user.specs.Prelude.{MAX_ENTRIES, MAX_EFFORT, MAX_NETS, circuit_of, Circuit, block_nets, packed_of, unfit_of, fit_of, end_value, is_last, job_value, step_count, IsProgress, Progress, JobKind, Sources, Work, Basis, State, answer_to, state_at_end, misfit_of, kind_that_runs, sources_of, start, SlotState, PlaceFile, Status as StatusAsked, Command as Asked, Ending, Refusal, Reply, Accepted, File, Refused, Step, StateName, Loaded, Placed, StepReply, Advanced, Finished, Stale}
+use Rattle.tenant_slot.specs.declared.command.Command.TheVariants.{Net}
+use Rattle.tenant_slot.specs.declared.reply.Reply.TheVariants.{Status}
+use Rattle.tenant_slot.specs.declared.reply.StateName.TheVariants.{Packed, Routed}
 use Rattle.one_user.specs.Counting.{AreCounts}
 use Rattle.one_user.specs.Outcomes.{Task}
 use Rattle.one_user.specs.declared.figures.PackedCounts.{PackedCounts}

@@ -1,17 +1,6 @@
 -- The least number of tracks with which a netlist is routed.
 use Rattle.std.specs.Prelude.{ℕ, ◌≡◌, ◌+◌, ◌*◌, ◌<◌, ◌≤◌, List, Result, Ok, Err, Option, Some, None}
-use Rattle.strip_place.specs.declared.placing.TheConstants.{MAX_EFFORT}
-use Rattle.grid.specs.declared.TheConstants.{MAX_COLUMNS, MAX_ROWS}
-use Rattle.arch_file.specs.declared.arch.TheConstants.{MAX_TRACKS}
-use Rattle.arch_file.specs.Arch.{IsWithin, arch_of}
-use Rattle.arch_file.specs.declared.arch.Arch.{Arch}
-use Rattle.arch_file.specs.declared.fault.ArchFault.{ArchFault}
-use Rattle.blif.specs.declared.circuit.Circuit.{Circuit}
-use Rattle.grid.specs.declared.place.Place.{Place}
-use Rattle.job_state.specs.JobValue.{pass_count, placing_at}
-use Rattle.strip_place.specs.Anneal.{PlacingUnderWay, places_by_block}
-use Rattle.strips.specs.Windows.{device_strip}
-use Rattle.track_bound.specs.Busiest.{IsBusiest}
+use Rattle.one_user.specs.Prelude.{MAX_EFFORT, MAX_COLUMNS, MAX_ROWS, MAX_TRACKS, IsWithin, arch_of, Arch, ArchFault, Circuit, Place, pass_count, placing_at, PlacingUnderWay, places_by_block, device_strip, IsBusiest}
 use Rattle.one_user.specs.Crowding.{IsCrowdingOf}
 use Rattle.one_user.specs.Figures.{HasFigures}
 use Rattle.one_user.specs.Outcomes.{Task, outcome_of, placing_of}

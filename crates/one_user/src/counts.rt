@@ -1,7 +1,6 @@
 //! The counts of a packed netlist, and the least device that has room for it.
 ghost use Rattle.std.specs.Prelude.{◌+◌, ◌≡◌, ◌≤◌, ◌↔◌, IfOk, IsTrue, MatchOption};
-ghost use Rattle.arch_file.specs.declared.arch.TheConstants.{MAX_IO_RAT};
-ghost use Rattle.grid.specs.declared.TheConstants.{MAX_COLUMNS, MAX_ROWS};
+ghost use Rattle.one_user.specs.Prelude.{MAX_IO_RAT, MAX_COLUMNS, MAX_ROWS};
 ghost use Rattle.one_user.specs.Counting.{HasRoom, IsCounted, NoColumnsBelow, NoRowsBelow, NoSquareBelow};
 ghost use Rattle.one_user.specs.Outcomes.{task_on};
 ghost use Rattle.one_user.specs.Steps.{IsReadyToPack, IsReadyToUpload, task_in};

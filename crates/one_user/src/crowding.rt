@@ -1,12 +1,8 @@
 //! Where a routing that was given up is overused, and by which nets.
 ghost use Rattle.std.specs.Prelude.{◌≡◌, ◌<◌, ◌↔◌, ℕ, All, IfOk, IfSome, IsTrue, length, slice_index};
 ghost use Rattle.std.specs.List.{AllZip};
-ghost use Rattle.cluster.specs.Blocks.{net_name};
+ghost use Rattle.one_user.specs.Prelude.{net_name, count_over, overuse_at, wiring_of, IsAfter, graph_of};
 ghost use Rattle.pathfinder.specs.Negotiation.{GaveUp};
-ghost use Rattle.pathfinder.specs.Overuse.{count_over, overuse_at};
-ghost use Rattle.pathfinder.specs.PlacedNets.{wiring_of};
-ghost use Rattle.pathfinder.specs.Routings.{IsAfter};
-ghost use Rattle.rr_graph.specs.Graph.{graph_of};
 ghost use Rattle.one_user.specs.Crowding.{AreMostOverused, AreCrowdedNodes, ComesBefore, IsAfterLast, IsFirstOf, IsNextMostOverused, IsCrowdedNode, net_between, nets_on, over_of};
 
 use blif::Circuit;

@@ -1,6 +1,6 @@
 //! The overused nodes of a routing that was given up, as lines.
 ghost use Rattle.std.specs.List.{flat_map};
-ghost use Rattle.line_text.specs.Writing.{Writes};
+ghost use Rattle.one_user.specs.Prelude.{Writes};
 ghost use Rattle.one_user.specs.CrowdingText.{crowded_line, crowding_text, line_end, load_text, net_word, overused_line};
 
 use crate::crowding::{CrowdedNode, Crowding};

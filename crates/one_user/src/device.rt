@@ -1,17 +1,10 @@
 //! A device of one user's own.
 ghost use Rattle.std.specs.Prelude.{◌≡◌, ◌≤◌, IfOk, IfSome};
-ghost use Rattle.strip_place.specs.declared.placing.TheConstants.{MAX_EFFORT};
-ghost use Rattle.arch_file.specs.Arch.{IsArch};
-ghost use Rattle.grid.specs.Sizes.{IsStripSize};
-ghost use Rattle.strips.specs.Windows.{device_strip};
+ghost use Rattle.one_user.specs.Prelude.{MAX_EFFORT, IsArch, IsStripSize, device_strip, count_over, overuse_at, wiring_of, IsAfter, graph_of};
 ghost use Rattle.one_user.specs.Figures.{HasFigures};
 ghost use Rattle.one_user.specs.Outcomes.{Task, outcome_of, task_on};
 ghost use Rattle.one_user.specs.Counting.{IsCounted};
 ghost use Rattle.pathfinder.specs.Negotiation.{GaveUp};
-ghost use Rattle.pathfinder.specs.Overuse.{count_over, overuse_at};
-ghost use Rattle.pathfinder.specs.PlacedNets.{wiring_of};
-ghost use Rattle.pathfinder.specs.Routings.{IsAfter};
-ghost use Rattle.rr_graph.specs.Graph.{graph_of};
 ghost use Rattle.one_user.specs.Crowding.{AreCrowdedNodes, IsCrowdingOf};
 ghost use Rattle.one_user.specs.Placing.{IsPlacing, IsPlacingOf};
 ghost use Rattle.one_user.specs.Pinned.{IsWholeRun};

@@ -1,7 +1,6 @@
 //! What a routed circuit uses of its device.
 ghost use Rattle.std.specs.Prelude.{◌+◌, ◌≡◌, ◌≤◌};
-ghost use Rattle.arch_file.specs.declared.arch.TheConstants.{MAX_TRACKS};
-ghost use Rattle.grid.specs.declared.TheConstants.{MAX_COLUMNS, MAX_ROWS};
+ghost use Rattle.one_user.specs.Prelude.{MAX_TRACKS, MAX_COLUMNS, MAX_ROWS};
 ghost use Rattle.one_user.specs.Counts.{HasCounts, IsWhole};
 ghost use Rattle.one_user.specs.Figures.{is_channel_wire, product, wires_in, wires_there};
 

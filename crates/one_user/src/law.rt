@@ -1,12 +1,9 @@
 //! How the files relate to the service.
 ghost use Rattle.std.specs.Prelude.{◌≡◌, ℕ, Ok};
-ghost use Rattle.arch_file.specs.Arch.{arch_of};
-ghost use Rattle.arch_file.specs.declared.arch.Arch.{Arch};
-ghost use Rattle.blif.specs.declared.circuit.Circuit.{Circuit};
+ghost use Rattle.one_user.specs.Prelude.{arch_of, Arch, Circuit, State};
 ghost use Rattle.one_user.specs.declared.device.Request.{Request};
 ghost use Rattle.one_user.specs.declared.least.DevicePlan.{DevicePlan};
 ghost use Rattle.one_user.specs.Tracks.{places_for};
-ghost use Rattle.tenant_slot.specs.SingleUser.{State};
 ghost use Rattle.one_user.specs.declared.outcome.Files.{Files};
 ghost use Rattle.one_user.specs.declared.outcome.FlowOutcome.TheVariants.{Routed};
 ghost use Rattle.one_user.specs.Outcomes.{Task, outcome_of};

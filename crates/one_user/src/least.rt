@@ -1,11 +1,6 @@
 //! The least number of tracks with which a netlist is routed.
 ghost use Rattle.std.specs.Prelude.{ℕ, ◌≤◌, IfErr, IfOk, IfSome};
-ghost use Rattle.arch_file.specs.declared.arch.TheConstants.{MAX_TRACKS};
-ghost use Rattle.arch_file.specs.Arch.{IsWithin, arch_of};
-ghost use Rattle.grid.specs.declared.TheConstants.{MAX_COLUMNS};
-ghost use Rattle.line_text.specs.TextErrors.{Fails};
-ghost use Rattle.strip_place.specs.Anneal.{places_by_block};
-ghost use Rattle.track_bound.specs.Busiest.{IsBusiest};
+ghost use Rattle.one_user.specs.Prelude.{MAX_TRACKS, IsWithin, arch_of, MAX_COLUMNS, Fails, places_by_block, IsBusiest};
 ghost use Rattle.one_user.specs.Tracks.{AreUnroutedBelow, ComesTo, HasFiguresWith, IsCrowdingWith, IsFirstTry, IsLawful, IsLeast, IsPlacedOrRefused, IsPlacedWith, IsTry, fault_of};
 
 use crate::crowding::Crowding;

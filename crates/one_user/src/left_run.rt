@@ -1,12 +1,8 @@
 //! What there is of a netlist that is placed, and whose routing ended without routes.
 ghost use Rattle.std.specs.Prelude.{◌≡◌, [], IfOk, slice_get};
-ghost use Rattle.cluster.specs.Blocks.{block_nets, net_name};
+ghost use Rattle.one_user.specs.Prelude.{block_nets, net_name, ending_of, net_text_of, place_text_of, places_by_block};
 ghost use Rattle.std.specs.Option.{option_map_or};
-ghost use Rattle.tenant_slot.specs.Results.{ending_of};
 ghost use Rattle.tenant_slot.specs.declared.failure.RoutingFailure.TheVariants.{NoPath as FailedNet};
-ghost use Rattle.vpr_files.specs.NetFile.{net_text_of};
-ghost use Rattle.vpr_files.specs.PlaceFile.{place_text_of};
-ghost use Rattle.strip_place.specs.Anneal.{places_by_block};
 ghost use Rattle.one_user.specs.Pinned.{IsEnding, IsLeftBy};
 ghost use Rattle.one_user.specs.RoutingEnds.{IsOver, IsRoutes};
 

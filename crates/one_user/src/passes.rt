@@ -1,8 +1,6 @@
 //! The passes of a placing, which follow from the size of its strip.
 ghost use Rattle.std.specs.Prelude.{◌≡◌};
-ghost use Rattle.grid.specs.Sizes.{IsStripSize};
-ghost use Rattle.job_state.specs.JobValue.{pass_count};
-ghost use Rattle.strip_place.specs.Anneal.{temperature_at};
+ghost use Rattle.one_user.specs.Prelude.{IsStripSize, pass_count, temperature_at};
 
 use grid::Strip;
 use strip_place::MAX_PASSES;

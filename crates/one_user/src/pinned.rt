@@ -1,8 +1,6 @@
 //! A netlist whose pads have the places of pins.
 ghost use Rattle.std.specs.Prelude.{◌≡◌, IfOk};
-ghost use Rattle.arch_file.specs.declared.arch.TheConstants.{MAX_TRACKS};
-ghost use Rattle.arch_file.specs.Arch.{IsWithin};
-ghost use Rattle.pin_file.specs.Reading.{pins_read};
+ghost use Rattle.one_user.specs.Prelude.{MAX_TRACKS, IsWithin, pins_read};
 ghost use Rattle.one_user.specs.Pinned.{IsDevice, IsLeastPinned, IsPinnedPlacing, IsPinnedRun, IsPinnedWith, IsTryOn, RunsWith};
 ghost use Rattle.one_user.specs.Tracks.{IsLawful};
 

@@ -1,7 +1,7 @@
 //! The files and figures of a netlist that is placed and routed at one go, without a slot and its
 //! jobs.
 ghost use Rattle.std.specs.Prelude.{◌≡◌, IfOk, length};
-ghost use Rattle.cluster.specs.Blocks.{block_nets};
+ghost use Rattle.one_user.specs.Prelude.{block_nets};
 ghost use Rattle.one_user.specs.PlacedRuns.{AreFiguresWith, IsRunWith, counts_in, files_with};
 
 use crate::figures::{Figures, PackedCounts, figures_of};

@@ -1,12 +1,6 @@
 //! A netlist that is packed and placed at one go, without a slot and its jobs.
 ghost use Rattle.std.specs.Prelude.{◌≡◌, ◌≤◌, IfOk, None, Ok, OnOk};
-ghost use Rattle.strip_place.specs.declared.placing.TheConstants.{MAX_EFFORT};
-ghost use Rattle.blif.specs.CircuitOf.{circuit_of};
-ghost use Rattle.block_places.specs.Fits.{fit_of};
-ghost use Rattle.block_places.specs.declared.fit.Fit.TheVariants.{Fits};
-ghost use Rattle.cluster.specs.Clusters.{packed_of, unfit_of};
-ghost use Rattle.grid.specs.Sizes.{IsStripSize};
-ghost use Rattle.job_state.specs.JobValue.{pass_count};
+ghost use Rattle.one_user.specs.Prelude.{MAX_EFFORT, circuit_of, fit_of, Fits, packed_of, unfit_of, IsStripSize, pass_count};
 ghost use Rattle.one_user.specs.Outcomes.{task_on};
 ghost use Rattle.one_user.specs.Placing.{AreAllPasses, IsPackedFrom, IsPlacedFrom, IsPlacingOf, placed_from};
 

@@ -1,8 +1,6 @@
 //! The routing of placed blocks at one go, without a slot and its jobs.
 ghost use Rattle.std.specs.Prelude.{◌≡◌, IfOk};
-ghost use Rattle.block_places.specs.Placed.{ArePlaced};
-ghost use Rattle.pathfinder.specs.PlacedNets.{nets_to_route};
-ghost use Rattle.strip_place.specs.Anneal.{places_by_block};
+ghost use Rattle.one_user.specs.Prelude.{ArePlaced, nets_to_route, places_by_block};
 ghost use Rattle.one_user.specs.RoutingEnds.{IsLastIteration};
 
 use cluster::Packed;

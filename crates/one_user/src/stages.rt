@@ -1,10 +1,7 @@
 //! The stages of a run; each hands on to the next.
 ghost use Rattle.std.specs.Prelude.{◌≡◌, ◌<◌, IfOk, IfSome, IsSome, None, OnOk, Some};
-ghost use Rattle.tenant_slot.specs.declared.slot.TheConstants.{MAX_ENTRIES};
+ghost use Rattle.one_user.specs.Prelude.{MAX_ENTRIES, Command as Asked, answer_to, circuit_in, after_event};
 ghost use Rattle.tenant_slot.specs.declared.command.Command.{Command};
-ghost use Rattle.tenant_slot.specs.declared.event.Event.TheVariants.{Command as Asked};
-ghost use Rattle.tenant_slot.specs.SingleUser.{answer_to, circuit_in};
-ghost use Rattle.tenant_slot.specs.Slot.{after_event};
 ghost use Rattle.one_user.specs.declared.outcome.FlowOutcome.{FlowOutcome};
 ghost use Rattle.one_user.specs.Figures.{HasFigures};
 ghost use Rattle.one_user.specs.Outcomes.{files_of, outcome_of, task_on};

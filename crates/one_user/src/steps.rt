@@ -1,7 +1,6 @@
 //! The steps of a job, one after another.
 ghost use Rattle.std.specs.Prelude.{◌≡◌, IfOk, Some};
-ghost use Rattle.job_state.specs.declared.sources.JobKind.{JobKind};
-ghost use Rattle.tenant_slot.specs.SingleUser.{kind_that_runs};
+ghost use Rattle.one_user.specs.Prelude.{JobKind, kind_that_runs};
 ghost use Rattle.one_user.specs.Steps.{CanFinish, CanStep, Finishes, MakesStep};
 
 use crate::telling::tell_step;

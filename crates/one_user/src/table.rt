@@ -1,6 +1,6 @@
 //! The figures as a text.
 ghost use Rattle.std.specs.Prelude.{◌≡◌};
-ghost use Rattle.line_text.specs.Writing.{Writes};
+ghost use Rattle.one_user.specs.Prelude.{Writes};
 ghost use Rattle.one_user.specs.Lines.{counts_text, figures_text, fullest_line, named_line, none_line};
 
 use crate::figures::Figures;

@@ -1,8 +1,6 @@
 //! A line for each step.
 ghost use Rattle.std.specs.Prelude.{◌≡◌, ◌-◌};
-ghost use Rattle.job_state.specs.JobValue.{pass_count};
-ghost use Rattle.line_text.specs.Writing.{Writes};
-ghost use Rattle.strip_place.specs.Anneal.{temperature_at};
+ghost use Rattle.one_user.specs.Prelude.{pass_count, Writes, temperature_at};
 ghost use Rattle.one_user.specs.Lines.{cluster_line, iteration_line, kind_word, most_line, overuse_line, packed_line, pass_line, step_line};
 
 use crate::passes::{pass_count, temperature_after};

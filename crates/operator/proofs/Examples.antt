@@ -1,8 +1,5 @@
 -- Examples computed by the checker.
-use Rattle.std.proofs.Common.{◌≡◌, ◌∷◌, [], codes, refl}
-use Rattle.tenant_slot.specs.declared.reply.StepReply.TheVariants.{Finished}
-use Rattle.sessions.specs.declared.steps.StepOutcome.TheVariants.{Recorded, Nothing}
-use Rattle.operator.specs.OperatorText.{last_id, outcome_text}
+use Rattle.operator.proofs.Prelude.{◌≡◌, ◌∷◌, [], codes, refl, Finished, Recorded, Nothing, last_id, outcome_text}
 
 finished : outcome_text (Recorded Finished) ≡ codes "finished\n"
 finished = refl

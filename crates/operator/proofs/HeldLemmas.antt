@@ -1,17 +1,5 @@
 -- Held jobs, by their numbers.
-use Rattle.std.proofs.Common.{◌≡◌, ℕ, zero, suc, ◌+◌, ◌-◌, ◌<◌, ◌≤◌, List, [], ◌∷◌, ◌++◌, length, get_or, Option, None, append_assoc, refl, sym, ap, ◌∙◌, subst, arith}
-use Rattle.std.specs.Prelude.{option_map, reverse}
-use Rattle.std.specs.List.{filter_map}
-use Rattle.std.proofs.lemmas.List.Elements.{filter_map-append}
-use Rattle.std.proofs.lemmas.List.{reverse-append, reverse-reverse}
-use Rattle.std.proofs.Math.ListN.{set}
-use Rattle.std.proofs.lemmas.Bool.Decides.{nat_tests}
-use Rattle.job_state.specs.Job.{JobState}
-use Rattle.service_core.specs.Run.{Call, Run}
-use Rattle.service_core.specs.Run.Call.{GiveBack}
-use Rattle.service_core.specs.Service.{ServiceState}
-use Rattle.sessions.proofs.StepLemmas.{Run-append}
-use Rattle.operator.specs.HeldJobs.{HeldList, job_at, without_job}
+use Rattle.operator.proofs.Prelude.{◌≡◌, ℕ, zero, suc, ◌+◌, ◌-◌, ◌<◌, ◌≤◌, List, [], ◌∷◌, ◌++◌, length, get_or, Option, None, append_assoc, refl, sym, ap, arith, option_map, reverse, filter_map, filter_map-append, reverse-append, set, nat_tests, JobState, Call, Run, GiveBack, ServiceState, Run-append, HeldList, job_at, without_job}
 
 pub job_at-zero : (js : HeldList) → job_at js 0 ≡ None
 job_at-zero [] = refl
@@ -51,15 +39,6 @@ given jobs = filter_map (option_map GiveBack) jobs
 -- one more job is given back, the last of the remaining ones
 pub given_more : (start old new : ServiceState) (all left rest done : HeldList) (held : Option JobState) → all ≡ left ++ reverse done → left ≡ rest ++ held ∷ [] → Run start (given done) old → Run old (given (held ∷ [])) new →
     (more : HeldList) × (all ≡ rest ++ reverse more) × Run start (given more) new
-given_more start old new all left rest done held parted last runs next = (
-  done ++ held ∷ [],
-  parted ∙ ap (λ js. js ++ reverse done) last ∙ append_assoc rest (held ∷ []) (reverse done) ∙ ap (λ js. rest ++ js) (sym (reverse-append done (held ∷ []))),
-  (let P : List Call → Type 0 = λ calls. Run start calls new in subst P (sym (filter_map-append (option_map GiveBack) done (held ∷ []))) (Run-append start (given done) old (given (held ∷ [])) new runs next)),
-)
-
-pub given_all : (start new : ServiceState) (all left done : HeldList) → all ≡ left ++ reverse done → left ≡ [] → Run start (given done) new → Run start (given (reverse all)) new
-given_all start new all left done parted none runs =
-    let same : reverse all ≡ done = ap reverse (parted ∙ ap (λ js. js ++ reverse done) none) ∙ reverse-reverse done in
-    rw same runs
+given_more start old new all left rest done held parted last runs next = grind (arith, reverse-append, filter_map-append, Run-append, append_assoc rest (held ∷ []) (reverse done), reverse-append done (held ∷ []), filter_map-append (option_map GiveBack) done (held ∷ []), Run-append start (given done) old (given (held ∷ [])) new runs next)
 
 pub ruleset by_number = (job_at-zero, without_job-zero, job_at-past, without_job-past, job_at-at, without_job-at)

@@ -1,3 +1,4 @@
+mod Prelude
 mod Examples
 mod HeldLemmas
 pub mod OperatorLemmas

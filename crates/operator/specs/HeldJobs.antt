@@ -1,14 +1,9 @@
 -- Jobs that the operator holds, numbered from 1 in the order in which they were taken; `None`
 -- replaces one that was put.
 use Rattle.std.specs.Prelude.{ℕ, ◌≡◌, ◌⊎◌, ◌-◌, List, [], ◌∷◌, ◌++◌, Option, Some, None, option_map, reverse, ◌==◌, if◌then◌else◌}
-use Rattle.job_state.specs.Job.{JobState}
+use Rattle.operator.specs.Prelude.{JobState, Call, Take, GiveBack, StepOutcome, Nothing, StepsAndPuts}
 use Rattle.std.specs.List.{filter_map}
 use Rattle.std.specs.Option.{option_map_or}
-use Rattle.service_core.specs.Run.{Call}
-use Rattle.service_core.specs.Run.Call.{Take, GiveBack}
-use Rattle.sessions.specs.declared.steps.StepOutcome.{StepOutcome}
-use Rattle.sessions.specs.declared.steps.StepOutcome.TheVariants.{Nothing}
-use Rattle.sessions.specs.Steps.{StepsAndPuts}
 
 abbrev pub HeldList : Type 0
 HeldList = List (Option JobState)

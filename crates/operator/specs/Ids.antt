@@ -3,7 +3,7 @@ use Rattle.std.specs.Prelude.{ℕ, ◌≡◌, List, reverse, unwrap_or}
 use Rattle.std.specs.Borrow.{Bor}
 use Rattle.std.specs.Map.{lookup}
 use Rattle.std.specs.Str.{bytes_eq}
-use Rattle.line_text.specs.Words.{texts}
+use Rattle.operator.specs.Prelude.{texts}
 use Rattle.operator.specs.OperatorText.{last_id}
 
 -- the names of all ids, newest first, from those in the order of admission

@@ -1,3 +1,4 @@
+pub mod Prelude
 pub mod Held
 pub mod HeldJobs
 pub mod Ids

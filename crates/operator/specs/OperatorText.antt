@@ -2,15 +2,7 @@
 use Rattle.std.specs.Prelude.{ℕ, ◌+◌, ◌-◌, ◌==◌, List, [], ◌∷◌, ◌++◌, length, reverse, slice_get, codes, decimal, Result, Ok, Err, Option, Some, None, unwrap_or, if◌then◌else◌}
 use Rattle.std.specs.Option.{option_map_or}
 use Rattle.std.specs.Str.{bytes_eq}
-use Rattle.sessions.specs.declared.steps.StepOutcome.{StepOutcome}
-use Rattle.sessions.specs.declared.steps.StepOutcome.TheVariants.{Recorded, Full, Gone, NoMemory}
-use Rattle.tenant_slot.specs.Names.{state_text}
-use Rattle.strips.specs.Plan.{offset_of}
-use Rattle.service_core.specs.declared.op_refusal.OpRefusal.{OpRefusal}
-use Rattle.service_core.specs.Names.{op_refusal_number, op_refusal_text}
-use Rattle.service_core.specs.History.{History, state_of}
-use Rattle.service_core.specs.Service.{ServiceState, live_of}
-use Rattle.sessions.specs.SessionText.{blank_word, numbered_line, step_text}
+use Rattle.operator.specs.Prelude.{StepOutcome, Recorded, Full, Gone, NoMemory, state_text, offset_of, OpRefusal, op_refusal_number, op_refusal_text, History, state_of, ServiceState, live_of, blank_word, numbered_line, step_text}
 
 -- a refusal of the operator as a line
 abbrev pub refused_text : ℕ → List ℕ → List ℕ

@@ -2,16 +2,8 @@
 -- it.
 use Rattle.std.specs.Prelude.{ℕ, ◌≡◌, ◌≢◌, ◌≤◌, List, ◌++◌, length, All}
 use Rattle.std.specs.Borrow.{Bor}
-use Rattle.rr_graph.specs.Graph.{Basis}
-use Rattle.service_core.specs.Run.{Call, Run}
-use Rattle.service_core.specs.Service.{ServiceState, live_of}
-use Rattle.script_text.specs.declared.operator_line.OperatorLine.{OperatorLine}
-use Rattle.script_text.specs.declared.operator_line.OperatorLine.TheVariants.{Admit}
-use Rattle.script_text.specs.Script.{named_operator}
+use Rattle.operator.specs.Prelude.{Basis, Call, Run, ServiceState, live_of, OperatorLine, Admit, named_operator, Unfit, own_graph, MakesStep}
 use Rattle.operator.specs.OperatorText.{last_id}
-use Rattle.sessions.specs.declared.steps.StepOutcome.TheVariants.{Unfit}
-use Rattle.sessions.specs.Fitting.{own_graph}
-use Rattle.sessions.specs.Steps.{MakesStep}
 use Rattle.operator.specs.HeldJobs.{HeldList}
 use Rattle.operator.specs.Serving.{IsAdmission, Leaves, Tried, tried_calls, tried_text, IsServed}
 

@@ -1,12 +1,8 @@
 -- The owners of a device's pins, wires and pads, as in the reply to the operator.
 use Rattle.std.specs.Prelude.{ℕ, List, [], ◌∷◌, ◌++◌, length, codes, decimal}
 use Rattle.std.specs.List.{flat_map}
-use Rattle.device_book.specs.declared.book.Owned.{Owned}
-use Rattle.rr_graph.specs.declared.node.NodeKind.TheVariants.{Opin, Ipin, ChanX, ChanY}
-use Rattle.rr_graph.specs.declared.resource.Resource.{Resource}
-use Rattle.rr_graph.specs.declared.resource.ResourceKind.{ResourceKind}
-use Rattle.rr_graph.specs.declared.resource.ResourceKind.TheVariants.{Opin as OpinHeld, Ipin as IpinHeld, ChanX as ChanXHeld, ChanY as ChanYHeld, Pad}
-use Rattle.vpr_files.specs.NodeText.{node_text_of, position_text}
+use Rattle.operator.specs.Prelude.{Owned, Opin, Ipin, ChanX, ChanY, Resource, ResourceKind, Pad, node_text_of, position_text}
+use Rattle.rr_graph.specs.declared.resource.ResourceKind.TheVariants.{Opin as OpinHeld, Ipin as IpinHeld, ChanX as ChanXHeld, ChanY as ChanYHeld}
 
 -- a pin or a wire of that kind, as its node appears in the `.route` file of a device with `rows`
 -- rows; a pad in the form of its own

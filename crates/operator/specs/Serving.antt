@@ -1,21 +1,9 @@
 -- The replies to the operator's lines.
 use Rattle.std.specs.Prelude.{ℕ, ◌≡◌, ◌≢◌, ◌⊎◌, ◌≤◌, ◌+◌, All, option_map, List, [], ◌∷◌, length, codes, Result, Option, Some, None}
 use Rattle.std.specs.List.{flat_map}
-use Rattle.rr_graph.specs.Graph.{Basis}
-use Rattle.job_state.specs.Job.{JobState}
-use Rattle.service_core.specs.declared.op_refusal.OpRefusal.{OpRefusal}
-use Rattle.service_core.specs.History.{History}
-use Rattle.service_core.specs.Run.{Call, Happens, Run}
-use Rattle.service_core.specs.Run.Call.{Admit as AdmitCall, Evict as EvictCall, Move as MoveCall, Take as TakeCall, Owners as OwnersCall}
-use Rattle.service_core.specs.Service.{ServiceState, live_of}
-use Rattle.script_text.specs.declared.operator_line.OperatorLine.{OperatorLine}
-use Rattle.script_text.specs.declared.operator_line.OperatorLine.TheVariants.{Admit, Evict, Move, List as ListAll, Owners, Step, Take, Put}
-use Rattle.sessions.specs.declared.steps.StepOutcome.{StepOutcome}
-use Rattle.sessions.specs.declared.steps.StepOutcome.TheVariants.{Unfit}
-use Rattle.sessions.specs.Fitting.{own_graph}
-use Rattle.sessions.specs.Steps.{MakesStep}
-use Rattle.device_book.specs.declared.book.Owned.{Owned}
-use Rattle.service_core.specs.Owners.{ListsOwnersOf}
+use Rattle.operator.specs.Prelude.{Basis, JobState, OpRefusal, History, Call, Happens, Run, Take as TakeCall, ServiceState, live_of, OperatorLine, Admit, Evict, Move, List as ListAll, Owners, Step, Put, StepOutcome, Unfit, own_graph, MakesStep, Owned, ListsOwnersOf}
+use Rattle.service_core.specs.Run.Call.{Admit as AdmitCall, Evict as EvictCall, Move as MoveCall, Owners as OwnersCall}
+use Rattle.script_text.specs.declared.operator_line.OperatorLine.TheVariants.{Take}
 use Rattle.operator.specs.OwnersText.{owners_text}
 use Rattle.operator.specs.HeldJobs.{HeldList, Holds, PutsHeld, job_at, with_job, without_job}
 use Rattle.operator.specs.OperatorText.{admitted_text, evicted_text, last_id, list_text, moved_text, names_after, outcome_text, refused_text, taken_text}

@@ -1,5 +1,5 @@
 ghost use Rattle.std.specs.Prelude.{◌≡◌};
-ghost use Rattle.job_state.specs.JobValue.{basis_in};
+ghost use Rattle.operator.specs.Prelude.{basis_in};
 
 use job_state::AnyJob;
 use std::marker::Model;

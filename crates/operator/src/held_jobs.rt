@@ -1,10 +1,5 @@
 ghost use Rattle.std.specs.Prelude.{◌≡◌, ◌≢◌, ◌+◌, ◌∷◌, [], List, None, length, option_map, IfOk, OnErr, Option};
-ghost use Rattle.job_state.specs.Job.{JobState};
-ghost use Rattle.service_core.specs.Run.{Call, Run};
-ghost use Rattle.service_core.specs.Run.Call.{Take};
-ghost use Rattle.sessions.specs.declared.steps.StepOutcome.TheVariants.{Unfit};
-ghost use Rattle.sessions.specs.Fitting.{own_graph};
-ghost use Rattle.sessions.specs.Steps.{StepsAndPuts};
+ghost use Rattle.operator.specs.Prelude.{JobState, Call, Run, Take, Unfit, own_graph, StepsAndPuts};
 ghost use Rattle.operator.specs.HeldJobs.{Holds, PutsHeld, give_backs, job_at, with_job, without_job};
 
 use crate::held_job::HeldJob;

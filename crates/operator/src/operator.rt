@@ -1,6 +1,6 @@
 ghost use Rattle.std.specs.Prelude.{◌≡◌, ◌+◌, ◌<◌, ◌∷◌, ◌++◌, ◌↔◌, [], length, vec_capacity, vec_len, option_copied, IsTrue, OnErr, OnOk};
 ghost use Rattle.operator.specs.OperatorText.{last_id, list_text, name_of};
-ghost use Rattle.indexmap.specs.IndexMap.{spare};
+ghost use Rattle.operator.specs.Prelude.{spare};
 ghost use Rattle.operator.specs.Held.{sink_text};
 ghost use Rattle.operator.specs.Ids.{AreLastIds, newest_first};
 ghost use Rattle.operator.specs.Operators.{Steps, TriesSome};

@@ -3,7 +3,7 @@ ghost use Rattle.std.specs.Prelude.{◌≡◌, ◌++◌, OnOk, codes, decimal};
 ghost use Rattle.std.specs.List.{flat_map};
 ghost use Rattle.operator.specs.Held.{sink_text};
 ghost use Rattle.operator.specs.OwnersText.{owned_text, owners_text, resource_text};
-ghost use Rattle.vpr_files.specs.NodeText.{node_text_of, position_text};
+ghost use Rattle.operator.specs.Prelude.{node_text_of, position_text};
 
 use crate::reply::push_parts;
 use device_book::Owned;

@@ -3,7 +3,7 @@ ghost use Rattle.std.specs.Prelude.{◌≡◌, ◌++◌, ◌∷◌, [], OnOk, de
 ghost use Rattle.std.specs.List.{flat_map};
 ghost use Rattle.operator.specs.Held.{sink_text};
 ghost use Rattle.operator.specs.OperatorText.{admitted_text, evicted_text, list_lines, moved_text, outcome_text, outcome_word, refused_text, taken_text};
-ghost use Rattle.sessions.specs.SessionText.{blank_word};
+ghost use Rattle.operator.specs.Prelude.{blank_word};
 
 use itoa::Buffer;
 use line_text::{MemorySink, write_slices};

@@ -1,8 +1,5 @@
 -- Texts without markup.
-use Rattle.std.proofs.Common.{ℕ, ◌≡◌, ◌∙◌, ◌&&◌, ◌==◌, Bool, true, false, List, [], ◌∷◌, ◌++◌, ◌⊎◌, inl, inr, refl, sym, ap, subst, eqb, cond, leb, not}
-use Rattle.std.specs.List.{flat_map, list_all}
-use Rattle.std.proofs.lemmas.List.Folds.{list_all-append}
-use Rattle.page.specs.Shown.{is_inert, escape_of}
+use Rattle.page.proofs.Prelude.{ℕ, ◌≡◌, ◌∙◌, ◌&&◌, ◌==◌, Bool, true, false, List, [], ◌∷◌, ◌++◌, ◌⊎◌, inl, inr, refl, sym, ap, subst, eqb, cond, leb, not, flat_map, list_all, list_all-append, is_inert, escape_of}
 
 bool_cases : (b : Bool) → (b ≡ true) ⊎ (b ≡ false)
 bool_cases true = inl refl

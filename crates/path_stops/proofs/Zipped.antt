@@ -1,6 +1,5 @@
 -- Two lists, element by element.
-use Rattle.std.proofs.Common.{List, [], ◌∷◌, ◌++◌}
-use Rattle.std.specs.List.{AllZip}
+use Rattle.path_stops.proofs.Prelude.{List, [], ◌∷◌, ◌++◌, AllZip}
 
 -- one more
 pub zip_more : {A B : Type 0} (R : A → B → Type 0) (xs : List A) (ys : List B) (x : A) (y : B) → AllZip R xs ys → R x y → AllZip R (xs ++ x ∷ []) (ys ++ y ∷ [])

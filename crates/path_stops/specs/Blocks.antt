@@ -2,13 +2,7 @@
 use Rattle.std.specs.Prelude.{ℕ, ◌==◌, Bool, true, false, List, [], codes, drop, find, length, position, slice_index_or, take, min, ◌&&◌, Option, Some, None}
 use Rattle.std.specs.List.{list_any, range_with_len}
 use Rattle.std.specs.Str.{bytes_eq}
-use Rattle.blif.specs.declared.circuit.Circuit.{Circuit}
-use Rattle.blif.specs.declared.latches.Latch.{Latch}
-use Rattle.strip_files.specs.Parts.{elements_of}
-use Rattle.strip_files.specs.declared.block.BlockKind.{BlockKind}
-use Rattle.strip_files.specs.declared.block.BlockKind.TheVariants.{InputPad, OutputPad, Cluster}
-use Rattle.strip_files.specs.declared.block.PlacedBlock.{PlacedBlock}
-use Rattle.strip_files.specs.declared.reader.RoutedStrip.{RoutedStrip}
+use Rattle.path_stops.specs.Prelude.{Circuit, Latch, elements_of, BlockKind, InputPad, OutputPad, Cluster, PlacedBlock, RoutedStrip}
 
 -- the name of a net; empty if there is no such net
 abbrev pub net_name : Circuit → ℕ → List ℕ

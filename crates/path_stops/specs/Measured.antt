@@ -1,17 +1,7 @@
 -- The wires on the way to each stop of a path.
 use Rattle.std.specs.Prelude.{ℕ, ◌≡◌, List, [], ◌∷◌, position, slice_get, Option, Some, None}
 use Rattle.std.specs.Str.{bytes_eq}
-use Rattle.blif.specs.declared.circuit.Circuit.{Circuit}
-use Rattle.path_wires.specs.Wires.{AreWires}
-use Rattle.path_wires.specs.declared.hops.Hop.{Hop}
-use Rattle.rr_graph.specs.declared.node.Node.{Node}
-use Rattle.rr_graph.specs.declared.node.NodeKind.TheVariants.{Sink}
-use Rattle.strip_files.specs.Parts.{nodes_of}
-use Rattle.strip_files.specs.declared.block.BlockKind.{BlockKind}
-use Rattle.strip_files.specs.declared.block.BlockKind.TheVariants.{InputPad, OutputPad, Cluster}
-use Rattle.strip_files.specs.declared.block.PlacedBlock.{PlacedBlock}
-use Rattle.strip_files.specs.declared.reader.RoutedStrip.{RoutedStrip}
-use Rattle.strip_files.specs.declared.route_node.RouteNode.{RouteNode}
+use Rattle.path_stops.specs.Prelude.{Circuit, AreWires, Hop, Node, Sink, nodes_of, BlockKind, InputPad, OutputPad, Cluster, PlacedBlock, RoutedStrip, RouteNode}
 use Rattle.path_stops.specs.Blocks.{net_name}
 use Rattle.path_stops.specs.declared.measured.MeasuredStop.{MeasuredStop}
 use Rattle.path_stops.specs.declared.stops.PathStop.{PathStop}

@@ -2,11 +2,7 @@
 use Rattle.std.specs.Prelude.{ℕ, ◌+◌, ◌-◌, ◌==◌, List, [], ◌∷◌, ◌++◌, filter, length, map, slice_get, slice_index_or, Option, Some, None, if◌then◌else◌}
 use Rattle.std.specs.List.{range_with_len}
 use Rattle.std.specs.Option.{option_map_or}
-use Rattle.blif.specs.LawfulCircuits.{has_net}
-use Rattle.blif.specs.declared.circuit.Circuit.{Circuit}
-use Rattle.blif.specs.declared.latches.Latch.{Latch}
-use Rattle.longest_path.specs.declared.longest.LongestPath.{LongestPath}
-use Rattle.strip_files.specs.declared.reader.RoutedStrip.{RoutedStrip}
+use Rattle.path_stops.specs.Prelude.{has_net, Circuit, Latch, LongestPath, RoutedStrip}
 use Rattle.path_stops.specs.Blocks.{block_named, driver_block, net_name, output_pad}
 use Rattle.path_stops.specs.declared.stops.PathStop.{PathStop}
 use Rattle.path_stops.specs.declared.stops.StopKind.TheVariants.{Start, Table, End}

@@ -1,12 +1,7 @@
 -- The stops of a path as a text.
 use Rattle.std.specs.Prelude.{ℕ, ◌==◌, List, [], ◌∷◌, ◌++◌, codes, decimal, Option, Some, None, if◌then◌else◌}
 use Rattle.std.specs.List.{concat}
-use Rattle.blif.specs.declared.circuit.Circuit.{Circuit}
-use Rattle.grid.specs.declared.place.Place.{Place}
-use Rattle.strip_files.specs.declared.block.BlockKind.{BlockKind}
-use Rattle.strip_files.specs.declared.block.BlockKind.TheVariants.{InputPad, OutputPad, Cluster}
-use Rattle.strip_files.specs.declared.block.PlacedBlock.{PlacedBlock}
-use Rattle.strip_files.specs.declared.reader.RoutedStrip.{RoutedStrip}
+use Rattle.path_stops.specs.Prelude.{Circuit, Place, BlockKind, InputPad, OutputPad, Cluster, PlacedBlock, RoutedStrip}
 use Rattle.path_stops.specs.Blocks.{net_name}
 use Rattle.path_stops.specs.Measured.{block_at}
 use Rattle.path_stops.specs.declared.measured.MeasuredStop.{MeasuredStop}

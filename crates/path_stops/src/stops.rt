@@ -1,6 +1,6 @@
 //! The stops of a path.
 ghost use Rattle.std.specs.Prelude.{◌≡◌, ◌+◌, ◌≤◌, ◌++◌, IfOk, length};
-ghost use Rattle.blif.specs.LawfulCircuits.{has_net};
+ghost use Rattle.path_stops.specs.Prelude.{has_net};
 ghost use Rattle.path_stops.specs.Stops.{driver_stops, latch_stop, latch_stops, net_at, net_of_table, output_stops, stop_at, stops_of};
 
 use crate::blocks::{block_named, driver_block, net_name, output_pad};

@@ -1,7 +1,7 @@
 //! The stops of a path as a text.
 ghost use Rattle.std.specs.Prelude.{◌≡◌};
 ghost use Rattle.std.specs.List.{flat_map};
-ghost use Rattle.line_text.specs.Writing.{Writes};
+ghost use Rattle.path_stops.specs.Prelude.{Writes};
 ghost use Rattle.path_stops.specs.Measured.{block_at};
 ghost use Rattle.path_stops.specs.Text.{block_text, kind_word, logic_text, name_text, pad_text, place_text, stop_text, way_line, wire_word, wires_line};
 

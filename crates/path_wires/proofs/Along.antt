@@ -1,10 +1,5 @@
 -- The wires on the ways to the nodes of a route, node by node.
-use Rattle.std.proofs.Common.{ℕ, ◌≡◌, ◌+◌, ◌<◌, ◌≤◌, ◌∙◌, ◌⊎◌, List, [], ◌∷◌, ◌++◌, length, take, sym, refl, ap, subst, arith, inl, inr}
-use Rattle.std.proofs.Math.Seq.{take-length}
-use Rattle.std.proofs.lemmas.Bool.{cases_lt}
-use Rattle.std.proofs.lemmas.List.{get_or_append_left, get_or_push, length-append, take-append-le}
-use Rattle.strip_files.specs.declared.route_node.RouteNode.{RouteNode}
-use Rattle.path_wires.specs.Wires.{AreSmall, AreUpTo, depth_at, wires_at}
+use Rattle.path_wires.proofs.Prelude.{ℕ, ◌≡◌, ◌+◌, ◌<◌, ◌≤◌, ◌∙◌, ◌⊎◌, List, [], ◌∷◌, ◌++◌, length, take, sym, refl, ap, subst, arith, inl, inr, take-length, cases_lt, get_or_append_left, get_or_push, length-append, take-append-le, RouteNode, AreSmall, AreUpTo, depth_at, wires_at}
 
 -- one more is added
 pub up_to_more : (nodes : List RouteNode) (depths : List ℕ) (count depth : ℕ) → length depths ≡ count → depth ≡ depth_at nodes depths count → AreUpTo nodes depths count

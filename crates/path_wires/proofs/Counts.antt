@@ -1,10 +1,5 @@
 -- The wire counts of hops, hop by hop.
-use Rattle.std.proofs.Common.{ℕ, ◌≡◌, ◌+◌, ◌-◌, ◌^◌, ◌<◌, ◌∙◌, List, [], ◌∷◌, ◌++◌, length, get_or, min, take, ap, refl, sym, subst, arith}
-use Rattle.std.specs.List.{sum}
-use Rattle.std.proofs.lemmas.List.{take_more}
-use Rattle.std.proofs.lemmas.List.Sums.{sum_by_push}
-use Rattle.path_wires.specs.Wires.{AreCounts, IsWireCount}
-use Rattle.path_wires.specs.declared.hops.Hop.{Hop}
+use Rattle.path_wires.proofs.Prelude.{ℕ, ◌≡◌, ◌+◌, ◌-◌, ◌^◌, ◌<◌, ◌∙◌, List, [], ◌∷◌, ◌++◌, length, get_or, min, take, ap, refl, sym, subst, arith, sum, take_more, sum_by_push, AreCounts, IsWireCount, Hop}
 
 -- one more is counted
 pub counts_more : (hops : List Hop) (counts : List ℕ) (hop : Hop) (count : ℕ) → AreCounts hops counts → IsWireCount hop count → AreCounts (hops ++ hop ∷ []) (counts ++ count ∷ [])

@@ -1,2 +1,3 @@
+mod Prelude
 mod Along
 mod Counts

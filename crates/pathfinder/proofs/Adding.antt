@@ -1,15 +1,5 @@
 -- Trees whose paths add their nodes one after another.
-use Rattle.std.proofs.Common.{◌≡◌, ℕ, zero, suc, refl, ◌+◌, ◌<◌, ◌≤◌, List, [], ◌∷◌, ◌++◌, length, map, get_or, take, drop, Bool, true, false, cond, eqb, ◌||◌, arith, ◌∙◌, inl, inr, sym, ap}
-use Rattle.std.specs.List.{All, concat, list_any, slice_index}
-use Rattle.std.proofs.lemmas.Bool.{cases_lt}
-use Rattle.std.proofs.lemmas.List.{length-map, get_or-map, length_push, take_at, take-append-le, get_or_append_left, get_or_push, take-append-drop, take_more}
-use Rattle.std.proofs.lemmas.List.Folds.{list_any-append}
-use Rattle.std.proofs.lemmas.List.Elements.{All-drop}
-use Rattle.rows.specs.declared.span.Span.{Span}
-use Rattle.rows.specs.Spans.{AreWithin, part_of}
-use Rattle.pathfinder.specs.Negotiation.{Tree}
-use Rattle.pathfinder.specs.Tables.{AddsNodes, AreAdded, holds, news_from, times_in}
-use Rattle.pathfinder.specs.Wiring.{Wiring}
+use Rattle.pathfinder.proofs.Prelude.{◌≡◌, ℕ, ◌+◌, ◌<◌, ◌≤◌, List, [], ◌∷◌, ◌++◌, length, map, get_or, take, drop, Bool, true, cond, eqb, ◌||◌, arith, ◌∙◌, ap, All, concat, list_any, slice_index, length-map, get_or-map, length_push, take_at, take-append-le, get_or_append_left, get_or_push, take-append-drop, take_more, list_any-append, All-drop, Span, AreWithin, part_of, Tree, AddsNodes, AreAdded, holds, news_from, times_in, Wiring}
 use Rattle.pathfinder.proofs.Found.{any_from, holds_push}
 use Rattle.pathfinder.proofs.Iterations.{paths_within}
 use Rattle.pathfinder.proofs.Trees.{concat-append}
@@ -20,36 +10,21 @@ news_at tree number = drop (news_from (take number tree)) (get_or tree number []
 
 -- one more path
 pub added_push : (tree : Tree) (path : List ℕ) → AreAdded tree → AddsNodes tree path (news_from tree) → AreAdded (tree ++ path ∷ [])
-added_push tree path each adds = λ number l. elim (cases_lt number (length tree)) [
-  | inl before ↦ rw (take-append-le number tree (path ∷ []) (omega (arith, before)), get_or_append_left tree (path ∷ []) [] number before) (each number before)
-  | inr past ↦
-      (let at : length tree ≡ number = omega (arith, l, past, length_push tree path) in
-      rw (take_at tree (path ∷ []) number at, get_or_push tree path [] number at) adds)
-]
+added_push tree path each adds = grind (arith, take-append-le, get_or_append_left, length_push, take_at, get_or_push)
 
 -- the first node of a later path is not new
 pub news_later : (tree : Tree) (number : ℕ) → number < length tree → (number ≡ 0 → ⊥) → news_from (take number tree) ≡ 1
-news_later [] number l n = absurd (omega (arith, l))
-news_later (path ∷ paths) zero l n = absurd (n refl)
-news_later (path ∷ paths) (suc number) l n = refl
+news_later tree number l n = grind arith
 
 or_true : (b : Bool) → (b || true) ≡ true
-or_true true = refl
-or_true false = refl
+or_true b = grind arith
 
 -- a node of the first paths is one of the tree
 pub holds_front : (node : ℕ) (tree : Tree) (number : ℕ) → holds node (take number tree) ≡ true → holds node tree ≡ true
-holds_front node tree number e =
-    ap (λ (t : Tree). holds node t) (sym (take-append-drop number tree))
-    ∙ ap (λ (nodes : List ℕ). list_any (λ other. eqb other node) nodes) (concat-append (take number tree) (drop number tree))
-    ∙ list_any-append (λ other. eqb other node) (concat (take number tree)) (concat (drop number tree))
-    ∙ ap (λ b. b || list_any (λ other. eqb other node) (concat (drop number tree))) e
+holds_front node tree number e = grind (arith, concat-append, list_any-append, take-append-drop number tree, concat-append (take number tree) (drop number tree))
 
 holds_few : (node : ℕ) (tree : Tree) (number : ℕ) → cond (holds node (take number tree)) 1 0 ≤ cond (holds node tree) 1 0
-holds_few node tree number = elim (holds node (take number tree)) as (λ b. holds node (take number tree) ≡ b → cond b 1 0 ≤ cond (holds node tree) 1 0) [
-  | true ↦ λ e. (let one : ◌≡◌ {A = ℕ} (cond (holds node tree) 1 0) 1 = ap (λ b. cond {A = ℕ} b 1 0) (holds_front node tree number e) in omega (arith, one))
-  | false ↦ λ e. omega arith
-] refl
+holds_few node tree number = grind (arith, holds_front)
 
 -- whether the tree with one more path holds the node
 pub holds_more : (node : ℕ) (tree : Tree) (number : ℕ) → number < length tree → holds node (take (number + 1) tree) ≡ (holds node (take number tree) || list_any (λ other. eqb other node) (get_or tree number []))
@@ -78,9 +53,7 @@ news_within w tree number l within = All-drop (λ node. node < w.count) (news_fr
 
 -- a path of a tree that is stored in one list
 pub part_is : (nodes : List ℕ) (spans : List Span) (tree : Tree) (number : ℕ) (span : Span) → map (part_of nodes) spans ≡ tree → number < length tree → span ≡ get_or spans number span → part_of nodes span ≡ get_or tree number []
-part_is nodes spans tree number span view l e =
-    let within : number < length spans = omega (arith, l, ap (λ (t : Tree). length t) view, length-map spans (part_of nodes)) in
-    ap (part_of nodes) e ∙ sym (get_or-map (part_of nodes) spans number span [] within) ∙ ap (λ (t : Tree). get_or t number []) view
+part_is nodes spans tree number span view l e = grind (arith, length-map, get_or-map)
 
 -- a later path of a tree has a node
 pub later_some : (tree : Tree) (number : ℕ) → AreAdded tree → number < length tree → (number ≡ 0 → ⊥) → 1 ≤ length (get_or tree number [])

@@ -1,28 +1,9 @@
 -- Legal trees by number are legal routes by node.
-use Rattle.std.proofs.Common.{◌≡◌, ℕ, refl, ◌+◌, ◌<◌, ◌≤◌, List, [], ◌∷◌, map, Bool, true, false, cond, ◌||◌, eqb, arith, ◌∙◌, inl, inr, sym, ap, subst}
-use Rattle.std.specs.Prelude.{All, count_by}
-use Rattle.std.specs.List.{AllZip, Contains, concat, list_any}
-use Rattle.std.proofs.lemmas.Bool.{cases_lt}
-use Rattle.std.proofs.lemmas.List.Sums.{sum_by-cons}
-use Rattle.std.proofs.lemmas.List.Elements.{All-tail}
-use Rattle.cluster.specs.Clusters.{PackedCircuit}
-use Rattle.cluster.specs.Blocks.{BlockNet, block_nets}
-use Rattle.grid.specs.declared.place.Place.{Place}
-use Rattle.block_places.specs.Placed.{block_at, place_of}
-use Rattle.rr_graph.specs.declared.node.Node.{Node}
-use Rattle.rr_graph.specs.Geometry.{is_node, is_edge, capacity_of}
-use Rattle.rr_graph.specs.Graph.{Basis, IsRoutingGraph, graph_of}
-use Rattle.pathfinder.specs.Wiring.{Net, IsNet, IsWiring, AreNets}
-use Rattle.pathfinder.specs.Negotiation.{Tree, Done, occupancy, routed_after}
-use Rattle.pathfinder.specs.Terminals.{sink_at, net_source, net_sinks, is_same_node}
-use Rattle.pathfinder.specs.PlacedNets.{wiring_of, number_of, net_to_route, nets_to_route}
-use Rattle.pathfinder.specs.LegalRoutes.{path_nodes, pairs_of, IsLeaf, LeadsOver, IsTree, IsRoute, IsRouted, IsLegal}
-use Rattle.pathfinder.specs.LegalTrees.{IsNumberTree, IsNetTree, IsTreeFor, AreLegal}
-use Rattle.pathfinder.specs.Routings.{routes_by_node}
+use Rattle.pathfinder.proofs.Prelude.{◌≡◌, ℕ, refl, ◌+◌, ◌<◌, ◌≤◌, List, [], ◌∷◌, map, Bool, true, false, cond, ◌||◌, eqb, arith, ◌∙◌, inl, inr, sym, ap, subst, count_by, AllZip, Contains, concat, list_any, cases_lt, sum_by-cons, All-tail, PackedCircuit, BlockNet, block_nets, Place, block_at, place_of, Node, is_node, is_edge, capacity_of, Basis, IsRoutingGraph, graph_of, Net, IsNet, IsWiring, AreNets, Tree, Done, occupancy, routed_after, sink_at, net_source, net_sinks, is_same_node, wiring_of, number_of, net_to_route, nets_to_route, path_nodes, pairs_of, IsLeaf, LeadsOver, IsTree, IsRoute, IsRouted, IsLegal, IsNumberTree, IsNetTree, IsTreeFor, AreLegal, routes_by_node, LeastPathLaws}
+use Rattle.std.specs.Prelude.{All}
 use Rattle.pathfinder.proofs.Steps.{in_first, in_later}
 use Rattle.pathfinder.proofs.Strips.{is_pair}
 use Rattle.pathfinder.proofs.Found.{any_from, occupancy-cons}
-use Rattle.pathfinder.specs.Growth.{LeastPathLaws}
 use Rattle.pathfinder.proofs.Growing.{IsWithin}
 use Rattle.pathfinder.proofs.Rounds.{HoldsWithin, beyond, done_sound}
 use Rattle.pathfinder.proofs.NodeNumbers.{number_found, number_there, is_number}

@@ -1,20 +1,5 @@
 -- A net's paths start at its source, at an output pin of its block or pad, or at wires.
-use Rattle.std.proofs.Common.{◌≡◌, ℕ, refl, ◌<◌, ◌⊎◌, List, [], ◌∷◌, true, ◌∙◌, inl, inr, sym, ap, subst, eq-eqb}
-use Rattle.std.specs.List.{All, Contains, concat}
-use Rattle.std.proofs.lemmas.Bool.{false≢true}
-use Rattle.rr_graph.specs.declared.node.NodeKind.TheVariants.{Source, Opin}
-use Rattle.rr_graph.specs.declared.node.Node.{Node}
-use Rattle.rr_graph.specs.Geometry.{is_together, joins}
-use Rattle.rr_graph.specs.Graph.{Basis, IsRoutingGraph, graph_of}
-use Rattle.rr_graph.proofs.GeometryLaws.{edge_joins}
-use Rattle.fabric_planes.specs.Layout.{IsStart, is_same_spot}
-use Rattle.pathfinder.specs.Wiring.{Wiring, IsEdge, IsWiring}
-use Rattle.pathfinder.specs.PlacedNets.{wiring_of}
-use Rattle.pathfinder.specs.Negotiation.{Tree, is_branching, starts_of}
-use Rattle.pathfinder.specs.LegalRoutes.{pairs_of, LeadsOver}
-use Rattle.pathfinder.specs.LegalTrees.{IsNumberTree}
-use Rattle.pathfinder.specs.Growth.{IsSoFar, IsGrown}
-use Rattle.fabric_planes.specs.NetSearches.{terminals_of}
+use Rattle.pathfinder.proofs.Prelude.{◌≡◌, ℕ, refl, ◌<◌, ◌⊎◌, List, [], ◌∷◌, true, ◌∙◌, inl, inr, sym, ap, subst, eq-eqb, All, Contains, concat, false≢true, Source, Opin, Node, is_together, joins, Basis, IsRoutingGraph, graph_of, edge_joins, IsStart, is_same_spot, Wiring, IsEdge, IsWiring, wiring_of, Tree, is_branching, starts_of, pairs_of, LeadsOver, IsNumberTree, IsSoFar, IsGrown, terminals_of}
 use Rattle.pathfinder.proofs.Steps.{in_none, in_cases}
 use Rattle.pathfinder.proofs.Growing.{all_by_member, in_filter}
 

@@ -1,16 +1,5 @@
 -- The trees of the iteration after a routing's state.
-use Rattle.std.proofs.Common.{◌≡◌, ℕ, ◌≤◌, ◌^◌, ◌∙◌, length, arith}
-use Rattle.rr_graph.specs.Graph.{Basis, IsRoutingGraph, graph_of}
-use Rattle.pathfinder.specs.declared.state.State.{State}
-use Rattle.pathfinder.specs.declared.state.NewTrees.{NewTrees}
-use Rattle.pathfinder.specs.Growth.{LeastPathLaws}
-use Rattle.pathfinder.specs.Negotiation.{More}
-use Rattle.pathfinder.specs.PlacedNets.{wiring_of}
-use Rattle.pathfinder.specs.Rates.{AreRates}
-use Rattle.pathfinder.specs.Routings.{IsAfter, FindsNoPath}
-use Rattle.pathfinder.specs.States.{state_of, AreNext}
-use Rattle.pathfinder.specs.Tables.{IsRound, IsTable, AreRouted, AreNewTrees, IsFirstWithout}
-use Rattle.pathfinder.specs.Wiring.{IsWiring}
+use Rattle.pathfinder.proofs.Prelude.{◌≡◌, ℕ, ◌≤◌, ◌^◌, ◌∙◌, length, arith, Basis, IsRoutingGraph, graph_of, State, NewTrees, LeastPathLaws, More, wiring_of, AreRates, IsAfter, FindsNoPath, state_of, AreNext, IsRound, IsTable, AreRouted, AreNewTrees, IsFirstWithout, IsWiring}
 use Rattle.pathfinder.proofs.Iterations.{IsReady, ready, next_trees, no_path, as_many, nodes_in, low_held, low_history}
 use Rattle.pathfinder.proofs.Strips.{strip_wiring}
 

@@ -1,21 +1,8 @@
 -- The number of a node.
-use Rattle.std.proofs.Common.{◌≡◌, ℕ, ◌<◌, Bool, true, false, eqb, get_or, refl, sym, ap, subst, ◌∙◌, inl, inr, arith, eq-eqb}
-use Rattle.std.specs.List.{range_with_len}
-use Rattle.std.proofs.lemmas.Bool.{and_parts, cases_Bool, eqb-true, false≢true, ne_eqb}
-use Rattle.std.proofs.lemmas.List.FromFn.{length-range_with_len, get_or-range_with_len}
-use Rattle.std.proofs.lemmas.List.Sums.{passes_at_first, position_or_len_is}
-use Rattle.rr_graph.specs.declared.node.Node.{Node}
-use Rattle.rr_graph.specs.Node.{IsBefore, rank_of}
-use Rattle.rr_graph.specs.Graph.{RoutingGraph, make_node}
-use Rattle.rr_graph.proofs.Columns.{same_kind}
-use Rattle.pathfinder.specs.Terminals.{is_same_node}
-use Rattle.pathfinder.specs.PlacedNets.{number_of}
+use Rattle.pathfinder.proofs.Prelude.{◌≡◌, ℕ, ◌<◌, Bool, true, false, eqb, get_or, refl, sym, ap, subst, ◌∙◌, inl, inr, arith, eq-eqb, range_with_len, and_parts, cases_Bool, eqb-true, false≢true, ne_eqb, length-range_with_len, get_or-range_with_len, passes_at_first, position_or_len_is, Node, IsBefore, rank_of, RoutingGraph, is_same_node, number_of}
 
 not_before : (a b : Node) → a.x ≡ b.x → rank_of a.kind ≡ rank_of b.kind → a.y ≡ b.y → a.n ≡ b.n → IsBefore a b → ⊥
-not_before a b x k y n (inl l) = omega (arith, l, x)
-not_before a b x k y n (inr (e, inl l)) = omega (arith, l, k)
-not_before a b x k y n (inr (e, inr (f, inl l))) = omega (arith, l, y)
-not_before a b x k y n (inr (e, inr (f, inr (g, l)))) = omega (arith, l, n)
+not_before a b x k y n h5 = grind arith
 
 same_itself : (a : Node) → is_same_node a a ≡ true
 same_itself a = rw (eq-eqb a.x a.x refl, eq-eqb (rank_of a.kind) (rank_of a.kind) refl, eq-eqb a.y a.y refl, eq-eqb a.n a.n refl) refl
@@ -41,13 +28,7 @@ number_found g ordered i node within is =
 
 -- nodes that pass the test are equal
 pub same_node : (a b : Node) → is_same_node a b ≡ true → a ≡ b
-same_node a b is =
-    let column = and_parts (eqb a.x b.x) _ is in
-    let kind = and_parts (eqb (rank_of a.kind) (rank_of b.kind)) _ column.1 in
-    let row = and_parts (eqb a.y b.y) _ kind.1 in
-    ap (λ x. make_node x a.kind a.y a.n) (eqb-true a.x b.x column.0)
-    ∙ (ap (λ kind. make_node b.x kind a.y a.n) (same_kind a.kind b.kind (eqb-true (rank_of a.kind) (rank_of b.kind) kind.0))
-    ∙ (ap (λ y. make_node b.x b.kind y a.n) (eqb-true a.y b.y row.0) ∙ ap (λ n. make_node b.x b.kind b.y n) (eqb-true a.n b.n row.1)))
+same_node a b is = grind (arith, and_parts)
 
 -- a number that a node has in the graph is its own
 pub number_there : (g : RoutingGraph) (node : Node) → number_of g node < g.count → g.node (number_of g node) ≡ node

@@ -1,56 +1,15 @@
 -- The sources and sinks of placed blocks.
-use Rattle.std.proofs.Common.{◌≡◌, ◌≢◌, ℕ, ◌<◌, Bool, true, false, List, [], ◌∷◌, length, get_or, map, cond, sym, ap, subst, ◌∙◌, inl, inr, arith}
+use Rattle.pathfinder.proofs.Prelude.{◌≡◌, ◌≢◌, ℕ, ◌<◌, Bool, true, false, List, [], ◌∷◌, length, get_or, map, cond, sym, ap, subst, ◌∙◌, arith, AllPairs, nat_tests, Decides-eqb, length-map, get_or-map, All-nil, All-map, All-contains, IsDistinct-from_AllPairs, Arch, Block, PackedCircuit, BlockNet, blocks_of, block_nets, IsBlockNet, IsLawfulPacking, Strip, Kind, Place, IsStripSize, place_at, places_of, IsInRow, IsPlaceIn, kind_of, Sink, Node, is_node, Basis, IsBasis, IsRoutingGraph, graph_of, IsNet, AreNets, block_at, place_of, ArePlaced, source_at, sink_at, wiring_of, number_of, net_to_route, nets_to_route}
 use Rattle.std.specs.Prelude.{All}
-use Rattle.std.specs.List.{AllPairs}
-use Rattle.std.proofs.lemmas.Bool.Decides.{nat_tests, Decides-eqb}
-use Rattle.std.proofs.lemmas.List.{length-map, get_or-map}
-use Rattle.std.proofs.lemmas.List.Elements.{All-nil, All-map, All-contains}
-use Rattle.std.proofs.lemmas.Map.Made.{IsDistinct-from_AllPairs}
-use Rattle.arch_file.specs.declared.arch.Arch.{Arch}
-use Rattle.arch_file.specs.Arch.{IsWithin}
-use Rattle.cluster.specs.declared.block.Block.{Block}
-use Rattle.cluster.specs.declared.block.Block.TheVariants.{InputPad, OutputPad, Cluster}
-use Rattle.cluster.specs.Clusters.{PackedCircuit}
-use Rattle.cluster.specs.Blocks.{BlockNet, blocks_of, block_nets}
-use Rattle.cluster.specs.PackingLaws.{IsBlockNet, IsLawfulPacking}
-use Rattle.grid.specs.declared.Strip.{Strip}
-use Rattle.grid.specs.declared.place.Kind.{Kind}
-use Rattle.grid.specs.declared.place.Place.{Place}
-use Rattle.grid.specs.Sizes.{IsStripSize}
-use Rattle.grid.specs.Places.{place_at, places_of}
-use Rattle.grid.specs.PlaceLaws.{IsInRow, IsPlaceIn}
-use Rattle.block_places.specs.Fits.{kind_of}
-use Rattle.rr_graph.specs.declared.node.NodeKind.TheVariants.{Sink}
-use Rattle.rr_graph.specs.declared.node.Node.{Node}
-use Rattle.rr_graph.specs.Geometry.{is_node}
-use Rattle.rr_graph.specs.Graph.{Basis, IsBasis, IsRoutingGraph, graph_of}
-use Rattle.pathfinder.specs.Wiring.{IsNet, AreNets}
-use Rattle.block_places.specs.Placed.{block_at, place_of, ArePlaced}
-use Rattle.pathfinder.specs.Terminals.{source_at, sink_at}
-use Rattle.pathfinder.specs.PlacedNets.{wiring_of, number_of, net_to_route, nets_to_route}
 use Rattle.pathfinder.proofs.NodeNumbers.{number_found}
 
 -- ---- they are nodes
 
 pub source_is : (arch : Arch) (strip : Strip) (block : Block) (place : Place) → IsPlaceIn strip (kind_of block) place → is_node arch strip (source_at block place) ≡ true
-source_is arch strip block place at = by block at.column at.row
-  where
-    by : (block : Block) → IsWithin 1 place.x strip.width → IsInRow strip (kind_of block) place → is_node arch strip (source_at block place) ≡ true
-    by (InputPad net) (x, w) (inl e, s) = grind (arith, nat_tests)
-    by (InputPad net) (x, w) (inr e, s) = grind (arith, nat_tests)
-    by (OutputPad net) (x, w) (inl e, s) = grind (arith, nat_tests)
-    by (OutputPad net) (x, w) (inr e, s) = grind (arith, nat_tests)
-    by (Cluster cluster) (x, w) ((y, r), s) = grind (arith, nat_tests)
+source_is arch strip block place at = search (nat_tests, arith)
 
 pub sink_is : (arch : Arch) (strip : Strip) (block : Block) (place : Place) → IsPlaceIn strip (kind_of block) place → is_node arch strip (sink_at block place) ≡ true
-sink_is arch strip block place at = by block at.column at.row
-  where
-    by : (block : Block) → IsWithin 1 place.x strip.width → IsInRow strip (kind_of block) place → is_node arch strip (sink_at block place) ≡ true
-    by (InputPad net) (x, w) (inl e, s) = grind (arith, nat_tests)
-    by (InputPad net) (x, w) (inr e, s) = grind (arith, nat_tests)
-    by (OutputPad net) (x, w) (inl e, s) = grind (arith, nat_tests)
-    by (OutputPad net) (x, w) (inr e, s) = grind (arith, nat_tests)
-    by (Cluster cluster) (x, w) ((y, r), s) = grind (arith, nat_tests)
+sink_is arch strip block place at = search (nat_tests, arith)
 
 -- two places with equal parts are equal
 same_place : (a b : Place) → a.x ≡ b.x → a.y ≡ b.y → a.subblock ≡ b.subblock → a ≡ b
@@ -58,16 +17,7 @@ same_place a b x y s = ap (λ k. place_at k a.y a.subblock) x ∙ ap (λ k. plac
 
 -- two blocks with equal sinks have equal places
 same_sink : (strip : Strip) (a b : Block) (p q : Place) → IsInRow strip (kind_of a) p → IsInRow strip (kind_of b) q → sink_at a p ≡ sink_at b q → p ≡ q
-same_sink strip (Cluster a) (Cluster b) p q (_, s) (_, t) e = same_place p q (ap (λ (n : Node). n.x) e) (ap (λ (n : Node). n.y) e) (s ∙ sym t)
-same_sink strip (Cluster a) (InputPad b) p q ((l, h), _) (inl t, _) e = absurd (omega (arith, l, t, ap (λ (n : Node). n.y) e))
-same_sink strip (Cluster a) (InputPad b) p q ((l, h), _) (inr t, _) e = absurd (omega (arith, h, t, ap (λ (n : Node). n.y) e))
-same_sink strip (Cluster a) (OutputPad b) p q ((l, h), _) (inl t, _) e = absurd (omega (arith, l, t, ap (λ (n : Node). n.y) e))
-same_sink strip (Cluster a) (OutputPad b) p q ((l, h), _) (inr t, _) e = absurd (omega (arith, h, t, ap (λ (n : Node). n.y) e))
-same_sink strip (InputPad a) (Cluster b) p q (inl t, _) ((l, h), _) e = absurd (omega (arith, l, t, ap (λ (n : Node). n.y) e))
-same_sink strip (InputPad a) (Cluster b) p q (inr t, _) ((l, h), _) e = absurd (omega (arith, h, t, ap (λ (n : Node). n.y) e))
-same_sink strip (OutputPad a) (Cluster b) p q (inl t, _) ((l, h), _) e = absurd (omega (arith, l, t, ap (λ (n : Node). n.y) e))
-same_sink strip (OutputPad a) (Cluster b) p q (inr t, _) ((l, h), _) e = absurd (omega (arith, h, t, ap (λ (n : Node). n.y) e))
-same_sink strip _ _ p q s t e = same_place p q (ap (λ (n : Node). n.x) e) (ap (λ (n : Node). n.y) e) (ap (λ (n : Node). n.n) e)
+same_sink strip a b p q s t e = grind arith
 
 -- pairs that are in a relation after a function is applied
 AllPairs-map : {X Y : Type 0} (R : Y → Y → Type 0) (f : X → Y) (xs : List X) → AllPairs (λ x y. R (f x) (f y)) xs → AllPairs R (map f xs)

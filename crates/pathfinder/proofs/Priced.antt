@@ -1,13 +1,5 @@
 -- Prices at occupancies that change.
-use Rattle.std.proofs.Common.{◌≡◌, ℕ, suc, refl, ◌+◌, ◌-◌, ◌*◌, ◌<◌, List, [], ◌∷◌, length, true, false, cond, eqb, arith, ◌∙◌, ap}
-use Rattle.std.specs.List.{slice_index}
-use Rattle.std.proofs.lemmas.Bool.{eqb-true}
-use Rattle.std.proofs.lemmas.List.Sums.{sum_by-cons}
-use Rattle.rr_graph.specs.Graph.{Basis}
-use Rattle.fabric_planes.specs.Prices.{AgreeBut}
-use Rattle.pathfinder.specs.PlacedNets.{wiring_of}
-use Rattle.pathfinder.specs.Priced.{AreHeldBut}
-use Rattle.pathfinder.specs.Tables.{tabled_graph, times_in}
+use Rattle.pathfinder.proofs.Prelude.{◌≡◌, ℕ, suc, refl, ◌+◌, ◌<◌, List, [], ◌∷◌, length, true, false, cond, eqb, arith, ◌∙◌, slice_index, eqb-true, sum_by-cons, Basis, AgreeBut, wiring_of, AreHeldBut, tabled_graph, times_in}
 
 -- a node that is not in a list doesn't occur in it
 no_times : (nodes : List ℕ) (node : ℕ) → ((k : ℕ) → k < length nodes → slice_index nodes k ≡ node → ⊥) → times_in node nodes ≡ 0
@@ -22,5 +14,4 @@ no_times (x ∷ xs) node h =
 -- costs change only where the occupancy does
 pub agree : (basis : Basis) (i : ℕ) (history old new nodes : List ℕ) → AreHeldBut old new nodes
     → AgreeBut basis (tabled_graph (wiring_of basis) i history old).cost (tabled_graph (wiring_of basis) i history new).cost nodes
-agree basis i history old new nodes same = λ number b none.
-    ap (λ (k : ℕ). (1 + slice_index history number) * (1 + i * (k + 1 - (wiring_of basis).capacity number))) (same number (no_times nodes number none))
+agree basis i history old new nodes same = grind (arith, no_times)

@@ -1,16 +1,5 @@
 -- A search of a net's path over the planes of the strip's graph.
-use Rattle.std.proofs.Common.{ℕ, suc, refl, ◌≡◌, ◌<◌, ◌≤◌, ◌^◌, List, [], length, get_or, inl, inr, sym, subst}
-use Rattle.std.specs.List.{All}
-use Rattle.std.proofs.lemmas.List.Elements.{All-nil, All-weaker}
-use Rattle.std.proofs.lemmas.Bool.{cases_lt}
-use Rattle.std.proofs.lemmas.List.{get_or_past}
-use Rattle.pathfinder.specs.Negotiation.{Tree}
-use Rattle.rr_graph.specs.Graph.{Basis, graph_of}
-use Rattle.fabric_planes.specs.Layout.{Terminals, IsStart, IsNetSearch}
-use Rattle.pathfinder.specs.Wiring.{Wiring}
-use Rattle.pathfinder.specs.PlacedNets.{wiring_of}
-use Rattle.pathfinder.specs.Tables.{AreJoined, IsRound, IsTable, IsTreeOn, IsSought, tabled_graph}
-use Rattle.fabric_planes.specs.NetSearches.{terminals_of}
+use Rattle.pathfinder.proofs.Prelude.{ℕ, suc, ◌≡◌, ◌<◌, ◌≤◌, ◌^◌, List, [], get_or, sym, subst, arith, All, All-weaker, get_or_past, Tree, Basis, graph_of, Terminals, IsStart, IsNetSearch, Wiring, wiring_of, AreJoined, IsRound, IsTable, IsTreeOn, IsSought, tabled_graph, terminals_of}
 use Rattle.pathfinder.proofs.InRange.{tabled_lawful}
 use Rattle.pathfinder.proofs.Steps.{step_at, steps_in}
 
@@ -21,13 +10,7 @@ price_few basis i history held round t node price few e = subst (λ (p : ℕ). p
 -- a net's search at the prices of the tables
 pub net_search : (basis : Basis) (i : ℕ) (history held : List ℕ) → IsRound (wiring_of basis) i history → IsTable (wiring_of basis).count 8192 held → (source : ℕ) (starts : List ℕ) (sink : ℕ) (old : List ℕ) → IsSought basis source starts sink old
     → IsNetSearch basis (tabled_graph (wiring_of basis) i history held).cost starts sink (terminals_of basis source sink)
-net_search basis i history held round t source starts sink old s =
-    let lawful = tabled_lawful (wiring_of basis) i history held round t in
-    record {
-      costs = record { some = lawful.cost_from; few = lawful.cost_to };
-      starts_are = s.starts;
-      terminals = record { goal_within = s.sink; goal_is = refl; kind = s.kind };
-    }
+net_search basis i history held round t source starts sink old s = grind (arith, tabled_lawful (wiring_of basis) i history held round t)
 
 -- the starts are nodes of the graph
 pub starts_below : (basis : Basis) (t : Terminals) (starts : List ℕ) → All (IsStart basis t) starts → All (λ node. node < (graph_of basis).count) starts
@@ -35,10 +18,7 @@ starts_below basis t starts are = All-weaker (IsStart basis t) (λ node. node < 
 
 -- a path of a tree, or no nodes
 pub path_below : (w : Wiring) (tree : Tree) → All (λ path. All (λ node. node < w.count) path) tree → (number : ℕ) → All (λ node. node < w.count) (get_or tree number [])
-path_below w tree each number = elim (cases_lt number (length tree)) [
-  | inl there ↦ each number [] there
-  | inr past ↦ subst (λ (path : List ℕ). All (λ node. node < w.count) path) (sym (get_or_past tree number [] past)) (All-nil (λ node. node < w.count))
-]
+path_below w tree each number = grind (arith, get_or_past)
 
 -- the edges of a path of a tree, or of no nodes
 pub path_joined : (w : Wiring) (tree : Tree) → IsTreeOn w tree → (number : ℕ) → AreJoined w.ends (get_or tree number [])

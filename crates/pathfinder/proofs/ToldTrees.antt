@@ -1,12 +1,6 @@
 -- Trees with each number replaced by its node.
-use Rattle.std.proofs.Common.{◌≡◌, ℕ, refl, List, [], ◌∷◌, ◌++◌, map, arith, ◌∙◌, inl, inr, sym, ap, subst}
+use Rattle.pathfinder.proofs.Prelude.{◌≡◌, ℕ, refl, List, [], ◌∷◌, ◌++◌, map, arith, ◌∙◌, inl, inr, sym, ap, subst, Contains, concat, get_or-map, length-map, map-append, flat_map-cons, All-cons, All-nil, All-tail, Node, path_nodes, steps_of, pairs_of, LeadsOver}
 use Rattle.std.specs.Prelude.{All}
-use Rattle.std.specs.List.{Contains, concat}
-use Rattle.std.proofs.lemmas.List.{get_or-map, length-map, map-append}
-use Rattle.std.proofs.lemmas.List.Concat.{flat_map-cons}
-use Rattle.std.proofs.lemmas.List.Elements.{All-cons, All-nil, All-tail}
-use Rattle.rr_graph.specs.declared.node.Node.{Node}
-use Rattle.pathfinder.specs.LegalRoutes.{path_nodes, steps_of, pairs_of, LeadsOver}
 use Rattle.pathfinder.proofs.Steps.{in_none, in_first, in_later, in_cases}
 
 -- ---- members of a list that is mapped

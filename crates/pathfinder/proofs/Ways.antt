@@ -1,11 +1,5 @@
 -- Paths along edges, and their costs.
-use Rattle.std.proofs.Common.{◌≡◌, ℕ, zero, suc, refl, ◌+◌, ◌<◌, ◌≤◌, List, [], ◌∷◌, ◌++◌, length, get_or, take, arith, ◌∙◌, sym, ap, subst}
-use Rattle.std.specs.List.{Contains, sum_by}
-use Rattle.std.proofs.lemmas.List.{take_more, take_all}
-use Rattle.std.proofs.lemmas.List.Sums.{sum_by-append}
-use Rattle.least_path.specs.Graph.{Graph}
-use Rattle.least_path.specs.Path.{Leads, IsPath, cost_of}
-use Rattle.pathfinder.specs.Tables.{AreJoined}
+use Rattle.pathfinder.proofs.Prelude.{◌≡◌, ℕ, zero, suc, ◌+◌, ◌<◌, ◌≤◌, List, [], ◌∷◌, length, get_or, take, arith, ◌∙◌, ap, subst, Contains, take_more, take_all, sum_by-append, Graph, Leads, IsPath, cost_of, AreJoined}
 
 -- edges from each node to the next one lead to the last
 module _ (g : Graph) (goal : ℕ) where
@@ -19,14 +13,10 @@ module _ (g : Graph) (goal : ℕ) where
 
 -- the cost of a path, node by node
 pub cost_first : (g : Graph) (nodes : List ℕ) → cost_of g (take 1 nodes) ≡ 0
-cost_first g [] = refl
-cost_first g (start ∷ rest) = refl
+cost_first g nodes = grind arith
 
 cost_later : (g : Graph) (start : ℕ) (rest : List ℕ) (k : ℕ) → k < length rest → cost_of g (take (suc (suc k)) (start ∷ rest)) ≡ cost_of g (take (suc k) (start ∷ rest)) + g.cost (get_or (start ∷ rest) (suc k) 0)
-cost_later g start rest k l =
-    let e : k + 1 ≡ suc k = omega arith in
-    let longer : sum_by g.cost (take (suc k) rest) ≡ sum_by g.cost (take k rest ++ get_or rest k 0 ∷ []) = ap (λ j. sum_by g.cost (take j rest)) (sym e) ∙ ap (λ xs. sum_by g.cost xs) (take_more rest k 0 l) in
-    omega (arith, longer, sum_by-append g.cost (take k rest) (get_or rest k 0 ∷ []))
+cost_later g start rest k l = grind (arith, sum_by-append, take_more rest k 0 l, sum_by-append g.cost (take k rest) (get_or rest k 0 ∷ []))
 
 pub cost_more : (g : Graph) (nodes : List ℕ) (k : ℕ) → 1 ≤ k → k < length nodes → cost_of g (take (k + 1) nodes) ≡ cost_of g (take k nodes) + g.cost (get_or nodes k 0)
 cost_more g [] k s l = absurd (omega arith)

@@ -1,7 +1,7 @@
 -- Private: legal trees, in terms of node numbers.
 use Rattle.std.specs.Prelude.{ℕ, ◌≡◌, ◌≤◌, ◌↔◌, List, [], ◌∷◌, Contains}
 use Rattle.std.specs.List.{concat, AllZip}
-use Rattle.rr_graph.specs.declared.node.NodeKind.TheVariants.{Opin}
+use Rattle.pathfinder.specs.Prelude.{Opin}
 use Rattle.pathfinder.specs.Wiring.{Wiring, Net, IsEdge}
 use Rattle.pathfinder.specs.Negotiation.{Tree, occupancy}
 use Rattle.pathfinder.specs.LegalRoutes.{pairs_of, LeadsOver, IsLeaf}

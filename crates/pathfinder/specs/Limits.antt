@@ -1,6 +1,6 @@
 -- Private: the limits of an iteration's numbers.
 use Rattle.std.specs.Prelude.{ℕ, ◌<◌, ◌≤◌}
-use Rattle.blif.specs.declared.circuit.TheConstants.{MAX_NETS}
+use Rattle.pathfinder.specs.Prelude.{MAX_NETS}
 use Rattle.pathfinder.specs.declared.routing.TheConstants.{MAX_ITERATIONS}
 
 -- the numbers of earlier iterations and of trees that use a node are within their limits

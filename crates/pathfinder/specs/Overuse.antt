@@ -1,7 +1,7 @@
 -- The progress of a routing: the nodes that are in more trees than they can carry.
 use Rattle.std.specs.Prelude.{ℕ, ◌≡◌, ◌==◌, ◌-◌, ◌<◌, ◌≤◌, Bool, List, Option, Some, None, option_map, map, count_by, nat_lt, slice_index}
 use Rattle.std.specs.List.{concat, list_any, range_with_len}
-use Rattle.rr_graph.specs.Graph.{Basis, graph_of}
+use Rattle.pathfinder.specs.Prelude.{Basis, graph_of}
 use Rattle.pathfinder.specs.declared.overuse.Overuse.{Overuse}
 use Rattle.pathfinder.specs.Negotiation.{Tree, occupancy}
 use Rattle.pathfinder.specs.PlacedNets.{wiring_of}

@@ -1,8 +1,6 @@
 -- Private: the prices of the wires at the nodes' current occupancies.
 use Rattle.std.specs.Prelude.{ℕ, ◌≡◌, List, slice_index}
-use Rattle.rr_graph.specs.Graph.{Basis}
-use Rattle.fabric_planes.specs.declared.price_table.PriceTable.{PriceTable}
-use Rattle.fabric_planes.specs.Prices.{HasPrices}
+use Rattle.pathfinder.specs.Prelude.{Basis, PriceTable, HasPrices}
 use Rattle.pathfinder.specs.PlacedNets.{wiring_of}
 use Rattle.pathfinder.specs.Tables.{tabled_graph, times_in}
 

@@ -1,7 +1,7 @@
 -- Private: the part of each node's cost in an iteration that doesn't depend on the trees.
 use Rattle.std.specs.Prelude.{ℕ, ◌≡◌, ◌+◌, ◌<◌, List, length, slice_index, slice_index_or}
 use Rattle.pathfinder.specs.declared.rate.NodeCost.{NodeCost}
-use Rattle.rr_graph.specs.Graph.{Basis, graph_of}
+use Rattle.pathfinder.specs.Prelude.{Basis, graph_of}
 use Rattle.pathfinder.specs.PlacedNets.{wiring_of}
 
 -- the rates of the nodes below a number, from their accumulated overuse

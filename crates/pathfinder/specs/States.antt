@@ -1,7 +1,6 @@
 -- Private: the state of a routing in the program's data, and the trees of its next iteration.
 use Rattle.std.specs.Prelude.{◌≡◌, ◌+◌, ◌<◌, ◌^◌, All, Ok}
-use Rattle.blif.specs.declared.circuit.TheConstants.{MAX_NETS}
-use Rattle.rr_graph.specs.Graph.{Basis, graph_of}
+use Rattle.pathfinder.specs.Prelude.{MAX_NETS, Basis, graph_of}
 use Rattle.pathfinder.specs.declared.routing.TheConstants.{MAX_ITERATIONS}
 use Rattle.pathfinder.specs.declared.state.State.{State}
 use Rattle.pathfinder.specs.declared.state.NewTrees.{NewTrees}

@@ -1,15 +1,6 @@
 -- The nodes of the strip at which placed blocks drive and read nets.
 use Rattle.std.specs.Prelude.{ℕ, ◌==◌, ◌&&◌, Bool, List, [], map, if◌then◌else◌}
-use Rattle.cluster.specs.declared.block.Block.{Block}
-use Rattle.cluster.specs.declared.block.Block.TheVariants.{Cluster}
-use Rattle.cluster.specs.Clusters.{PackedCircuit}
-use Rattle.cluster.specs.Blocks.{BlockNet}
-use Rattle.grid.specs.declared.place.Place.{Place}
-use Rattle.rr_graph.specs.declared.node.NodeKind.TheVariants.{Source, Sink}
-use Rattle.rr_graph.specs.declared.node.Node.{Node}
-use Rattle.rr_graph.specs.Node.{rank_of}
-use Rattle.rr_graph.specs.Graph.{make_node}
-use Rattle.block_places.specs.Placed.{block_at, place_of}
+use Rattle.pathfinder.specs.Prelude.{Block, Cluster, PackedCircuit, BlockNet, Place, Source, Sink, Node, rank_of, make_node, block_at, place_of}
 
 -- the number of a pad's source and sink is that of the pad; for a logic block it is a class
 abbrev pub terminal_number : Block → Place → ℕ → ℕ

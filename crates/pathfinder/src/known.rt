@@ -1,7 +1,6 @@
 //! Paths that are known before a search.
 ghost use Rattle.std.specs.Prelude.{◌≡◌, true};
-ghost use Rattle.least_path.specs.Graph.{Graph};
-ghost use Rattle.least_path.specs.Path.{IsPath};
+ghost use Rattle.pathfinder.specs.Prelude.{Graph, IsPath};
 ghost use Rattle.pathfinder.specs.Tables.{AreJoined};
 
 /// Whether the nodes lead from one of the starts to the goal, if an edge leads from each of them to

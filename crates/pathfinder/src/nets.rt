@@ -1,14 +1,10 @@
 //! The nets of a packed circuit whose blocks have places, in terms of the nodes of the routing
 //! graph.
 ghost use Rattle.std.specs.Prelude.{◌≡◌, ◌<◌, All, IfOk, length, map, true};
-ghost use Rattle.cluster.specs.Blocks.{blocks_of};
-ghost use Rattle.rr_graph.specs.Geometry.{is_node};
-ghost use Rattle.rr_graph.specs.Graph.{graph_of};
-ghost use Rattle.block_places.specs.Placed.{ArePlaced, block_at, place_of};
+ghost use Rattle.pathfinder.specs.Prelude.{blocks_of, is_node, graph_of, make_node, ArePlaced, block_at, place_of, IsBlockNet};
 ghost use Rattle.pathfinder.specs.Sites.{IsPlacedBlock};
-ghost use Rattle.pathfinder.specs.Terminals.{source_at, sink_at};
+ghost use Rattle.pathfinder.specs.Terminals.{source_at, sink_at, terminal_number};
 ghost use Rattle.pathfinder.specs.PlacedNets.{number_of, net_to_route, nets_to_route};
-ghost use Rattle.cluster.specs.PackingLaws.{IsBlockNet};
 
 use cluster::{Block, BlockNet, Packed, laws_of_packing};
 use grid::{Place, laws_of_places};
@@ -45,29 +41,28 @@ impl Terminals {
     }
 }
 
-/// The node at which a block drives nets: a pad's source has the pad's number, a cluster's is class
-/// 1.
+/// The node at which a block drives nets: a cluster's is class 1.
 fn source_at(block: Block, place: Place) -> Node
     ensures { result ≡ source_at block place }
 {
-    let n = match block {
-        Block::InputPad(_) | Block::OutputPad(_) => place.subblock,
-        Block::Cluster(_) => 1,
-    };
-    let kind = NodeKind::Source;
-    let (x, y) = (place.x, place.y);
-    Node { x, kind, y, n }
+    terminal_at(NodeKind::Source, 1, block, place)
 }
 
-/// The node at which a block reads nets: a pad's sink has the pad's number, a cluster's is class 0.
+/// The node at which a block reads nets: a cluster's is class 0.
 fn sink_at(block: Block, place: Place) -> Node
     ensures { result ≡ sink_at block place }
 {
+    terminal_at(NodeKind::Sink, 0, block, place)
+}
+
+/// The node of this kind at a block: a pad's has the pad's number, a cluster's is of this class.
+fn terminal_at(kind: NodeKind, class: u32, block: Block, place: Place) -> Node
+    ensures { result ≡ make_node place.x kind place.y (terminal_number block place class) }
+{
     let n = match block {
         Block::InputPad(_) | Block::OutputPad(_) => place.subblock,
-        Block::Cluster(_) => 0,
+        Block::Cluster(_) => class,
     };
-    let kind = NodeKind::Sink;
     let (x, y) = (place.x, place.y);
     Node { x, kind, y, n }
 }

@@ -1,6 +1,6 @@
 //! The progress of a routing: the nodes that are in more trees than they can carry.
 ghost use Rattle.std.specs.Prelude.{◌≡◌, ◌<◌, ℕ, [], length, option_map, slice_index, slice_index_or, IfSome};
-ghost use Rattle.rr_graph.specs.Graph.{graph_of};
+ghost use Rattle.pathfinder.specs.Prelude.{graph_of};
 ghost use Rattle.pathfinder.specs.Negotiation.{More, occupancy};
 ghost use Rattle.pathfinder.specs.Overuse.{IsMost, IsOveruse, count_over, has_node, over_in};
 ghost use Rattle.pathfinder.specs.PlacedNets.{wiring_of};

@@ -1,7 +1,6 @@
 //! The parts of all nodes' costs in an iteration that don't depend on the trees.
 ghost use Rattle.std.specs.Prelude.{◌≡◌, ◌<◌, ◌^◌, IfOk};
-ghost use Rattle.rr_graph.specs.Geometry.{capacity_of};
-ghost use Rattle.rr_graph.specs.Graph.{graph_of};
+ghost use Rattle.pathfinder.specs.Prelude.{capacity_of, graph_of};
 ghost use Rattle.pathfinder.specs.PlacedNets.{wiring_of};
 ghost use Rattle.pathfinder.specs.Rates.{AreRates};
 ghost use Rattle.pathfinder.specs.Tables.{IsTable};

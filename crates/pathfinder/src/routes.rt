@@ -1,6 +1,6 @@
 //! Finished routes, in terms of nodes.
 ghost use Rattle.std.specs.Prelude.{◌≡◌, ◌<◌, All, IfOk, Some, length, map, slice_get, slice_index_or, []};
-ghost use Rattle.rr_graph.specs.Graph.{graph_of};
+ghost use Rattle.pathfinder.specs.Prelude.{graph_of};
 ghost use Rattle.pathfinder.specs.Routings.{routes_by_node};
 
 use crate::route::Route;

@@ -1,10 +1,5 @@
 -- Examples of pin files.
-use Rattle.std.proofs.Common.{◌≡◌, [], ◌∷◌, codes, Ok, Err, refl}
-use Rattle.grid.specs.Places.{place_at}
-use Rattle.line_text.specs.Lines.{lines_of}
-use Rattle.line_text.specs.declared.fault.LineFault.TheVariants.{NotAscii}
-use Rattle.pin_file.specs.PinFiles.{pins_after, pins_in}
-use Rattle.pin_file.specs.declared.fault.PinFileFault.TheVariants.{Text, NotAPin}
+use Rattle.pin_file.proofs.Prelude.{◌≡◌, [], ◌∷◌, codes, Ok, Err, refl, place_at, lines_of, NotAscii, pins_after, pins_in, Text, NotAPin}
 
 -- two pins, a comment and an empty line
 two : pins_in (codes "op[0] 3 0 1 # left\n\ncarry 4 07 0\n") ≡ Ok (record { line = 1; name = codes "op[0]"; place = place_at 3 0 1 } ∷ record { line = 3; name = codes "carry"; place = place_at 4 7 0 } ∷ [])

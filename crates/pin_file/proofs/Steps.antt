@@ -1,10 +1,5 @@
 -- One line before others.
-use Rattle.std.proofs.Common.{◌≡◌, ℕ, ◌+◌, ◌≤◌, List, [], ◌∷◌, ◌++◌, Option, Some, None, Result, Ok, Err, length, drop, slice_get, ap, ◌∙◌}
-use Rattle.std.proofs.lemmas.List.{drop_all, drop_more}
-use Rattle.std.proofs.lemmas.Option.{get_or_from_slice_get, slice_get_within}
-use Rattle.line_text.specs.Lines.{JoinedLine}
-use Rattle.pin_file.specs.PinFiles.{Pin, pin_of, pins_after, then_pins}
-use Rattle.pin_file.specs.declared.fault.PinFileFault.TheVariants.{NotAPin}
+use Rattle.pin_file.proofs.Prelude.{◌≡◌, ℕ, ◌+◌, ◌≤◌, List, [], ◌∷◌, ◌++◌, Option, Some, None, Result, Ok, Err, length, drop, slice_get, ap, ◌∙◌, drop_all, drop_more, get_or_from_slice_get, slice_get_within, JoinedLine, Pin, pin_of, pins_after, then_pins, NotAPin}
 
 -- the line at the index is the first of those that are left
 dropped : (lines : List JoinedLine) (number : ℕ) (line : JoinedLine) → slice_get lines number ≡ Some line → drop number lines ≡ line ∷ drop (number + 1) lines

@@ -1,27 +1,5 @@
 -- Pads that go to their places, one after another.
-use Rattle.std.proofs.Common.{ℕ, suc, ◌≡◌, ◌≢◌, ◌<◌, All, List, [], ◌∷◌, Ok, Err, Result, IfOk, Option, Some, length, get_or, slice_get, refl, sym, ap, subst, ◌∙◌, arith}
-use Rattle.std.specs.Prelude.{AllPairs, Contains}
-use Rattle.std.specs.List.{zip}
-use Rattle.std.proofs.lemmas.List.Elements.{All-cons, All-head, All-nil, All-tail}
-use Rattle.std.proofs.lemmas.Option.{slice_get-get_or}
-use Rattle.cluster.specs.Clusters.{PackedCircuit}
-use Rattle.cluster.specs.Blocks.{blocks_of}
-use Rattle.cluster.specs.Keys.{keys_of}
-use Rattle.grid.specs.declared.Strip.{Strip}
-use Rattle.grid.specs.declared.place.Kind.{Kind}
-use Rattle.grid.specs.declared.place.Kind.TheVariants.{Logic, Pad}
-use Rattle.grid.specs.declared.place.Place.{Place}
-use Rattle.grid.specs.Places.{place_at, places_of}
-use Rattle.kept_places.specs.Kept.{in_order}
-use Rattle.block_places.specs.Fits.{kind_of}
-use Rattle.block_places.specs.Placed.{ArePlaced, block_at, place_of}
-use Rattle.strip_place.specs.Anneal.{PlacingUnderWay, places_by_block}
-use Rattle.strip_place.specs.Pass.{place_after}
-use Rattle.pin_file.specs.PinFiles.{Pin}
-use Rattle.pinned_places.specs.Exchanges.{with_pad, with_pads}
-use Rattle.pinned_places.specs.Pads.{pads_of}
-use Rattle.pinned_places.specs.Results.{ArePads, HasPin, IsPinned}
-use Rattle.pinned_places.specs.declared.pads.FixedPad.{FixedPad}
+use Rattle.pinned_places.proofs.Prelude.{ℕ, suc, ◌≡◌, ◌≢◌, ◌<◌, All, List, [], ◌∷◌, Ok, Err, Result, IfOk, Option, Some, length, get_or, slice_get, refl, sym, ap, subst, ◌∙◌, arith, AllPairs, Contains, zip, All-cons, All-head, All-nil, All-tail, slice_get-get_or, PackedCircuit, blocks_of, keys_of, Strip, Kind, Logic, Pad, Place, place_at, places_of, in_order, kind_of, ArePlaced, block_at, place_of, PlacingUnderWay, places_by_block, place_after, Pin, with_pad, with_pads, pads_of, ArePads, HasPin, IsPinned, FixedPad}
 use Rattle.pinned_places.proofs.Exchanged.{after_at, from_else, from_home, still_placed}
 use Rattle.pinned_places.proofs.MetPins.{IsMet, all_met, no_pads_yet}
 use Rattle.pinned_places.proofs.Started.{start_places}

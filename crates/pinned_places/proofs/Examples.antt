@@ -1,14 +1,6 @@
 -- Examples of pads and of their exchanges.
-use Rattle.std.proofs.Common.{◌≡◌, List, [], ◌∷◌, true, false, codes, Some, None, Ok, Err, refl}
-use Rattle.cluster.specs.declared.block.BlockKind.TheVariants.{InputPad, OutputPad, Cluster}
-use Rattle.grid.specs.declared.Strip.{Strip}
-use Rattle.grid.specs.declared.place.Place.{Place}
-use Rattle.grid.specs.Places.{place_at}
-use Rattle.pin_file.specs.PinFiles.{Pin}
-use Rattle.pinned_places.specs.Exchanges.{with_pads}
-use Rattle.pinned_places.specs.Pads.{is_named_by, is_pad_place, pad_by}
-use Rattle.pinned_places.specs.declared.fault.PinFaultKind.TheVariants.{NamedBefore, NoPad, NoPlace, TakenBefore}
-use Rattle.pinned_places.specs.declared.pads.FixedPad.{FixedPad}
+use Rattle.pinned_places.proofs.Prelude.{◌≡◌, List, [], ◌∷◌, true, false, codes, Some, None, Ok, Err, refl, InputPad, OutputPad, Strip, Place, place_at, Pin, with_pads, is_named_by, is_pad_place, pad_by, NamedBefore, NoPad, NoPlace, TakenBefore, FixedPad}
+use Rattle.cluster.specs.declared.block.BlockKind.TheVariants.{Cluster}
 
 -- an output has two names, an input one, a cluster none
 output : is_named_by OutputPad (codes "f") (codes "f") ≡ true

@@ -1,19 +1,5 @@
 -- Blocks on two places that exchange them.
-use Rattle.std.proofs.Common.{ℕ, ◌≡◌, ◌≢◌, ◌<◌, Bool, true, false, cond, List, length, map, refl, sym, ap, subst, ◌∙◌, arith}
-use Rattle.std.specs.Prelude.{Contains}
-use Rattle.std.proofs.lemmas.Bool.Decides.{nat_tests}
-use Rattle.std.proofs.lemmas.List.{get_or-map, length-map}
-use Rattle.cluster.specs.Clusters.{PackedCircuit}
-use Rattle.cluster.specs.Blocks.{blocks_of}
-use Rattle.grid.specs.declared.Strip.{Strip}
-use Rattle.grid.specs.declared.place.Kind.{Kind}
-use Rattle.grid.specs.declared.place.Kind.TheVariants.{Logic, Pad}
-use Rattle.grid.specs.declared.place.Place.{Place}
-use Rattle.grid.specs.Places.{place_at, places_of}
-use Rattle.block_places.specs.Fits.{kind_of}
-use Rattle.block_places.specs.Placed.{ArePlaced, block_at, is_same_place, place_of}
-use Rattle.strip_place.specs.Pass.{place_after}
-use Rattle.strip_place.proofs.KeptSites.{is_itself, same_parts, told_apart}
+use Rattle.pinned_places.proofs.Prelude.{ℕ, ◌≡◌, ◌≢◌, ◌<◌, Bool, true, false, cond, List, length, map, refl, sym, ap, subst, ◌∙◌, arith, Contains, nat_tests, get_or-map, length-map, PackedCircuit, blocks_of, Strip, Kind, Logic, Pad, Place, place_at, places_of, kind_of, ArePlaced, block_at, is_same_place, place_of, place_after, is_itself, same_parts, told_apart}
 
 -- places that are told to be the same are equal
 pub same_told : (a b : Place) → is_same_place a b ≡ true → a ≡ b
@@ -23,14 +9,10 @@ pub from_home : (home target : Place) → place_after home target home ≡ targe
 from_home home target = ap (λ (b : Bool). cond b target (cond (is_same_place home target) home home)) (is_itself home)
 
 from_target : (home target : Place) → target ≢ home → place_after home target target ≡ home
-from_target home target differs =
-    ap (λ (b : Bool). cond b target (cond (is_same_place target target) home target)) (told_apart target home (λ e. differs (sym e)))
-    ∙ ap (λ (b : Bool). cond b home target) (is_itself target)
+from_target home target differs = grind (arith, is_itself)
 
 pub from_else : (home target place : Place) → place ≢ home → place ≢ target → place_after home target place ≡ place
-from_else home target place one other =
-    ap (λ (b : Bool). cond b target (cond (is_same_place place target) home place)) (told_apart place home (λ e. one (sym e)))
-    ∙ ap (λ (b : Bool). cond b home place) (told_apart place target (λ e. other (sym e)))
+from_else home target place one other = grind (arith, told_apart)
 
 -- the ways of a place
 data Way (home target place : Place) : Type 0 where
@@ -42,12 +24,7 @@ apart_told : (a b : Place) → is_same_place a b ≡ false → a ≢ b
 apart_told a b differs e = let t : true ≡ false = sym (is_itself b) ∙ (ap (λ (p : Place). is_same_place p b) (sym e) ∙ differs) in cc
 
 way_of : (home target place : Place) → Way home target place
-way_of home target place = by (is_same_place place home) (is_same_place place target) refl refl
-  where
-    by : (b c : Bool) → is_same_place place home ≡ b → is_same_place place target ≡ c → Way home target place
-    by true c is also = goes (same_told place home is)
-    by false true is also = comes (apart_told place home is) (same_told place target also)
-    by false false is also = stays (apart_told place home is) (apart_told place target also)
+way_of home target place = grind arith
 
 -- two places that become equal were equal
 pub one_to_one : (home target place other : Place) → place_after home target place ≡ place_after home target other → place ≡ other

@@ -1,3 +1,4 @@
+mod Prelude
 mod Named
 mod Steps
 mod Started

@@ -1,39 +1,10 @@
 -- The pads of pins are different pads with different places, and each pin has its pad.
-use Rattle.std.proofs.Common.{ℕ, zero, suc, ◌≡◌, ◌+◌, ◌-◌, ◌<◌, ◌≤◌, ◌==◌, ◌||◌, All, Bool, true, false, cond, List, [], ◌∷◌, ◌++◌, Option, Some, None, Result, Ok, Err, length, map, get_or, refl, sym, ap, subst, ◌∙◌, arith}
-use Rattle.std.specs.Prelude.{Contains, find}
-use Rattle.std.specs.List.{flat_map, range_with_len}
-use Rattle.std.proofs.lemmas.Bool.Decides.{nat_tests}
-use Rattle.std.proofs.lemmas.List.{get_or-map, length-map}
-use Rattle.std.proofs.lemmas.List.FromFn.{get_or-range_with_len, length-range_with_len}
-use Rattle.std.proofs.lemmas.List.Elements.{All-cons, All-nil, All-push, Contains-append_left, Contains-append_right, Contains-push}
-use Rattle.std.proofs.lemmas.List.Quantifiers.{all_pairs_push, position-Some}
-use Rattle.cluster.specs.Clusters.{PackedCircuit}
-use Rattle.cluster.specs.Blocks.{blocks_of}
-use Rattle.cluster.specs.Keys.{key_of, keys_of}
-use Rattle.cluster.specs.declared.block.Block.{Block}
-use Rattle.cluster.specs.declared.block.Block.TheVariants.{InputPad, OutputPad, Cluster}
-use Rattle.grid.specs.declared.Strip.{Strip}
-use Rattle.grid.specs.declared.place.Kind.TheVariants.{Pad}
-use Rattle.grid.specs.declared.place.Place.{Place}
-use Rattle.grid.specs.Places.{column_of, place_at, places_of}
-use Rattle.block_places.specs.Fits.{kind_of}
-use Rattle.block_places.specs.Placed.{block_at, is_same_place}
-use Rattle.strip_place.proofs.KeptSites.{is_itself}
-use Rattle.pin_file.specs.PinFiles.{Pin}
-use Rattle.pinned_places.specs.Pads.{is_pad_named, is_pad_place, if_first, pad_behind, pad_by, pad_number, pad_of, pads_after, then_pads}
-use Rattle.pinned_places.specs.Results.{ArePads}
-use Rattle.pinned_places.specs.declared.fault.PinFault.{PinFault}
-use Rattle.pinned_places.specs.declared.fault.PinFaultKind.TheVariants.{NoPlace}
-use Rattle.pinned_places.specs.declared.pads.FixedPad.{FixedPad}
+use Rattle.pinned_places.proofs.Prelude.{ℕ, zero, suc, ◌≡◌, ◌+◌, ◌-◌, ◌<◌, ◌≤◌, ◌==◌, ◌||◌, All, Bool, true, false, List, [], ◌∷◌, ◌++◌, Some, None, Result, Ok, Err, length, map, get_or, refl, sym, ap, subst, ◌∙◌, arith, Contains, find, flat_map, range_with_len, nat_tests, get_or-map, length-map, get_or-range_with_len, length-range_with_len, All-cons, All-nil, All-push, Contains-append_left, Contains-append_right, Contains-push, all_pairs_push, position-Some, PackedCircuit, blocks_of, key_of, keys_of, Block, Cluster, Strip, Pad, Place, column_of, place_at, places_of, kind_of, block_at, is_same_place, is_itself, Pin, is_pad_named, is_pad_place, pad_number, pad_of, pads_after, then_pads, ArePads, PinFault, FixedPad}
 
 -- if nothing is found, no element passes
 none_found : {X : Type 0} (p : X → Bool) (xs : List X) → find p xs ≡ None → All (λ x. p x ≡ false) xs
 none_found {X} p [] none = All-nil (λ (x : X). p x ≡ false)
-none_found {X} p (x ∷ xs) none = by (p x) refl (none_found p xs)
-  where
-    by : (b : Bool) → p x ≡ b → (find p xs ≡ None → All (λ x. p x ≡ false) xs) → All (λ x. p x ≡ false) (x ∷ xs)
-    by true is rest = absurd (let e : Some x ≡ None = sym (ap (λ (b : Bool). cond b (Some x) (find p xs)) is) ∙ none in cc)
-    by false is rest = All-cons (λ (x : X). p x ≡ false) x xs is (rest (sym (ap (λ (b : Bool). cond b (Some x) (find p xs)) is) ∙ none))
+none_found {X} p (x ∷ xs) none = grind (arith, none_found p xs)
 
 -- lists that contain an element
 mapped : {X Y : Type 0} (f : X → Y) (xs : List X) (x : X) → Contains xs x → Contains (map f xs) (f x)
@@ -73,12 +44,7 @@ pad_there strip place is =
 
 -- a block that has a name is a pad
 named_kind : (packed : PackedCircuit) (block : Block) (name : List ℕ) → is_pad_named name (key_of packed block) ≡ true → kind_of block ≡ Pad
-named_kind packed (InputPad net) name is = refl
-named_kind packed (OutputPad net) name is = refl
-named_kind packed (Cluster cluster) name is = absurd cc
-
-no_error : (r : Result FixedPad PinFault) (fault : PinFault) (pad : FixedPad) → r ≡ Err fault → r ≡ Ok pad → ⊥
-no_error r fault pad is also = let e : Err fault ≡ Ok pad = sym is ∙ also in absurd cc
+named_kind packed block name is = grind arith
 
 pub record IsPadOf (packed : PackedCircuit) (strip : Strip) (before : List FixedPad) (pin : Pin) (pad : FixedPad) : Type 0 where
   pub named : pad_number packed pin.name ≡ Some pad.block
@@ -89,30 +55,7 @@ pub record IsPadOf (packed : PackedCircuit) (strip : Strip) (before : List Fixed
 
 -- a pad that is given
 pub given : (packed : PackedCircuit) (strip : Strip) (before : List FixedPad) (pin : Pin) (pad : FixedPad) → pad_of packed strip before pin ≡ Ok pad → IsPadOf packed strip before pin pad
-given packed strip before pin pad is = by_number (pad_number packed pin.name) refl is
-  where
-    by_first : (wanted : FixedPad) (one : Option FixedPad) (other : Option FixedPad) → pad_number packed pin.name ≡ Some wanted.block → wanted.place ≡ pin.place → is_pad_place strip wanted.place ≡ true →
-        find (λ earlier. earlier.block == wanted.block) before ≡ one → find (λ earlier. is_same_place earlier.place wanted.place) before ≡ other → if_first one other wanted ≡ Ok pad → IsPadOf packed strip before pin pad
-    by_first wanted (Some one) other number place inside first second made = absurd (no_error _ _ pad refl made)
-    by_first wanted None (Some other) number place inside first second made = absurd (no_error _ _ pad refl made)
-    by_first wanted None None number place inside first second made =
-        let same : wanted ≡ pad = cc in
-        subst (IsPadOf packed strip before pin) same (record {
-          named = number;
-          there = place;
-          inside = inside;
-          new_block = none_found (λ earlier. earlier.block == wanted.block) before first;
-          new_place = none_found (λ earlier. is_same_place earlier.place wanted.place) before second;
-        })
-
-    by_place : (block : ℕ) (b : Bool) → pad_number packed pin.name ≡ Some block → is_pad_place strip pin.place ≡ b →
-        cond b (pad_behind before (record { line = pin.line; block = block; place = pin.place })) (Err (record { line = pin.line; kind = NoPlace })) ≡ Ok pad → IsPadOf packed strip before pin pad
-    by_place block true number place made = by_first (record { line = pin.line; block = block; place = pin.place }) _ _ number refl place refl refl made
-    by_place block false number place made = absurd (no_error _ _ pad refl made)
-
-    by_number : (o : Option ℕ) → pad_number packed pin.name ≡ o → pad_by strip before pin o ≡ Ok pad → IsPadOf packed strip before pin pad
-    by_number None none made = absurd (no_error _ _ pad refl made)
-    by_number (Some block) number made = by_place block (is_pad_place strip pin.place) number refl made
+given packed strip before pin pad is = search (none_found, arith)
 
 -- the pads so far, and one more
 module _ (packed : PackedCircuit) (strip : Strip) where

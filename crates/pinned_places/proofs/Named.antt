@@ -1,12 +1,5 @@
 -- The first pad that has a name.
-use Rattle.std.proofs.Common.{◌≡◌, ℕ, ◌<◌, ◌≤◌, Bool, true, false, cond, List, Option, Some, None, length, get_or, slice_get, nat_lt, option_map, refl, ap, ◌∙◌, arith}
-use Rattle.std.specs.Prelude.{position}
-use Rattle.std.specs.Borrow.{Bor}
-use Rattle.std.specs.List.{position_or_len}
-use Rattle.std.specs.Option.{option_copied}
-use Rattle.std.proofs.lemmas.Bool.Decides.{nat_tests}
-use Rattle.std.proofs.lemmas.List.Sums.{position_or_len_is}
-use Rattle.std.proofs.lemmas.Option.{get_or_from_slice_get, slice_get-get_or, slice_get_within}
+use Rattle.pinned_places.proofs.Prelude.{◌≡◌, ℕ, ◌<◌, ◌≤◌, Bool, true, false, cond, List, Option, Some, None, length, get_or, slice_get, nat_lt, option_map, ap, ◌∙◌, arith, position, Bor, position_or_len, option_copied, nat_tests, position_or_len_is, get_or_from_slice_get, slice_get-get_or, slice_get_within}
 
 -- no element before that index passes
 abbrev pub NoneBefore : {X : Type 0} → (X → Bool) → List X → ℕ → Type 0
@@ -22,10 +15,7 @@ past : (n len : ℕ) → len ≤ n → nat_lt n len ≡ false
 past n len le = grind (arith, nat_tests, le)
 
 pub first_at : {X : Type 0} (p : X → Bool) (xs : List X) (i : ℕ) (x : X) → NoneBefore p xs i → slice_get xs i ≡ Some x → p x ≡ true → position p xs ≡ Some i
-first_at p xs i x before is passes =
-    let within = slice_get_within xs i x is in
-    let here : position_or_len p xs ≡ i = position_or_len_is p xs i x (omega (arith, within)) (λ k lt. before k (get_or xs k x) lt (slice_get-get_or xs k x (omega (arith, lt, within)))) (λ lt. ap p (get_or_from_slice_get xs i x x is) ∙ passes) in
-    ap (λ n. cond (nat_lt n (length xs)) (Some n) None) here ∙ ap (λ b. cond b (Some i) None) (below i (length xs) within)
+first_at p xs i x before is passes = grind (arith, position_or_len_is, slice_get-get_or, slice_get_within xs i x is, get_or_from_slice_get xs i x x is)
 
 pub nowhere : {X : Type 0} (p : X → Bool) (xs : List X) (i : ℕ) (d : X) → NoneBefore p xs i → length xs ≤ i → position p xs ≡ None
 nowhere p xs i d before end =
@@ -34,5 +24,4 @@ nowhere p xs i d before end =
 
 -- a copy of what is found
 pub copied : {X : Type 0} (found : Option (Bor X)) → option_copied found ≡ option_map (λ x. x.now) found
-copied None = refl
-copied (Some x) = refl
+copied found = grind arith

@@ -1,60 +1,20 @@
 -- A placing that keeps the places of all blocks starts with these places.
-use Rattle.std.proofs.Common.{ℕ, zero, suc, ◌≡◌, ◌≢◌, ◌+◌, ◌<◌, Bool, true, false, cond, List, [], ◌∷◌, Option, Some, None, Result, IfOk, length, map, get_or, slice_get, refl, sym, ap, subst, ◌∙◌, arith}
-use Rattle.std.specs.Prelude.{AllPairs, Contains, find as find_first, option_and_then}
-use Rattle.std.specs.List.{IsDistinct, flat_map, zip}
+use Rattle.pinned_places.proofs.Prelude.{ℕ, zero, suc, ◌≡◌, ◌≢◌, ◌+◌, ◌<◌, Bool, true, false, cond, List, [], ◌∷◌, Option, Some, None, Result, IfOk, length, map, get_or, slice_get, refl, sym, ap, subst, ◌∙◌, arith, AllPairs, Contains, find as find_first, option_and_then, IsDistinct, flat_map, zip, option_to_list, eq_by_cmp, nat_tests, ext_get_or, get_or-map, length-map, IsDistinct-from_apart, keys_of-zip, get_or_from_slice_get, slice_get-get_or, slice_get_within, PackedCircuit, blocks_of, BlockKey, key_of, key_order, keys_of, Block, Cluster, Strip, Kind, Place, place_at, places_of, KeptPlace, KeptPlaces, in_order, kept_place, entries_of, find-in_order, tied, key_total, kind_of, ArePlaced, block_at, is_same_place, place_of, PlacingUnderWay, placed_after, places_by_block, kind_for, kept_by_block, place_for, placed_behind, placed_first, places_at_start, task_of, same_parts}
 use Rattle.std.specs.Map as entries
 use Rattle.std.specs.FinMap.{find}
-use Rattle.std.specs.Cmp.{eq_by_cmp_equiv}
-use Rattle.std.specs.Option.{option_to_list}
-use Rattle.std.specs.Ordering.{eq_by_cmp}
-use Rattle.std.proofs.lemmas.Bool.Decides.{nat_tests}
-use Rattle.std.proofs.lemmas.List.{ext_get_or, get_or-map, length-map}
-use Rattle.std.proofs.lemmas.Map.Keys.{IsDistinct-from_apart}
-use Rattle.std.proofs.lemmas.Map.Made.{keys_of-zip}
-use Rattle.std.proofs.lemmas.Option.{get_or_from_slice_get, slice_get-get_or, slice_get_within}
-use Rattle.cluster.specs.Clusters.{PackedCircuit}
-use Rattle.cluster.specs.Blocks.{blocks_of}
-use Rattle.cluster.specs.Keys.{BlockKey, key_of, key_order, keys_of}
-use Rattle.cluster.specs.declared.block.Block.{Block}
-use Rattle.cluster.specs.declared.block.Block.TheVariants.{InputPad, OutputPad, Cluster}
-use Rattle.grid.specs.declared.Strip.{Strip}
-use Rattle.grid.specs.declared.place.Kind.{Kind}
-use Rattle.grid.specs.declared.place.Place.{Place}
-use Rattle.grid.specs.Places.{place_at, places_of}
-use Rattle.kept_places.specs.declared.table.KeptPlace.{KeptPlace}
-use Rattle.kept_places.specs.Kept.{KeptPlaces, in_order, kept_place}
-use Rattle.kept_places.specs.Table.{entries_of}
-use Rattle.kept_places.proofs.Entries.{find-in_order, tied}
-use Rattle.kept_places.proofs.Orders.{key_total}
-use Rattle.block_places.specs.Fits.{kind_of}
-use Rattle.block_places.specs.Placed.{ArePlaced, block_at, is_same_place, place_of}
-use Rattle.strip_place.specs.Anneal.{PlacingUnderWay, placed_after, places_by_block}
-use Rattle.strip_place.specs.Keeping.{kind_for}
-use Rattle.strip_place.specs.Start.{kept_by_block, place_for, placed_behind, placed_first, places_at_start}
-use Rattle.strip_place.specs.Task.{task_of}
-use Rattle.strip_place.proofs.KeptSites.{is_itself, same_parts}
 
 other_key : (key other : BlockKey) → key ≢ other → eq_by_cmp key_order key other ≡ false
-other_key key other differs = by (eq_by_cmp key_order key other) refl
-  where
-    by : (b : Bool) → eq_by_cmp key_order key other ≡ b → b ≡ false
-    by false is = refl
-    by true is = absurd (differs (tied key other is))
+other_key key other differs = grind (arith, tied)
 
 -- the keys of the entries are different
 pub keys_distinct : (packed : PackedCircuit) (places : List Place) (rows : List KeptPlace) → length places ≡ length (blocks_of packed) → AllPairs (λ key other. key ≢ other) (keys_of packed) → entries_of rows ≡ zip (keys_of packed) places → IsDistinct (eq_by_cmp key_order) (entries.keys_of (entries_of rows))
-keys_distinct packed places rows long apart are =
-    let keys : entries.keys_of (entries_of rows) ≡ keys_of packed = ap entries.keys_of are ∙ keys_of-zip (keys_of packed) places (long ∙ sym (length-map (blocks_of packed) (key_of packed))) in
-    subst (IsDistinct (eq_by_cmp key_order)) (sym keys) (IsDistinct-from_apart (eq_by_cmp key_order) (keys_of packed) (λ i j d before lt. other_key _ _ (apart i j d before lt)))
+keys_distinct packed places rows long apart are = grind (arith, keys_of-zip, length-map, IsDistinct-from_apart, other_key)
 
 -- the entry of a key
 find_entry : (keys : List BlockKey) (places : List Place) (n : ℕ) (key : BlockKey) (place : Place) → AllPairs (λ one other. one ≢ other) keys → slice_get keys n ≡ Some key → slice_get places n ≡ Some place → find key_order key (zip keys places) ≡ Some place
 find_entry [] places n key place apart is at = absurd (let lt = slice_get_within [] n key is in omega (arith, lt))
 find_entry (first ∷ keys) [] n key place apart is at = absurd (let lt = slice_get_within [] n place at in omega (arith, lt))
-find_entry (first ∷ keys) (head ∷ places) zero key place apart is at =
-    let same : first ≡ key = cc in
-    let here : head ≡ place = cc in
-    ap (λ (b : Bool). cond b (Some head) (find key_order key (zip keys places))) (ap (eq_by_cmp key_order key) same ∙ (eq_by_cmp_equiv key_total).refl key) ∙ ap (λ (p : Place). let o : Option Place = Some p in o) here
+find_entry (first ∷ keys) (head ∷ places) zero key place apart is at = grind (arith, key_total)
 find_entry (first ∷ keys) (head ∷ places) (suc n) key place apart is at =
     let lt = slice_get_within keys n key is in
     let differs : key ≢ first = λ e. apart 0 (suc n) key (omega arith) (omega (arith, lt)) (sym e ∙ sym (get_or_from_slice_get keys n key key is)) in
@@ -67,14 +27,8 @@ found a b same = sym (same_parts a b (grind (arith, nat_tests, same)) (grind (ar
 
 find_place : (places : List Place) (number : ℕ) (place : Place) → slice_get places number ≡ Some place → find_first (is_same_place place) places ≡ Some place
 find_place [] number place is = absurd (let lt = slice_get_within [] number place is in omega (arith, lt))
-find_place (first ∷ places) zero place is =
-    let same : first ≡ place = cc in
-    ap (λ (b : Bool). cond b (Some first) (find_first (is_same_place place) places)) (ap (is_same_place place) same ∙ is_itself place) ∙ ap (λ (p : Place). let o : Option Place = Some p in o) same
-find_place (first ∷ places) (suc number) place is = by (is_same_place place first) refl (find_place places number place is)
-  where
-    by : (b : Bool) → is_same_place place first ≡ b → find_first (is_same_place place) places ≡ Some place → cond (is_same_place place first) (Some first) (find_first (is_same_place place) places) ≡ Some place
-    by true same rest = ap (λ (b : Bool). cond b (Some first) (find_first (is_same_place place) places)) same ∙ ap (λ (p : Place). let o : Option Place = Some p in o) (found place first same)
-    by false differs rest = ap (λ (b : Bool). cond b (Some first) (find_first (is_same_place place) places)) differs ∙ rest
+find_place (first ∷ places) zero place is = grind arith
+find_place (first ∷ places) (suc number) place is = grind (arith, find_place places number place is)
 
 find_there : (places : List Place) (place : Place) → Contains places place → find_first (is_same_place place) places ≡ Some place
 find_there places place there = find_place places there.0 place (slice_get-get_or places there.0 place there.1 ∙ ap (λ (p : Place). let o : Option Place = Some p in o) there.2)
@@ -87,9 +41,7 @@ all_kept strip taken (kind ∷ kinds) [] long = absurd (omega (arith, long))
 all_kept strip taken (kind ∷ kinds) (place ∷ places) long = ap (λ (rest : List Place). place ∷ rest) (all_kept strip _ kinds places (omega (arith, long)))
 
 key_kind : (packed : PackedCircuit) (block : Block) → kind_for (key_of packed block).kind ≡ kind_of block
-key_kind packed (InputPad net) = refl
-key_kind packed (OutputPad net) = refl
-key_kind packed (Cluster cluster) = refl
+key_kind packed block = grind arith
 
 module _ (strip : Strip) (packed : PackedCircuit) (places : List Place) (apart : AllPairs (λ key other. key ≢ other) (keys_of packed)) (placed : ArePlaced strip packed places) where
   abbrev all_places : KeptPlaces

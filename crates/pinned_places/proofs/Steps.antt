@@ -1,19 +1,6 @@
 -- One place, one pad or one pin before others.
-use Rattle.std.proofs.Common.{◌≡◌, ℕ, ◌+◌, ◌<◌, ◌≤◌, List, [], ◌∷◌, ◌++◌, Result, Ok, Err, drop, get_or, length, map, set, take, sym, ap, ◌∙◌, arith}
-use Rattle.std.proofs.lemmas.List.{drop_all, drop_more, drop-set-lt, get_or-drop, get_or-map, length-map, map_more, take_all, take_more_set}
-use Rattle.std.proofs.lemmas.Grind.{drop_more_same}
-use Rattle.cluster.specs.Clusters.{PackedCircuit}
-use Rattle.grid.specs.declared.Strip.{Strip}
-use Rattle.grid.specs.declared.place.Place.{Place}
-use Rattle.block_places.specs.Placed.{place_of}
-use Rattle.grid.specs.Places.{place_at}
-use Rattle.pin_file.specs.PinFiles.{Pin}
-use Rattle.pin_file.specs.Reading.{pin_read, pins_read}
+use Rattle.pinned_places.proofs.Prelude.{◌≡◌, ℕ, ◌+◌, ◌<◌, ◌≤◌, List, [], ◌∷◌, ◌++◌, Result, Ok, Err, drop, get_or, length, map, set, take, sym, ap, ◌∙◌, arith, drop_all, drop_more, drop-set-lt, get_or-drop, get_or-map, length-map, map_more, take_all, take_more_set, drop_more_same, PackedCircuit, Strip, Place, place_of, place_at, Pin, pin_read, pins_read, with_pad, with_pads, pad_of, pads_after, then_pads, PinFault, FixedPad}
 use Rattle.pin_file.specs.declared.reader.PinLine as read
-use Rattle.pinned_places.specs.Exchanges.{with_pad, with_pads}
-use Rattle.pinned_places.specs.Pads.{pad_of, pads_after, then_pads}
-use Rattle.pinned_places.specs.declared.fault.PinFault.{PinFault}
-use Rattle.pinned_places.specs.declared.pads.FixedPad.{FixedPad}
 
 -- the first elements are replaced, and the others are as they were
 pub record IsReplaced {X : Type 0} (f : X → X) (old : List X) (count : ℕ) (new : List X) : Type 0 where
@@ -21,16 +8,7 @@ pub record IsReplaced {X : Type 0} (f : X → X) (old : List X) (count : ℕ) (n
   pub others : drop count new ≡ drop count old
 
 pub replaced_more : {X : Type 0} (f : X → X) (old : List X) (count : ℕ) (new : List X) (d y : X) → length new ≡ length old → count < length old → IsReplaced f old count new → y ≡ f (get_or new count d) → IsReplaced f old (count + 1) (set new count y)
-replaced_more f old count new d y long lt replaced is =
-    let here : get_or new count d ≡ get_or old count d = (let e : count + 0 ≡ count = omega arith in ap (λ n. get_or new n d) (sym e) ∙ sym (get_or-drop count new 0 d) ∙ ap (λ xs. get_or xs 0 d) replaced.others ∙ get_or-drop count old 0 d ∙ ap (λ n. get_or old n d) e) in
-    record {
-      first =
-          take_more_set new count y (omega (arith, long, lt))
-          ∙ ap (λ front. front ++ y ∷ []) replaced.first
-          ∙ ap (λ z. map f (take count old) ++ z ∷ []) (is ∙ ap f here)
-          ∙ sym (map_more f old count d lt);
-      others = drop-set-lt (count + 1) new count y (omega arith) ∙ drop_more_same new old count replaced.others;
-    }
+replaced_more f old count new d y long lt replaced is = grind (arith, take_more_set, map_more, drop-set-lt, drop_more_same, get_or-drop count new 0 d, get_or-drop count old 0 d, take_more_set new count y (omega (arith, long, lt)), map_more f old count d lt, drop-set-lt (count + 1) new count y (omega arith), drop_more_same new old count replaced.others)
 
 pub replaced_all : {X : Type 0} (f : X → X) (old : List X) (count : ℕ) (new : List X) → length new ≡ length old → length old ≤ count → IsReplaced f old count new → new ≡ map f old
 replaced_all f old count new long past replaced = sym (take_all count new (omega (arith, long, past))) ∙ replaced.first ∙ ap (map f) (take_all count old past)

@@ -1,8 +1,6 @@
 -- The places after pads went to the places that are wanted for them.
 use Rattle.std.specs.Prelude.{List, [], ◌∷◌, map}
-use Rattle.grid.specs.declared.place.Place.{Place}
-use Rattle.block_places.specs.Placed.{place_of}
-use Rattle.strip_place.specs.Pass.{place_after}
+use Rattle.pinned_places.specs.Prelude.{Place, place_of, place_after}
 use Rattle.pinned_places.specs.declared.pads.FixedPad.{FixedPad}
 
 -- the places after a pad went to its place, and a block that was there to the pad's

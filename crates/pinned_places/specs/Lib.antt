@@ -1,3 +1,4 @@
+pub mod Prelude
 pub mod Pads
 pub mod Exchanges
 pub mod Results

@@ -1,14 +1,7 @@
 -- The pads of pins, or the first pin that can't be met.
 use Rattle.std.specs.Prelude.{ℕ, ◌+◌, Bool, false, ◌&&◌, ◌||◌, ◌==◌, nat_le, nat_lt, List, [], ◌∷◌, ◌++◌, codes, drop, take, find, position, Option, Some, None, Result, Ok, Err, if◌then◌else◌}
 use Rattle.std.specs.Str.{bytes_eq}
-use Rattle.cluster.specs.Clusters.{PackedCircuit}
-use Rattle.cluster.specs.Keys.{BlockKey, keys_of}
-use Rattle.cluster.specs.declared.block.BlockKind.{BlockKind}
-use Rattle.cluster.specs.declared.block.BlockKind.TheVariants.{InputPad, OutputPad, Cluster}
-use Rattle.grid.specs.declared.Strip.{Strip}
-use Rattle.grid.specs.declared.place.Place.{Place}
-use Rattle.block_places.specs.Placed.{is_same_place}
-use Rattle.pin_file.specs.PinFiles.{Pin}
+use Rattle.pinned_places.specs.Prelude.{PackedCircuit, BlockKey, keys_of, BlockKind, InputPad, OutputPad, Cluster, Strip, Place, is_same_place, Pin}
 use Rattle.pinned_places.specs.declared.fault.PinFault.{PinFault}
 use Rattle.pinned_places.specs.declared.fault.PinFaultKind.{PinFaultKind}
 use Rattle.pinned_places.specs.declared.fault.PinFaultKind.TheVariants.{NoPad, NoPlace, NamedBefore, TakenBefore}

@@ -2,18 +2,7 @@
 use Rattle.std.specs.Prelude.{ℕ, ◌≡◌, ◌<◌, List, All, AllPairs, Contains, length, slice_get, Option, Some, Result, Ok, Err, ⊤}
 use Rattle.std.specs.declared.vec.Vec.{Vec}
 use Rattle.std.specs.declared.alloc.Global.{Global}
-use Rattle.line_text.specs.declared.text_error.TextError.{TextError}
-use Rattle.line_text.specs.declared.text_error.TextError.TheVariants.{NoMemory, Fault}
-use Rattle.cluster.specs.Blocks.{blocks_of}
-use Rattle.cluster.specs.Clusters.{PackedCircuit}
-use Rattle.grid.specs.declared.Strip.{Strip}
-use Rattle.grid.specs.declared.place.Kind.TheVariants.{Pad}
-use Rattle.grid.specs.declared.place.Place.{Place}
-use Rattle.grid.specs.Places.{places_of}
-use Rattle.block_places.specs.Fits.{kind_of}
-use Rattle.block_places.specs.Placed.{block_at}
-use Rattle.strip_place.specs.Anneal.{PlacingUnderWay, places_by_block}
-use Rattle.pin_file.specs.PinFiles.{Pin}
+use Rattle.pinned_places.specs.Prelude.{TextError, NoMemory, Fault, blocks_of, PackedCircuit, Strip, Pad, Place, places_of, kind_of, block_at, PlacingUnderWay, places_by_block, Pin}
 use Rattle.pinned_places.specs.Exchanges.{with_pads}
 use Rattle.pinned_places.specs.Pads.{pad_number, pads_of}
 use Rattle.pinned_places.specs.declared.fault.PinFault.{PinFault}

@@ -1,6 +1,6 @@
 //! Exchanges the places of blocks.
 ghost use Rattle.std.specs.Prelude.{◌≡◌, ◌<◌, All, length, map};
-ghost use Rattle.strip_place.specs.Pass.{place_after};
+ghost use Rattle.pinned_places.specs.Prelude.{place_after};
 ghost use Rattle.pinned_places.specs.Exchanges.{with_pads};
 
 use crate::pads::{FixedPad, is_same_place};

@@ -1,10 +1,6 @@
 //! The pads of pins.
 ghost use Rattle.std.specs.Prelude.{◌≡◌, ◌==◌, [], find};
-ghost use Rattle.cluster.specs.Keys.{keys_of};
-ghost use Rattle.kept_places.specs.Table.{key_of};
-ghost use Rattle.grid.specs.Sizes.{IsStripSize};
-ghost use Rattle.block_places.specs.Placed.{is_same_place};
-ghost use Rattle.pin_file.specs.Reading.{pin_read, pins_read};
+ghost use Rattle.pinned_places.specs.Prelude.{keys_of, key_of, IsStripSize, is_same_place, pin_read, pins_read};
 ghost use Rattle.pinned_places.specs.Pads.{is_out_named, is_pad_named, is_pad_place, pad_number, pad_of, pads_after};
 ghost use Rattle.pinned_places.specs.Results.{GivesPads};
 

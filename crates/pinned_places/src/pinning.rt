@@ -1,10 +1,6 @@
 //! Puts the pads of pins on their places.
 ghost use Rattle.std.specs.Prelude.{◌≡◌, ◌<◌, All, IfOk, Ok, length};
-ghost use Rattle.block_places.specs.Fits.{fit_of};
-ghost use Rattle.block_places.specs.declared.fit.Fit.TheVariants.{Fits};
-ghost use Rattle.cluster.specs.Blocks.{blocks_of};
-ghost use Rattle.strip_place.specs.Anneal.{places_by_block};
-ghost use Rattle.pin_file.specs.Reading.{pins_read};
+ghost use Rattle.pinned_places.specs.Prelude.{fit_of, Fits, blocks_of, places_by_block, pins_read};
 ghost use Rattle.pinned_places.specs.Exchanges.{with_pads};
 ghost use Rattle.pinned_places.specs.Pads.{pads_of};
 ghost use Rattle.pinned_places.specs.Results.{GivesPinned, IsPinned};

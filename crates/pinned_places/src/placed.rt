@@ -1,12 +1,7 @@
 //! A placing whose blocks are on given places.
 ghost use Rattle.std.specs.Prelude.{◌≡◌, length, IfOk};
 ghost use Rattle.std.specs.List.{zip};
-ghost use Rattle.cluster.specs.Blocks.{blocks_of};
-ghost use Rattle.cluster.specs.Keys.{keys_of};
-ghost use Rattle.kept_places.specs.Kept.{in_order};
-ghost use Rattle.block_places.specs.Fits.{fit_of};
-ghost use Rattle.block_places.specs.Placed.{ArePlaced};
-ghost use Rattle.block_places.specs.declared.fit.Fit.TheVariants.{Fits};
+ghost use Rattle.pinned_places.specs.Prelude.{blocks_of, keys_of, in_order, fit_of, ArePlaced, Fits};
 
 use cluster::{Packed, laws_of_packing};
 use grid::Place;

@@ -1,20 +1,6 @@
 -- What is found in a plane, and the best path so far.
-use Rattle.std.proofs.Common.{◌≡◌, ◌≢◌, ℕ, refl, ◌+◌, ◌-◌, ◌^◌, ◌<◌, ◌≤◌, ◌⊎◌, List, [], ◌∷◌, All, get_or, map, arith, ◌∙◌, inl, inr, sym, ap, subst}
-use Rattle.std.specs.List.{Contains}
-use Rattle.std.specs.Ordering.{nat_cmp, ordering_then, ordering_reverse}
-use Rattle.std.specs.Cmp.Lexicographic.{slice_cmp}
-use Rattle.std.specs.declared.cmp.Ordering.{Ordering}
-use Rattle.std.specs.declared.cmp.Ordering.TheVariants.{Less, Equal, Greater}
-use Rattle.std.proofs.lemmas.Cmp.{nat_list_cmp_total, ranked}
-use Rattle.std.proofs.lemmas.List.Elements.{Contains-get_or}
-use Rattle.least_path.specs.Path.{IsPath, cost_of, path_cmp}
-use Rattle.least_path.specs.LeastPath.{HasNoPath}
-use Rattle.least_path.specs.declared.path.Path.{Path}
-use Rattle.plane_search.specs.Planes.{Family, IsPlane, IsPlaneBound, IsRivalBound, IsKnown, HoldsNothingLess, IsLeastOfTrack}
-use Rattle.plane_search.specs.Starts.{AreStarts, places_of}
-use Rattle.plane_search.specs.Best.{AreListed, HoldsNone, HoldsNothingBeyond, IsNoLater, Improves, IsLeastOn, IsLeastIn, HasNoneWithin}
-use Rattle.plane_search.specs.Walk.{AreNoCheaper, AreOrderedStarts}
-use Rattle.plane_search.specs.declared.planes.Start.{Start}
+use Rattle.plane_search.proofs.Prelude.{◌≡◌, ◌≢◌, ℕ, ◌+◌, ◌-◌, ◌^◌, ◌<◌, ◌≤◌, ◌⊎◌, List, [], ◌∷◌, get_or, map, arith, ◌∙◌, inl, inr, sym, ap, subst, Contains, nat_cmp, ordering_then, ordering_reverse, slice_cmp, Ordering, Less, Greater, nat_list_cmp_total, Contains-get_or, IsPath, cost_of, path_cmp, HasNoPath, Path, Family, IsPlane, IsPlaneBound, IsRivalBound, IsKnown, HoldsNothingLess, IsLeastOfTrack, AreStarts, places_of, AreListed, HoldsNone, HoldsNothingBeyond, IsNoLater, Improves, IsLeastOn, IsLeastIn, HasNoneWithin, AreNoCheaper, AreOrderedStarts, Start}
+use Rattle.std.proofs.Common.{All}
 use Rattle.plane_search.proofs.Order.{path_cmp_total, less_under, not_less_dearer, not_less_then}
 use Rattle.plane_search.proofs.Embedding.{path_whole, cost_whole, cmp_whole}
 use Rattle.plane_search.proofs.Sorting.{place_from}
@@ -70,8 +56,7 @@ ordered plane listed = record { within = among_nodes listed.are plane; bounded =
 
 -- a limit below all paths
 pub none_within : (f : Family) (track : ℕ) (most bound : ℕ) (starts : List ℕ) → AreNoCheaper (f.plane track) f.exit bound starts → most < bound → HasNoneWithin f track starts most
-none_within f track most bound starts cheap l [] p = absurd p
-none_within f track most bound starts cheap l (x ∷ rest) p = omega (arith, l, cheap x p.0 rest p.1)
+none_within f track most bound starts cheap l = grind arith
 
 -- ---- a path of a plane, in the whole graph
 
@@ -167,15 +152,7 @@ pub stays : {f : Family} {track cost : ℕ} {nodes : List ℕ} (path : Path) →
 stays path known later here = record { known = known; later = later; here = here; still = λ other h. h }
 
 then_less : (a b : ℕ) (o : Ordering) → ordering_then (nat_cmp a b) o ≡ Less → (a ≤ b) × (a ≡ b → o ≡ Less)
-then_less a b o e = go (nat_cmp a b) refl
-  where
-    go : (r : Ordering) → r ≡ nat_cmp a b → (a ≤ b) × (a ≡ b → o ≡ Less)
-    go Less q = (let l = ranked a b Less q in (omega (arith, l), λ same. absurd (omega (arith, l, same))))
-    go Equal q = (omega (arith, ranked a b Equal q), λ same. subst (λ (r : Ordering). ordering_then r o ≡ Less) (sym q) e)
-    go Greater q = absurd (not_less_greater (subst (λ (r : Ordering). ordering_then r o ≡ Less) (sym q) e))
-      where
-        not_less_greater : ordering_then Greater o ≡ Less → ⊥
-        not_less_greater q = cc
+then_less a b o e = grind arith
 
 -- A lesser path takes its place.
 pub gets_less : {f : Family} {track cost : ℕ} {nodes : List ℕ} (path found : Path) → IsKnown f found → IsNoLater cost nodes path → HoldsNothingLess f track found.nodes.items

@@ -1,13 +1,5 @@
 -- Paths of a plane and paths of the whole graph.
-use Rattle.std.proofs.Common.{◌≡◌, ℕ, refl, ◌<◌, List, [], ◌∷◌, map, arith, ◌∙◌, inl, inr, sym, ap, subst}
-use Rattle.std.specs.List.{sum_by, All}
-use Rattle.std.specs.Cmp.Lexicographic.{slice_cmp}
-use Rattle.std.specs.Ordering.{nat_cmp, ordering_then}
-use Rattle.std.proofs.lemmas.Bool.{cases_eq, cases_lt}
-use Rattle.std.proofs.lemmas.List.Sums.{sum_by-cons}
-use Rattle.std.proofs.lemmas.List.Elements.{All-nil, All-cons, All-head, All-tail}
-use Rattle.least_path.specs.Path.{Leads, IsPath, cost_of, path_cmp}
-use Rattle.plane_search.specs.Planes.{Family, IsPlace, IsOn, IsPlane}
+use Rattle.plane_search.proofs.Prelude.{◌≡◌, ℕ, refl, ◌<◌, List, [], ◌∷◌, map, arith, ◌∙◌, inl, inr, sym, ap, subst, sum_by, All, slice_cmp, nat_cmp, ordering_then, cases_eq, cases_lt, sum_by-cons, All-nil, All-cons, All-head, All-tail, Leads, IsPath, cost_of, path_cmp, Family, IsPlace, IsOn, IsPlane}
 use Rattle.plane_search.proofs.Order.{cmp_less, cmp_equal, cmp_greater}
 
 module _ {f : Family} {track : ℕ} (plane : IsPlane f track) where

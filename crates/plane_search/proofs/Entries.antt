@@ -1,11 +1,5 @@
 -- Entries that wait in two lists.
-use Rattle.std.proofs.Common.{◌≡◌, ℕ, ◌<◌, Option, Some, None, IfSome, List, [], ◌∷◌, ◌++◌, length, get_or}
-use Rattle.std.specs.List.{swap_remove}
-use Rattle.std.specs.Option.{option_to_list}
-use Rattle.std.specs.List.Sorted.{IsPermutation}
-use Rattle.std.proofs.lemmas.List.{append_assoc}
-use Rattle.std.proofs.lemmas.List.Sorted.{IsPermutation-sym, IsPermutation-trans, IsPermutation-to_front, IsPermutation-middle, IsPermutation-append_left, IsPermutation-append_right, IsPermutation-swap_remove}
-use Rattle.plane_search.specs.declared.queue.Open.{Open}
+use Rattle.plane_search.proofs.Prelude.{◌≡◌, ℕ, ◌<◌, Option, Some, None, IfSome, List, [], ◌∷◌, ◌++◌, length, get_or, swap_remove, option_to_list, IsPermutation, append_assoc, IsPermutation-sym, IsPermutation-trans, IsPermutation-to_front, IsPermutation-middle, IsPermutation-append_left, IsPermutation-append_right, IsPermutation-swap_remove, Open}
 
 module _ (next later : List (Open ℕ)) (item : Open ℕ) where
   -- an entry is appended to one of the lists

@@ -1,3 +1,4 @@
+mod Prelude
 mod Members
 mod Order
 mod Embedding

@@ -1,9 +1,5 @@
 -- Cells of marks, and the costs that they hold.
-use Rattle.std.proofs.Common.{◌≡◌, ℕ, ◌+◌, ◌-◌, ◌≤◌, List, ◌++◌, map, set, take, replicate, arith, ◌∙◌, ap}
-use Rattle.std.specs.List.{All}
-use Rattle.std.proofs.lemmas.List.{map-set}
-use Rattle.std.proofs.lemmas.List.Elements.{All-append, All-map, All-take, All-replicate}
-use Rattle.plane_search.specs.Walk.{costs_of}
+use Rattle.plane_search.proofs.Prelude.{◌≡◌, ℕ, ◌+◌, ◌-◌, ◌≤◌, List, ◌++◌, map, set, take, replicate, arith, ◌∙◌, ap, All, map-set, All-append, All-map, All-take, All-replicate, costs_of}
 
 module _ {C : Type 0} (number : C → ℕ) where
   -- a cost is written

@@ -1,8 +1,5 @@
 -- Members of lists.
-use Rattle.std.proofs.Common.{◌≡◌, ℕ, zero, suc, refl, ◌+◌, ◌<◌, ◌≤◌, ◌⊎◌, List, [], ◌∷◌, length, get_or, map, set, take, drop, ◌++◌, add-one, arith, ◌∙◌, inl, inr, sym, ap, subst}
-use Rattle.std.specs.List.{Contains}
-use Rattle.std.proofs.lemmas.Bool.{cases_eq}
-use Rattle.std.proofs.lemmas.List.{get_or_default, get_or-map, length-map}
+use Rattle.plane_search.proofs.Prelude.{◌≡◌, ℕ, zero, suc, refl, ◌+◌, ◌<◌, ◌≤◌, ◌⊎◌, List, [], ◌∷◌, length, get_or, map, set, take, drop, ◌++◌, add-one, arith, ◌∙◌, sym, ap, Contains, get_or_default, get_or-map, length-map}
 
 pub Contains-first : {X : Type 0} (x : X) (xs : List X) → Contains (x ∷ xs) x
 Contains-first x xs = (0, omega arith, refl)
@@ -11,13 +8,11 @@ pub Contains_further : {X : Type 0} (x y : X) (xs : List X) → Contains xs y �
 Contains_further x y xs c = (suc c.0, omega (arith, c.1), c.2)
 
 pub Contains_cases : {X : Type 0} (x y : X) (xs : List X) → Contains (x ∷ xs) y → (x ≡ y) ⊎ Contains xs y
-Contains_cases x y xs (zero, b, e) = inl e
-Contains_cases x y xs (suc k, b, e) = inr (k, omega arith, e)
+Contains_cases x y xs h1 = grind arith
 
 -- the only element
 pub only_contained : (x y : ℕ) → Contains (x ∷ []) y → y ≡ x
-only_contained x y (zero, b, e) = sym e
-only_contained x y (suc k, b, e) = absurd (omega (arith, b))
+only_contained x y h1 = grind arith
 
 -- the element's index
 pub at_index : (xs : List ℕ) (x : ℕ) → Contains xs x → (k : ℕ) × (k < length xs) × (get_or xs k 0 ≡ x)
@@ -35,10 +30,7 @@ past_listed xs list base k e l = omega (arith, l, length-map list (λ end. end +
 
 -- one more index
 pub below_next : (P : ℕ → Type 0) (count : ℕ) → ((k : ℕ) → k < count → P k) → P count → (k : ℕ) → k < count + 1 → P k
-below_next P count before here k l = elim (cases_eq k count) [
-  | inl e ↦ subst P (sym e) here
-  | inr o ↦ before k (omega (arith, l, o))
-]
+below_next P count before here k l = grind arith
 
 -- the elements before an index mapped, and the others as they were
 numbered_suc : (h : ℕ → ℕ) (old : List ℕ) (i : ℕ) → i < length old → set (map h (take i old) ++ drop i old) i (h (get_or (map h (take i old) ++ drop i old) i 0)) ≡ map h (take (suc i) old) ++ drop (suc i) old

@@ -1,23 +1,9 @@
 -- The first entry of a heap.
-use Rattle.std.proofs.Common.{◌≡◌, ℕ, ◌<◌, ◌≤◌, List, [], ◌∷◌, get_or, false, arith, refl}
-use Rattle.std.specs.List.{All}
-use Rattle.std.specs.List.Sorted.{IsPermutation}
-use Rattle.std.specs.BinaryHeap.{IsUpperBound}
-use Rattle.std.specs.Ordering.{nat_cmp, ordering_then, is_lt, MatchOrdering}
-use Rattle.std.specs.declared.cmp.Ordering.{Ordering}
-use Rattle.std.specs.declared.cmp.Ordering.TheVariants.{Less, Equal, Greater}
-use Rattle.std.proofs.lemmas.Cmp.{ranked}
-use Rattle.std.proofs.lemmas.List.Elements.{All-nil, All-cons, All-map, All-from_recursion}
-use Rattle.std.proofs.lemmas.List.Sorted.{All-permutation, IsPermutation-sym}
-use Rattle.plane_search.specs.Heap.{waiting_cmp, open_of, opens_of}
-use Rattle.plane_search.specs.declared.queue.Open.{Open}
-use Rattle.plane_search.specs.declared.heap.Waiting.{Waiting}
+use Rattle.plane_search.proofs.Prelude.{◌≡◌, ℕ, ◌<◌, ◌≤◌, List, [], ◌∷◌, get_or, false, arith, refl, All, IsPermutation, IsUpperBound, nat_cmp, ordering_then, is_lt, MatchOrdering, Ordering, ranked, All-nil, All-cons, All-map, All-from_recursion, All-permutation, IsPermutation-sym, waiting_cmp, open_of, opens_of, Open, Waiting}
 
 -- not less, by the first criterion
 not_less : (a b : ℕ) (o p : Ordering) → MatchOrdering o (a < b) (a ≡ b) (b < a) → is_lt (ordering_then o p) ≡ false → b ≤ a
-not_less a b Less p m e = cc
-not_less a b Greater p m e = omega (arith, m)
-not_less a b Equal p m e = omega (arith, m)
+not_less a b o p m e = grind arith
 
 -- If the first entry's key is above the limit, all are.
 pub all_above : (limit : ℕ) (first : Waiting) (old new : List Waiting) → IsPermutation old (first ∷ new) → IsUpperBound waiting_cmp first new → limit < first.key.0 → All (λ (item : Open ℕ). limit < item.key) (opens_of old)

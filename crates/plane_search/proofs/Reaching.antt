@@ -1,45 +1,22 @@
 -- A pass that enters places, and what each path costs at least when it ends.
-use Rattle.std.proofs.Common.{◌≡◌, ◌≢◌, ℕ, refl, ◌+◌, ◌<◌, ◌≤◌, ◌⊎◌, List, [], ◌∷◌, length, get_or, set, arith, ◌∙◌, inl, inr, sym, ap, subst, length-set}
-use Rattle.std.specs.List.{sum_by, All, Contains}
-use Rattle.std.specs.List.Sorted.{IsPermutation}
-use Rattle.std.proofs.lemmas.Bool.{cases_lt}
-use Rattle.std.proofs.lemmas.List.Elements.{Contains-get_or}
-use Rattle.std.proofs.lemmas.List.Sorted.{IsPermutation-sym, Contains-permutation, length_permutation}
-use Rattle.std.proofs.lemmas.List.Sums.{sum_by-cons, sum_by-set}
-use Rattle.least_path.specs.Graph.{Graph, IsLawful}
-use Rattle.least_path.specs.Path.{Leads}
-use Rattle.plane_search.specs.Walk.{CostsAtLeast, IsUnfit, AreNoCheaper}
-use Rattle.plane_search.specs.Reach.{IsKeyed, IsOpen, IsFollowed, IsLimit, IsReaching, IsUnderWay, IsFollowing, IsBeginning, measure_of}
-use Rattle.plane_search.specs.declared.queue.Open.{Open}
+use Rattle.plane_search.proofs.Prelude.{◌≡◌, ◌≢◌, ℕ, refl, ◌+◌, ◌<◌, ◌≤◌, ◌⊎◌, List, [], ◌∷◌, length, get_or, set, arith, ◌∙◌, inl, inr, sym, ap, subst, length-set, sum_by, All, Contains, IsPermutation, cases_lt, Contains-get_or, IsPermutation-sym, Contains-permutation, length_permutation, sum_by-cons, sum_by-set, Graph, IsLawful, Leads, CostsAtLeast, IsUnfit, AreNoCheaper, IsKeyed, IsOpen, IsFollowed, IsLimit, IsReaching, IsFollowing, IsBeginning, measure_of, Open}
+use Rattle.plane_search.specs.Reach.{IsUnderWay}
 use Rattle.plane_search.proofs.Members.{Contains-first, Contains_cases, Contains_further, at_index, below_next}
 use Rattle.plane_search.proofs.Walking.{cost_cases, end_within, least_on}
 
 -- ---- marks and limits that fall
 
 unfit_on : (g : Graph) (goal limit low node cost : ℕ) (entered new : List ℕ) → low ≤ limit → get_or new node 0 ≤ get_or entered node 0 → IsUnfit g goal limit entered node cost → IsUnfit g goal low new node cost
-unfit_on g goal limit low node cost entered new l falls (inl reached) = inl (omega (arith, falls, reached))
-unfit_on g goal limit low node cost entered new l falls (inr more) = inr (λ rest leads. omega (arith, l, more rest leads))
+unfit_on g goal limit low node cost entered new l falls h3 = grind arith
 
 set_falls : (entered : List ℕ) (place cost node : ℕ) → place < length entered → cost ≤ get_or entered place 0 → get_or (set entered place cost) node 0 ≤ get_or entered node 0
-set_falls entered place cost node l le = elim (cost_cases entered place node cost l) [
-  | inl s ↦ omega (arith, s.1, le, ap (λ (v : ℕ). get_or entered v 0) s.0)
-  | inr o ↦ omega (arith, o.1)
-]
+set_falls entered place cost node l le = grind (arith, cost_cases)
 
 followed_on : (g : Graph) (goal limit low node cost : ℕ) (entered new : List ℕ) → low ≤ limit → ((v : ℕ) → get_or new v 0 ≤ get_or entered v 0) → IsFollowed g goal limit entered node cost → IsFollowed g goal low new node cost
 followed_on g goal limit low node cost entered new l falls followed end c = unfit_on g goal limit low end (cost + g.cost end) entered new l (falls end) (followed end c)
 
 reaching_below : {g : Graph} {span : ℕ} {starts : List ℕ} {goal limit at : ℕ} {entered : List ℕ} {entries : List (Open ℕ)} (low : ℕ) → low ≤ limit → IsReaching g span starts goal limit at entered entries → IsReaching g span starts goal low at entered entries
-reaching_below {g} {span} {starts} {goal} {limit} {at} {entered} {entries} low l w = record {
-  room = w.room;
-  other = w.other;
-  keyed = w.keyed;
-  sound = w.sound;
-  done = λ node b s. elim (w.done node b s) [
-    | inl d ↦ inl (elim d [ inl item ↦ inl item | inr followed ↦ inr (followed_on g goal limit low node (get_or entered node 0) entered entered l (λ v. omega arith) followed) ])
-    | inr e ↦ inr e
-  ];
-}
+reaching_below low l w = grind arith
 
 -- ---- one more place is entered
 
@@ -89,16 +66,7 @@ measure_falls entered place cost entries new item b lower added = omega (arith, 
 
 -- no place is entered yet
 pub beginning : {g : Graph} {span : ℕ} {starts : List ℕ} {goal limit : ℕ} {entered : List ℕ} {entries : List (Open ℕ)} → g.count ≤ length entered → goal < g.count → All (λ (cost : ℕ). span ≤ cost) entered → entries ≡ [] → IsBeginning g span starts goal limit 0 entered entries
-beginning {g} {span} {starts} {goal} {limit} {entered} room b all e = record {
-  first = λ k l. absurd (omega (arith, l));
-  reaching = record {
-    room = room;
-    other = all goal 0 (omega (arith, b, room));
-    keyed = λ item has. absurd (omega (arith, has.1, ap (λ (xs : List (Open ℕ)). length xs) e));
-    sound = λ best cheap node c small. absurd (omega (arith, small, all node 0 (omega (arith, c, room))));
-    done = λ node c small. absurd (omega (arith, small, all node 0 (omega (arith, c, room))));
-  };
-}
+beginning room b all e = grind arith
 
 pub start_passed : {g : Graph} {span : ℕ} {starts : List ℕ} {goal limit k : ℕ} {entered : List ℕ} {entries : List (Open ℕ)} → IsUnfit g goal limit entered (get_or starts k 0) 0 → IsBeginning g span starts goal limit k entered entries → IsBeginning g span starts goal limit (k + 1) entered entries
 start_passed {g} {span} {starts} {goal} {limit} {k} {entered} unfit w = record { first = below_next (λ (i : ℕ). IsUnfit g goal limit entered (get_or starts i 0) 0) k w.first unfit; reaching = w.reaching }
@@ -195,16 +163,7 @@ all_followed {g} {span} {starts} {goal} {most} {limit} {k} {item} {entered} all 
 
 taken_done : {g : Graph} {span : ℕ} {starts : List ℕ} {goal most limit : ℕ} {item : Open ℕ} {entered : List ℕ} {entries : List (Open ℕ)} → IsUnderWay g span starts goal most limit entered (item ∷ entries) → (node : ℕ) → node < g.count → get_or entered node 0 < span
     → (IsOpen entries node (get_or entered node 0) ⊎ IsFollowed g goal limit entered node (get_or entered node 0)) ⊎ ((item.place ≡ node) × (item.cost ≡ get_or entered node 0))
-taken_done {g} {span} {starts} {goal} {most} {limit} {item} {entered} {entries} w node b s = elim (w.reaching.done node b s) [
-  | inl d ↦ elim d [
-    | inl o ↦ elim (Contains_cases item o.0 entries o.1) [
-      | inl e ↦ inr (ap (λ (x : Open ℕ). x.place) e ∙ o.2, ap (λ (x : Open ℕ). x.cost) e ∙ o.3)
-      | inr has ↦ inl (inl (o.0, has, o.2, o.3))
-    ]
-    | inr followed ↦ inl (inr followed)
-  ]
-  | inr e ↦ absurd (omega (arith, e, b))
-]
+taken_done w node b s = search arith
 
 -- The entry is up to date: its edges are followed next.
 pub taken_next : {g : Graph} {span : ℕ} {starts : List ℕ} {goal most limit : ℕ} {item : Open ℕ} {entered : List ℕ} {entries : List (Open ℕ)} → item.cost ≡ get_or entered item.place 0 → IsUnderWay g span starts goal most limit entered (item ∷ entries) → IsFollowing g span starts goal most limit item 0 entered entries

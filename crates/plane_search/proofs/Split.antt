@@ -1,12 +1,5 @@
 -- The whole graph's paths are those of its planes.
-use Rattle.std.proofs.Common.{◌≡◌, ◌≢◌, ℕ, refl, ◌<◌, Option, Some, None, List, [], ◌∷◌, subst}
-use Rattle.std.specs.List.{All}
-use Rattle.std.specs.declared.cmp.Ordering.TheVariants.{Less}
-use Rattle.std.proofs.lemmas.List.Elements.{All-nil, All-cons, All-contains}
-use Rattle.least_path.specs.Path.{Leads, IsPath, path_cmp}
-use Rattle.least_path.specs.LeastPath.{IsLeastPath}
-use Rattle.plane_search.specs.Planes.{Family, IsOn, IsFamily, IsInPlane, HoldsNothingLess}
-use Rattle.plane_search.specs.Best.{HoldsNone}
+use Rattle.plane_search.proofs.Prelude.{◌≡◌, ◌≢◌, ℕ, refl, ◌<◌, Option, Some, None, List, [], ◌∷◌, subst, All, Less, All-nil, All-cons, All-contains, Leads, IsPath, path_cmp, IsLeastPath, Family, IsOn, IsFamily, IsInPlane, HoldsNothingLess, HoldsNone}
 use Rattle.plane_search.proofs.Embedding.{path_plane}
 
 only_this : (f : Family) (node track : ℕ) → f.track_of node ≡ Some track → IsOn f track node

@@ -1,31 +1,11 @@
 -- Walks from one start after another, and what they find.
-use Rattle.std.proofs.Common.{◌≡◌, ◌≢◌, ℕ, ◌+◌, ◌<◌, ◌≤◌, List, [], ◌∷◌, length, map, get_or, arith, ◌∙◌, inl, inr, sym, subst}
-use Rattle.std.specs.List.{sum_by, Contains}
-use Rattle.std.specs.List.Sorted.{IsNonDecreasing}
-use Rattle.std.specs.Ordering.{nat_cmp}
-use Rattle.std.specs.Cmp.Lexicographic.{slice_cmp}
-use Rattle.std.specs.declared.cmp.Ordering.TheVariants.{Less}
-use Rattle.std.proofs.lemmas.Bool.{cases_lt}
-use Rattle.std.proofs.lemmas.List.{get_or-map, length-map}
-use Rattle.std.proofs.lemmas.List.Elements.{All-contains, Contains-get_or}
-use Rattle.least_path.specs.Graph.{Graph}
-use Rattle.least_path.specs.Path.{Leads, IsPath, cost_of, path_cmp}
-use Rattle.least_path.specs.LeastPath.{IsLeastPath}
-use Rattle.plane_search.specs.declared.planes.Start.{Start}
-use Rattle.plane_search.specs.Starts.{places_of}
-use Rattle.plane_search.specs.Walk.{AreOrderedStarts, CostsMore, AreNoCheaper, IsLeastFrom}
+use Rattle.plane_search.proofs.Prelude.{◌≡◌, ◌≢◌, ℕ, ◌+◌, ◌<◌, ◌≤◌, List, [], ◌∷◌, length, map, get_or, arith, ◌∙◌, inl, inr, sym, subst, sum_by, Contains, IsNonDecreasing, nat_cmp, slice_cmp, Less, cases_lt, get_or-map, length-map, All-contains, Contains-get_or, Graph, Leads, IsPath, cost_of, path_cmp, IsLeastPath, Start, places_of, AreOrderedStarts, CostsMore, AreNoCheaper, IsLeastFrom}
 use Rattle.plane_search.proofs.Members.{Contains-first, only_contained, at_index, listed_end, below_next}
 use Rattle.plane_search.proofs.Order.{not_less_then, cmp_equal}
 
 -- Lesser ends are ends of earlier edges.
 pub rising_ends : (xs list : List ℕ) (base e : ℕ) → map (λ end. end + base) list ≡ xs → IsNonDecreasing list → length xs ≤ length list → e < length list → (k : ℕ) → k < length xs → get_or xs k 0 < get_or xs e 0 → k < e
-rising_ends xs list base e is rises len l k b less = elim (cases_lt k e) [
-  | inl m ↦ m
-  | inr m ↦
-      (let low = listed_end xs list base e is l in
-      let high = listed_end xs list base k is (omega (arith, b, len)) in
-      absurd (omega (arith, less, low.1, high.1, rises e k 0 m (omega (arith, b, len)))))
-]
+rising_ends xs list base e is rises len l k b less = grind (arith, listed_end xs list base e is l, listed_end xs list base k is (omega (arith, b, len)))
 
 -- Over the first starts the goal is dearer than the best.
 abbrev pub AreDearStarts : Graph → ℕ → ℕ → List ℕ → ℕ → Type 0
@@ -35,9 +15,7 @@ pub one_dearer : (g : Graph) (goal best : ℕ) (starts : List ℕ) (count : ℕ)
 one_dearer g goal best starts count before here = below_next (λ (k : ℕ). CostsMore g goal best (get_or starts k 0) 0) count before here
 
 pub all_dear : (g : Graph) (goal best : ℕ) (starts : List ℕ) (count : ℕ) → length starts ≤ count → AreDearStarts g goal best starts count → (start : ℕ) → Contains starts start → CostsMore g goal best start 0
-all_dear g goal best starts count all before start c =
-    let at = at_index starts start c in
-    subst (λ (x : ℕ). CostsMore g goal best x 0) at.2 (before at.0 (omega (arith, at.1, all)))
+all_dear g goal best starts count all before start c = grind (arith, at_index starts start c)
 
 -- The first path that is complete is the least of all.
 pub least_of_starts : (g : Graph) (goal best : ℕ) (starts : List ℕ) (count : ℕ) (path : List ℕ) → count < length starts → IsNonDecreasing starts → AreNoCheaper g goal best starts → AreDearStarts g goal best starts count
@@ -93,5 +71,4 @@ as_many starts = length-map starts (λ (start : Start). start.place)
 
 -- the place of a start among all places
 pub place_among : (starts : List Start) (index : ℕ) (d : Start) → index < length starts → Contains (places_of starts) (get_or starts index d).place
-place_among starts index d l =
-    subst (λ (x : ℕ). Contains (places_of starts) x) (place_at starts index d l) (Contains-get_or (places_of starts) index 0 (omega (arith, l, as_many starts)))
+place_among starts index d l = grind (arith, place_at, Contains-get_or (places_of starts) index 0 (omega (arith, l, as_many starts)))

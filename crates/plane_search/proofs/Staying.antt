@@ -1,19 +1,5 @@
 -- A start that is the goal, and paths that cost too much to be the least.
-use Rattle.std.proofs.Common.{◌≡◌, ◌≢◌, ℕ, refl, ◌+◌, ◌*◌, ◌^◌, ◌<◌, ◌≤◌, Option, Some, None, List, [], ◌∷◌, arith, ◌∙◌, ap, sym, subst}
-use Rattle.std.specs.List.{Contains}
-use Rattle.std.specs.Ordering.{nat_cmp}
-use Rattle.std.specs.Cmp.Lexicographic.{slice_cmp}
-use Rattle.std.specs.declared.cmp.Ordering.TheVariants.{Less}
-use Rattle.std.proofs.lemmas.List.Sums.{sum_by-cons}
-use Rattle.std.proofs.lemmas.List.Elements.{All-contains}
-use Rattle.least_path.specs.Graph.{Graph, IsLawful, AreNodes}
-use Rattle.least_path.specs.Path.{IsPath, cost_of, path_cmp}
-use Rattle.least_path.specs.LeastPath.{IsLeastPath, HasNoPath}
-use Rattle.least_path.specs.declared.path.Path.{Path}
-use Rattle.plane_search.specs.Planes.{Family}
-use Rattle.plane_search.specs.Walk.{AreNoCheaper}
-use Rattle.plane_search.specs.Reach.{IsMet}
-use Rattle.plane_search.specs.Best.{IsLeastOn, HasNoneWithin}
+use Rattle.plane_search.proofs.Prelude.{◌≡◌, ◌≢◌, ℕ, refl, ◌+◌, ◌*◌, ◌^◌, ◌<◌, ◌≤◌, Option, Some, None, List, [], ◌∷◌, arith, ◌∙◌, ap, sym, subst, Contains, nat_cmp, slice_cmp, Less, sum_by-cons, All-contains, Graph, IsLawful, AreNodes, IsPath, cost_of, path_cmp, IsLeastPath, HasNoPath, Path, Family, AreNoCheaper, IsMet, IsLeastOn, HasNoneWithin}
 use Rattle.plane_search.proofs.Order.{not_less_then, not_less_dearer}
 use Rattle.plane_search.proofs.Bests.{not_before}
 use Rattle.plane_search.proofs.Walking.{end_within}

@@ -1,19 +1,5 @@
 -- A walk whose stops are the way that is being tried.
-use Rattle.std.proofs.Common.{◌≡◌, ◌≢◌, ℕ, refl, ◌+◌, ◌-◌, ◌<◌, ◌≤◌, ◌⊎◌, Option, Some, None, IfNone, List, [], ◌∷◌, ◌++◌, length, reverse, get_or, set, arith, ◌∙◌, inl, inr, sym, ap, subst, length-set}
-use Rattle.std.specs.List.{sum_by, Contains}
-use Rattle.std.specs.Option.{option_to_list}
-use Rattle.std.specs.Ordering.{nat_cmp}
-use Rattle.std.specs.Cmp.Lexicographic.{slice_cmp}
-use Rattle.std.specs.declared.cmp.Ordering.TheVariants.{Less}
-use Rattle.std.proofs.lemmas.Bool.{cases_eq, cases_lt}
-use Rattle.std.proofs.lemmas.List.{reverse-append, get_or-set_same, get_or-set_other}
-use Rattle.std.proofs.lemmas.List.Sums.{sum_by-cons}
-use Rattle.std.proofs.lemmas.List.Elements.{All-contains, Contains-get_or}
-use Rattle.least_path.specs.Graph.{Graph, IsLawful}
-use Rattle.least_path.specs.Path.{Leads, IsPath, cost_of}
-use Rattle.plane_search.specs.Walk.{CostsAtLeast, CostsMore, IsUnfit, AreUnfit, IsNext, IsStop, IsWalking, IsBetween, IsLeastFrom, places_in, stop_at, after_step}
-use Rattle.plane_search.specs.declared.walk.Stop.{Stop}
-use Rattle.plane_search.specs.declared.walk.Step.{Step}
+use Rattle.plane_search.proofs.Prelude.{◌≡◌, ◌≢◌, ℕ, refl, ◌+◌, ◌-◌, ◌<◌, ◌≤◌, ◌⊎◌, Option, Some, None, IfNone, List, [], ◌∷◌, ◌++◌, length, reverse, get_or, set, arith, ◌∙◌, inl, inr, sym, ap, subst, length-set, sum_by, Contains, option_to_list, nat_cmp, slice_cmp, Less, cases_lt, reverse-append, get_or-set_same, get_or-set_other, sum_by-cons, All-contains, Contains-get_or, Graph, IsLawful, Leads, IsPath, cost_of, CostsAtLeast, CostsMore, IsUnfit, AreUnfit, IsNext, IsStop, IsWalking, IsBetween, IsLeastFrom, places_in, stop_at, after_step, Stop, Step}
 use Rattle.plane_search.proofs.Members.{Contains-first, only_contained, at_index}
 use Rattle.plane_search.proofs.Order.{not_less_then}
 
@@ -65,10 +51,7 @@ end_within g law node end b c = All-contains (λ (x : ℕ). x < g.count) (g.ends
 -- ---- a place and its cost in a list of marks
 
 pub cost_cases : (costs : List ℕ) (place v cost : ℕ) → place < length costs → ((v ≡ place) × (get_or (set costs place cost) v 0 ≡ cost)) ⊎ ((v ≢ place) × (get_or (set costs place cost) v 0 ≡ get_or costs v 0))
-cost_cases costs place v cost l = elim (cases_eq v place) [
-  | inl e ↦ inl (e, ap (λ (x : ℕ). get_or (set costs place cost) x 0) e ∙ get_or-set_same costs place cost 0 l)
-  | inr n ↦ inr (n, get_or-set_other costs place v cost 0 n)
-]
+cost_cases costs place v cost l = grind (arith, get_or-set_same, get_or-set_other)
 
 -- at a higher cost everything is dearer
 dearer : (g : Graph) (goal best node c d : ℕ) → c < d → CostsAtLeast g goal best node c → CostsMore g goal best node d
@@ -298,8 +281,7 @@ count_of (Some stop) = 1
 
 -- The last stop is the current one.
 pub taken_back : (items below : List Stop) (last : Option Stop) → items ≡ below ++ option_to_list last → IfNone last (items ≡ []) → reverse items ≡ stack_of last below
-taken_back items below None is none = ap reverse none
-taken_back items below (Some stop) is none = ap reverse is ∙ reverse-push stop below
+taken_back items below last is none = grind (arith, reverse-push)
 
 -- ---- the first stop
 

@@ -4,9 +4,7 @@ use Rattle.std.specs.Ordering.{nat_cmp}
 use Rattle.std.specs.Cmp.Lexicographic.{slice_cmp}
 use Rattle.std.specs.List.Sorted.{IsNonDecreasing}
 use Rattle.std.specs.declared.cmp.Ordering.TheVariants.{Less}
-use Rattle.least_path.specs.Path.{IsPath, cost_of, path_cmp}
-use Rattle.least_path.specs.LeastPath.{IsLeastPath}
-use Rattle.least_path.specs.declared.path.Path.{Path}
+use Rattle.plane_search.specs.Prelude.{IsPath, cost_of, path_cmp, IsLeastPath, Path}
 use Rattle.plane_search.specs.Planes.{Family, IsKnown, HoldsNothingLess}
 use Rattle.plane_search.specs.Starts.{AreStarts, places_of}
 use Rattle.plane_search.specs.declared.planes.Start.{Start}

@@ -1,3 +1,4 @@
+pub mod Prelude
 pub mod Planes
 pub mod Starts
 pub mod Best

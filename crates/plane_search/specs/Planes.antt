@@ -3,9 +3,7 @@ use Rattle.std.specs.Prelude.{◌≡◌, ◌≢◌, ℕ, ◌^◌, ◌<◌, ◌�
 use Rattle.std.specs.Ordering.{nat_cmp}
 use Rattle.std.specs.Cmp.Lexicographic.{slice_cmp}
 use Rattle.std.specs.declared.cmp.Ordering.TheVariants.{Less}
-use Rattle.least_path.specs.Graph.{Graph, AreNodes, IsLawful}
-use Rattle.least_path.specs.Path.{Leads, IsPath, cost_of, path_cmp}
-use Rattle.least_path.specs.declared.path.Path.{Path}
+use Rattle.plane_search.specs.Prelude.{Graph, AreNodes, IsLawful, Leads, IsPath, cost_of, path_cmp, Path}
 
 -- A graph with some starts and a goal, and a plane of it for each track: the graph of the places of
 -- the track, and for each place the number of its node in the whole graph.

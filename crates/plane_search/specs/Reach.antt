@@ -2,7 +2,7 @@
 use Rattle.std.proofs.Common.{◌≡◌, ℕ, ◌+◌, ◌<◌, ◌≤◌, ◌⊎◌, List, length, get_or}
 use Rattle.std.specs.List.{Contains}
 use Rattle.std.specs.Prelude.{◌*◌, sum_by}
-use Rattle.least_path.specs.Graph.{Graph}
+use Rattle.plane_search.specs.Prelude.{Graph}
 use Rattle.plane_search.specs.Walk.{CostsAtLeast, IsUnfit, AreNoCheaper}
 use Rattle.plane_search.specs.declared.queue.Open.{Open}
 

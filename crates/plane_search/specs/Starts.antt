@@ -1,7 +1,6 @@
 -- The starts that are in a track's plane, with bounds.
 use Rattle.std.specs.Prelude.{ℕ, ◌^◌, ◌<◌, ◌-◌, ◌⊎◌, Some, List, Contains, map, sum_by}
-use Rattle.least_path.specs.Path.{Leads}
-use Rattle.least_path.specs.LowerBound.{IsLowerBound}
+use Rattle.plane_search.specs.Prelude.{Leads, IsLowerBound}
 use Rattle.plane_search.specs.Planes.{Family}
 use Rattle.plane_search.specs.declared.planes.Start.{Start}
 

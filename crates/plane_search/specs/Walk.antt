@@ -5,9 +5,7 @@ use Rattle.std.specs.Ordering.{nat_cmp}
 use Rattle.std.specs.Cmp.Lexicographic.{slice_cmp}
 use Rattle.std.specs.declared.cmp.Ordering.TheVariants.{Less}
 use Rattle.std.specs.List.Sorted.{IsNonDecreasing}
-use Rattle.least_path.specs.Graph.{Graph, AreNodes}
-use Rattle.least_path.specs.Path.{Leads, IsPath, cost_of}
-use Rattle.least_path.specs.LowerBound.{IsLowerBound}
+use Rattle.plane_search.specs.Prelude.{Graph, AreNodes, Leads, IsPath, cost_of, IsLowerBound}
 use Rattle.plane_search.specs.Planes.{Family}
 use Rattle.plane_search.specs.Starts.{places_of}
 use Rattle.plane_search.specs.declared.planes.Start.{Start}

@@ -1,9 +1,7 @@
 //! A graph that consists of planes, as a search uses it.
 ghost use Rattle.std.specs.Prelude.{◌≡◌, ◌+◌, ◌<◌, ℕ, Option, List, Some, OnOk, map};
 ghost use Rattle.std.specs.List.Sorted.{IsNonDecreasing};
-ghost use Rattle.least_path.specs.Graph.{Graph};
-ghost use Rattle.least_path.specs.Path.{IsPath};
-ghost use Rattle.least_path.specs.LowerBound.{IsLowerBound};
+ghost use Rattle.plane_search.specs.Prelude.{Graph, IsPath, IsLowerBound};
 ghost use Rattle.plane_search.specs.Planes.{Family, IsFamily, IsPlace, IsInPlane, IsPlaneBound, IsRivalBound};
 ghost use Rattle.plane_search.specs.Starts.{AreStarts};
 

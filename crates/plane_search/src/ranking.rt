@@ -1,6 +1,6 @@
 //! A search that goes through the planes in the order of their bounds.
 ghost use Rattle.std.specs.Prelude.{◌≡◌, ◌<◌, ℕ, false, Some, None, Ok, OnOk};
-ghost use Rattle.least_path.specs.LeastPath.{least_path, TellsLeastPath, HasNoPath};
+ghost use Rattle.plane_search.specs.Prelude.{least_path, TellsLeastPath, HasNoPath};
 ghost use Rattle.plane_search.specs.Planes.{IsPlaneBound, IsKnown, HoldsNothingLess, IsLeastOfTrack};
 ghost use Rattle.plane_search.specs.Ranking.{IsBestKnown, tracks_in, AreRanked};
 

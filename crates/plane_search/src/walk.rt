@@ -5,8 +5,7 @@
 ghost use Rattle.std.specs.Prelude.{◌≡◌, ℕ, Contains, ◌+◌, ◌<◌, ◌^◌, ◌∷◌, ◌++◌, [], true, false, Ok, IfSome, IfNone, OnOk, length};
 ghost use Rattle.std.specs.Option.{option_to_list};
 ghost use Rattle.std.proofs.Common.{set};
-ghost use Rattle.least_path.specs.Path.{cost_of};
-ghost use Rattle.least_path.specs.LeastPath.{IsLeastPath};
+ghost use Rattle.plane_search.specs.Prelude.{cost_of, IsLeastPath};
 ghost use Rattle.plane_search.specs.Starts.{places_of};
 ghost use Rattle.plane_search.specs.Walk.{AreOrderedStarts, CanBeLeast, CanGoOver, IsFit, IsUnfit, IsNext, AreUnfit, IsBetween, IsLeastFrom, CostsMore, places_in, stop_at, after_step};
 

@@ -1,43 +1,8 @@
 -- The blocks of the layout of results are such as files can say.
-use Rattle.std.proofs.Common.{◌≡◌, ℕ, refl, ◌<◌, ◌^◌, List, ◌++◌, length, map, Option, Some, None, false, arith, inl, inr, sym, subst}
-use Rattle.std.specs.Prelude.{All, Contains, option_and_then, option_map, ◌==◌, ◌&&◌}
-use Rattle.std.specs.List.{enumerate_from, flat_map, range_with_len, zip}
-use Rattle.std.specs.Option.{ForSome, option_map_or, option_to_list}
-use Rattle.std.proofs.lemmas.List.{length-map}
-use Rattle.std.proofs.lemmas.List.Elements.{All-contains, All-nil}
-use Rattle.std.proofs.lemmas.List.FromFn.{length-enumerate_from}
-use Rattle.std.proofs.lemmas.List.Quantifiers.{position-Some}
-use Rattle.std.proofs.lemmas.Slice.Zip.{length-zip}
-use Rattle.arch_file.specs.declared.arch.PinClass.{PinClass}
-use Rattle.arch_file.specs.declared.arch.PinClass.TheVariants.{Input, Output, Clock}
-use Rattle.arch_file.specs.declared.arch.Pin.{Pin as ArchPin}
-use Rattle.ble_cluster.specs.Bles.{LogicElement}
-use Rattle.ble_cluster.specs.Clusters.{outputs_of}
+use Rattle.print_law.proofs.Prelude.{◌≡◌, ℕ, refl, ◌<◌, ◌^◌, List, ◌++◌, length, map, Option, Some, None, false, arith, inl, inr, sym, subst, All, Contains, option_and_then, option_map, enumerate_from, flat_map, range_with_len, zip, ForSome, option_map_or, option_to_list, length-map, All-contains, All-nil, length-enumerate_from, position-Some, length-zip, PinClass, Input, Output, Clock, Pin as ArchPin, LogicElement, outputs_of, place_of, blocks_of, elements_in, is_same_class, pins_of, PackedCircuit, IsPacked, IsLawfulPacking, Block, InputPad, OutputPad, Cluster, IsInRow, IsPlaceIn, places_of, IsStripSize, Strip, Kind, Logic, Pad, Place, all_members, from_append, from_flat_map, from_get, from_map, only_one, laid_at, numbered, place_is, IsNarrowBle, feed_of, laid_ble, laid_block, LaidBlock, Feed, Ble, FitsBle, FitsBlock, FitsPad, IsSmallPlace, feed_number, IsBare, driver_place, pin_with}
+use Rattle.std.specs.Prelude.{◌==◌, ◌&&◌}
 use Rattle.block_places.specs.Fits.{kind_of}
-use Rattle.block_places.specs.Placed.{place_of}
-use Rattle.cluster.specs.Blocks.{blocks_of, elements_in, is_same_class, pins_of}
-use Rattle.cluster.specs.Clusters.{PackedCircuit}
-use Rattle.cluster.specs.LawfulPackings.{IsPacked}
-use Rattle.cluster.specs.PackingLaws.{IsLawfulPacking}
-use Rattle.cluster.specs.declared.block.Block.{Block}
-use Rattle.cluster.specs.declared.block.Block.TheVariants.{InputPad, OutputPad, Cluster}
-use Rattle.grid.specs.PlaceLaws.{IsInRow, IsPlaceIn}
-use Rattle.grid.specs.Places.{places_of}
-use Rattle.grid.specs.Sizes.{IsStripSize}
-use Rattle.grid.specs.declared.Strip.{Strip}
-use Rattle.grid.specs.declared.place.Kind.{Kind}
-use Rattle.grid.specs.declared.place.Kind.TheVariants.{Logic, Pad}
-use Rattle.grid.specs.declared.place.Place.{Place}
-use Rattle.implements.proofs.Members.{all_members, from_append, from_flat_map, from_get, from_map, only_one}
-use Rattle.implements.proofs.Ports.{laid_at, numbered, place_is}
-use Rattle.implements.specs.Implements.{IsNarrowBle}
-use Rattle.implements.specs.LayoutOf.{feed_of, laid_ble, laid_block}
-use Rattle.implements.specs.Layouts.{LaidBlock}
-use Rattle.implements.specs.declared.feed.Feed.{Feed}
-use Rattle.implements.specs.declared.feed.Feed.TheVariants.{Pin, Ble}
-use Rattle.layout_files.specs.Fitting.{FitsBle, FitsBlock, FitsPad, IsSmallPlace, feed_number}
-use Rattle.layout_files.specs.LayoutFiles.{IsBare}
-use Rattle.vpr_files.specs.NetFile.{driver_place, pin_with}
+use Rattle.implements.specs.declared.feed.Feed.TheVariants.{Pin}
 use Rattle.print_law.proofs.Elements.{element_within, few_elements, pins_are}
 
 -- ---- numbers

@@ -1,28 +1,6 @@
 -- The BLEs of a packed circuit, and the nets on its clusters' pins, have nets of the circuit.
-use Rattle.std.proofs.Common.{◌≡◌, ℕ, refl, ◌+◌, ◌<◌, ◌≤◌, List, [], ◌∷◌, ◌++◌, length, take, Option, Some, None, Bool, true, false, not, cond, leb, arith, inl, inr, sym, ap, subst}
-use Rattle.std.specs.Prelude.{All, Contains, count_by, slice_get, option_and_then}
-use Rattle.std.specs.List.{enumerate_from, flat_map, slice_index_or}
-use Rattle.std.specs.Option.{ForSome, option_to_list}
-use Rattle.std.proofs.lemmas.Bool.{cases_lt, leb-true}
-use Rattle.std.proofs.lemmas.List.{get_or_default, get_or_past, length-map}
-use Rattle.std.proofs.lemmas.List.Elements.{All-contains, All-nil, All-cons, All-head, All-tail, All-append, All-filter, All-map}
-use Rattle.arch_file.specs.declared.arch.PinClass.{PinClass}
-use Rattle.arch_file.specs.declared.arch.PinClass.TheVariants.{Input, Output, Clock}
-use Rattle.blif.specs.LawfulCircuits.{IsCircuit, IsLatchWithin, IsTableWithin}
-use Rattle.blif.specs.LookupTables.{LookupTable}
-use Rattle.blif.specs.declared.circuit.Circuit.{Circuit}
+use Rattle.print_law.proofs.Prelude.{◌≡◌, ℕ, refl, ◌+◌, ◌<◌, ◌≤◌, List, [], ◌∷◌, ◌++◌, length, take, Option, Some, None, Bool, true, false, not, cond, leb, arith, inl, inr, sym, ap, subst, All, Contains, count_by, slice_get, option_and_then, enumerate_from, flat_map, slice_index_or, ForSome, option_to_list, cases_lt, leb-true, get_or_default, get_or_past, length-map, All-contains, All-nil, All-cons, All-head, All-tail, All-append, All-filter, All-map, PinClass, Input, Output, Clock, IsCircuit, IsLatchWithin, IsTableWithin, LookupTable, Circuit, LogicElement, bles_of, element_at, element_of_latch, element_of_table, latch_after, stands_alone, clocks_of, outputs_of, outside_inputs, distinct_nets, has, with_nets, elements_in, is_same_class, leaves_block, net_on_pin, pins_of, IsElementWithin, PackedCircuit, IsPacked, IsLawfulPacking, behind_is, from_bles, all_members, from_filter, from_flat_map, from_get, from_map, only_one}
 use Rattle.blif.specs.declared.latches.Latch.{Latch}
-use Rattle.ble_cluster.specs.Bles.{LogicElement, bles_of, element_at, element_of_latch, element_of_table, latch_after, stands_alone}
-use Rattle.ble_cluster.specs.Clusters.{clocks_of, outputs_of, outside_inputs}
-use Rattle.ble_cluster.specs.Nets.{distinct_nets, has, with_nets}
-use Rattle.cluster.specs.Blocks.{elements_in, is_same_class, leaves_block, net_on_pin, pins_of}
-use Rattle.cluster.specs.ClusterPins.{IsElementWithin}
-use Rattle.cluster.specs.Clusters.{PackedCircuit}
-use Rattle.cluster.specs.LawfulPackings.{IsPacked}
-use Rattle.cluster.specs.PackingLaws.{IsLawfulPacking}
-use Rattle.implements.proofs.BleKinds.{behind_is}
-use Rattle.implements.proofs.BleMembers.{from_bles}
-use Rattle.implements.proofs.Members.{all_members, from_filter, from_flat_map, from_get, from_map, only_one}
 use Rattle.print_law.proofs.Nodes.{both_hold}
 
 -- ---- lists

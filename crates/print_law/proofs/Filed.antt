@@ -1,51 +1,6 @@
 -- A tenancy that is routed has a layout that files can say.
-use Rattle.std.proofs.Common.{◌≡◌, ℕ, refl, ◌≤◌, List, Ok, length, map, sym, ap, ◌∙◌, subst}
-use Rattle.std.specs.Prelude.{All}
-use Rattle.std.specs.List.{concat}
-use Rattle.std.proofs.lemmas.List.Elements.{All-map}
-use Rattle.arch_file.specs.Arch.{IsArch}
-use Rattle.arch_file.specs.declared.arch.Arch.{Arch}
-use Rattle.arch_file.specs.declared.arch.TheConstants.{MAX_PINS}
-use Rattle.blif.specs.CircuitOf.{circuit_of}
-use Rattle.blif.specs.declared.circuit.Circuit.{Circuit}
-use Rattle.cluster.specs.Clusters.{PackedCircuit, packed_of}
-use Rattle.cluster.specs.LawfulPackings.{IsPacked}
-use Rattle.cluster.specs.PackingLaws.{IsLawfulPacking}
-use Rattle.grid.specs.PlaceLaws.{IsPlaceIn}
-use Rattle.grid.specs.Places.{places_of}
-use Rattle.grid.specs.Sizes.{IsStripSize}
-use Rattle.grid.specs.declared.Strip.{Strip}
-use Rattle.grid.specs.declared.place.Kind.{Kind}
-use Rattle.grid.specs.declared.place.Place.{Place}
-use Rattle.implements.specs.Implements.{Implements}
-use Rattle.implements.specs.LayoutOf.{layout_of}
-use Rattle.job_state.specs.JobValue.{nets_in, pass_count, placing_at, placing_sources, routing_sources, step_count}
-use Rattle.kept_places.specs.Kept.{KeptPlaces}
-use Rattle.layout_files.specs.Fitting.{FitsFiles, IsSmallNode}
-use Rattle.layout_files.specs.LayoutFiles.{EndsAtSink, HasPrintedForm}
-use Rattle.layout_law.specs.Tenancies.{ImplementsItsText}
-use Rattle.layout_law.proofs.Ends.{HasRoutes, placed_end, routed_end}
-use Rattle.layout_law.proofs.Laws.{Laws}
-use Rattle.layout_law.proofs.Routed.{connected, implemented, packed_arch, packed_circuit}
-use Rattle.layout_law.proofs.States.{Has, HasNotFailed, IsPlaceable, always_sound, lawful_packed, places_lawful}
-use Rattle.pathfinder.specs.Growth.{LeastPathLaws}
-use Rattle.pathfinder.specs.Negotiation.{Tree, routed_after}
-use Rattle.pathfinder.specs.PlacedNets.{nets_to_route, wiring_of}
-use Rattle.pathfinder.specs.Routings.{routes_by_node}
-use Rattle.pathfinder.specs.Wiring.{IsWiring, Net}
-use Rattle.pathfinder.proofs.Found.{any_from}
-use Rattle.pathfinder.proofs.Iterations.{paths_within}
-use Rattle.pathfinder.proofs.PlacedTerminals.{are_nets}
-use Rattle.pathfinder.proofs.Rounds.{HoldsWithin, done_sound}
-use Rattle.rr_graph.specs.Graph.{Basis, IsBasis, IsRoutingGraph, graph_of}
-use Rattle.rr_graph.specs.declared.node.Node.{Node}
-use Rattle.strip_place.specs.Anneal.{PlacingUnderWay, places_by_block}
-use Rattle.strip_place.specs.Keeping.{AreKeptOn}
-use Rattle.tenant_slot.specs.SingleUser.{State, run}
-use Rattle.tenant_slot.specs.declared.event.Event.{Event}
-use Rattle.tenant_slot.specs.declared.reply.StateName.{StateName}
-use Rattle.tenant_slot.specs.declared.reply.StateName.TheVariants.{Routed}
-use Rattle.print_law.specs.Prints.{HasFiledLayout, HasPlainNames}
+use Rattle.print_law.proofs.Prelude.{◌≡◌, ℕ, refl, ◌≤◌, List, Ok, length, map, sym, ap, ◌∙◌, subst, All, concat, All-map, IsArch, Arch, MAX_PINS, circuit_of, Circuit, PackedCircuit, packed_of, IsPacked, IsLawfulPacking, IsPlaceIn, places_of, IsStripSize, Strip, Kind, Place, Implements, layout_of, nets_in, pass_count, placing_at, placing_sources, routing_sources, step_count, KeptPlaces, FitsFiles, IsSmallNode, EndsAtSink, HasPrintedForm, ImplementsItsText, HasRoutes, placed_end, routed_end, Laws, connected, implemented, packed_arch, packed_circuit, Has, HasNotFailed, IsPlaceable, always_sound, lawful_packed, places_lawful, LeastPathLaws, Tree, routed_after, nets_to_route, wiring_of, routes_by_node, IsWiring, any_from, paths_within, are_nets, HoldsWithin, done_sound, Basis, IsBasis, IsRoutingGraph, graph_of, Node, PlacingUnderWay, places_by_block, AreKeptOn, State, run, Event, StateName, Routed, HasFiledLayout, HasPlainNames}
+use Rattle.pathfinder.specs.Wiring.{Net}
 use Rattle.print_law.proofs.Files.{layout, net_answered, place_answered, route_answered}
 use Rattle.print_law.proofs.Blocks.{all_bare, all_fit, few_laid}
 use Rattle.print_law.proofs.Nets.{ArePaths, all_nets_fit, all_nets_whole, globals_are}

@@ -1,37 +1,8 @@
 -- The files that are answered in the state Routed are the print of the layout of results.
-use Rattle.std.proofs.Common.{◌≡◌, Bool, true, if◌then◌else◌, List, Option, None, Ok, Result, ap, refl, ◌∙◌}
-use Rattle.arch_file.specs.declared.arch.Arch.{Arch}
-use Rattle.blif.specs.declared.circuit.Circuit.{Circuit}
-use Rattle.blif.specs.declared.fault.BlifFault.{BlifFault}
-use Rattle.cluster.specs.Clusters.{PackedCircuit, packed_of}
-use Rattle.grid.specs.declared.Strip.{Strip}
-use Rattle.grid.specs.declared.place.Place.{Place}
-use Rattle.implements.specs.LayoutOf.{layout_of}
-use Rattle.implements.specs.Layouts.{Layout}
-use Rattle.job_state.specs.JobValue.{end_value}
-use Rattle.job_state.specs.declared.sources.JobKind.TheVariants.{Routing as RoutingJob}
-use Rattle.job_state.specs.declared.work.Work.{Work}
-use Rattle.job_state.specs.declared.work.Work.TheVariants.{Placed as PlacedWork}
-use Rattle.layout_text.specs.LayoutText.{net_text, place_text, route_text}
-use Rattle.strip_place.specs.Anneal.{places_by_block}
-use Rattle.tenant_slot.specs.Results.{place_file_of, route_file_of}
-use Rattle.tenant_slot.specs.SingleUser.{State, answer_to, is_lawful, serve, sources_of, with_circuit}
-use Rattle.tenant_slot.specs.declared.command.Command.{Command}
-use Rattle.tenant_slot.specs.declared.command.Command.TheVariants.{Net, PlaceFile, RouteFile}
+use Rattle.print_law.proofs.Prelude.{◌≡◌, Bool, true, if◌then◌else◌, List, Option, None, Ok, Result, ap, refl, ◌∙◌, Arch, Circuit, BlifFault, PackedCircuit, packed_of, Strip, Place, layout_of, Layout, end_value, Routing as RoutingJob, Work, Placed as PlacedWork, net_text, place_text, route_text, places_by_block, place_file_of, route_file_of, State, answer_to, is_lawful, serve, sources_of, with_circuit, Command, PlaceFile, RouteFile, Net as NetFile, Route as RoutesFile, WrongState, Reply, File, Refused, StateName, Routed, net_text_of, place_text_of, route_text_of, ImplementsItsText, Laws, packed_arch, packed_circuit, IsAnswered}
+use Rattle.tenant_slot.specs.declared.command.Command.TheVariants.{Net}
 use Rattle.tenant_slot.specs.declared.event.Event.TheVariants.{Command as Asked}
-use Rattle.tenant_slot.specs.declared.reply.FileKind.TheVariants.{Net as NetFile, Place as PlacesFile, Route as RoutesFile}
-use Rattle.tenant_slot.specs.declared.reply.Refusal.TheVariants.{WrongState}
-use Rattle.tenant_slot.specs.declared.reply.Reply.{Reply}
-use Rattle.tenant_slot.specs.declared.reply.Reply.TheVariants.{File, Refused}
-use Rattle.tenant_slot.specs.declared.reply.StateName.{StateName}
-use Rattle.tenant_slot.specs.declared.reply.StateName.TheVariants.{Routed}
-use Rattle.vpr_files.specs.NetFile.{net_text_of}
-use Rattle.vpr_files.specs.PlaceFile.{place_text_of}
-use Rattle.vpr_files.specs.RouteFile.{route_text_of}
-use Rattle.layout_law.specs.Tenancies.{ImplementsItsText}
-use Rattle.layout_law.proofs.Laws.{Laws}
-use Rattle.layout_law.proofs.Routed.{packed_arch, packed_circuit}
-use Rattle.print_law.specs.Prints.{IsAnswered}
+use Rattle.tenant_slot.specs.declared.reply.FileKind.TheVariants.{Place as PlacesFile}
 
 module _ (laws : Laws) (state : State) (is : state.name ≡ Routed) (means : ImplementsItsText state) where
   -- a command that is lawful there is served

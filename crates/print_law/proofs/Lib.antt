@@ -1,3 +1,4 @@
+mod Prelude
 pub mod Paths
 pub mod Nodes
 pub mod Elements

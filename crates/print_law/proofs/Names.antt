@@ -1,36 +1,6 @@
 -- The names of a circuit that is read from a text are words: none has a space or a line end in it.
-use Rattle.std.proofs.Common.{◌≡◌, ℕ, refl, ◌+◌, List, [], ◌∷◌, ◌++◌, length, get_or, map, filter, take, Option, Some, None, Result, Ok, Err, Bool, true, false, not, cond, nat_lt, ◌==◌, arith, inl, inr, sym, subst}
-use Rattle.std.specs.Prelude.{All, codes, slice_get}
-use Rattle.std.specs.List.{enumerate_from, filter_map, flat_map, onto_first, slice_split}
-use Rattle.std.specs.Option.{option_map_or, option_to_list}
-use Rattle.std.specs.Result.{result_flatten, result_map_both}
-use Rattle.std.proofs.lemmas.Bool.{cases_lt}
-use Rattle.std.proofs.lemmas.Bool.Decides.{nat_tests}
-use Rattle.std.proofs.lemmas.List.{get_or_past}
-use Rattle.std.proofs.lemmas.List.Elements.{All-append, All-contains, All-cons, All-drop, All-filter, All-head, All-map, All-nil, All-tail, All-take}
-use Rattle.std.proofs.lemmas.List.Sums.{list_all-from_AllPass}
-use Rattle.std.specs.Str.{bytes_eq}
-use Rattle.blif.specs.CircuitOf.{all_faults, circuit_of, circuit_of_lines, declared_in}
-use Rattle.blif.specs.Circuits.{circuit_from, model_of}
-use Rattle.blif.specs.Faults.{fault_of_lines}
-use Rattle.blif.specs.Keywords.{args_of}
-use Rattle.blif.specs.LatchLines.{control_of, is_latch}
-use Rattle.blif.specs.LineNets.{latch_nets, names_in}
-use Rattle.blif.specs.Sights.{kind_of, names_of, sights_of}
-use Rattle.blif.specs.declared.circuit.Circuit.{Circuit}
-use Rattle.blif.specs.declared.fault.BlifFault.{BlifFault}
-use Rattle.blif.specs.declared.fault.BlifFaultKind.TheVariants.{OverLimit}
-use Rattle.blif.specs.declared.keyword.Keyword.{Keyword}
-use Rattle.blif.specs.declared.keyword.Keyword.TheVariants.{Inputs, Outputs, Clock, Names, Latch, Model, End, Skipped, Other, Row}
-use Rattle.implements.proofs.Members.{all_members, from_flat_map}
-use Rattle.layout_files.specs.Cursors.{IsPlain, is_word_end}
-use Rattle.line_text.specs.LeastFault.{least_fault}
-use Rattle.line_text.specs.Lines.{JoinedLine, fault_of, is_continued, joined_bytes, joined_line, joined_part, lines_of, physical_lines, runs, trim_end, without_comment, without_last}
-use Rattle.line_text.specs.Names.{has_name, with_names}
-use Rattle.line_text.specs.Words.{is_blank, is_filled, words_of}
-use Rattle.line_text.specs.declared.fault.LineFault.{LineFault}
-use Rattle.line_text.specs.declared.lines.TheConstants.{MAX_TEXT}
-use Rattle.print_law.specs.Prints.{HasPlainNames}
+use Rattle.print_law.proofs.Prelude.{◌≡◌, ℕ, refl, ◌+◌, List, [], ◌∷◌, ◌++◌, length, get_or, map, filter, take, Option, Some, None, Result, Ok, Err, Bool, true, false, not, cond, nat_lt, ◌==◌, arith, inl, inr, sym, subst, All, codes, slice_get, enumerate_from, filter_map, flat_map, onto_first, slice_split, option_map_or, option_to_list, result_flatten, result_map_both, cases_lt, nat_tests, get_or_past, All-append, All-contains, All-cons, All-drop, All-filter, All-head, All-map, All-nil, All-tail, All-take, list_all-from_AllPass, bytes_eq, all_faults, circuit_of, circuit_of_lines, declared_in, circuit_from, model_of, fault_of_lines, args_of, control_of, is_latch, latch_nets, names_in, kind_of, names_of, sights_of, Circuit, BlifFault, OverLimit, Keyword, Inputs, Outputs, Names, Latch, Model, End, Skipped, Other, Row, all_members, from_flat_map, IsPlain, is_word_end, least_fault, JoinedLine, fault_of, is_continued, joined_bytes, joined_line, joined_part, lines_of, physical_lines, runs, trim_end, without_comment, without_last, has_name, with_names, is_blank, is_filled, words_of, LineFault, MAX_TEXT, HasPlainNames}
+use Rattle.blif.specs.declared.keyword.Keyword.TheVariants.{Clock}
 
 -- ---- lines
 

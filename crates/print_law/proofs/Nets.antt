@@ -1,20 +1,5 @@
 -- The nets of the layout of results are such as files can say.
-use Rattle.std.proofs.Common.{ℕ, refl, ◌<◌, ◌^◌, List, [], ◌∷◌, length, map, filter, Bool, true, false, cond, arith, inl, inr, sym, subst}
-use Rattle.std.specs.Prelude.{All, Contains}
-use Rattle.std.specs.List.{enumerate_from, slice_index_or}
-use Rattle.std.proofs.lemmas.Bool.{cases_lt}
-use Rattle.std.proofs.lemmas.List.{get_or_past}
-use Rattle.std.proofs.lemmas.List.Elements.{All-contains, All-cons, All-nil, All-weaker}
-use Rattle.cluster.specs.Blocks.{BlockNet, block_nets, blocks_of}
-use Rattle.cluster.specs.Clusters.{PackedCircuit}
-use Rattle.cluster.specs.PackingLaws.{IsBlockNet, IsLawfulPacking}
-use Rattle.implements.proofs.Members.{all_members, from_filter, from_get, from_map}
-use Rattle.implements.proofs.Ports.{numbered}
-use Rattle.implements.specs.LayoutOf.{laid_net}
-use Rattle.implements.specs.Layouts.{LaidNet}
-use Rattle.layout_files.specs.Fitting.{FitsNet, IsSmallNode}
-use Rattle.layout_files.specs.LayoutFiles.{EndsAtSink, HasWholePaths}
-use Rattle.rr_graph.specs.declared.node.Node.{Node}
+use Rattle.print_law.proofs.Prelude.{ℕ, refl, ◌<◌, ◌^◌, List, [], ◌∷◌, length, map, filter, Bool, true, false, cond, arith, inl, inr, sym, subst, All, Contains, enumerate_from, slice_index_or, cases_lt, get_or_past, All-contains, All-cons, All-nil, All-weaker, BlockNet, block_nets, blocks_of, PackedCircuit, IsBlockNet, IsLawfulPacking, all_members, from_filter, from_get, from_map, numbered, laid_net, LaidNet, FitsNet, IsSmallNode, EndsAtSink, HasWholePaths, Node}
 
 -- the paths of each net end at a sink, and have small numbers
 pub record ArePaths (paths : List (List Node)) : Type 0 where

@@ -1,27 +1,5 @@
 -- The paths of a routing as nodes: each ends at its first sink, and their numbers are small.
-use Rattle.std.proofs.Common.{◌≡◌, ℕ, refl, ◌+◌, ◌-◌, ◌<◌, ◌≤◌, ◌^◌, List, [], ◌∷◌, length, map, Option, Some, None, Bool, true, false, not, cond, arith, ◌∙◌, ◌⊎◌, inl, inr, ap, nat_le, nat_lt, ◌&&◌, ◌||◌}
-use Rattle.std.specs.Prelude.{All, slice_get}
-use Rattle.std.specs.List.{position_or_len}
-use Rattle.std.specs.Option.{option_map_or}
-use Rattle.std.proofs.lemmas.Bool.Decides.{nat_tests}
-use Rattle.std.proofs.lemmas.List.{length-map}
-use Rattle.std.proofs.lemmas.List.Elements.{All-head, All-tail}
-use Rattle.std.proofs.lemmas.Option.{slice_get_within}
-use Rattle.arch_file.specs.Arch.{IsArch}
-use Rattle.arch_file.specs.declared.arch.Arch.{Arch}
-use Rattle.arch_file.specs.declared.arch.Pin.{Pin}
-use Rattle.arch_file.specs.declared.arch.TheConstants.{MAX_PINS}
-use Rattle.grid.specs.Sizes.{IsStripSize}
-use Rattle.grid.specs.declared.Strip.{Strip}
-use Rattle.layout_files.specs.Fitting.{IsSmallNode}
-use Rattle.layout_files.specs.LayoutFiles.{EndsAtSink, is_sink_kind}
-use Rattle.pathfinder.specs.PlacedNets.{wiring_of}
-use Rattle.pathfinder.specs.Wiring.{IsWiring}
-use Rattle.rr_graph.specs.Geometry.{is_block_number, is_block_row, is_chan_y, is_node, is_pad_row, is_slot}
-use Rattle.rr_graph.specs.Graph.{Basis, graph_of}
-use Rattle.rr_graph.specs.declared.node.Node.{Node}
-use Rattle.rr_graph.specs.declared.node.NodeKind.{NodeKind}
-use Rattle.rr_graph.specs.declared.node.NodeKind.TheVariants.{Source, Sink, Opin, Ipin, ChanX, ChanY}
+use Rattle.print_law.proofs.Prelude.{◌≡◌, ℕ, refl, ◌+◌, ◌-◌, ◌<◌, ◌≤◌, ◌^◌, List, [], ◌∷◌, length, map, Option, Some, None, Bool, true, false, not, cond, arith, ◌∙◌, ◌⊎◌, inl, inr, ap, nat_le, nat_lt, ◌&&◌, ◌||◌, All, slice_get, position_or_len, option_map_or, nat_tests, length-map, All-head, All-tail, slice_get_within, IsArch, Arch, Pin, MAX_PINS, IsStripSize, Strip, IsSmallNode, EndsAtSink, is_sink_kind, wiring_of, IsWiring, is_block_number, is_block_row, is_chan_y, is_node, is_pad_row, is_slot, Basis, graph_of, Node, NodeKind, Source, Sink, Opin, Ipin, ChanX, ChanY}
 use Rattle.print_law.proofs.Paths.{LeadsToSink}
 
 pub both_hold : (a b : Bool) → (a && b) ≡ true → (a ≡ true) × (b ≡ true)

@@ -1,17 +1,5 @@
 -- The clusters of the layout of results are numbered in order.
-use Rattle.std.proofs.Common.{◌≡◌, ℕ, zero, suc, refl, ◌+◌, List, [], ◌∷◌, ◌++◌, length, map, take, append_assoc, Some, Bool, true, false, cond, arith, ◌∙◌, sym, ap, subst}
-use Rattle.std.specs.Prelude.{count_by, slice_get, ⊤}
-use Rattle.std.specs.List.{enumerate_from, range_with_len}
-use Rattle.std.proofs.lemmas.List.Sums.{sum_by-cons}
-use Rattle.cluster.specs.Blocks.{blocks_of}
-use Rattle.cluster.specs.Clusters.{PackedCircuit}
-use Rattle.cluster.specs.declared.block.Block.{Block}
-use Rattle.cluster.specs.declared.block.Block.TheVariants.{InputPad, OutputPad, Cluster}
-use Rattle.grid.specs.declared.place.Place.{Place}
-use Rattle.block_places.specs.Placed.{place_of}
-use Rattle.implements.proofs.Ports.{block_is, laid_at}
-use Rattle.implements.specs.Layouts.{LaidBlock}
-use Rattle.layout_files.specs.Fitting.{AreNumbered, HasNumber, is_cluster}
+use Rattle.print_law.proofs.Prelude.{◌≡◌, ℕ, zero, suc, refl, ◌+◌, List, [], ◌∷◌, ◌++◌, length, map, take, append_assoc, Some, Bool, true, false, cond, arith, ◌∙◌, sym, ap, subst, count_by, slice_get, ⊤, enumerate_from, range_with_len, sum_by-cons, blocks_of, PackedCircuit, Block, InputPad, OutputPad, Cluster, Place, place_of, block_is, laid_at, LaidBlock, AreNumbered, HasNumber, is_cluster}
 
 -- the number of the next cluster after the block
 abbrev after : ℕ → Block → ℕ

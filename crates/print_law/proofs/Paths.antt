@@ -1,21 +1,8 @@
 -- Each path of a routing's trees leads along edges to a sink.
-use Rattle.std.proofs.Common.{◌≡◌, ℕ, zero, suc, refl, ◌+◌, List, [], ◌∷◌, ◌++◌, length, map, fold, drop, Option, Some, None, Result, Ok, Err, Bool, true, false, cond, ◌==◌, arith, ◌∙◌, ◌⊎◌, inl, inr, sym, ap, subst}
-use Rattle.std.specs.Prelude.{All, Contains}
-use Rattle.std.specs.List.{flat_map, reduce}
-use Rattle.std.specs.Option.{option_and_then, option_map_or}
-use Rattle.std.specs.Ordering.{min_by_ordering}
-use Rattle.std.specs.declared.cmp.Ordering.{Ordering}
-use Rattle.std.specs.declared.cmp.Ordering.TheVariants.{Less, Equal, Greater}
-use Rattle.std.proofs.lemmas.Bool.Decides.{nat_tests}
-use Rattle.std.proofs.lemmas.List.Elements.{All-nil, All-cons, All-head, All-tail, All-map, All-append}
-use Rattle.least_path.specs.Graph.{Graph}
-use Rattle.least_path.specs.LeastPath.{least_path, short_paths, ways}
-use Rattle.least_path.specs.Path.{path_cmp}
-use Rattle.implements.proofs.Members.{from_append, from_flat_map, from_map, in_cases, in_first, in_later, in_none}
-use Rattle.pathfinder.specs.Negotiation.{Tree, Standing, More, Done, GaveUp, NoPath, Routed, grown_tree, next_routing, priced_graph, rerouted_trees, routed_after, routing_with_trees, starts_of, is_feasible, accumulated_overuse}
-use Rattle.pathfinder.specs.Wiring.{Wiring, Net, IsNet}
-use Rattle.pathfinder.specs.declared.routing.TheConstants.{MAX_ITERATIONS}
-use Rattle.rr_graph.specs.declared.node.NodeKind.TheVariants.{Sink}
+use Rattle.print_law.proofs.Prelude.{◌≡◌, ℕ, zero, suc, refl, ◌+◌, List, [], ◌∷◌, ◌++◌, length, map, fold, drop, Option, Some, None, Result, Ok, Err, Bool, true, false, cond, ◌==◌, arith, ◌∙◌, ◌⊎◌, inl, inr, sym, ap, subst, All, Contains, flat_map, reduce, option_map_or, min_by_ordering, Ordering, Less, Equal, Greater, nat_tests, All-nil, All-cons, All-head, All-tail, All-map, All-append, Graph, least_path, short_paths, ways, path_cmp, from_append, from_flat_map, from_map, in_cases, in_first, in_later, in_none, Tree, Standing, More, Done, GaveUp, NoPath, grown_tree, next_routing, priced_graph, rerouted_trees, routed_after, routing_with_trees, starts_of, is_feasible, accumulated_overuse, Wiring, IsNet, MAX_ITERATIONS, Sink}
+use Rattle.std.specs.Option.{option_and_then}
+use Rattle.pathfinder.specs.Negotiation.{Routed}
+use Rattle.pathfinder.specs.Wiring.{Net}
 
 -- a fold that keeps one of two has one of the items
 kept : {X : Type 0} (f : X → X → X) → ((a b : X) → (f a b ≡ a) ⊎ (f a b ≡ b)) → (x : X) (xs : List X) → Contains (x ∷ xs) (fold f x xs)

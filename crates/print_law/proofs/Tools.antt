@@ -1,27 +1,7 @@
 -- The tools do not refuse the files of a routed tenancy.
-use Rattle.std.proofs.Common.{◌≡◌, ℕ, ◌+◌, ◌-◌, ◌≤◌, ◌^◌, List, Option, Some, Ok, Err, Bool, true, false, cond, nat_lt, length, take, refl, sym, ap, subst, arith, ◌∙◌}
-use Rattle.std.specs.Result.{result_flatten, result_map_both}
-use Rattle.std.proofs.lemmas.Bool.Decides.{nat_tests}
-use Rattle.std.proofs.lemmas.List.{take_all}
-use Rattle.arch_file.specs.Arch.{arch_of, arch_of_lines}
-use Rattle.arch_file.specs.declared.arch.Arch.{Arch}
+use Rattle.print_law.proofs.Prelude.{◌≡◌, ℕ, ◌+◌, ◌-◌, ◌≤◌, ◌^◌, List, Option, Some, Ok, Err, Bool, true, false, cond, nat_lt, length, take, refl, sym, ap, subst, arith, ◌∙◌, result_flatten, result_map_both, nat_tests, take_all, arch_of, arch_of_lines, Arch, fault_of_lines, circuit_of, circuit_of_lines, Circuit, OverLimit as NetlistTooLong, Outcome, IsBeginning, texts_with, AreReadAndRefused, LayoutPaths, lines_of, MAX_TEXT, State, Net as NetFile, Route as RoutesFile, File, AreTextsOf, HasFiledLayout, NamesNoOpen, HasFilesAt}
 use Rattle.arch_file.specs.declared.fault.ArchFaultKind.TheVariants.{OverLimit as ArchTooLong}
-use Rattle.blif.specs.Faults.{fault_of_lines}
-use Rattle.blif.specs.CircuitOf.{circuit_of, circuit_of_lines}
-use Rattle.blif.specs.declared.circuit.Circuit.{Circuit}
-use Rattle.blif.specs.declared.fault.BlifFaultKind.TheVariants.{OverLimit as NetlistTooLong}
-use Rattle.desk_common.specs.declared.outcome.Outcome.{Outcome}
-use Rattle.desk_common.specs.Outputs.{IsBeginning}
-use Rattle.desk_layouts.specs.Checked.{texts_with}
-use Rattle.desk_layouts.specs.Refused.{AreReadAndRefused}
-use Rattle.desk_layouts.specs.declared.layout_input.LayoutPaths.{LayoutPaths}
-use Rattle.line_text.specs.Lines.{lines_of}
-use Rattle.line_text.specs.declared.lines.TheConstants.{MAX_TEXT}
-use Rattle.tenant_slot.specs.SingleUser.{State}
-use Rattle.tenant_slot.specs.declared.reply.FileKind.TheVariants.{Net as NetFile, Place as PlacesFile, Route as RoutesFile}
-use Rattle.tenant_slot.specs.declared.reply.Reply.TheVariants.{File}
-use Rattle.print_law.specs.Prints.{AreTextsOf, HasFiledLayout, NamesNoOpen}
-use Rattle.print_law.specs.Tools.{HasFilesAt}
+use Rattle.tenant_slot.specs.declared.reply.FileKind.TheVariants.{Place as PlacesFile}
 use Rattle.print_law.proofs.Verdicts.{can_be_filed, laid, read}
 
 -- a text that is not longer than a reader reads is read whole

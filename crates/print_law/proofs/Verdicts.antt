@@ -1,21 +1,8 @@
 -- A verdict on the files of a routed tenancy.
-use Rattle.std.proofs.Common.{◌≡◌, ℕ, List, Ok, Err, refl, sym, subst, arith, ◌∙◌}
-use Rattle.arch_file.specs.declared.arch.Arch.{Arch}
-use Rattle.blif.specs.CircuitOf.{IsLawfulFor, circuit_of}
-use Rattle.blif.proofs.AllTexts.{text_lawful}
-use Rattle.layout_text.specs.LayoutText.{net_text, place_text, route_text}
-use Rattle.layout_verdict.specs.Texts.{IsReadFrom, Texts}
-use Rattle.layout_verdict.specs.Verdicts.{CanBeFiled, IsImplemented, IsVerdict}
-use Rattle.layout_verdict.specs.declared.laid_circuit.LaidCircuit.{LaidCircuit}
-use Rattle.layout_verdict.specs.declared.verdict.Verdict.{Verdict}
-use Rattle.layout_verdict.specs.declared.verdict.Verdict.TheVariants.{Implements, Differs, ArchRefused, NetlistRefused, FilesRefused, NoMemory}
-use Rattle.tenant_slot.specs.SingleUser.{State}
-use Rattle.tenant_slot.specs.declared.command.Command.{Command}
-use Rattle.tenant_slot.specs.declared.command.Command.TheVariants.{Net, PlaceFile, RouteFile}
-use Rattle.tenant_slot.specs.declared.reply.FileKind.{FileKind}
-use Rattle.tenant_slot.specs.declared.reply.FileKind.TheVariants.{Net as NetFile, Place as PlacesFile, Route as RoutesFile}
-use Rattle.tenant_slot.specs.declared.reply.Reply.TheVariants.{File}
-use Rattle.print_law.specs.Prints.{AreTextsOf, HasFiledLayout, IsAccepted, IsAnswered, NamesNoOpen}
+use Rattle.print_law.proofs.Prelude.{◌≡◌, ℕ, List, Ok, Err, refl, sym, subst, arith, ◌∙◌, Arch, IsLawfulFor, circuit_of, text_lawful, net_text, place_text, route_text, IsReadFrom, Texts, CanBeFiled, IsImplemented, IsVerdict, LaidCircuit, Verdict, Differs, ArchRefused, NetlistRefused, FilesRefused, NoMemory, State, Command, PlaceFile, RouteFile, FileKind, Net as NetFile, Route as RoutesFile, File, AreTextsOf, HasFiledLayout, IsAccepted, IsAnswered, NamesNoOpen}
+use Rattle.layout_verdict.specs.declared.verdict.Verdict.TheVariants.{Implements}
+use Rattle.tenant_slot.specs.declared.command.Command.TheVariants.{Net}
+use Rattle.tenant_slot.specs.declared.reply.FileKind.TheVariants.{Place as PlacesFile}
 
 -- a command has one answer
 one_file : (state : State) (command : Command) (kind : FileKind) (text other : List ℕ) → IsAnswered state command kind text → IsAnswered state command kind other → text ≡ other

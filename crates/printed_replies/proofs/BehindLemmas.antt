@@ -1,10 +1,6 @@
 -- The bytes after a prefix.
-use Rattle.std.proofs.Common.{◌≡◌, ◌≢◌, ℕ, List, [], ◌∷◌, ◌++◌, Bool, true, false, cond, Option, Some, None, refl, sym, ap, ◌∙◌, codes}
-use Rattle.std.specs.Prelude.{MatchOption, option_map, option_and_then}
-use Rattle.std.specs.Borrow.{Bor}
-use Rattle.std.proofs.Math.Dec.{eqb}
-use Rattle.std.proofs.lemmas.Bool.{eqb-true, eq-eqb}
-use Rattle.printed_replies.specs.Lengths.{after_prefix}
+use Rattle.printed_replies.proofs.Prelude.{◌≡◌, ◌≢◌, ℕ, List, [], ◌∷◌, ◌++◌, cond, Option, Some, None, refl, sym, ap, ◌∙◌, codes, arith, MatchOption, option_and_then, Bor, eq-eqb, after_prefix}
+use Rattle.std.specs.Prelude.{option_map}
 
 -- bytes made of the prefix and a rest have that rest after it
 pub behind-append : (start rest : List ℕ) → after_prefix start (start ++ rest) ≡ Some rest
@@ -15,11 +11,7 @@ behind-append (a ∷ start) rest = ap (λ b. cond b (after_prefix start (start +
 pub behind-begins : (start bytes rest : List ℕ) → after_prefix start bytes ≡ Some rest → bytes ≡ start ++ rest
 behind-begins [] bytes rest is = cc
 behind-begins (a ∷ start) [] rest is = cc
-behind-begins (a ∷ start) (b ∷ bytes) rest is = by_test (eqb a b) refl is (behind-begins start bytes rest)
-  where
-    by_test : (t : Bool) → eqb a b ≡ t → cond t (after_prefix start bytes) None ≡ Some rest → (after_prefix start bytes ≡ Some rest → bytes ≡ start ++ rest) → b ∷ bytes ≡ a ∷ (start ++ rest)
-    by_test true e found more = let same = eqb-true a b e in let later = more found in cc
-    by_test false e found more = cc
+behind-begins (a ∷ start) (b ∷ bytes) rest is = grind (arith, behind-begins start bytes rest)
 
 pub behind-found : (start bytes : List ℕ) (found : Option (Bor (List ℕ))) → MatchOption found ((rest : List ℕ) → bytes ≢ start ++ rest) (λ x. bytes ≡ start ++ x.now) → option_map (λ rest. rest.now) found ≡ after_prefix start bytes
 behind-found start bytes (Some x) is = sym (ap (after_prefix start) is ∙ behind-append start x.now)
@@ -33,20 +25,11 @@ behind-found start bytes None none = by_found (after_prefix start bytes) refl
 pub behind-both : (first second bytes : List ℕ) → after_prefix (first ++ second) bytes ≡ option_and_then (after_prefix second) (after_prefix first bytes)
 behind-both [] second bytes = refl
 behind-both (a ∷ first) second [] = refl
-behind-both (a ∷ first) second (b ∷ bytes) = by_test (eqb a b) (behind-both first second bytes)
-  where
-    by_test : (t : Bool) → after_prefix (first ++ second) bytes ≡ option_and_then (after_prefix second) (after_prefix first bytes)
-        → cond t (after_prefix (first ++ second) bytes) None ≡ option_and_then (after_prefix second) (cond t (after_prefix first bytes) None)
-    by_test true e = e
-    by_test false e = refl
+behind-both (a ∷ first) second (b ∷ bytes) = grind (arith, behind-both first second bytes)
 
 -- the words of a heading one after the other
 pub heading_none : (name printed x : List ℕ) → Some x ≡ after_prefix (codes "== ") printed → None ≡ after_prefix name x → None ≡ after_prefix (codes "== " ++ name ++ 10 ∷ []) printed
-heading_none name printed x first second =
-    sym (behind-both (codes "== ") (name ++ 10 ∷ []) printed ∙ ap (option_and_then (after_prefix (name ++ 10 ∷ []))) (sym first)
-    ∙ behind-both name (10 ∷ []) x ∙ ap (option_and_then (after_prefix (10 ∷ []))) (sym second))
+heading_none name printed x first second = grind (arith, behind-both)
 
 pub heading_some : (name printed x y : List ℕ) → Some x ≡ after_prefix (codes "== ") printed → Some y ≡ after_prefix name x → after_prefix (10 ∷ []) y ≡ after_prefix (codes "== " ++ name ++ 10 ∷ []) printed
-heading_some name printed x y first second =
-    sym (behind-both (codes "== ") (name ++ 10 ∷ []) printed ∙ ap (option_and_then (after_prefix (name ++ 10 ∷ []))) (sym first)
-    ∙ behind-both name (10 ∷ []) x ∙ ap (option_and_then (after_prefix (10 ∷ []))) (sym second))
+heading_some name printed x y first second = grind (arith, behind-both)

@@ -1,8 +1,5 @@
 -- Examples of printed replies.
-use Rattle.std.proofs.Common.{◌≡◌, List, [], ◌∷◌, codes, Ok, Err, Some, None, refl}
-use Rattle.printed_replies.specs.declared.asked.ReplyForm.TheVariants.{Line, Session}
-use Rattle.printed_replies.specs.Lengths.{line_length, lines_length, owners_length, session_length}
-use Rattle.printed_replies.specs.Replies.{AskedLine, with_reply, replies_in}
+use Rattle.printed_replies.proofs.Prelude.{◌≡◌, List, [], ◌∷◌, codes, Ok, Err, Some, None, refl, Line, Session, line_length, lines_length, owners_length, session_length, AskedLine, with_reply, replies_in}
 
 one_line : line_length (codes "ok\nrest") ≡ Some 3
 one_line = refl

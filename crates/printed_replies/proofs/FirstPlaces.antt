@@ -1,8 +1,5 @@
 -- The first position of a byte, as a search finds it.
-use Rattle.std.proofs.Common.{◌≡◌, ℕ, zero, suc, ◌+◌, ◌<◌, Bool, true, false, not, cond, List, [], ◌∷◌, Option, Some, None, length, position, slice_index, nat_lt, refl, sym, ap, arith}
-use Rattle.std.specs.List.{position_or_len}
-use Rattle.std.proofs.lemmas.Bool.Decides.{nat_tests}
-use Rattle.memchr.specs.Find.{IsFirstByte}
+use Rattle.printed_replies.proofs.Prelude.{◌≡◌, ℕ, zero, suc, ◌+◌, ◌<◌, Bool, true, false, not, cond, List, [], ◌∷◌, Option, length, position, slice_index, refl, ap, arith, position_or_len, IsFirstByte}
 
 place_of : (test : ℕ → Bool) (bytes : List ℕ) (place : ℕ) → place < length bytes → test (slice_index bytes place) ≡ true → ((k : ℕ) → k < place → test (slice_index bytes k) ≡ true → ⊥) → position_or_len test bytes ≡ place
 place_of test [] place inside passes before = absurd (omega arith)
@@ -22,11 +19,4 @@ no_place test (byte ∷ bytes) nowhere = by (test byte) refl (no_place test byte
     by false first rest = omega (arith, rest)
 
 pub first_place : (test : ℕ → Bool) (bytes : List ℕ) (found : Option ℕ) → IsFirstByte test bytes found → found ≡ position test bytes
-first_place test bytes None nowhere =
-    let last : position_or_len test bytes ≡ length bytes = no_place test bytes (λ k below. nowhere k (omega arith) below) in
-    let past : nat_lt (position_or_len test bytes) (length bytes) ≡ false = grind (arith, nat_tests, last) in
-    rw past refl
-first_place test bytes (Some place) is =
-    let same : position_or_len test bytes ≡ place = place_of test bytes place is.0.high is.1 (λ k below. is.0.before k (omega arith) below) in
-    let inside : nat_lt (position_or_len test bytes) (length bytes) ≡ true = grind (arith, nat_tests, same, is.0.high) in
-    rw inside (ap Some (sym same))
+first_place test bytes found nowhere = grind (arith, no_place, place_of)

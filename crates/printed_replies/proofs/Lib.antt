@@ -1,3 +1,4 @@
+mod Prelude
 pub mod BehindLemmas
 mod Examples
 pub mod FirstPlaces

@@ -1,21 +1,6 @@
 -- The places of each speaker's lines, line by line.
-use Rattle.std.proofs.Common.{◌≡◌, ℕ, ◌+◌, ◌<◌, suc, zero, Bool, true, false, cond, List, [], ◌∷◌, ◌++◌, length, map, min, take, drop, set, get_or, replicate, slice_get, Option, Some, None, Ok, Err, refl, subst, sym, ap, ◌∙◌, arith, append_assoc}
-use Rattle.std.proofs.lemmas.Option.{get_or_from_slice_get, same_Some, slice_get-get_or, slice_get_within}
-use Rattle.line_text.specs.Names.{number_of}
-use Rattle.std.specs.Borrow.{Bor}
+use Rattle.printed_replies.proofs.Prelude.{◌≡◌, ℕ, ◌+◌, ◌<◌, suc, zero, Bool, true, false, cond, List, [], ◌∷◌, ◌++◌, length, map, take, drop, set, get_or, replicate, slice_get, Option, Some, None, Ok, Err, refl, subst, sym, ap, ◌∙◌, arith, append_assoc, get_or_from_slice_get, same_Some, slice_get-get_or, slice_get_within, number_of, Bor, bytes_eq, bytes_eq-Decides, append-nil, drop_more, get_or-map, length-append, length-map, length-take, map-append, map-set, replicate_more, take_more, map-set_same, answered_lines, asked_in, AnsweredLine, AskedLine, Reading, Rest, Speaker, and_then, answered_line, asked_line, is_of, lines_read, names_of, reply_read, with_line, with_reply, without_reply, places_from, places_of, session_places, Answered, Asked, Silence}
 use Rattle.std.specs.Prelude.{option_map}
-use Rattle.std.specs.Str.{bytes_eq}
-use Rattle.std.proofs.lemmas.Slice.Eq.{bytes_eq-Decides}
-use Rattle.std.proofs.lemmas.List.{append-nil, drop_more, get_or-map, length-append, length-map, length-take, map-append, map-set, replicate_more, take_more}
-use Rattle.std.proofs.Math.Seq.{map-set_same}
-use Rattle.printed_replies.specs.Lengths.{reply_length}
-use Rattle.printed_replies.specs.Parts.{answered_lines}
-use Rattle.printed_replies.specs.Printing.{asked_in}
-use Rattle.printed_replies.specs.Replies.{AnsweredLine, AskedLine, Reading, Rest, Speaker, and_then, answered_line, asked_line, if_fitting, is_of, lines_read, live_after, names_of, reply_read, rest_of, with_line, with_reply, without_reply}
-use Rattle.printed_replies.specs.Sections.{places_from, places_of, session_places}
-use Rattle.printed_replies.specs.declared.answered.Answered.{Answered}
-use Rattle.printed_replies.specs.declared.asked.Asked.{Asked}
-use Rattle.printed_replies.specs.declared.asked.ReplyForm.TheVariants.{Silence}
 use Rattle.printed_replies.proofs.OnePass.{AreOnce, names_once, one_updated, other_way}
 use Rattle.printed_replies.proofs.ReadLemmas.{behind_lines, one_more}
 
@@ -24,25 +9,11 @@ abbrev its_place : Bool → ℕ → List ℕ
 its_place is place = cond is (place ∷ []) []
 
 places_more : (place : ℕ) (speaker : Speaker) (lines : List AskedLine) (line : AskedLine) → places_from place speaker (lines ++ line ∷ []) ≡ places_from place speaker lines ++ its_place (is_of speaker line.speaker) (place + length lines)
-places_more place speaker [] line = by (is_of speaker line.speaker)
-  where
-    by : (b : Bool) → cond b (place ∷ []) [] ≡ its_place b (place + 0)
-    by true = let e : place ≡ place + 0 = omega arith in ap (λ p. p ∷ []) e
-    by false = refl
-places_more place speaker (first ∷ lines) line = by (is_of speaker first.speaker) (places_more (place + 1) speaker lines line ∙ ap (λ p. places_from (place + 1) speaker lines ++ its_place (is_of speaker line.speaker) p) (omega arith))
-  where
-    by : (b : Bool) → places_from (place + 1) speaker (lines ++ line ∷ []) ≡ places_from (place + 1) speaker lines ++ its_place (is_of speaker line.speaker) (place + length (first ∷ lines)) →
-        cond b (place ∷ places_from (place + 1) speaker (lines ++ line ∷ [])) (places_from (place + 1) speaker (lines ++ line ∷ []))
-        ≡ cond b (place ∷ places_from (place + 1) speaker lines) (places_from (place + 1) speaker lines) ++ its_place (is_of speaker line.speaker) (place + length (first ∷ lines))
-    by true later = ap (λ ps. place ∷ ps) later
-    by false later = later
+places_more place speaker [] line = grind arith
+places_more place speaker (first ∷ lines) line = grind (arith, places_more (place + 1) speaker lines line)
 
 pub places_next : (speaker : Speaker) (lines : List AskedLine) (place : ℕ) (line : AskedLine) → place < length lines → get_or lines place line ≡ line → places_of speaker (take (place + 1) lines) ≡ places_of speaker (take place lines) ++ its_place (is_of speaker line.speaker) place
-places_next speaker lines place line within at =
-    let taken : length (take place lines) ≡ min place (length lines) = length-take place lines in
-    let long : 0 + length (take place lines) ≡ place = omega (arith, within, taken) in
-    ap (places_of speaker) (take_more lines place line within ∙ ap (λ l. take place lines ++ l ∷ []) at)
-    ∙ places_more 0 speaker (take place lines) line ∙ ap (λ p. places_of speaker (take place lines) ++ its_place (is_of speaker line.speaker) p) long
+places_next speaker lines place line within at = grind (arith, take_more, places_more, length-take place lines, take_more lines place line within, places_more 0 speaker (take place lines) line)
 
 -- the places of the other names' lines stay
 pub session_next : (names : List (List ℕ)) (lines : List AskedLine) (place : ℕ) (line : AskedLine) (own : List ℕ) → AreOnce names → place < length lines → get_or lines place line ≡ line → line.speaker ≡ Some own →
@@ -59,10 +30,7 @@ session_next names lines place line own once within at speaks =
 pub session_silent : (names : List (List ℕ)) (lines : List AskedLine) (place : ℕ) (line : AskedLine) → place < length lines → get_or lines place line ≡ line → line.speaker ≡ None →
     map (λ name. places_of (Some name) (take (place + 1) lines)) names ≡ map (λ name. places_of (Some name) (take place lines)) names
 session_silent [] lines place line within at speaks = refl
-session_silent (name ∷ names) lines place line within at speaks =
-    ap (λ ps. ps ∷ map (λ n. places_of (Some n) (take (place + 1) lines)) names)
-    (places_next (Some name) lines place line within at ∙ ap (λ s. places_of (Some name) (take place lines) ++ its_place (is_of (Some name) s) place) speaks ∙ append-nil (places_of (Some name) (take place lines)))
-    ∙ ap (λ ps. places_of (Some name) (take place lines) ∷ ps) (session_silent names lines place line within at speaks)
+session_silent (name ∷ names) lines place line within at speaks = grind (arith, places_next (Some name) lines place line within, append-nil (places_of (Some name) (take place lines)), session_silent names lines place line within)
 
 pub none_yet : (names : List (List ℕ)) (lines : List AskedLine) → replicate (length names) [] ≡ map (λ name. places_of (Some name) (take 0 lines)) names
 none_yet [] lines = refl
@@ -126,8 +94,7 @@ reads_behind speaker rest front (line ∷ lines) = by (is_of speaker line.asked.
     by false more = more line rest
 
 behind_none : (read : Reading (List AnsweredLine × Rest)) → behind_lines [] read ≡ read
-behind_none (Ok read) = refl
-behind_none (Err left) = refl
+behind_none read = grind arith
 
 pub reads_own : (speaker : Speaker) (rest : Rest) (lines : List AnsweredLine) → reads_at rest (places_of speaker (asked_in lines)) lines ≡ lines_read speaker rest lines
 reads_own speaker rest lines = reads_behind speaker rest [] lines ∙ behind_none (lines_read speaker rest lines)
@@ -136,12 +103,7 @@ reads_own speaker rest lines = reads_behind speaker rest [] lines ∙ behind_non
 
 pub index_within : (speaker : Speaker) (places : List ℕ) (i : ℕ) (items old : List Answered) → places ≡ places_of speaker (asked_in (answered_lines old)) → asked_in (answered_lines items) ≡ asked_in (answered_lines old) → i < length places →
     get_or places i 0 < length items
-index_within speaker places i items old own same within =
-    let there : slice_get (places_of speaker (asked_in (answered_lines old))) i ≡ Some (get_or places i 0) = sym (ap (λ ps. slice_get ps i) own) ∙ slice_get-get_or places i 0 within in
-    let inside = place_within 0 speaker (asked_in (answered_lines old)) i (get_or places i 0) there in
-    let long = length-map (answered_lines items) (λ (l : AnsweredLine). l.asked) in
-    let lines = length-map items answered_line in
-    omega (arith, inside, long, lines, ap length same)
+index_within speaker places i items old own same within = grind (arith, slice_get-get_or, place_within, length-map)
 
 line_at_index : (items : List Answered) (index : ℕ) (line : Answered) → index < length items → line ≡ get_or items index line → get_or (answered_lines items) index nothing ≡ answered_line line
 line_at_index items index line within is = get_or-map answered_line items index line nothing within ∙ ap answered_line (sym is)
@@ -149,36 +111,15 @@ line_at_index items index line within is = get_or-map answered_line items index 
 pub read_next : (rest next : Rest) (places : List ℕ) (i : ℕ) (items : List Answered) (line new : Answered) → i < length places → get_or places i 0 < length items → line ≡ get_or items (get_or places i 0) line →
     reply_read rest (answered_line line).asked ≡ Ok (answered_line new, next) →
     reads_at next (drop (i + 1) places) (answered_lines (set items (get_or places i 0) new)) ≡ reads_at rest (drop i places) (answered_lines items)
-read_next rest next places i items line new within inside is reads =
-    let index = get_or places i 0 in
-    ap (λ ls. reads_at next (drop (i + 1) places) ls) (map-set answered_line items index new)
-    ∙ sym (ap (λ r. and_then r (λ read. reads_at read.1 (drop (i + 1) places) (set (answered_lines items) index read.0))) reads)
-    ∙ sym (ap (λ l. and_then (reply_read rest l.asked) (λ read. reads_at read.1 (drop (i + 1) places) (set (answered_lines items) index read.0))) (line_at_index items index line inside is))
-    ∙ sym (ap (λ ps. reads_at rest ps (answered_lines items)) (drop_more places i 0 within))
+read_next rest next places i items line new within inside is reads = grind (arith, map-set, line_at_index, drop_more)
 
 pub read_stops : (rest : Rest) (places : List ℕ) (i left : ℕ) (items : List Answered) (line : Answered) → i < length places → get_or places i 0 < length items → line ≡ get_or items (get_or places i 0) line →
     reply_read rest (answered_line line).asked ≡ Err left → reads_at rest (drop i places) (answered_lines items) ≡ Err left
-read_stops rest places i left items line within inside is stops =
-    let index = get_or places i 0 in
-    ap (λ ps. reads_at rest ps (answered_lines items)) (drop_more places i 0 within)
-    ∙ ap (λ l. and_then (reply_read rest l.asked) (λ read. reads_at read.1 (drop (i + 1) places) (set (answered_lines items) index read.0))) (line_at_index items index line inside is)
-    ∙ ap (λ r. and_then r (λ read. reads_at read.1 (drop (i + 1) places) (set (answered_lines items) index read.0))) stops
-
--- a line with its reply is the line that was asked
-fits_asked : (rest : Rest) (asked : AskedLine) (line : AnsweredLine) (next : Rest) (n : Option ℕ) → if_fitting {A = AnsweredLine × Rest} rest n (λ k. Ok (with_reply asked (take k rest.bytes), rest_of (live_after rest.live asked.form (take k rest.bytes)) (drop k rest.bytes))) ≡ Ok (line, next) → line.asked ≡ asked
-fits_asked rest asked line next None is = absurd cc
-fits_asked rest asked line next (Some n) is = sym (ap (λ r. asked_then asked r) is)
-  where
-    asked_then : AskedLine → Reading (AnsweredLine × Rest) → AskedLine
-    asked_then asked (Ok read) = read.0.asked
-    asked_then asked (Err left) = asked
+read_stops rest places i left items line within inside is stops = grind (arith, drop_more, line_at_index)
 
 pub same_asked : (rest next : Rest) (items : List Answered) (index : ℕ) (line new : Answered) → index < length items → line ≡ get_or items index line → reply_read rest (answered_line line).asked ≡ Ok (answered_line new, next) →
     asked_in (answered_lines (set items index new)) ≡ asked_in (answered_lines items)
-same_asked rest next items index line new inside is reads =
-    ap asked_in (map-set answered_line items index new)
-    ∙ map-set_same (λ l. l.asked) (answered_lines items) index (answered_line new) nothing
-    (fits_asked rest (answered_line line).asked (answered_line new) next (reply_length rest.live (answered_line line).asked.form rest.bytes) reads ∙ sym (ap (λ l. l.asked) (line_at_index items index line inside is)))
+same_asked rest next items index line new inside is reads = grind (arith, map-set, map-set_same, line_at_index)
 
 -- the places of the session with that number
 pub session_at : {V : Type 0} (items : V → List ℕ) (asked : List AskedLine) (names : List (List ℕ)) (number : ℕ) (name : List ℕ) (lists : List V) (list : V) → names ≡ names_of asked → map items lists ≡ session_places asked →
@@ -198,14 +139,11 @@ asked_again (line ∷ lines) = ap (λ ls. line ∷ ls) (asked_again lines)
 -- one place more in the list with this number
 pub place_added : {V : Type 0} (lists : List V) (items : V → List ℕ) (number place : ℕ) (old new : V) → number < length lists → old ≡ get_or lists number old → items new ≡ items old ++ place ∷ [] →
     map items (set lists number new) ≡ set (map items lists) number (get_or (map items lists) number [] ++ place ∷ [])
-place_added lists items number place old new inside at is =
-    let was : items old ≡ get_or (map items lists) number [] = ap items at ∙ sym (get_or-map items lists number old [] inside) in
-    map-set items lists number new ∙ ap (set (map items lists) number) (is ∙ ap (λ l. l ++ place ∷ []) was)
+place_added lists items number place old new inside at is = grind (arith, get_or-map, map-set)
 
 -- one empty list more
 pub one_more_empty : {V : Type 0} (lists new : List V) (items : V → List ℕ) (list : V) (n : ℕ) → map items lists ≡ replicate n [] → new ≡ lists ++ list ∷ [] → items list ≡ [] → map items new ≡ replicate (n + 1) []
-one_more_empty lists new items list n so more empty =
-    ap (map items) more ∙ map-append items lists (list ∷ []) ∙ ap (λ front. front ++ items list ∷ []) so ∙ ap (λ last. replicate {A = List ℕ} n [] ++ last ∷ []) empty ∙ replicate_more n []
+one_more_empty lists new items list n so more empty = grind (arith, map-append, replicate_more)
 
 -- the line at a place
 abbrev no_line : Asked

@@ -1,14 +1,7 @@
 -- What a command line makes of a run, and the status of the program.
 use Rattle.std.specs.Prelude.{ℕ, ◌≡◌, ◌≤◌, ◌≢◌, ◌⊎◌, List, Option, Some, None, Result, Ok, Err}
 use Rattle.std.specs.Borrow.{Bor}
-use Rattle.fpgad_run.specs.declared.options.CommandLine.{CommandLine}
-use Rattle.fpgad_run.specs.declared.outcome.Outcome.{Outcome}
-use Rattle.fpgad_run.specs.declared.outcome.Outcome.TheVariants.{NoMemory}
-use Rattle.fpgad_run.specs.declared.inputs.Architecture.{Architecture}
-use Rattle.fpgad_run.specs.declared.inputs.Architecture.TheVariants.{InScript}
-use Rattle.fpgad_run.specs.Commands.{RunsOnThreads}
-use Rattle.fpgad_run.specs.Outcomes.{status_of}
-use Rattle.fpgad_run.specs.Program.{Writes}
+use Rattle.promises.specs.Prelude.{CommandLine, Outcome, NoMemory, Architecture, InScript, RunsOnThreads, status_of, Writes}
 use Rattle.promises.specs.Promises.{EndsAsDecided}
 
 -- the architecture is at the script's head exactly if the command line names no file

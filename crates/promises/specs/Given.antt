@@ -1,8 +1,7 @@
 -- The architecture that a command line gives.
 use Rattle.std.specs.Prelude.{ℕ, ◌≡◌, ◌≢◌, List, Option, Some, None}
 use Rattle.std.specs.Borrow.{Bor}
-use Rattle.fpgad_run.specs.declared.inputs.Architecture.{Architecture}
-use Rattle.fpgad_run.specs.declared.inputs.Architecture.TheVariants.{InScript, Text, Unreadable}
+use Rattle.promises.specs.Prelude.{Architecture, InScript, Text, Unreadable}
 use Rattle.promises.specs.declared.given_architecture.GivenArchitecture.{GivenArchitecture}
 use Rattle.promises.specs.declared.given_architecture.GivenArchitecture.TheVariants.{InScript as AtHead, Text as InFile, Unreadable as NotRead}
 

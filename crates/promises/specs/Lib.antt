@@ -1,3 +1,4 @@
+pub mod Prelude
 pub mod Commands
 pub mod Given
 pub mod Promises

@@ -1,14 +1,6 @@
 -- What the clauses of `serve` are made of, beside the definitions that they name.
 use Rattle.std.specs.Prelude.{ℕ, ◌≡◌, ◌≢◌, ◌≤◌, List, Option, IfSome}
-use Rattle.service_core.specs.declared.device.Device.{Device}
-use Rattle.service_core.specs.Run.{Call, Run}
-use Rattle.service_core.specs.Service.{ServiceState, empty_service}
-use Rattle.fpgad_run.specs.declared.inputs.Architecture.{Architecture}
-use Rattle.fpgad_run.specs.declared.options.Options.{Options}
-use Rattle.fpgad_run.specs.declared.outcome.Outcome.{Outcome}
-use Rattle.fpgad_run.specs.declared.outcome.Outcome.TheVariants.{NotSettled}
-use Rattle.fpgad_run.specs.OnThreads.{threaded_start_of}
-use Rattle.fpgad_run.specs.Program.{Decides, start_of}
+use Rattle.promises.specs.Prelude.{Device, Call, Run, ServiceState, empty_service, Architecture, Options, Outcome, NotSettled, threaded_start_of, Decides, start_of}
 
 -- the run ends as the architecture and the script decide. Without workers no session disagrees with
 -- its journal

@@ -1,6 +1,6 @@
 //! A run without workers, or beside them.
 ghost use Rattle.std.specs.Prelude.{◌≡◌, ◌≤◌, true};
-ghost use Rattle.fpgad_run.specs.Commands.{RunsInOrder, RunsOnThreads};
+ghost use Rattle.promises.specs.Prelude.{RunsInOrder, RunsOnThreads};
 
 use crate::in_order::serve_in_order;
 use fpgad_run::{Architecture, Options, Outcome, run_on_threads};

@@ -1,7 +1,7 @@
 //! The program without workers. Nothing here waits for other threads, so each function is proved to
 //! return, if the reader and the writer that it is given do.
 ghost use Rattle.std.specs.Prelude.{◌≡◌, true};
-ghost use Rattle.fpgad_run.specs.Commands.{RunsInOrder};
+ghost use Rattle.promises.specs.Prelude.{RunsInOrder};
 ghost use Rattle.promises.specs.Commands.{Runs};
 
 use crate::given_architecture::GivenArchitecture;

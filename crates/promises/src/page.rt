@@ -1,16 +1,6 @@
 //! The promises.
 ghost use Rattle.std.specs.Prelude.{◌≡◌, ◌≤◌, true};
-ghost use Rattle.service_core.specs.Headline.{AreOwnJournals, AreParted, EachIsAlone, IsBook};
-ghost use Rattle.service_core.specs.Owners.{HasOneOwner};
-ghost use Rattle.fpgad_run.specs.Commands.{RunsOnThreads};
-ghost use Rattle.fpgad_run.specs.Program.{Writes};
-ghost use Rattle.wires_law.specs.Untouched.{AreUntouched};
-ghost use Rattle.script_text.specs.Threaded.{Parts as Script};
-ghost use Rattle.script_text.specs.declared.replies.RunReplies.{RunReplies};
-ghost use Rattle.script_threads.specs.OneRun.{IsOneRun, calls_of};
-ghost use Rattle.script_threads.specs.Served.{IsServedOnThreads};
-ghost use Rattle.service_core.specs.declared.device.Device.{Device};
-ghost use Rattle.workers_law.specs.Workers.{HasWaitedText};
+ghost use Rattle.promises.specs.Prelude.{AreOwnJournals, AreParted, EachIsAlone, IsBook, HasOneOwner, RunsOnThreads, Writes, AreUntouched, Parts as Script, RunReplies, IsOneRun, calls_of, IsServedOnThreads, Device, HasWaitedText};
 ghost use Rattle.promises.specs.Promises.{EndsAsDecided, OfEachRun};
 
 use crate::either::run;

@@ -1,7 +1,7 @@
 //! The program over any reader and writer.
 ghost use Rattle.std.specs.Prelude.{◌≡◌};
 ghost use Rattle.std.specs.Process.{exit_status};
-ghost use Rattle.fpgad_run.specs.Outcomes.{status_of};
+ghost use Rattle.promises.specs.Prelude.{status_of};
 ghost use Rattle.promises.specs.Commands.{Exits};
 
 use crate::command::run_words;

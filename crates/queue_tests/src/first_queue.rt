@@ -105,14 +105,10 @@ pub(crate) fn pops_as_often<R: Wait + AllocGlobal>(rt: &R, crew: &mut Crew) -> b
 
 /// Returns whether a new former queue returns the older number first.
 fn is_oldest_first<R: Wait>(rt: &R, alloc: Global) -> bool {
-    match first_queue(alloc) {
-        Some(queue) => {
-            let is_so = gives_oldest(rt, &queue);
-            drop(queue);
-            is_so
-        }
-        None => false,
-    }
+    let Some(queue) = first_queue(alloc) else {
+        return false;
+    };
+    gives_oldest(rt, &queue)
 }
 
 #[test]

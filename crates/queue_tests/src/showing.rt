@@ -33,12 +33,8 @@ fn is_shown<R: Wait + AllocGlobal>(rt: &R, crew: &mut Crew, shown: Shown) -> boo
 
 /// Returns whether a new queue shows that.
 pub(crate) fn shows<R: Wait + AllocGlobal>(rt: &R, shown: Shown) -> bool {
-    match Crew::new(rt.alloc()) {
-        Some(mut crew) => {
-            let is_so = is_shown(rt, &mut crew, shown);
-            drop(crew);
-            is_so
-        }
-        None => false,
-    }
+    let Some(mut crew) = Crew::new(rt.alloc()) else {
+        return false;
+    };
+    is_shown(rt, &mut crew, shown)
 }

@@ -1,6 +1,6 @@
 -- Properties that hold for each element of a list.
-use Rattle.std.proofs.Common.{ℕ, zero, suc, Bool, true, false, cond, List, [], ◌∷◌, ◌++◌, take, drop, map, get_or}
-use Rattle.std.specs.Prelude.{⊤, filter, flat_map}
+use Rattle.replies_law.proofs.Prelude.{ℕ, zero, suc, Bool, List, [], ◌∷◌, ◌++◌, take, drop, map, get_or, arith, ⊤, filter}
+use Rattle.std.specs.Prelude.{flat_map}
 
 abbrev pub Each : {A : Type 0} → (A → Type 0) → List A → Type 0
 Each P [] = ⊤
@@ -22,11 +22,7 @@ each-drop P (suc n) (x ∷ xs) each = each-drop P n xs each.1
 
 pub each-filter : {A : Type 0} (P : A → Type 0) (test : A → Bool) (xs : List A) → Each P xs → Each P (filter test xs)
 each-filter P test [] each = tt
-each-filter P test (x ∷ xs) each = by_test (test x) (each-filter P test xs each.1)
-  where
-    by_test : (b : Bool) → Each P (filter test xs) → Each P (cond b (x ∷ filter test xs) (filter test xs))
-    by_test true rest = (each.0, rest)
-    by_test false rest = rest
+each-filter P test (x ∷ xs) each = grind (arith, each-filter P test xs each.1)
 
 pub each-map : {A B : Type 0} (P : A → Type 0) (Q : B → Type 0) (f : A → B) → ((a : A) → P a → Q (f a)) → (xs : List A) → Each P xs → Each Q (map f xs)
 each-map P Q f leads [] each = tt

@@ -1,10 +1,6 @@
 -- Examples that are computed.
-use Rattle.std.proofs.Common.{◌≡◌, true, false, [], ◌∷◌, codes, refl}
-use Rattle.sessions.specs.declared.line.SessionLine.TheVariants.{Blank}
-use Rattle.script_text.specs.declared.act.Act.TheVariants.{Operator, Session}
-use Rattle.script_text.specs.declared.operator_line.OperatorLine.TheVariants.{Admit, Evict, Move, List as ListAll, Step}
-use Rattle.replies_law.specs.Alone.{fits, is_admitted, own_acts, own_answer}
-use Rattle.replies_law.specs.Memory.{RanOut}
+use Rattle.replies_law.proofs.Prelude.{◌≡◌, true, false, [], ◌∷◌, codes, refl, Blank, Operator, Session, Evict, Move, Step, fits, is_admitted, own_acts, own_answer, RanOut}
+use Rattle.script_text.specs.declared.operator_line.OperatorLine.TheVariants.{Admit, List as ListAll}
 
 -- the lines of one of two names
 others_deleted : own_acts (codes "A") (Operator (Admit (codes "B") 3) ∷ Operator (Admit (codes "A") 2) ∷ Session (codes "B") Blank ∷ Session (codes "A") Blank ∷ Operator (Move (codes "A") 4) ∷ Operator ListAll ∷ Operator (Step (codes "A") 1) ∷ [])

@@ -1,24 +1,12 @@
 -- Bytes without a line feed, and lines.
-use Rattle.std.proofs.Common.{◌≡◌, ℕ, zero, suc, ◌+◌, ◌/◌, ◌%◌, Bool, true, false, not, cond, eqb, List, [], ◌∷◌, ◌++◌, length, decimal, Some, None, refl, ap, ◌∙◌, arith, length-append, append_assoc}
-use Rattle.std.specs.Prelude.{nat_lt, option_map}
-use Rattle.std.specs.Fmt.{digits, digits_onto, digit_glyph}
-use Rattle.std.specs.List.{list_all, position_or_len}
-use Rattle.std.proofs.lemmas.Bool.{and_from, and_parts, eqb-true, false≢true}
-use Rattle.std.proofs.lemmas.Bool.Decides.{nat_tests}
-use Rattle.std.proofs.lemmas.List.Folds.{list_all-append}
-use Rattle.printed_replies.specs.Lengths.{is_line_feed, line_length}
-use Rattle.replies_law.specs.ReadBack.{NoFeed, is_other}
+use Rattle.replies_law.proofs.Prelude.{◌≡◌, ℕ, zero, suc, ◌+◌, ◌/◌, ◌%◌, Bool, true, false, not, cond, eqb, List, [], ◌∷◌, ◌++◌, length, decimal, Some, refl, ap, ◌∙◌, arith, length-append, append_assoc, digits, digits_onto, digit_glyph, list_all, position_or_len, and_from, and_parts, eqb-true, false≢true, list_all-append, is_line_feed, line_length, NoFeed, is_other}
 
 pub no_feed-append : (x y : List ℕ) → NoFeed x → NoFeed y → NoFeed (x ++ y)
 no_feed-append x y first second = list_all-append is_other x y ∙ and_from _ _ first second
 
 -- the digits of a number
 glyph_other : (d : ℕ) → is_other (digit_glyph false d) ≡ true
-glyph_other d = by_test (nat_lt d 10)
-  where
-    by_test : (b : Bool) → is_other (cond b (48 + d) (87 + d)) ≡ true
-    by_test true = grind (arith, nat_tests)
-    by_test false = grind (arith, nat_tests)
+glyph_other d = grind arith
 
 digits_other : (k n : ℕ) (acc : List ℕ) → NoFeed acc → NoFeed (digits_onto k 10 false n acc)
 digits_other zero n acc all = all
@@ -89,16 +77,8 @@ feed_place (b ∷ line) rest all =
     by_test false e more = omega (arith, more)
 
 pub ended_length : (line rest : List ℕ) → NoFeed line → line_length (line ++ 10 ∷ rest) ≡ Some (length line + 1)
-ended_length line rest all =
-    let place = feed_place line rest all in
-    let whole = length-append line (10 ∷ rest) in
-    let within : nat_lt (length line) (length (line ++ 10 ∷ rest)) ≡ true = grind (arith, nat_tests, whole) in
-    ap (λ n. option_map (λ k. k + 1) (cond (nat_lt n (length (line ++ 10 ∷ rest))) (Some n) None)) place
-    ∙ ap (λ b. option_map (λ k. k + 1) (cond b (Some (length line)) None)) within
+ended_length line rest all = grind (arith, feed_place, length-append)
 
 -- the first line of the bytes is as long as the line with which they begin
 pub line_is_first : (text rest : List ℕ) → IsLine text → line_length (text ++ rest) ≡ Some (length text)
-line_is_first text rest is =
-    let parts = line_parts text is in
-    let long : length parts.line + 1 ≡ length text = omega (arith, length-append parts.line (10 ∷ []), ap length parts.is) in
-    ap (λ t. line_length (t ++ rest)) parts.is ∙ ap line_length (append_assoc parts.line (10 ∷ []) rest) ∙ ended_length parts.line rest parts.other ∙ ap Some long
+line_is_first text rest is = grind (arith, length-append, append_assoc, ended_length, line_parts text is)

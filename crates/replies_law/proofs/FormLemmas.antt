@@ -1,30 +1,13 @@
 -- Replies of each form.
-use Rattle.std.proofs.Common.{◌≡◌, ℕ, zero, suc, ◌+◌, ◌-◌, ◌*◌, ◌<◌, ◌≤◌, ◌/◌, ◌%◌, ◌^◌, Bool, true, false, cond, eqb, List, [], ◌∷◌, ◌++◌, length, take, drop, codes, decimal, Option, Some, None, refl, sym, ap, ◌∙◌, arith, length-append, append_assoc, append-nil, subst}
-use Rattle.std.specs.Prelude.{nat_le, nat_lt, option_map, option_and_then, unwrap_or}
-use Rattle.std.specs.List.{list_all}
-use Rattle.std.proofs.lemmas.Bool.{and_from}
-use Rattle.std.proofs.lemmas.Bool.Decides.{nat_tests}
-use Rattle.std.proofs.lemmas.List.Folds.{list_all-append}
-use Rattle.std.proofs.lemmas.List.Sums.{fold-append}
-use Rattle.std.proofs.lemmas.Fmt.{decimal_by_steps, decimal_nonempty}
-use Rattle.std.proofs.Math.Seq.{drop-append_seam, take-append_seam}
-use Rattle.line_text.specs.Decimal.{decimal_of, is_digit, value_of, with_digit}
-use Rattle.printed_replies.specs.Lengths.{after_prefix, kind_and_length, line_of, lines_length, owners_length, session_length, told_bytes, told_file, told_owners, number_within}
-use Rattle.replies_law.specs.ReadBack.{NoFeed}
+use Rattle.replies_law.proofs.Prelude.{◌≡◌, ℕ, zero, suc, ◌+◌, ◌<◌, ◌≤◌, ◌/◌, ◌%◌, ◌^◌, true, cond, List, [], ◌∷◌, ◌++◌, length, drop, codes, decimal, Option, Some, None, refl, sym, ap, ◌∙◌, arith, length-append, append_assoc, append-nil, nat_le, nat_lt, option_map, option_and_then, unwrap_or, list_all, and_from, nat_tests, list_all-append, fold-append, decimal_by_steps, decimal_nonempty, drop-append_seam, take-append_seam, decimal_of, is_digit, value_of, after_prefix, kind_and_length, line_of, lines_length, owners_length, session_length, told_bytes, told_file, told_owners, number_within, NoFeed}
 use Rattle.replies_law.proofs.FeedLemmas.{IsLine, decimal_no_feed, ended_length, line_is_first, line_parts, no_feed-append}
 
 -- the digits of a number, and their value
 digit_one : (n : ℕ) → n < 10 → (list_all is_digit ((48 + n) ∷ []) ≡ true) × (value_of ((48 + n) ∷ []) ≡ n)
-digit_one n small =
-    let low : nat_le 48 (48 + n) ≡ true = grind (arith, nat_tests) in
-    let high : nat_le (48 + n) 57 ≡ true = grind (arith, nat_tests, small) in
-    (and_from _ _ (and_from _ _ low high) refl, omega arith)
+digit_one n small = grind arith
 
 digit_more : (n : ℕ) (ds : List ℕ) → 10 ≤ n → (list_all is_digit ds ≡ true) × (value_of ds ≡ n / 10) → (list_all is_digit (ds ++ (48 + n % 10) ∷ []) ≡ true) × (value_of (ds ++ (48 + n % 10) ∷ []) ≡ n)
-digit_more n ds big h =
-    let last = digit_one (n % 10) (omega arith) in
-    let value : value_of (ds ++ (48 + n % 10) ∷ []) ≡ value_of ds * 10 + (48 + n % 10 - 48) = fold-append with_digit 0 ds ((48 + n % 10) ∷ []) in
-    (list_all-append is_digit ds ((48 + n % 10) ∷ []) ∙ and_from _ _ h.0 last.0, value ∙ omega (arith, h.1))
+digit_more n ds big h = grind (arith, fold-append, list_all-append)
 
 decimal_of-decimal : (n : ℕ) → n < 2 ^ 64 → decimal_of 64 (decimal n) ≡ Some n
 decimal_of-decimal n small =
@@ -38,33 +21,19 @@ decimal_of-decimal n small =
 begins_more : (start line more : List ℕ) → after_prefix start (line ++ more) ≡ None → after_prefix start line ≡ None
 begins_more [] line more never = cc
 begins_more (a ∷ start) [] more never = refl
-begins_more (a ∷ start) (b ∷ line) more never = by_test (eqb a b) never (begins_more start line more)
-  where
-    by_test : (t : Bool) → cond t (after_prefix start (line ++ more)) None ≡ None → (after_prefix start (line ++ more) ≡ None → after_prefix start line ≡ None) → cond t (after_prefix start line) None ≡ None
-    by_test true e rest = rest e
-    by_test false e rest = refl
+begins_more (a ∷ start) (b ∷ line) more never = grind (arith, begins_more start line more)
 
 -- the bytes of a line and the rest after it
 line_before : (line rest : List ℕ) → line_of (length line + 1) (line ++ 10 ∷ rest) ≡ line
-line_before line rest =
-    let same : length line + 1 - 1 ≡ length line = omega arith in
-    ap (λ n. take n (line ++ 10 ∷ rest)) same ∙ take-append_seam line (10 ∷ rest)
+line_before line rest = grind (arith, take-append_seam line (10 ∷ rest))
 
 is_within : (bytes : List ℕ) (n : ℕ) → n ≤ length bytes → number_within bytes n ≡ Some n
-is_within bytes n few =
-    let test : nat_le n (length bytes) ≡ true = grind (arith, nat_tests, few) in
-    ap (λ b. cond b (Some n) None) test
+is_within bytes n few = grind arith
 
 -- the length of a session's reply whose first line announces a number of bytes
 told_length : (line rest : List ℕ) (told : Option (List ℕ × ℕ)) → NoFeed line → told_file line ≡ told → told_bytes told ≤ length rest →
     session_length (line ++ 10 ∷ rest) ≡ Some (length line + 1 + told_bytes told)
-told_length line rest told all is few =
-    let bytes = line ++ 10 ∷ rest in
-    let whole = length-append line (10 ∷ rest) in
-    ap (λ o. option_and_then (λ n. number_within bytes (n + told_bytes (told_file (line_of n bytes)))) o) (ended_length line rest all)
-    ∙ ap (λ l. number_within bytes (length line + 1 + told_bytes (told_file l))) (line_before line rest)
-    ∙ ap (λ o. number_within bytes (length line + 1 + told_bytes o)) is
-    ∙ is_within bytes (length line + 1 + told_bytes told) (omega (arith, few, whole))
+told_length line rest told all is few = grind (arith, length-append, ended_length, line_before)
 
 -- a session's line that announces no file
 pub plain_line : (text rest : List ℕ) → IsLine text → after_prefix (codes "text ") text ≡ None → session_length (text ++ rest) ≡ Some (length text)
@@ -78,15 +47,7 @@ plain_line text rest is never =
 -- and one that a file follows
 pub file_behind : (head kind file rest : List ℕ) → NoFeed head → told_file (head ++ decimal (length file)) ≡ option_map (λ n. (kind, n)) (decimal_of 64 (decimal (length file))) → length file < 2 ^ 64 →
     session_length ((head ++ decimal (length file) ++ 10 ∷ file) ++ rest) ≡ Some (length (head ++ decimal (length file) ++ 10 ∷ file))
-file_behind head kind file rest all tells small =
-    let n = length file in
-    let line = head ++ decimal n in
-    let told : told_file line ≡ Some (kind, n) = tells ∙ ap (option_map (λ k. (kind, k))) (decimal_of-decimal n small) in
-    let few : n ≤ length (file ++ rest) = omega (arith, length-append file rest) in
-    let long : length line + 1 + n ≡ length (line ++ 10 ∷ file) = omega (arith, length-append line (10 ∷ file)) in
-    ap session_length (append_assoc line (10 ∷ file) rest)
-    ∙ told_length line (file ++ rest) (Some (kind, n)) (no_feed-append head (decimal n) all (decimal_no_feed n)) told few
-    ∙ ap Some long
+file_behind head kind file rest all tells small = grind (arith, decimal_of-decimal, length-append, append_assoc, told_length, no_feed-append, decimal_no_feed)
 
 -- a number of lines
 abbrev pub AreLines : ℕ → List ℕ → Type 0
@@ -108,10 +69,7 @@ lines_are_first (suc count) text rest are =
 
 pub lines_more : (count : ℕ) (text line : List ℕ) → AreLines count text → IsLine line → AreLines (count + 1) (text ++ line)
 lines_more zero text line are is = (line, [], is, refl, (ap (λ t. t ++ line) are ∙ sym (append-nil line)))
-lines_more (suc count) text line are is =
-    let P : ℕ → Type 0 = λ n. AreLines n (text ++ line) in
-    let e : suc (count + 1) ≡ suc count + 1 = omega arith in
-    subst P e (are.0, are.1 ++ line, are.2, lines_more count are.1 line are.3 is, (ap (λ t. t ++ line) are.4 ∙ append_assoc are.0 are.1 line))
+lines_more (suc count) text line are is = grind (arith, append_assoc, lines_more count are.1 line are.3 is)
 
 -- the owners are a number of lines after one that announces the number
 pub owners_are_read : (text rest : List ℕ) (count : ℕ) → count < 2 ^ 64 → AreLines count text →

@@ -1,11 +1,8 @@
 -- Calls of the core that don't run out of memory.
-use Rattle.std.proofs.Common.{ℕ, List, [], ◌∷◌, Err}
-use Rattle.std.specs.Prelude.{⊤}
+use Rattle.replies_law.proofs.Prelude.{ℕ, List, [], ◌∷◌, Err, ⊤, Call, Admit, Tenant, GiveBack, Telling}
 use Rattle.service_core.specs.declared.not_served.NotServed.TheVariants.{NoMemory}
 use Rattle.service_core.specs.declared.op_refusal.OpRefusal.TheVariants.{NoMemory as OpNoMemory}
-use Rattle.service_core.specs.Run.{Call}
-use Rattle.service_core.specs.Run.Call.{Admit, Tenant, Put, GiveBack}
-use Rattle.fpgad_run.specs.Run.{Telling}
+use Rattle.service_core.specs.Run.Call.{Put}
 
 -- the call isn't refused because memory ran out, and gives no job back
 abbrev pub FoundMemory : Call → Type 0

@@ -1,3 +1,4 @@
+mod Prelude
 pub mod AnswerLemmas
 pub mod EachLemmas
 mod Examples

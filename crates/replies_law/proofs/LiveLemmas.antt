@@ -1,29 +1,9 @@
 -- The number of live tenancies, and their lines in the operator's list.
-use Rattle.std.proofs.Common.{◌≡◌, ℕ, zero, suc, ◌+◌, ◌-◌, ◌<◌, ◌≤◌, Bool, true, false, cond, eqb, List, [], ◌∷◌, ◌++◌, length, take, get_or, decimal, Result, Ok, Err, Option, Some, None, refl, sym, ap, ◌∙◌, arith, subst, append-nil}
-use Rattle.std.specs.Prelude.{⊤, IsSome, option_and_then, unwrap_or}
-use Rattle.std.proofs.lemmas.Bool.{false≢true}
-use Rattle.std.proofs.lemmas.Bool.Decides.{nat_tests}
-use Rattle.std.proofs.lemmas.List.{take_more}
-use Rattle.std.proofs.Math.Seq.{take-length}
-use Rattle.job_state.specs.Job.{JobState}
-use Rattle.service_core.specs.declared.not_served.NotServed.TheVariants.{JournalFull, NoMemory as NotServedNoMemory, NoSuchTenancy}
-use Rattle.service_core.specs.declared.op_refusal.OpRefusal.{OpRefusal}
+use Rattle.replies_law.proofs.Prelude.{◌≡◌, ℕ, zero, suc, ◌+◌, ◌-◌, ◌<◌, ◌≤◌, Bool, true, false, cond, List, [], ◌∷◌, ◌++◌, length, take, get_or, Option, Some, None, refl, sym, ap, ◌∙◌, arith, subst, append-nil, ⊤, IsSome, option_and_then, false≢true, take_more, take-length, JobState, History, Call, Happens, Run, IsGivenBackTo, ServiceState, history_of, live_of, with_changed, offset_of, list_text, listed_text, AreSteady, Steady, NoFeed}
 use Rattle.service_core.specs.declared.op_refusal.OpRefusal.TheVariants as Op
-use Rattle.service_core.specs.declared.put_reply.PutReply.TheVariants.{Recorded as PutRecorded, Full as PutFull, Gone as PutGone}
-use Rattle.service_core.specs.Calls.{IsMoved}
-use Rattle.service_core.specs.History.{History, state_of}
-use Rattle.service_core.specs.Run.{Call, Happens, Run, IsGivenBackTo}
-use Rattle.service_core.specs.Run.Call.{Admit, Evict, Move, Tenant, Take, Put, GiveBack, Owners}
-use Rattle.service_core.specs.Service.{ServiceState, history_of, live_of, with_changed}
-use Rattle.strips.specs.Plan.{offset_of}
-use Rattle.sessions.specs.SessionText.{blank_word}
-use Rattle.tenant_slot.specs.Names.{state_text}
-use Rattle.operator.specs.OperatorText.{list_text, listed_text}
-use Rattle.operator.proofs.Stepping.{AreSteady, Steady}
-use Rattle.replies_law.specs.ReadBack.{NoFeed}
 use Rattle.replies_law.proofs.FeedLemmas.{IsLine, decimal_no_feed, no_feed-append}
 use Rattle.replies_law.proofs.FormLemmas.{AreLines, lines_more}
-use Rattle.replies_law.proofs.AnswerLemmas.{line_of_bytes, state_no_feed}
+use Rattle.replies_law.proofs.AnswerLemmas.{line_of_bytes}
 
 abbrev pub lives : List History → ℕ
 lives [] = 0
@@ -36,28 +16,12 @@ lives-append (h ∷ xs) ys = let more = lives-append xs ys in omega (arith, more
 -- a change that keeps which tenancies are live
 lives-kept : (hs : List History) (id : ℕ) (change : History → History) → ((h : History) → (change h).live ≡ h.live) → lives (with_changed hs id change) ≡ lives hs
 lives-kept [] id change same = refl
-lives-kept (h ∷ hs) id change same = by_test (eqb id 1) (lives-kept hs (id - 1) change same)
-  where
-    by_test : (b : Bool) → lives (with_changed hs (id - 1) change) ≡ lives hs → lives (cond b (change h ∷ hs) (h ∷ with_changed hs (id - 1) change)) ≡ lives (h ∷ hs)
-    by_test true more = ap (λ b. cond b 1 0 + lives hs) (same h)
-    by_test false more = ap (λ n. cond h.live 1 0 + n) more
+lives-kept (h ∷ hs) id change same = grind (arith, lives-kept hs (id - 1) change same)
 
 -- and one that ends a tenancy
 pub lives-ended : (hs : List History) (id : ℕ) (change : History → History) → ((h : History) → (change h).live ≡ false) → IsSome (live_of hs id) → lives (with_changed hs id change) + 1 ≡ lives hs
 lives-ended [] id change ends is = absurd (false≢true is)
-lives-ended (h ∷ hs) id change ends is = by_test (eqb id 1) is (lives-ended hs (id - 1) change ends)
-  where
-    own : (b : Bool) → h.live ≡ b → IsSome (cond b (Some h) None) → lives (change h ∷ hs) + 1 ≡ lives (h ∷ hs)
-    own true e some =
-        let before : lives (h ∷ hs) ≡ 1 + lives hs = ap (λ b. cond b 1 0 + lives hs) e in
-        let after : lives (change h ∷ hs) ≡ 0 + lives hs = ap (λ b. cond b 1 0 + lives hs) (ends h) in
-        omega (arith, before, after)
-    own false e none = absurd (false≢true none)
-
-    by_test : (b : Bool) → IsSome (option_and_then (λ (g : History). cond g.live (Some g) None) (cond b (Some h) (history_of hs (id - 1)))) → (IsSome (live_of hs (id - 1)) → lives (with_changed hs (id - 1) change) + 1 ≡ lives hs) →
-        lives (cond b (change h ∷ hs) (h ∷ with_changed hs (id - 1) change)) + 1 ≡ lives (h ∷ hs)
-    by_test true some more = own h.live refl some
-    by_test false some more = let rest = more some in omega (arith, rest)
+lives-ended (h ∷ hs) id change ends is = grind (arith, lives-ended hs (id - 1) change ends)
 
 same : (old new : ServiceState) → new ≡ old → lives old.histories ≡ lives new.histories
 same old new is = ap (λ (s : ServiceState). lives s.histories) (sym is)
@@ -66,38 +30,14 @@ changed : (old new : ServiceState) (id : ℕ) (change : History → History) →
 changed old new id change keeps is = rw is (sym (lives-kept old.histories id change keeps))
 
 given : (o : Option History) (old new : ServiceState) (job : JobState) → IsGivenBackTo o old job new → lives old.histories ≡ lives new.histories
-given None old new job is = same old new is
-given (Some h) old new job is = changed old new job.step.id _ (λ g. refl) is.2
+given o old new job is = grind (arith, changed)
 
 lives-happens : (old new : ServiceState) (call : Call) → Steady call → Happens old call new → lives old.histories ≡ lives new.histories
-lives-happens old new (Admit width answer) never is = absurd never
-lives-happens old new (Evict id answer) never is = absurd never
-lives-happens old new (Move id offset answer) never is = absurd never
-lives-happens old new (Tenant id command (Ok r)) steady is = changed old new id _ (λ g. refl) is.1
-lives-happens old new (Tenant id command (Err (JournalFull note))) steady is = same old new is.2
-lives-happens old new (Tenant id command (Err (NoSuchTenancy note))) steady is = same old new is.2
-lives-happens old new (Tenant id command (Err NotServedNoMemory)) steady is = same old new is.1
-lives-happens old new (Take id None) steady is = same old new is.1
-lives-happens old new (Take id (Some job)) steady is = changed old new id _ (λ g. refl) is.1
-lives-happens old new (Put done foreign (Ok (PutRecorded reply))) steady is = changed old new done.id _ (λ g. refl) is.1
-lives-happens old new (Put done foreign (Ok PutFull)) steady is = same old new is.1
-lives-happens old new (Put done foreign (Ok PutGone)) steady is = same old new is.1
-lives-happens old new (Put done foreign (Err back)) steady is = same old new is.2
-lives-happens old new (GiveBack job) steady is = given (live_of old.histories job.step.id) old new job is
-lives-happens old new (Owners list) steady is = same old new is.1
+lives-happens old new call never is = grind (arith, changed)
 
 pub lives-run : (old new : ServiceState) (calls : List Call) → AreSteady calls → Run old calls new → lives old.histories ≡ lives new.histories
 lives-run old new [] steady run = same old new run
 lives-run old new (call ∷ calls) steady run = lives-happens old run.0 call steady.0 run.1 ∙ lives-run run.0 new calls steady.1 run.2
-
-pub lives-moved : (old new : ServiceState) (id offset : ℕ) (answer : Result (Unit {0}) OpRefusal) → IsMoved old id offset answer new → lives old.histories ≡ lives new.histories
-lives-moved old new id offset (Ok nothing) is = ap (λ (s : ServiceState). lives s.histories) (sym is.2)
-lives-moved old new id offset (Err Op.NoSuchTenancy) is = same old new is.1
-lives-moved old new id offset (Err Op.NoRoom) is = same old new is.2
-lives-moved old new id offset (Err Op.NoMemory) is = absurd is
-lives-moved old new id offset (Err Op.TooManyStrips) is = absurd is
-lives-moved old new id offset (Err Op.BadWidth) is = absurd is
-lives-moved old new id offset (Err Op.IdsSpent) is = absurd is
 
 -- names without a line feed
 abbrev pub AreOther : List (List ℕ) → Type 0
@@ -108,21 +48,10 @@ AreOther (name ∷ names) = NoFeed name × AreOther names
 history_at : (hs : List History) (k : ℕ) (d : History) → k < length hs → history_of hs (k + 1) ≡ Some (get_or hs k d)
 history_at [] k d within = absurd (omega arith)
 history_at (h ∷ hs) zero d within = refl
-history_at (h ∷ hs) (suc k) d within =
-    let past : eqb (suc k + 1) 1 ≡ false = grind (arith, nat_tests) in
-    let next : suc k + 1 - 1 ≡ k + 1 = omega arith in
-    ap (λ b. cond b (Some h) (history_of hs (suc k + 1 - 1))) past ∙ ap (history_of hs) next ∙ history_at hs k d (omega (arith, within))
+history_at (h ∷ hs) (suc k) d within = grind (arith, history_at hs k d (omega (arith, within)))
 
 listed_line : (h : History) (offset : Option ℕ) (id : ℕ) (name : List ℕ) → NoFeed name → IsLine (listed_text (Some h) offset id name)
-listed_line h offset id name all =
-    let front = decimal id ++ blank_word name in
-    let placed = front ++ blank_word (decimal (unwrap_or offset 0)) in
-    let wide = placed ++ blank_word (decimal h.strip.width) in
-    line_of_bytes (wide ++ blank_word (state_text (state_of h).name))
-    (no_feed-append wide (blank_word (state_text (state_of h).name))
-    (no_feed-append placed (blank_word (decimal h.strip.width))
-    (no_feed-append front (blank_word (decimal (unwrap_or offset 0))) (no_feed-append (decimal id) (blank_word name) (decimal_no_feed id) all) (decimal_no_feed (unwrap_or offset 0)))
-    (decimal_no_feed h.strip.width)) (state_no_feed (state_of h).name))
+listed_line h offset id name all = grind (arith, line_of_bytes, no_feed-append, decimal_no_feed)
 
 -- the list has a line for each live tenancy
 listed_so_far : (service : ServiceState) (names : List (List ℕ)) (d : History) → length names ≤ length service.histories → AreOther names → AreLines (lives (take (length names) service.histories)) (list_text service names)

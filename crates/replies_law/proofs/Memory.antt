@@ -1,41 +1,10 @@
 -- Acts that aren't answered that memory ran out make calls for which there was memory.
-use Rattle.std.proofs.Common.{◌≡◌, ◌≢◌, ◌∙◌, ℕ, Bool, true, false, cond, List, [], ◌∷◌, ◌++◌, Option, Some, None, Result, Ok, Err, inl, inr, refl, sym, ap, subst, append_assoc}
-use Rattle.std.specs.Prelude.{All}
-use Rattle.std.specs.List.{flat_map}
-use Rattle.std.proofs.lemmas.List.Elements.{All-head, All-tail}
-use Rattle.job_state.specs.Job.{JobState}
-use Rattle.tenant_slot.specs.declared.command.Command.{Command as TenantCommand}
-use Rattle.service_core.specs.declared.not_served.NotServed.{NotServed}
-use Rattle.service_core.specs.declared.not_served.NotServed.TheVariants.{NoMemory as NotServedNoMemory, JournalFull, NoSuchTenancy}
-use Rattle.service_core.specs.declared.op_refusal.OpRefusal.{OpRefusal}
+use Rattle.replies_law.proofs.Prelude.{◌≡◌, ◌≢◌, ◌∙◌, ℕ, List, [], ◌∷◌, ◌++◌, Option, Some, None, Result, Err, inl, inr, sym, ap, subst, append_assoc, arith, All, flat_map, All-head, All-tail, JobState, Command as TenantCommand, NotServed, History, Receipted, Call, Admit as AdmitCall, Tenant, GiveBack, ServiceState, live_of, run_device, SessionLine, Blank, Wait, Refused, StepOutcome, Recorded, Full, Gone, NoMemory, Nothing, Unfit, Answer, Served, Asks, AsksCommand, EndsWait, GivesNoneBack, LeavesNone, MadeStep, MakesStep, Act, Operator, OperatorLine, Evict, Move, Owners, Step, Take, Put, Holds, admitted_text, last_id, outcome_text, HasOwnGraph, IsAdmission, IsServed, Stage, IsAnswered, Telling, Tells, own_tellings, HaveMemory, RanOut}
+use Rattle.service_core.specs.declared.not_served.NotServed.TheVariants.{NoMemory as NotServedNoMemory}
 use Rattle.service_core.specs.declared.op_refusal.OpRefusal.TheVariants as Op
-use Rattle.service_core.specs.History.{History}
-use Rattle.service_core.specs.Receipt.{Receipted}
-use Rattle.service_core.specs.Run.{Call}
-use Rattle.service_core.specs.Run.Call.{Admit as AdmitCall, Evict as EvictCall, Move as MoveCall, Tenant, Take as TakeCall, Put as PutCall, GiveBack, Owners as OwnersCall}
-use Rattle.service_core.specs.Service.{ServiceState, live_of}
-use Rattle.service_core.proofs.Effects.{run_device}
-use Rattle.sessions.specs.declared.line.SessionLine.{SessionLine}
-use Rattle.sessions.specs.declared.line.SessionLine.TheVariants.{Blank, Command, Wait, Refused}
-use Rattle.sessions.specs.declared.steps.StepOutcome.{StepOutcome}
-use Rattle.sessions.specs.declared.steps.StepOutcome.TheVariants.{Recorded, Full, Gone, NoMemory, Nothing, Unfit}
-use Rattle.sessions.specs.declared.told.Answer.{Answer}
-use Rattle.sessions.specs.declared.told.Answer.TheVariants.{Served}
-use Rattle.sessions.specs.Fitting.{own_graph}
-use Rattle.sessions.specs.SessionAnswer.{Asks, AsksCommand, EndsWait, GivesNoneBack, LeavesNone}
-use Rattle.sessions.specs.SessionText.{answer_text}
-use Rattle.sessions.specs.Steps.{MadeStep, MakesStep, StepsAndPuts}
-use Rattle.script_text.specs.declared.act.Act.{Act}
-use Rattle.script_text.specs.declared.act.Act.TheVariants.{Operator, Session}
-use Rattle.script_text.specs.declared.operator_line.OperatorLine.{OperatorLine}
-use Rattle.script_text.specs.declared.operator_line.OperatorLine.TheVariants.{Admit, Evict, Move, List as ListAll, Owners, Step, Take, Put}
-use Rattle.operator.specs.HeldJobs.{Holds, PutsHeld, job_at}
-use Rattle.operator.specs.OperatorText.{admitted_text, last_id, outcome_text}
-use Rattle.operator.specs.Serving.{HasOwnGraph, IsAdmission, IsServed, Stage}
-use Rattle.fpgad_run.specs.Run.{IsAnswered, Telling, Tells}
-use Rattle.fpgad_run.proofs.Telling.{answered_runs}
-use Rattle.replies_law.specs.Alone.{is_own, own_tellings}
-use Rattle.replies_law.specs.Memory.{HaveMemory, RanOut}
+use Rattle.service_core.specs.Run.Call.{Evict as EvictCall, Move as MoveCall, Take as TakeCall, Put as PutCall, Owners as OwnersCall}
+use Rattle.sessions.specs.declared.line.SessionLine.TheVariants.{Command}
+use Rattle.script_text.specs.declared.operator_line.OperatorLine.TheVariants.{Admit, List as ListAll}
 use Rattle.replies_law.proofs.Found.{AllHadMemory, HadMemory}
 
 abbrev Not : Type 0 → Type 0
@@ -48,25 +17,8 @@ had-append : (xs ys : List Call) → HadMemory xs → HadMemory ys → HadMemory
 had-append [] ys a b = b
 had-append (x ∷ xs) ys a b = (a.0, had-append xs ys a.1 b)
 
--- making a step
-puts_had : (job : JobState) (calls : List Call) (outcome : StepOutcome) → Not (outcome ≡ NoMemory) → Not (outcome ≡ Unfit) → StepsAndPuts job calls outcome → HadMemory calls
-puts_had job calls (Recorded reply) memory fits is = to_had calls _ is.1 (tt, tt)
-puts_had job calls Full memory fits is = to_had calls _ is.1 (tt, tt)
-puts_had job calls Gone memory fits is = to_had calls _ is.1 (tt, tt)
-puts_had job calls NoMemory memory fits is = absurd (memory refl)
-puts_had job calls Nothing memory fits is = absurd is
-puts_had job calls Unfit memory fits is = absurd (fits refl)
-
-taken_had : (id : ℕ) (job : JobState) (calls more : List Call) (outcome : StepOutcome) → Not (outcome ≡ NoMemory) → Not (outcome ≡ Unfit) → StepsAndPuts job more outcome → calls ≡ TakeCall id (Some job) ∷ more → HadMemory calls
-taken_had id job calls more outcome memory fits puts is = to_had calls _ is (tt, puts_had job more outcome memory fits puts)
-
 step_had : (id : ℕ) (calls : List Call) (outcome : StepOutcome) → Not (outcome ≡ NoMemory) → Not (outcome ≡ Unfit) → MakesStep id calls outcome → HadMemory calls
-step_had id calls (Recorded reply) memory fits is = taken_had id is.0 calls is.1 (Recorded reply) memory fits is.2 is.3
-step_had id calls Full memory fits is = taken_had id is.0 calls is.1 Full memory fits is.2 is.3
-step_had id calls Gone memory fits is = taken_had id is.0 calls is.1 Gone memory fits is.2 is.3
-step_had id calls NoMemory memory fits is = absurd (memory refl)
-step_had id calls Nothing memory fits is = to_had calls _ is (tt, tt)
-step_had id calls Unfit memory fits is = absurd (fits refl)
+step_had id calls outcome memory fits is = grind arith
 
 made_had : (id : ℕ) (made : List MadeStep) → All (λ (m : MadeStep). MakesStep id m.0 (Recorded m.1)) made → HadMemory (flat_map (λ (m : MadeStep). m.0) made)
 made_had id [] all = tt
@@ -76,14 +28,7 @@ made_had id (m ∷ ms) all =
 
 -- if calls give no job back, nor do the calls after the first
 none_back-rest : (call : Call) (calls : List Call) → GivesNoneBack (call ∷ calls) → GivesNoneBack calls
-none_back-rest (AdmitCall width answer) calls none = none
-none_back-rest (EvictCall id answer) calls none = none
-none_back-rest (MoveCall id offset answer) calls none = none
-none_back-rest (Tenant id command served) calls none = none
-none_back-rest (TakeCall id job) calls none = none
-none_back-rest (PutCall done foreign answer) calls none = none
-none_back-rest (GiveBack job) calls none = absurd none
-none_back-rest (OwnersCall list) calls none = none
+none_back-rest call calls none = grind arith
 
 none_back-right : (xs ys : List Call) → GivesNoneBack (xs ++ ys) → GivesNoneBack ys
 none_back-right [] ys none = none
@@ -102,10 +47,7 @@ none_back-left (OwnersCall list ∷ xs) ys none = none_back-left xs ys none
 
 -- a command whose answer isn't that memory ran out
 served_had : (id : ℕ) (command : TenantCommand) (served : Result Receipted NotServed) → Not (Served served ≡ Served (Err NotServedNoMemory)) → HadMemory (Tenant id command served ∷ [])
-served_had id command (Ok receipt) memory = (tt, tt)
-served_had id command (Err (JournalFull note)) memory = (tt, tt)
-served_had id command (Err (NoSuchTenancy note)) memory = (tt, tt)
-served_had id command (Err NotServedNoMemory) memory = absurd (memory refl)
+served_had id command served memory = grind arith
 
 command_had : (id : ℕ) (command : TenantCommand) (calls : List Call) (answer : Answer) → Not (answer ≡ Served (Err NotServedNoMemory)) → AsksCommand id command calls answer → HadMemory calls
 command_had id command calls answer memory is = to_had calls _ is.1 (served_had id command is.0 (λ same. memory (is.2 ∙ same)))
@@ -137,19 +79,8 @@ line_had id (Command command) calls answer new memory asks leaves = command_had 
 line_had id Wait calls answer new memory asks (inl out) = absurd (memory out)
 line_had id Wait calls answer new memory asks (inr leaves) = wait_had id calls answer memory asks leaves.0
 
--- a line of the operator
-admit_had : (width : ℕ) (answer : Result (ℕ × ℕ) OpRefusal) → Not (admitted_text answer ≡ admitted_text (Err Op.NoMemory)) → HadMemory (AdmitCall width answer ∷ [])
-admit_had width (Ok given) memory = (tt, tt)
-admit_had width (Err Op.NoMemory) memory = absurd (memory refl)
-admit_had width (Err Op.NoRoom) memory = (tt, tt)
-admit_had width (Err Op.TooManyStrips) memory = (tt, tt)
-admit_had width (Err Op.BadWidth) memory = (tt, tt)
-admit_had width (Err Op.NoSuchTenancy) memory = (tt, tt)
-admit_had width (Err Op.IdsSpent) memory = (tt, tt)
-
 admission_had : (o : Option History) (old new : Stage) (name : List ℕ) (width : ℕ) (calls : List Call) (text : List ℕ) → IsAdmission o old name width calls text new → Not (text ≡ admitted_text (Err Op.NoMemory)) → HadMemory calls
-admission_had (Some h) old new name width calls text is memory = to_had calls [] is.0 tt
-admission_had None old new name width calls text is memory = to_had calls _ is.4 (admit_had width is.0 (λ same. memory (is.5 ∙ same)))
+admission_had o old new name width calls text is memory = grind arith
 
 tried_had : (id : ℕ) (ts : List (List Call × StepOutcome)) → All (λ (t : List Call × StepOutcome). MakesStep id t.0 t.1) ts → All (λ (t : List Call × StepOutcome). t.1 ≢ Unfit) ts →
     Not ((before : List ℕ) × (after : List ℕ) × (flat_map (λ (t : List Call × StepOutcome). outcome_text t.1) ts ≡ before ++ outcome_text NoMemory ++ after)) → HadMemory (flat_map (λ (t : List Call × StepOutcome). t.0) ts)
@@ -167,12 +98,7 @@ tried_had id (t ∷ ts) all fits memory =
     )))
 
 holds_had : (id : ℕ) (job : Option JobState) (calls : List Call) → Holds id job calls → (job ≡ None → calls ≡ TakeCall id None ∷ []) → HadMemory calls
-holds_had id (Some job) calls holds own_tellings = to_had calls _ holds (tt, tt)
-holds_had id None calls holds own_tellings = to_had calls _ (own_tellings refl) (tt, tt)
-
-held_had : (job : Option JobState) (calls : List Call) (outcome : StepOutcome) → Not (outcome ≡ NoMemory) → Not (outcome ≡ Unfit) → PutsHeld job calls outcome → HadMemory calls
-held_had None calls outcome memory fits is = to_had calls [] is.0 tt
-held_had (Some job) calls outcome memory fits is = puts_had job calls outcome memory fits is
+holds_had id job calls holds h2 = grind arith
 
 operator_had : (old new : Stage) (line : OperatorLine (List ℕ)) (calls : List Call) (text : List ℕ) → HasOwnGraph old → IsServed old line calls text new → Not (RanOut (Operator line) text) → HadMemory calls
 operator_had old new (Admit name width) calls text own_tellings is memory = admission_had (live_of old.service.histories (last_id old.names name)) old new name width calls text is memory
@@ -181,46 +107,21 @@ operator_had old new (Move name offset) calls text own_tellings is memory = to_h
 operator_had old new (Step name count) calls text own_tellings is memory =
     to_had calls _ is.6 (tried_had (last_id old.names name) is.0 is.2 (is.9 own_tellings) (λ found. memory (found.0, found.1, is.7 ∙ found.2)))
 operator_had old new (Take name) calls text own_tellings is memory = holds_had (last_id old.names name) is.0 calls is.1 (is.7 own_tellings)
-operator_had old new (Put number) calls text own_tellings is memory =
-    held_had (job_at old.jobs number) calls is.0 (λ (out : is.0 ≡ NoMemory). memory (is.5 ∙ ap outcome_text out)) is.7 is.1
+operator_had old new (Put number) calls text own_tellings is memory = grind arith
 operator_had old new ListAll calls text own_tellings is memory = to_had calls [] is.0 tt
 operator_had old new Owners calls text own_tellings is memory = to_had calls _ is.2 (tt, tt)
 
 act_had : (old new : Stage) (act : Act (List ℕ)) (calls : List Call) (text : List ℕ) → HasOwnGraph old → IsAnswered old act calls text new → Not (RanOut act text) → HadMemory calls
-act_had old new (Operator line) calls text own_tellings is memory = operator_had old new line calls text own_tellings is memory
-act_had old new (Session name line) calls text own_tellings is memory =
-    line_had (last_id old.names name) line calls is.0 new.service (λ (out : is.0 ≡ Served (Err NotServedNoMemory)). memory (is.5 ∙ ap answer_text out)) is.1 (is.7 own_tellings)
-
--- the graph stays the device's own
-admission_graph : (o : Option History) (old new : Stage) (name : List ℕ) (width : ℕ) (calls : List Call) (text : List ℕ) → IsAdmission o old name width calls text new → new.graph ≡ old.graph
-admission_graph (Some h) old new name width calls text is = ap (λ (s : Stage). s.graph) is.2
-admission_graph None old new name width calls text is = is.6
-
-act_graph : (old new : Stage) (act : Act (List ℕ)) (calls : List Call) (text : List ℕ) → IsAnswered old act calls text new → new.graph ≡ old.graph
-act_graph old new (Operator (Admit name width)) calls text is = admission_graph (live_of old.service.histories (last_id old.names name)) old new name width calls text is
-act_graph old new (Operator (Evict name)) calls text is = is.6
-act_graph old new (Operator (Move name offset)) calls text is = is.6
-act_graph old new (Operator (Step name count)) calls text is = is.8
-act_graph old new (Operator (Take name)) calls text is = is.6
-act_graph old new (Operator (Put number)) calls text is = is.6
-act_graph old new (Operator ListAll) calls text is = ap (λ (s : Stage). s.graph) is.2
-act_graph old new (Operator Owners) calls text is = ap (λ (s : Stage). s.graph) is.4
-act_graph old new (Session name line) calls text is = is.6
+act_had old new act calls text h1 is memory = grind (arith, operator_had, line_had)
 
 own_graph_stays : (old new : Stage) (act : Act (List ℕ)) (calls : List Call) (text : List ℕ) → IsAnswered old act calls text new → HasOwnGraph old → HasOwnGraph new
-own_graph_stays old new act calls text is own_tellings =
-    act_graph old new act calls text is ∙ (own_tellings ∙ ap own_graph (sym (run_device old.service calls new.service (answered_runs old act calls text new is))))
+own_graph_stays old new act calls text is own_tellings = grind (arith, run_device)
 
 -- one after another, of all acts and of a name's own
 pub all_had : (old last : Stage) (ts : List Telling) → Tells old ts last → HasOwnGraph old → HaveMemory ts → AllHadMemory ts
 all_had old last [] tells own_tellings have = tt
-all_had old last (t ∷ ts) tells own_tellings have =
-    (act_had old tells.0 t.act t.calls t.text own_tellings tells.1 have.0, all_had tells.0 last ts tells.2 (own_graph_stays old tells.0 t.act t.calls t.text tells.1 own_tellings) have.1)
+all_had old last (t ∷ ts) tells own_tellings have = grind (arith, act_had, all_had tells.0 last ts tells.2 (own_graph_stays old tells.0 t.act t.calls t.text tells.1 own_tellings) have.1)
 
 pub own_had : (name : List ℕ) (old last : Stage) (ts : List Telling) → Tells old ts last → HasOwnGraph old → HaveMemory (own_tellings name ts) → AllHadMemory (own_tellings name ts)
 own_had name old last [] tells graph have = tt
-own_had name old last (t ∷ ts) tells graph have = by_own (is_own name t.act) have (own_had name tells.0 last ts tells.2 (own_graph_stays old tells.0 t.act t.calls t.text tells.1 graph))
-  where
-    by_own : (b : Bool) → HaveMemory (cond b (t ∷ own_tellings name ts) (own_tellings name ts)) → (HaveMemory (own_tellings name ts) → AllHadMemory (own_tellings name ts)) → AllHadMemory (cond b (t ∷ own_tellings name ts) (own_tellings name ts))
-    by_own true have rest = (act_had old tells.0 t.act t.calls t.text graph tells.1 have.0, rest have.1)
-    by_own false have rest = rest have
+own_had name old last (t ∷ ts) tells graph have = grind (arith, act_had, own_had name tells.0 last ts tells.2 (own_graph_stays old tells.0 t.act t.calls t.text tells.1 graph))

@@ -1,35 +1,6 @@
 -- The nets of a netlist are words of its text.
-use Rattle.std.proofs.Common.{◌≡◌, ℕ, ◌+◌, ◌-◌, Bool, true, false, not, cond, List, [], ◌∷◌, ◌++◌, length, take, drop, Result, Ok, Err, Option, Some, None, codes, refl, subst}
-use Rattle.std.specs.Prelude.{◌&&◌, ◌||◌, IfSome, flat_map, nat_lt, option_map}
-use Rattle.std.specs.List.{enumerate_from}
-use Rattle.std.specs.Option.{option_map_or, option_to_list}
-use Rattle.std.specs.Result.{result_flatten, result_map_both}
-use Rattle.std.specs.Str.{bytes_eq}
-use Rattle.line_text.specs.declared.lines.TheConstants.{MAX_TEXT}
-use Rattle.line_text.specs.LeastFault.{Found, least_by, least_fault, precedes}
-use Rattle.line_text.specs.Lines.{JoinedLine, lines_of}
-use Rattle.line_text.proofs.InOrder.{earlier_by}
-use Rattle.line_text.specs.declared.fault.LineFault.{LineFault}
-use Rattle.line_text.specs.declared.fault.LineFault.TheVariants.{NotAscii as LineNotAscii, LineTooLong as LineLineTooLong}
-use Rattle.blif.specs.declared.circuit.Circuit.{Circuit}
-use Rattle.blif.specs.declared.circuit.TheConstants.{MAX_NETS}
-use Rattle.blif.specs.declared.cover.Cover.{Cover}
-use Rattle.blif.specs.declared.fault.BlifFault.{BlifFault}
-use Rattle.blif.specs.declared.fault.BlifFaultKind.{BlifFaultKind}
-use Rattle.blif.specs.declared.fault.BlifFaultKind.TheVariants.{Unknown, BadCover, MixedCover, TooWide, TwoDrivers, Undriven, RepeatedOutput, BadLatch, NoModel, OverLimit}
-use Rattle.blif.specs.declared.keyword.Keyword.{Keyword}
-use Rattle.blif.specs.declared.keyword.Keyword.TheVariants.{Model, Inputs, Outputs, Clock, Names, Latch, End, Skipped, Other, Row}
-use Rattle.blif.specs.BlifFaults.{WordFault, at_words, driven_nets, driver_faults, fault_where, faults_in, is_model, kind_faults, of_line, row_faults, table_faults}
-use Rattle.blif.specs.CircuitOf.{all_faults, at_line, circuit_of, circuit_of_lines, declared_in, final_faults, line_faults, undriven_faults}
-use Rattle.blif.specs.Circuits.{circuit_from}
-use Rattle.blif.specs.Covers.{is_mixed, is_row}
-use Rattle.blif.specs.Faults.{fault_of_lines, net_of, number_of}
-use Rattle.blif.specs.Keywords.{args_of, last_of}
-use Rattle.blif.specs.LatchLines.{control_of, is_latch}
-use Rattle.blif.specs.LineNets.{latch_output, names_in, output_of, reads_in}
-use Rattle.blif.specs.Names.{has_name, names_with_index, repeats_from, with_name, with_names}
-use Rattle.blif.specs.Sights.{Sights, kind_of, names_of, sights_of}
-use Rattle.replies_law.specs.ReadBack.{NetsAreWords, NoFeed}
+use Rattle.replies_law.proofs.Prelude.{◌≡◌, ℕ, ◌+◌, Bool, true, false, not, cond, List, [], ◌∷◌, ◌++◌, Result, Ok, Err, Option, Some, None, refl, subst, arith, ◌&&◌, IfSome, option_map, enumerate_from, option_map_or, result_flatten, result_map_both, Found, least_by, precedes, JoinedLine, earlier_by, LineFault, Circuit, Cover, BlifFault, BlifFaultKind, Unknown, TwoDrivers, Undriven, RepeatedOutput, BadLatch, Keyword, Model, Inputs, Outputs, Clock, Names, Latch, End, Skipped, Other, Row, WordFault, at_words, driven_nets, driver_faults, fault_where, faults_in, kind_faults, of_line, row_faults, table_faults, at_line, circuit_of, circuit_of_lines, final_faults, line_faults, undriven_faults, circuit_from, fault_of_lines, net_of, args_of, last_of, is_latch, latch_output, names_in, output_of, reads_in, has_name, names_with_index, repeats_from, with_name, with_names, Sights, kind_of, names_of, sights_of, NetsAreWords, NoFeed}
+use Rattle.std.specs.Prelude.{flat_map}
 use Rattle.replies_law.proofs.EachLemmas.{Each, each-append, each-drop, each-filter, each-flat_map, each-get, each-map, each-take}
 use Rattle.replies_law.proofs.WordLemmas.{HasWords, words_other}
 
@@ -48,11 +19,7 @@ PlacedOther name = NoFeed name.1
 -- the names that faults name are among those of their lines
 repeats_other : (place : ℕ) (taken names : List (List ℕ)) → Each NoFeed names → Each PlacedOther (repeats_from place taken names)
 repeats_other place taken [] each = tt
-repeats_other place taken (name ∷ names) each = by_test (has_name taken name) (repeats_other (place + 1) (taken ++ name ∷ []) names each.1)
-  where
-    by_test : (b : Bool) → Each PlacedOther (repeats_from (place + 1) (taken ++ name ∷ []) names) → Each PlacedOther (cond b ((place, name) ∷ []) [] ++ repeats_from (place + 1) (taken ++ name ∷ []) names)
-    by_test true rest = (each.0, rest)
-    by_test false rest = rest
+repeats_other place taken (name ∷ names) each = grind (arith, repeats_other (place + 1) (taken ++ name ∷ []) names each.1)
 
 numbered_names : (n : ℕ) (names : List (List ℕ)) → Each NoFeed names → Each PlacedOther (enumerate_from n names)
 numbered_names n [] each = tt
@@ -62,8 +29,7 @@ placed_other : (test : List ℕ → Bool) (names : List (List ℕ)) → Each NoF
 placed_other test names each = each-filter PlacedOther (λ name. test name.1) (enumerate_from 0 names) (numbered_names 0 names each)
 
 where_other : (b : Bool) (kind : BlifFaultKind) → NamesOther kind → Each WordOther (fault_where b kind)
-where_other true kind is = (is, tt)
-where_other false kind is = tt
+where_other b kind is = grind arith
 
 drivers_other : (taken names : List (List ℕ)) → Each NoFeed names → Each WordOther (driver_faults taken names)
 drivers_other taken names each = each-map PlacedOther WordOther (λ name. record { word = name.0; kind = TwoDrivers name.1 }) (λ name is. is) (repeats_from 0 taken names) (repeats_other 0 taken names each)
@@ -74,43 +40,16 @@ last_other (word ∷ []) each = each.0
 last_other (word ∷ next ∷ words) each = last_other (next ∷ words) each.1
 
 output_other : (words : List (List ℕ)) → Each NoFeed words → Each NoFeed (output_of words)
-output_other [] each = tt
-output_other (word ∷ words) each = (last_other (word ∷ words) each, tt)
-
-latch_output_other : (b : Bool) (args : List (List ℕ)) → Each NoFeed args → Each NoFeed (cond b (drop 1 (take 2 args)) [])
-latch_output_other true args each = each-drop NoFeed 1 (take 2 args) (each-take NoFeed 2 args each)
-latch_output_other false args each = tt
-
-control_other : (args : List (List ℕ)) → Each NoFeed args → Each NoFeed (option_to_list (control_of args))
-control_other [] each = tt
-control_other (input ∷ []) each = tt
-control_other (input ∷ output ∷ []) each = tt
-control_other (input ∷ output ∷ init ∷ []) each = tt
-control_other (input ∷ output ∷ type ∷ control ∷ words) each = by_test (bytes_eq control (codes "NIL"))
-  where
-    by_test : (b : Bool) → Each NoFeed (option_to_list (cond b None (Some control)))
-    by_test true = tt
-    by_test false = (each.1.1.1.0, tt)
-
-latch_some : (n : ℕ) (b : Bool) (args : List (List ℕ)) → Each NoFeed args → Each NoFeed (cond b (take n args ++ option_to_list (control_of args)) [])
-latch_some n true args each = each-append NoFeed (take n args) (option_to_list (control_of args)) (each-take NoFeed n args each) (control_other args each)
-latch_some n false args each = tt
+output_other words each = grind (arith, last_other)
 
 table_other : (lut_size : ℕ) (taken args : List (List ℕ)) → Each NoFeed args → Each WordOther (table_faults lut_size taken args)
-table_other lut_size taken [] each = (tt, tt)
-table_other lut_size taken (name ∷ names) each =
-    each-append WordOther (fault_where (nat_lt lut_size (length names)) TooWide) (driver_faults taken (output_of (name ∷ names))) (where_other (nat_lt lut_size (length names)) TooWide tt)
-    (drivers_other taken (output_of (name ∷ names)) (output_other (name ∷ names) each))
+table_other lut_size taken args each = search (output_other, arith)
 
 latch_faults_other : (b : Bool) (taken args : List (List ℕ)) → Each NoFeed args → Each WordOther (cond b (driver_faults taken (latch_output args)) (of_line BadLatch))
-latch_faults_other true taken args each = drivers_other taken (latch_output args) (latch_output_other (is_latch args) args each)
-latch_faults_other false taken args each = (tt, tt)
+latch_faults_other b taken args each = grind arith
 
 row_other : (cover : Option Cover) (words : List (List ℕ)) → Each WordOther (row_faults cover words)
-row_other None words = (tt, tt)
-row_other (Some cover) words =
-    each-append WordOther (fault_where (not (is_row cover.inputs words)) BadCover) (fault_where (is_mixed cover.output words) MixedCover)
-    (where_other (not (is_row cover.inputs words)) BadCover tt) (where_other (is_mixed cover.output words) MixedCover tt)
+row_other cover words = grind (arith, where_other)
 
 kind_other : (lut_size : ℕ) (above : Sights) (keyword : Keyword) (words : List (List ℕ)) → Each NoFeed words → Each WordOther (kind_faults lut_size above keyword words)
 kind_other lut_size above Model words each = where_other above.begun Unknown tt
@@ -128,38 +67,18 @@ kind_other lut_size above End words each = tt
 kind_other lut_size above Skipped words each = tt
 
 line_other : (lut_size : ℕ) (above : Sights) (keyword : Keyword) (words : List (List ℕ)) → Each NoFeed words → Each WordOther (faults_in lut_size above keyword words)
-line_other lut_size above keyword words each = by_test above.ended
-  where
-    by_test : (b : Bool) → Each WordOther (cond b (of_line Unknown) (kind_faults lut_size above keyword words ++ (fault_where (not (above.begun || is_model keyword)) NoModel ++ fault_where (nat_lt MAX_NETS (length (with_names above.nets (names_in keyword words)))) OverLimit)))
-    by_test true = (tt, tt)
-    by_test false =
-        each-append WordOther (kind_faults lut_size above keyword words) (fault_where (not (above.begun || is_model keyword)) NoModel ++ fault_where (nat_lt MAX_NETS (length (with_names above.nets (names_in keyword words)))) OverLimit) (kind_other lut_size above keyword words each)
-        (each-append WordOther (fault_where (not (above.begun || is_model keyword)) NoModel) (fault_where (nat_lt MAX_NETS (length (with_names above.nets (names_in keyword words)))) OverLimit)
-        (where_other (not (above.begun || is_model keyword)) NoModel tt) (where_other (nat_lt MAX_NETS (length (with_names above.nets (names_in keyword words)))) OverLimit tt))
+line_other lut_size above keyword words each = grind (arith, each-append, kind_other, where_other)
 
 at_other : (at_end : Bool) (number : ℕ) (faults : List WordFault) → Each WordOther faults → Each FoundOther (at_line at_end number faults)
-at_other at_end number faults each =
-    each-map WordOther FoundOther (λ fault. record { at_end = at_end; line = number; number = number_of fault.kind; word = fault.word; fault = record { line = number; kind = fault.kind } }) (λ fault is. is) faults each
+at_other at_end number faults each = search (each-map, arith)
 
 lines_faults_other : (lut_size : ℕ) (declared : List (List ℕ)) (above lines : List JoinedLine) → Each HasWords lines → Each FoundOther (line_faults lut_size declared above lines)
 unfolding line_faults
 lines_faults_other lut_size declared above [] each = tt
-lines_faults_other lut_size declared above (line ∷ lines) each =
-    each-append FoundOther (at_line false line.number (faults_in lut_size (sights_of declared above) (kind_of line) line.words)) (line_faults lut_size declared (above ++ line ∷ []) lines)
-    (at_other false line.number (faults_in lut_size (sights_of declared above) (kind_of line) line.words) (line_other lut_size (sights_of declared above) (kind_of line) line.words each.0))
-    (lines_faults_other lut_size declared (above ++ line ∷ []) lines each.1)
+lines_faults_other lut_size declared above (line ∷ lines) each = grind (arith, each-append, at_other, line_other, lines_faults_other lut_size declared (above ++ line ∷ []) lines each.1)
 
 reads_other : (keyword : Keyword) (words : List (List ℕ)) → Each NoFeed words → Each NoFeed (reads_in keyword words)
-reads_other Outputs words each = each-drop NoFeed 1 words each
-reads_other Names words each = each-take NoFeed (length (args_of words) - 1) (args_of words) (each-drop NoFeed 1 words each)
-reads_other Latch words each = latch_some 1 (is_latch (args_of words)) (args_of words) (each-drop NoFeed 1 words each)
-reads_other Model words each = tt
-reads_other Inputs words each = tt
-reads_other Clock words each = tt
-reads_other Other words each = tt
-reads_other Row words each = tt
-reads_other End words each = tt
-reads_other Skipped words each = tt
+reads_other keyword words each = grind (arith, each-take)
 
 undriven_other : (drivers : List (List ℕ)) (line : JoinedLine) → HasWords line → Each FoundOther (undriven_faults drivers line)
 unfolding undriven_faults
@@ -172,8 +91,7 @@ undriven_other drivers line each =
 final_other : (declared : List (List ℕ)) (lines : List JoinedLine) → Each HasWords lines → Each FoundOther (final_faults declared lines)
 unfolding final_faults
 final_other declared [] each = (tt, tt)
-final_other declared (line ∷ lines) each =
-    each-flat_map HasWords FoundOther (undriven_faults (driven_nets (sights_of declared (line ∷ lines)))) (undriven_other (driven_nets (sights_of declared (line ∷ lines)))) (line ∷ lines) each
+final_other declared (line ∷ lines) each = search (each-flat_map, undriven_other, arith)
 
 -- the least element is one of the elements
 least_other : (all : List (Found BlifFault)) → Each FoundOther all → IfSome (least_by precedes all) FoundOther
@@ -189,36 +107,21 @@ least_other (found ∷ all) each = by_least (least_by precedes all) (least_other
     by_least (Some other) is = by_test (precedes found other) other is
 
 fault_other : (o : Option (Found BlifFault)) (circuit : Circuit) (fault : BlifFault) → IfSome o FoundOther → option_map_or Err (option_map (λ found. found.fault) o) (Ok circuit) ≡ Err fault → NamesOther fault.kind
-fault_other None circuit fault is e = cc
-fault_other (Some found) circuit fault is e = let same : found.fault ≡ fault = cc in let P : BlifFault → Type 0 = λ f. NamesOther f.kind in subst P same is
+fault_other o circuit fault is e = grind arith
 
 no_fault : (o : Option BlifFault) (circuit other : Circuit) → option_map_or Err o (Ok circuit) ≡ Ok other → circuit ≡ other
-no_fault None circuit other e = cc
-no_fault (Some fault) circuit other e = cc
+no_fault o circuit other e = grind arith
 
 -- the nets of a circuit
 with_name_other : (names : List (List ℕ)) (name : List ℕ) → Each NoFeed names → NoFeed name → Each NoFeed (with_name names name)
-with_name_other names name each is = by_test (has_name names name)
-  where
-    by_test : (b : Bool) → Each NoFeed (cond b names (names ++ name ∷ []))
-    by_test true = each
-    by_test false = each-append NoFeed names (name ∷ []) each (is, tt)
+with_name_other names name each is = grind (arith, each-append)
 
 with_names_other : (names others : List (List ℕ)) → Each NoFeed names → Each NoFeed others → Each NoFeed (with_names names others)
 with_names_other names [] each is = each
 with_names_other names (name ∷ others) each is = with_names_other (with_name names name) others (with_name_other names name each is.0) is.1
 
 names_other : (keyword : Keyword) (words : List (List ℕ)) → Each NoFeed words → Each NoFeed (names_in keyword words)
-names_other Inputs words each = each-drop NoFeed 1 words each
-names_other Outputs words each = each-drop NoFeed 1 words each
-names_other Clock words each = each-drop NoFeed 1 words each
-names_other Names words each = each-drop NoFeed 1 words each
-names_other Latch words each = latch_some 2 (is_latch (args_of words)) (args_of words) (each-drop NoFeed 1 words each)
-names_other Model words each = tt
-names_other Other words each = tt
-names_other Row words each = tt
-names_other End words each = tt
-names_other Skipped words each = tt
+names_other keyword words each = grind arith
 
 nets_other : (declared : List (List ℕ)) (lines : List JoinedLine) → Each HasWords lines → Each NoFeed (circuit_from declared lines).nets
 unfolding circuit_from sights_of
@@ -227,20 +130,14 @@ nets_other declared lines each = with_names_other [] (flat_map names_of lines) t
 -- this holds for all that a netlist names
 of_lines_fault : (lut_size : ℕ) (lines : List JoinedLine) (fault : BlifFault) → Each HasWords lines → circuit_of_lines lut_size lines ≡ Err fault → NamesOther fault.kind
 unfolding circuit_of_lines
-of_lines_fault lut_size lines fault each e =
-    let declared = declared_in lines in
-    let all = each-append FoundOther (line_faults lut_size declared [] lines) (final_faults declared lines) (lines_faults_other lut_size declared [] lines each) (final_other declared lines each) in
-    fault_other (least_by precedes (all_faults lut_size lines)) (circuit_from declared lines) fault (least_other (all_faults lut_size lines) all) e
+of_lines_fault lut_size lines fault each e = grind (arith, each-append, lines_faults_other, final_other, fault_other, least_other)
 
 of_lines_nets : (lut_size : ℕ) (lines : List JoinedLine) (circuit : Circuit) → Each HasWords lines → circuit_of_lines lut_size lines ≡ Ok circuit → Each NoFeed circuit.nets
 unfolding circuit_of_lines
-of_lines_nets lut_size lines circuit each e =
-    let P : Circuit → Type 0 = λ c. Each NoFeed c.nets in
-    subst P (no_fault (least_fault (all_faults lut_size lines)) (circuit_from (declared_in lines) lines) circuit e) (nets_other (declared_in lines) lines each)
+of_lines_nets lut_size lines circuit each e = grind (arith, nets_other)
 
 line_fault_other : (fault : LineFault) → NamesOther (fault_of_lines fault).kind
-line_fault_other (LineNotAscii number) = tt
-line_fault_other (LineLineTooLong number) = tt
+line_fault_other fault = grind arith
 
 -- the circuit, or the fault, of a text with these lines
 abbrev circuit_of_read : ℕ → Result (List JoinedLine) LineFault → Result Circuit BlifFault
@@ -251,27 +148,15 @@ read_fault lut_size (Ok lines) fault words e = of_lines_fault lut_size lines fau
 read_fault lut_size (Err other) fault words e = let same : fault_of_lines other ≡ fault = cc in let P : BlifFault → Type 0 = λ f. NamesOther f.kind in subst P same (line_fault_other other)
 
 read_nets : (lut_size : ℕ) (r : Result (List JoinedLine) LineFault) (circuit : Circuit) → ((lines : List JoinedLine) → r ≡ Ok lines → Each HasWords lines) → circuit_of_read lut_size r ≡ Ok circuit → Each NoFeed circuit.nets
-read_nets lut_size (Ok lines) circuit words e = of_lines_nets lut_size lines circuit (words lines refl) e
-read_nets lut_size (Err other) circuit words e = cc
+read_nets lut_size r circuit words e = grind (arith, of_lines_nets)
 
 text_fault : (text : List ℕ) (lut_size : ℕ) (fault : BlifFault) → circuit_of text lut_size ≡ Err fault → NamesOther fault.kind
 unfolding circuit_of
-text_fault text lut_size fault e = by_size (nat_lt MAX_TEXT (length text)) e
-  where
-    by_size : (b : Bool) → cond {A = Result Circuit BlifFault} b (Err (record { line = 0; kind = OverLimit })) (circuit_of_read lut_size (lines_of text)) ≡ Err fault → NamesOther fault.kind
-    by_size true big = let same : record { line = 0; kind = OverLimit } ≡ fault = cc in let P : BlifFault → Type 0 = λ f. NamesOther f.kind in subst P same tt
-    by_size false small = read_fault lut_size (lines_of text) fault (words_other text) small
+text_fault text lut_size fault e = grind (arith, read_fault, words_other)
 
 text_nets : (text : List ℕ) (lut_size : ℕ) (circuit : Circuit) → circuit_of text lut_size ≡ Ok circuit → Each NoFeed circuit.nets
 unfolding circuit_of
-text_nets text lut_size circuit e = by_size (nat_lt MAX_TEXT (length text)) e
-  where
-    by_size : (b : Bool) → cond {A = Result Circuit BlifFault} b (Err (record { line = 0; kind = OverLimit })) (circuit_of_read lut_size (lines_of text)) ≡ Ok circuit → Each NoFeed circuit.nets
-    by_size true big = cc
-    by_size false small = read_nets lut_size (lines_of text) circuit (words_other text) small
+text_nets text lut_size circuit e = grind (arith, read_nets, words_other)
 
 pub nets_are_words : NetsAreWords
-nets_are_words = record {
-  faults = text_fault;
-  nets = λ text lut_size circuit net e. each-get NoFeed circuit.nets net [] (text_nets text lut_size circuit e) refl;
-}
+nets_are_words = grind (arith, text_fault, each-get, text_nets)

@@ -1,39 +1,12 @@
 -- The result of a line is determined by the state.
-use Rattle.std.proofs.Common.{◌≡◌, ℕ, zero, suc, Bool, false, cond, List, [], ◌∷◌, ◌++◌, length, Option, Some, None, Ok, refl, sym, ap, ◌∙◌, subst, append_assoc, arith}
-use Rattle.std.specs.Prelude.{All, IfSome}
-use Rattle.std.specs.List.{flat_map}
-use Rattle.std.proofs.lemmas.List.Elements.{All-head, All-tail}
-use Rattle.job_state.specs.Job.{JobState}
-use Rattle.tenant_slot.specs.declared.command.Command.{Command as TenantCommand}
-use Rattle.tenant_slot.specs.declared.command.Command.TheVariants.{Status}
-use Rattle.tenant_slot.specs.declared.event.Event.{Event}
-use Rattle.tenant_slot.specs.declared.reply.Reply.{Reply}
-use Rattle.tenant_slot.specs.declared.reply.Reply.TheVariants.{Accepted, Status as InState, File, Refused as RefusedReply, Step}
-use Rattle.tenant_slot.specs.declared.reply.StepReply.{StepReply}
-use Rattle.tenant_slot.specs.SingleUser.{step}
-use Rattle.tenant_slot.specs.Slot.{is_takeable}
+use Rattle.replies_law.proofs.Prelude.{◌≡◌, ℕ, zero, suc, Bool, false, cond, List, [], ◌∷◌, ◌++◌, length, Option, Some, None, Ok, refl, sym, ap, ◌∙◌, subst, append_assoc, arith, All, IfSome, flat_map, All-head, All-tail, JobState, Command as TenantCommand, Status, Reply, Accepted, File, StepReply, step, is_takeable, IsPut, History, slot_of, state_of, with_entry, with_here, Call, Run, ServiceState, live_of, with_change, Kept, run_keeps, SessionLine, Blank, Wait, Refused, StepOutcome, Recorded, Full, Gone, NoMemory, Nothing, Unfit, Answer, Asks, AsksCommand, answer_text, EndsSteps, MadeStep, MakesStep, outcome_text, split}
+use Rattle.tenant_slot.specs.declared.reply.Reply.TheVariants.{Status as InState, Refused as RefusedReply, Step}
 use Rattle.service_core.specs.declared.put_reply.PutReply.TheVariants.{Recorded as PutRecorded, Full as PutFull, Gone as PutGone}
-use Rattle.service_core.specs.Calls.{IsPut}
-use Rattle.service_core.specs.History.{History, slot_of, state_of, with_entry, with_here}
-use Rattle.service_core.specs.Run.{Call, Run, IsStepOf, step_event}
-use Rattle.service_core.specs.Run.Call.{Tenant, Take}
-use Rattle.service_core.specs.Service.{ServiceState, live_of, with_change}
-use Rattle.service_core.proofs.Effects.{Kept, run_keeps}
-use Rattle.sessions.specs.declared.line.SessionLine.{SessionLine}
-use Rattle.sessions.specs.declared.line.SessionLine.TheVariants.{Blank, Command, Wait, Refused}
-use Rattle.sessions.specs.declared.steps.StepOutcome.{StepOutcome}
-use Rattle.sessions.specs.declared.steps.StepOutcome.TheVariants.{Recorded, Full, Gone, NoMemory, Nothing, Unfit}
-use Rattle.sessions.specs.declared.told.Answer.{Answer}
-use Rattle.sessions.specs.SessionAnswer.{Asks, AsksCommand}
-use Rattle.sessions.specs.SessionText.{answer_text}
-use Rattle.sessions.specs.Steps.{EndsSteps, MadeStep, MakesStep}
-use Rattle.operator.specs.OperatorText.{outcome_text}
+use Rattle.sessions.specs.declared.line.SessionLine.TheVariants.{Command}
 use Rattle.replies_law.proofs.Found.{HadMemory}
-use Rattle.sessions.proofs.Counted.{some_and}
-use Rattle.sessions.proofs.EndToEndLemmas.{split}
 use Rattle.replies_law.proofs.Lines.{asked_sits, goes_on}
 use Rattle.replies_law.proofs.Seats.{asked_text, next_event, seat, seat_of}
-use Rattle.replies_law.proofs.Steps.{Taken, event_is, had_parts, makes_memory, makes_unfit, never_full, never_gone, two_calls}
+use Rattle.replies_law.proofs.Steps.{Taken, had_parts, makes_memory, makes_unfit, never_full, never_gone, two_calls}
 use Rattle.replies_law.proofs.SameCalls.{command_is, commanded}
 
 -- a step of a tenancy's job, as a function
@@ -53,31 +26,13 @@ abbrev pub made_in : ServiceState → ℕ → ServiceState × StepOutcome
 made_in old id = made (live_of old.histories id) old id
 
 recorded_is : (old mid new : ServiceState) (id : ℕ) (job : JobState) (foreign : Bool) (reply : StepReply) → Taken old mid id job → IsPut mid job.step foreign (Ok (PutRecorded reply)) new → ◌≡◌ {A = ServiceState × StepOutcome} (new, Recorded reply) (made_in old id)
-recorded_is old mid new id job foreign reply t put =
-    let h : History = t.h in
-    let got = some_and (λ g. IsStepOf g job.step foreign reply) (live_of mid.histories job.step.id) put.0 in
-    let same : got.0 ≡ with_here None h = cc (got.1, t.out) in
-    let is : IsStepOf (with_here None h) job.step foreign reply = subst (λ g. IsStepOf g job.step foreign reply) same got.2 in
-    let own : foreign ≡ false = is.flag.foreign.1 t.sources in
-    let event : step_event job.step foreign ≡ next_event (seat_of h) = event_is h job.step foreign t.generation t.number own in
-    let told : (step (state_of h) (next_event (seat_of h))).1 ≡ Some (Step reply) = ap (λ (e : Event). (step (state_of h) e).1) (sym event) ∙ is.told in
-    let after : ServiceState → ℕ → Event → ServiceState = λ s t e. with_change s t (with_entry (record { event = e; reply = Step reply })) in
-    let now : new ≡ after (with_change old id (with_here None)) id (next_event (seat_of h)) =
-    put.1 ∙ (ap (λ e. after mid job.step.id e) event ∙ (ap (λ k. after mid k (next_event (seat_of h))) t.own ∙ ap (λ s. after s id (next_event (seat_of h))) t.left)) in
-    let out : ServiceState × StepOutcome = (old, Nothing) in
-    ap (λ (s : ServiceState). (s, Recorded reply)) now
-    ∙ sym (ap (λ o. made o old id) t.live ∙ (ap (λ b. cond b (made_by (step (state_of h) (next_event (seat_of h))).1 old id h) out) t.ready ∙ ap (λ r. made_by r old id h) told))
+recorded_is old mid new id job foreign reply t put = grind arith
 
 nothing_is : (old new : ServiceState) (id : ℕ) (o : Option History) → IfSome o (λ h. is_takeable (slot_of h) ≡ false) → new ≡ old → ◌≡◌ {A = ServiceState × StepOutcome} (new, Nothing) (made o old id)
-nothing_is old new id None none same = ap (λ (s : ServiceState). (s, Nothing)) same
-nothing_is old new id (Some h) none same =
-    let out : ServiceState × StepOutcome = (old, Nothing) in
-    ap (λ (s : ServiceState). (s, Nothing)) same ∙ sym (ap (λ b. cond b (made_by (step (state_of h) (next_event (seat_of h))).1 old id h) out) none)
+nothing_is old new id o none same = grind arith
 
 pub step_is : (old new : ServiceState) (id : ℕ) (calls : List Call) (outcome : StepOutcome) → MakesStep id calls outcome → Run old calls new → Kept old → HadMemory calls → ◌≡◌ {A = ServiceState × StepOutcome} (new, outcome) (made_in old id)
-step_is old new id calls (Recorded reply) makes runs kept had =
-    let two = two_calls old new id makes.0 calls makes.1 (Ok (PutRecorded reply)) makes.2 makes.3 runs in
-    recorded_is old two.mid new id makes.0 two.foreign reply two.taken two.put
+step_is old new id calls (Recorded reply) makes runs kept had = grind (arith, two_calls, recorded_is, two_calls old new id makes.0 calls makes.1 (Ok (PutRecorded reply)) makes.2 makes.3 runs)
 step_is old new id calls Full makes runs kept had =
     let two = two_calls old new id makes.0 calls makes.1 (Ok PutFull) makes.2 makes.3 runs in
     absurd (never_full old two.mid id makes.0 kept two.taken two.put.0)
@@ -85,9 +40,7 @@ step_is old new id calls Gone makes runs kept had =
     let two = two_calls old new id makes.0 calls makes.1 (Ok PutGone) makes.2 makes.3 runs in
     absurd (never_gone old two.mid id makes.0 two.taken two.put.0)
 step_is old new id calls NoMemory makes runs kept had = absurd (makes_memory id calls makes had)
-step_is old new id calls Nothing makes runs kept had =
-    let run : Run old (Take id None ∷ []) new = (let P : List Call → Type 0 = λ cs. Run old cs new in subst P makes runs) in
-    nothing_is old new id (live_of old.histories id) run.1.0 (run.2 ∙ run.1.1)
+step_is old new id calls Nothing makes runs kept had = grind (arith, nothing_is)
 step_is old new id calls Unfit makes runs kept had = absurd (makes_unfit id calls makes had)
 
 -- steps up to one that isn't recorded
@@ -124,10 +77,7 @@ pub record Said (old new : ServiceState) (id : ℕ) (command : TenantCommand) (t
   pub state : new ≡ commanded (live_of old.histories id) old id command
 
 asked_is : (old new : ServiceState) (id : ℕ) (command : TenantCommand) (calls : List Call) (answer : Answer) → AsksCommand id command calls answer → Run old calls new → Kept old → HadMemory calls → Said old new id command (answer_text answer)
-asked_is old new id command calls answer asks runs kept had =
-    let run : Run old (Tenant id command asks.0 ∷ []) new = (let P : List Call → Type 0 = λ cs. Run old cs new in subst P asks.1 runs) in
-    let found : HadMemory (Tenant id command asks.0 ∷ []) = subst HadMemory asks.1 had in
-    record { told = (asked_sits old new id command calls answer asks runs kept had).told; state = run.2 ∙ command_is old run.0 id command asks.0 run.1 found.0 kept }
+asked_is old new id command calls answer asks runs kept had = grind (arith, asked_sits, command_is)
 
 pub record Waited (old new : ServiceState) (id : ℕ) (text : List ℕ) : Type 0 where
   pub count : ℕ
@@ -162,10 +112,7 @@ pub line_alike : (old new other : ServiceState) (id : ℕ) (line : SessionLine) 
     (answer_text answer ≡ answer_text told) × (new ≡ other)
 line_alike old new other id Blank calls more answer told asks too runs run kept had has = (ap answer_text (asks.1 ∙ sym too.1), none_called old new calls asks.0 runs ∙ sym (none_called old other more too.0 run))
 line_alike old new other id (Refused refusal) calls more answer told asks too runs run kept had has = (ap answer_text (asks.1 ∙ sym too.1), none_called old new calls asks.0 runs ∙ sym (none_called old other more too.0 run))
-line_alike old new other id (Command command) calls more answer told asks too runs run kept had has =
-    let one = asked_is old new id command calls answer asks runs kept had in
-    let two = asked_is old other id command more told too run kept has in
-    (one.told ∙ sym two.told, one.state ∙ sym two.state)
+line_alike old new other id (Command command) calls more answer told asks too runs run kept had has = grind (arith, asked_is, asked_is old new id command calls answer asks runs kept had, asked_is old other id command more told too run kept has)
 line_alike old new other id Wait calls more answer told asks too runs run kept had has =
     let one = waited_is old new id calls answer asks runs kept had in
     let two = waited_is old other id more told too run kept has in

@@ -1,31 +1,12 @@
 -- A script admits tenancies under names without a line feed.
-use Rattle.std.proofs.Common.{◌≡◌, ℕ, ◌+◌, Bool, true, false, not, cond, eqb, List, [], ◌∷◌, length, codes, Ok, Err, Option, Some, None, refl, sym, ap, ◌∙◌, subst}
-use Rattle.std.specs.Prelude.{⊤, ◌&&◌, nat_le, nat_lt, option_map}
-use Rattle.std.specs.List.{after_first, before_first, list_all}
-use Rattle.std.specs.Str.{bytes_eq}
-use Rattle.std.proofs.lemmas.Bool.{and_from, and_parts, eqb-true, true≢false}
-use Rattle.line_text.specs.Decimal.{decimal_of}
-use Rattle.line_text.specs.Words.{is_blank, words_of}
-use Rattle.sessions.specs.Items.{ends_text, text_ahead, text_item, without_cr}
-use Rattle.sessions.specs.SessionLines.{line_form}
-use Rattle.sessions.specs.declared.line.LineForm.{LineForm}
-use Rattle.sessions.specs.declared.line.LineForm.TheVariants.{Asks as LineAsks, Begins as LineBegins}
-use Rattle.script_text.specs.declared.act.Act.{Act}
-use Rattle.script_text.specs.declared.act.Act.TheVariants.{Operator, Session}
-use Rattle.script_text.specs.declared.operator_line.OperatorLine.{OperatorLine}
-use Rattle.script_text.specs.declared.operator_line.OperatorLine.TheVariants.{Admit, Evict, Move, List as ListAll, Owners, Step, Take, Put}
-use Rattle.script_text.specs.Script.{Acts, acts_from, begins_text, form_by, form_in, form_of, is_name, is_name_byte, operator_form, operator_line, session_form, with_act, with_line, without_blanks}
-use Rattle.printed_replies.specs.Lengths.{is_line_feed}
-use Rattle.replies_law.specs.ReadBack.{HasName, NoFeed, is_other}
+use Rattle.replies_law.proofs.Prelude.{◌≡◌, ℕ, ◌+◌, Bool, true, false, not, cond, List, [], ◌∷◌, length, Ok, Err, Option, Some, None, refl, subst, arith, ⊤, ◌&&◌, nat_le, nat_lt, option_map, after_first, before_first, list_all, and_from, and_parts, is_blank, ends_text, without_cr, LineForm, Act, Operator, OperatorLine, Evict, Move, Owners, Step, Take, Put, Acts, acts_from, begins_text, form_by, form_in, form_of, is_name, is_name_byte, operator_line, with_act, with_line, without_blanks, HasName, NoFeed, is_other}
+use Rattle.script_text.specs.declared.operator_line.OperatorLine.TheVariants.{Admit, List as ListAll}
+use Rattle.script_text.specs.Script.{operator_form, session_form}
 use Rattle.replies_law.proofs.EachLemmas.{Each}
 
 -- the bytes of a name
 byte_other : (b : ℕ) → is_name_byte b ≡ true → is_other b ≡ true
-byte_other b is = by_test (is_line_feed b) refl
-  where
-    by_test : (t : Bool) → is_line_feed b ≡ t → not t ≡ true
-    by_test true e = absurd (true≢false (sym is ∙ ap is_name_byte (eqb-true b 10 e)))
-    by_test false e = refl
+byte_other b is = grind arith
 
 bytes_other : (bytes : List ℕ) → list_all is_name_byte bytes ≡ true → NoFeed bytes
 bytes_other [] all = refl
@@ -42,45 +23,28 @@ LineHas None = ⊤
 LineHas (Some line) = HasName (Operator line)
 
 admit_has : (verb name : List ℕ) (number : Option ℕ) (b : Bool) → (b && is_name name) ≡ true → LineHas (option_map (Admit name) number)
-admit_has verb name None b is = tt
-admit_has verb name (Some width) b is = name_other name (and_parts b (is_name name) is).1
+admit_has verb name number b is = grind (arith, name_other)
 
 move_has : (name : List ℕ) (number : Option ℕ) → LineHas (option_map (Move name) number)
-move_has name None = tt
-move_has name (Some offset) = tt
+move_has name number = grind arith
 
 step_has : (name : List ℕ) (number : Option ℕ) → LineHas (option_map (Step name) number)
-step_has name None = tt
-step_has name (Some count) = tt
+step_has name number = grind arith
 
 put_has : (number : Option ℕ) → LineHas (option_map Put number)
-put_has None = tt
-put_has (Some number) = tt
+put_has number = grind arith
 
 one_word : (a b : Bool) → LineHas (cond a (Some ListAll) (cond b (Some Owners) None))
-one_word true b = tt
-one_word false true = tt
-one_word false false = tt
+one_word a b = grind arith
 
 two_words : (name : List ℕ) (number : Option ℕ) (a b c : Bool) → LineHas (cond a (Some (Evict name)) (cond b (Some (Take name)) (cond c (option_map Put number) None)))
-two_words name number true b c = tt
-two_words name number false true c = tt
-two_words name number false false true = put_has number
-two_words name number false false false = tt
+two_words name number a b c = grind arith
 
 three_words : (verb name : List ℕ) (number : Option ℕ) (w a b c : Bool) → (w && is_name name) ≡ a → LineHas (cond a (option_map (Admit name) number) (cond b (option_map (Move name) number) (cond c (option_map (Step name) number) None)))
-three_words verb name number w true b c e = admit_has verb name number w e
-three_words verb name number w false true c e = move_has name number
-three_words verb name number w false false true e = step_has name number
-three_words verb name number w false false false e = tt
+three_words verb name number w a b c e = grind (arith, admit_has)
 
 operator_has : (words : List (List ℕ)) → LineHas (operator_line words)
-operator_has [] = tt
-operator_has (verb ∷ []) = one_word (bytes_eq verb (codes "list")) (bytes_eq verb (codes "owners"))
-operator_has (verb ∷ name ∷ []) = two_words name (decimal_of 32 name) (bytes_eq verb (codes "evict") && is_name name) (bytes_eq verb (codes "take") && is_name name) (bytes_eq verb (codes "put"))
-operator_has (verb ∷ name ∷ number ∷ []) =
-    three_words verb name (decimal_of 32 number) (bytes_eq verb (codes "admit")) (bytes_eq verb (codes "admit") && is_name name) (bytes_eq verb (codes "move") && is_name name) (bytes_eq verb (codes "step") && is_name name) refl
-operator_has (verb ∷ name ∷ number ∷ more ∷ words) = tt
+operator_has words = grind (arith, two_words, three_words)
 
 -- and a script
 abbrev AllHave : Acts → Type 0
@@ -88,28 +52,17 @@ AllHave (Ok acts) = Each HasName acts
 AllHave (Err fault) = ⊤
 
 act_has : (act : Act (List ℕ)) (rest : Acts) → HasName act → AllHave rest → AllHave (with_act act rest)
-act_has act (Ok acts) one all = (one, all)
-act_has act (Err fault) one all = tt
+act_has act rest one all = grind arith
 
 -- a line before others; `form_by [] []` is skipped, and `operator_form None` is faulty
 asks_has : (number : ℕ) (lines : List (List ℕ)) (rest : Acts) → AllHave rest → (o : Option (OperatorLine (List ℕ))) → LineHas o → AllHave (with_line number (operator_form o) lines rest)
-asks_has number lines rest all None has = tt
-asks_has number lines rest all (Some line) has = act_has (Operator line) rest has all
+asks_has number lines rest all o has = grind arith
 
 session_has : (number : ℕ) (lines : List (List ℕ)) (rest : Acts) → AllHave rest → (name : List ℕ) (form : LineForm) → AllHave (with_line number (session_form name form) lines rest)
-session_has number lines rest all name (LineAsks line) = act_has (Session name line) rest tt all
-session_has number lines rest all name (LineBegins kind) = act_has (Session name (text_item kind (text_ahead lines))) rest tt all
+session_has number lines rest all name form = grind arith
 
 by_has : (number : ℕ) (lines : List (List ℕ)) (more : Acts) → AllHave more → (word rest : List ℕ) → AllHave (with_line number (form_by word rest) lines more)
-by_has number lines more all [] rest = all
-by_has number lines more all (b ∷ name) rest = by_tests (eqb b 35) (eqb b 64) (is_name name) (bytes_eq (b ∷ name) (codes "op"))
-  where
-    by_tests : (comment at named op : Bool) → AllHave (with_line number (cond comment (form_by [] []) (cond at (cond named (session_form name (line_form rest)) (operator_form None)) (cond op (operator_form (operator_line (words_of rest))) (operator_form None)))) lines more)
-    by_tests true at named op = all
-    by_tests false true true op = session_has number lines more all name (line_form rest)
-    by_tests false true false op = tt
-    by_tests false false named true = asks_has number lines more all (operator_line (words_of rest)) (operator_has (words_of rest))
-    by_tests false false named false = tt
+by_has number lines more all word rest = search (operator_has, arith)
 
 line_has : (number : ℕ) (line : List ℕ) (lines : List (List ℕ)) (more : Acts) → AllHave more → AllHave (with_line number (form_of line) lines more)
 unfolding form_in

@@ -1,33 +1,11 @@
 -- A name's seat: its last tenancy, if that is live, without its id; how the name's own lines change
 -- it, and what they are answered.
-use Rattle.std.proofs.Common.{◌≡◌, ℕ, zero, suc, ◌+◌, eqb, Bool, true, false, List, [], ◌∷◌, ◌++◌, map, cond, Option, Some, None, Ok, Err, inl, inr, refl, sym, ap, ◌∙◌, subst}
-use Rattle.std.specs.Prelude.{◌⊎◌, ⊤, option_map}
-use Rattle.std.proofs.lemmas.Bool.{false≢true}
-use Rattle.tenant_slot.specs.declared.command.Command.{Command as TenantCommand}
-use Rattle.tenant_slot.specs.declared.command.Command.TheVariants.{Status}
-use Rattle.tenant_slot.specs.declared.event.Event.{Event}
-use Rattle.tenant_slot.specs.declared.event.Event.TheVariants.{Command as Asked, Advance as Stepped}
-use Rattle.tenant_slot.specs.SingleUser.{start, step}
-use Rattle.tenant_slot.specs.Slot.{SlotState, after_event, is_takeable}
-use Rattle.service_core.specs.declared.device.Device.{Device}
-use Rattle.service_core.specs.History.{History, state_of}
-use Rattle.service_core.specs.Service.{live_of, strip_on}
-use Rattle.service_core.specs.Run.{Call}
-use Rattle.sessions.specs.declared.line.SessionLine.{SessionLine}
-use Rattle.sessions.specs.declared.line.SessionLine.TheVariants.{Blank, Command, Wait, Refused}
-use Rattle.sessions.specs.declared.refusal.SessionRefusal.TheVariants.{Evicted}
+use Rattle.replies_law.proofs.Prelude.{◌≡◌, ℕ, zero, suc, ◌+◌, eqb, Bool, true, false, List, [], ◌∷◌, ◌++◌, map, cond, Option, Some, None, Ok, Err, refl, sym, ap, ◌∙◌, subst, arith, ⊤, option_map, false≢true, Command as TenantCommand, Status, Event, Advance as Stepped, start, step, SlotState, after_event, is_takeable, Device, History, state_of, live_of, strip_on, Call, SessionLine, Blank, Wait, Refused, Evicted, Nothing, told_text, session_refusal_text, Act, Operator, Session, OperatorLine, Evict, Move, Owners, Step, Take, Put, evicted_text, outcome_text, Telling, Admit as AdmitCall, fits, own_answer}
+use Rattle.std.specs.Prelude.{◌⊎◌}
+use Rattle.tenant_slot.specs.declared.event.Event.TheVariants.{Command as Asked}
+use Rattle.sessions.specs.declared.line.SessionLine.TheVariants.{Command}
 use Rattle.service_core.specs.declared.op_refusal.OpRefusal.TheVariants.{NoSuchTenancy}
-use Rattle.sessions.specs.declared.steps.StepOutcome.TheVariants.{Nothing}
-use Rattle.sessions.specs.EndToEnd.{told_text}
-use Rattle.sessions.specs.SessionText.{session_refusal_text}
-use Rattle.script_text.specs.declared.act.Act.{Act}
-use Rattle.script_text.specs.declared.act.Act.TheVariants.{Operator, Session}
-use Rattle.script_text.specs.declared.operator_line.OperatorLine.{OperatorLine}
-use Rattle.script_text.specs.declared.operator_line.OperatorLine.TheVariants.{Admit, Evict, Move, List as ListAll, Owners, Step, Take, Put}
-use Rattle.operator.specs.OperatorText.{evicted_text, outcome_text}
-use Rattle.fpgad_run.specs.Run.{Telling}
-use Rattle.service_core.specs.Run.Call.{Admit as AdmitCall}
-use Rattle.replies_law.specs.Alone.{fits, own_answer}
+use Rattle.script_text.specs.declared.operator_line.OperatorLine.TheVariants.{Admit, List as ListAll}
 
 -- which admissions were granted, by their calls
 abbrev pub is_admission : Call → Bool
@@ -192,35 +170,11 @@ same_end (suc n) zero old a b first other ends stops = absurd (false≢true (sym
 same_end (suc n) (suc m) old a b first other ends stops = same_end n m (stepped old) a b first.1 other.1 ends stops
 
 same_said : (old : Seat) (line : SessionLine) (text other_text : List ℕ) (new other : Seat) → Says old line text new → Says old line other_text other → (text ≡ other_text) × (new ≡ other)
-same_said old Blank text other_text new other a b = (a.0 ∙ sym b.0, a.1 ∙ sym b.1)
-same_said old (Refused refusal) text other_text new other a b = (a.0 ∙ sym b.0, a.1 ∙ sym b.1)
-same_said old (Command command) text other_text new other a b = (a.0 ∙ sym b.0, a.1 ∙ sym b.1)
-same_said old Wait text other_text new other a b =
-    let mid : a.mid ≡ b.mid = same_end a.count b.count old a.mid b.mid a.goes b.goes a.ends b.ends in
-    (a.told ∙ (ap (λ s. asked_text s Status) mid ∙ sym b.told), a.after ∙ (ap (λ s. asked_after s Status) mid ∙ sym b.after))
-
-same_admitted : (device other_device : Device) (old : Seat) (width : ℕ) (granted : Bool) (new other : Seat) → device.arch ≡ other_device.arch → device.rows ≡ other_device.rows →
-    Admits device old width granted new → Admits other_device old width granted other → new ≡ other
-same_admitted device other_device old width true new other arch rows a b =
-    let same : fresh device width ≡ fresh other_device width = rw (arch, rows) refl in
-    a ∙ (ap Some same ∙ sym b)
-same_admitted device other_device old width false new other arch rows a b = a ∙ sym b
-
-same_served : (device other_device : Device) (old : Seat) (line : OperatorLine (List ℕ)) (granted : Bool) (text other_text : List ℕ) (new other : Seat) → device.arch ≡ other_device.arch → device.rows ≡ other_device.rows →
-    Serves device old line granted text new → Serves other_device old line granted other_text other → (own_answer (Operator line) text ≡ own_answer (Operator line) other_text) × (new ≡ other)
-same_served device other_device old (Admit name width) granted text other_text new other arch rows a b = (refl, same_admitted device other_device old width granted new other arch rows a b)
-same_served device other_device old (Evict name) granted text other_text new other arch rows a b = (a.0 ∙ sym b.0, a.1 ∙ sym b.1)
-same_served device other_device old (Step name count) granted text other_text new other arch rows a b = (a.0 ∙ sym b.0, a.1 ∙ sym b.1)
-same_served device other_device old (Move name offset) granted text other_text new other arch rows a b = (refl, a ∙ sym b)
-same_served device other_device old (Take name) granted text other_text new other arch rows a b = (refl, a ∙ sym b)
-same_served device other_device old (Put number) granted text other_text new other arch rows a b = (refl, a ∙ sym b)
-same_served device other_device old ListAll granted text other_text new other arch rows a b = (refl, a ∙ sym b)
-same_served device other_device old Owners granted text other_text new other arch rows a b = (refl, a ∙ sym b)
+same_said old line text other_text new other a b = grind (arith, same_end)
 
 same_sat : (device other_device : Device) (old : Seat) (act : Act (List ℕ)) (granted : Bool) (text other_text : List ℕ) (new other : Seat) → device.arch ≡ other_device.arch → device.rows ≡ other_device.rows →
     Sits device old act granted text new → Sits other_device old act granted other_text other → (own_answer act text ≡ own_answer act other_text) × (new ≡ other)
-same_sat device other_device old (Operator line) granted text other_text new other arch rows a b = same_served device other_device old line granted text other_text new other arch rows a b
-same_sat device other_device old (Session name line) granted text other_text new other arch rows a b = same_said old line text other_text new other a b
+same_sat device other_device old act granted text other_text new other arch rows a b = grind (arith, same_said)
 
 abbrev pub heard : Telling → List ℕ
 heard t = heard_of t.act t.text
@@ -229,14 +183,10 @@ abbrev pub own_answer_in : Telling → List ℕ
 own_answer_in t = own_answer t.act t.text
 
 same_heard : (act : Act (List ℕ)) (text other_text : List ℕ) → own_answer act text ≡ own_answer act other_text → heard_of act text ≡ heard_of act other_text
-same_heard (Operator line) text other_text same = refl
-same_heard (Session name line) text other_text same = same
+same_heard act text other_text same = grind arith
 
 asked_alike : (device : Device) (old : Seat) (act other : Act (List ℕ)) (given other_given : Bool) (text : List ℕ) (new : Seat) → act ≡ other → given ≡ other_given → Sits device old other other_given text new → Sits device old act given text new
-asked_alike device old act other given other_given text new same grant sits =
-    let P : Act (List ℕ) → Type 0 = λ a. Sits device old a other_given text new in
-    let Q : Bool → Type 0 = λ g. Sits device old act g text new in
-    subst Q (sym grant) (subst P (sym same) sits)
+asked_alike device old act other given other_given text new same grant sits = grind arith
 
 -- two names that ask the same, and have the same admissions granted, have the same answers
 pub hear_the_same : (device other_device : Device) (ts us : List Telling) (old : Seat) → device.arch ≡ other_device.arch → device.rows ≡ other_device.rows → SitThrough device old ts → SitThrough other_device old us →
@@ -257,27 +207,8 @@ hear_the_same device other_device (t ∷ ts) (u ∷ us) old arch rows a b acts g
     let others = hear_the_same device other_device ts us a.0 arch rows a.3 (subst R (sym same.1) b.3) rest more in
     (ap (λ x. x ∷ map heard ts) first ∙ ap (λ xs. heard u ∷ xs) others.0, ap (λ x. x ∷ map own_answer_in ts) answer ∙ ap (λ xs. own_answer_in u ∷ xs) others.1)
 
--- if an admission is granted exactly if it fits, the same admissions are granted
-same_grant : (fit : Bool) (old : Seat) (calls others : List Call) → UsesSeat old calls → UsesSeat old others → (calls ≡ []) ⊎ (admits calls ≡ fit) → (others ≡ []) ⊎ (admits others ≡ fit) → admits calls ≡ admits others
-same_grant fit (Some s) calls others none other_none granted other_granted = ap admits none ∙ sym (ap admits other_none)
-same_grant fit None calls others some other_some (inl none) other_granted = absurd (some none)
-same_grant fit None calls others some other_some (inr is) (inl none) = absurd (other_some none)
-same_grant fit None calls others some other_some (inr is) (inr other_is) = is ∙ sym other_is
-
-line_grant : (columns : ℕ) (old : Seat) (line : OperatorLine (List ℕ)) (calls others : List Call) → UsesBy old line calls → UsesBy old line others → IsGiven columns (Operator line) calls → IsGiven columns (Operator line) others →
-    given_to (Operator line) calls ≡ given_to (Operator line) others
-line_grant columns old (Admit name width) calls others uses other_uses is other_is = same_grant (fits columns width) old calls others uses other_uses is other_is
-line_grant columns old (Evict name) calls others uses other_uses is other_is = refl
-line_grant columns old (Step name count) calls others uses other_uses is other_is = refl
-line_grant columns old (Move name offset) calls others uses other_uses is other_is = refl
-line_grant columns old (Take name) calls others uses other_uses is other_is = refl
-line_grant columns old (Put number) calls others uses other_uses is other_is = refl
-line_grant columns old ListAll calls others uses other_uses is other_is = refl
-line_grant columns old Owners calls others uses other_uses is other_is = refl
-
 act_grant : (columns : ℕ) (old : Seat) (act : Act (List ℕ)) (calls others : List Call) → Uses old act calls → Uses old act others → IsGiven columns act calls → IsGiven columns act others → given_to act calls ≡ given_to act others
-act_grant columns old (Operator line) calls others uses other_uses is other_is = line_grant columns old line calls others uses other_uses is other_is
-act_grant columns old (Session name line) calls others uses other_uses is other_is = refl
+act_grant columns old act calls others uses other_uses is other_is = grind arith
 
 pub grant_the_same : (columns : ℕ) (device other_device : Device) (ts us : List Telling) (old : Seat) → device.arch ≡ other_device.arch → device.rows ≡ other_device.rows → SitThrough device old ts → SitThrough other_device old us →
     map (λ t. t.act) ts ≡ map (λ t. t.act) us → AreGiven columns ts → AreGiven columns us → map (λ t. given_to t.act t.calls) ts ≡ map (λ t. given_to t.act t.calls) us

@@ -1,19 +1,8 @@
 -- What is written is what is printed for the replies.
-use Rattle.std.proofs.Common.{◌≡◌, ℕ, Bool, true, false, cond, ◌||◌, List, [], ◌∷◌, ◌++◌, map, fold, Some, None, refl, sym, ap, ◌∙◌, append_assoc, append-nil, subst}
-use Rattle.std.specs.Prelude.{⊤, flat_map}
-use Rattle.std.specs.Str.{bytes_eq}
-use Rattle.std.proofs.lemmas.Bool.{false≢true}
-use Rattle.std.proofs.lemmas.Slice.Eq.{bytes_eq-Decides}
+use Rattle.replies_law.proofs.Prelude.{◌≡◌, ℕ, Bool, true, false, cond, ◌||◌, List, [], ◌∷◌, ◌++◌, map, fold, Some, None, refl, sym, ap, ◌∙◌, append_assoc, append-nil, subst, arith, ⊤, bytes_eq, false≢true, bytes_eq-Decides, with_name-first, with_name-later, Act, Operator, Session, asked_in, printed_for, section_of, told_to, AnsweredLine, AskedLine, heading, with_reply, with_speaker, asked_of, Section, section_text, Telling, sections_after, told_operator, told_session, with_text, replies_text, answered_line}
+use Rattle.std.specs.Prelude.{flat_map}
 use Rattle.line_text.specs.Names.{has_name, with_name}
-use Rattle.line_text.proofs.NameLemmas.{with_name-first, with_name-later}
-use Rattle.script_text.specs.declared.act.Act.{Act}
-use Rattle.script_text.specs.declared.act.Act.TheVariants.{Operator, Session}
-use Rattle.printed_replies.specs.Printing.{asked_in, printed_for, section_of, told_to}
-use Rattle.printed_replies.specs.Replies.{AnsweredLine, AskedLine, heading, names_of, with_reply, with_speaker}
-use Rattle.script_replies.specs.Asking.{asked_of}
-use Rattle.script_text.specs.Replies.{Section, section_text}
-use Rattle.fpgad_run.specs.Run.{Telling, sections_after, told_operator, told_session, with_text, replies_text}
-use Rattle.replies_law.specs.ReadBack.{answered_line}
+use Rattle.printed_replies.specs.Replies.{names_of}
 
 abbrev pub lines_of : List Telling → List AnsweredLine
 lines_of tellings = map answered_line tellings
@@ -21,12 +10,7 @@ lines_of tellings = map answered_line tellings
 -- the operator's texts
 operator_told : (tellings : List Telling) → told_to None (lines_of tellings) ≡ flat_map (λ t. told_operator t.act t.text) tellings
 operator_told [] = refl
-operator_told (t ∷ ts) = by_act t.act (operator_told ts)
-  where
-    by_act : (act : Act (List ℕ)) → told_to None (lines_of ts) ≡ flat_map (λ t. told_operator t.act t.text) ts →
-        told_to None (with_reply (asked_of act) t.text ∷ lines_of ts) ≡ told_operator act t.text ++ flat_map (λ t. told_operator t.act t.text) ts
-    by_act (Operator line) more = ap (λ o. t.text ++ o) more
-    by_act (Session name line) more = more
+operator_told (t ∷ ts) = grind (arith, operator_told ts)
 
 -- names, no two of them equal
 abbrev pub Others : List ℕ → List (List ℕ) → Type 0
@@ -48,24 +32,17 @@ map_same f g same [] = refl
 map_same f g same (x ∷ xs) = ap (λ b. b ∷ map f xs) (same x) ∙ ap (λ bs. g x ∷ bs) (map_same f g same xs)
 
 turned : (a b : List ℕ) → bytes_eq a b ≡ false → bytes_eq b a ≡ false
-turned a b e = by_test (bytes_eq b a) refl
-  where
-    by_test : (t : Bool) → bytes_eq b a ≡ t → t ≡ false
-    by_test true same = absurd (false≢true (sym e ∙ (bytes_eq-Decides a b).1 (sym ((bytes_eq-Decides b a).0 same))))
-    by_test false differ = refl
+turned a b e = grind (arith, bytes_eq-Decides)
 
 -- the texts of the others don't change
 rest_same : (f : List ℕ → List ℕ) (name text : List ℕ) (names : List (List ℕ)) → Others name names → map (λ n. sec n (f n)) names ≡ map (λ n. sec n (f n ++ more_for name text n)) names
 rest_same f name text [] others = refl
-rest_same f name text (n ∷ names) others =
-    ap (λ t. sec n t ∷ map (λ n. sec n (f n)) names) (sym (ap (λ b. f n ++ cond b text []) others.0 ∙ append-nil (f n)))
-    ∙ ap (λ ss. sec n (f n ++ more_for name text n) ∷ ss) (rest_same f name text names others.1)
+rest_same f name text (n ∷ names) others = grind (arith, append-nil, rest_same f name text names others.1)
 
 -- a text goes to its name's section
 one_told : (f : List ℕ → List ℕ) (name text : List ℕ) (names : List (List ℕ)) → AreDistinct names → (has_name names name ≡ false → f name ≡ []) →
     with_text (map (λ n. sec n (f n)) names) name text ≡ map (λ n. sec n (f n ++ more_for name text n)) (with_name names name)
-one_told f name text [] distinct none =
-    ap (λ t. sec name t ∷ []) (sym (ap (λ b. f name ++ cond b text []) ((bytes_eq-Decides name name).1 refl) ∙ ap (λ t. t ++ text) (none refl)))
+one_told f name text [] distinct none = grind (arith, bytes_eq-Decides)
 one_told f name text (n ∷ names) distinct none = by_test (bytes_eq name n) refl (λ e. one_told f name text names distinct.1 (λ never. none (ap (λ b. b || has_name names name) e ∙ never)))
   where
     by_test : (b : Bool) → bytes_eq name n ≡ b → (bytes_eq name n ≡ false → with_text (map (λ n. sec n (f n)) names) name text ≡ map (λ n. sec n (f n ++ more_for name text n)) (with_name names name)) →
@@ -85,27 +62,15 @@ one_told f name text (n ∷ names) distinct none = by_test (bytes_eq name n) ref
 -- one more name
 others_more : (name new : List ℕ) (names : List (List ℕ)) → bytes_eq new name ≡ false → Others name names → Others name (with_name names new)
 others_more name new [] differ others = (differ, tt)
-others_more name new (n ∷ names) differ others = by_test (bytes_eq new n) refl (others_more name new names differ others.1)
-  where
-    by_test : (b : Bool) → bytes_eq new n ≡ b → Others name (with_name names new) → Others name (with_name (n ∷ names) new)
-    by_test true e more = let P : List (List ℕ) → Type 0 = Others name in subst P (sym (with_name-first n names new e)) others
-    by_test false e more = let P : List (List ℕ) → Type 0 = Others name in subst P (sym (with_name-later n names new e)) (others.0, more)
+others_more name new (n ∷ names) differ others = grind (arith, others_more name new names differ others.1)
 
 distinct_more : (new : List ℕ) (names : List (List ℕ)) → AreDistinct names → AreDistinct (with_name names new)
 distinct_more new [] distinct = (tt, tt)
-distinct_more new (n ∷ names) distinct = by_test (bytes_eq new n) refl (distinct_more new names distinct.1)
-  where
-    by_test : (b : Bool) → bytes_eq new n ≡ b → AreDistinct (with_name names new) → AreDistinct (with_name (n ∷ names) new)
-    by_test true e more = subst AreDistinct (sym (with_name-first n names new e)) distinct
-    by_test false e more = subst AreDistinct (sym (with_name-later n names new e)) (others_more n new names e distinct.0, more)
+distinct_more new (n ∷ names) distinct = grind (arith, others_more, distinct_more new names distinct.1)
 
 -- a name that isn't in the list with one more name isn't in the list, and isn't that name
 not_named : (names : List (List ℕ)) (new name : List ℕ) → has_name (with_name names new) name ≡ false → (has_name names name ≡ false) × (bytes_eq name new ≡ false)
-not_named [] new name none = (refl, by_or (bytes_eq name new) none)
-  where
-    by_or : (b : Bool) → (b || false) ≡ false → b ≡ false
-    by_or true e = e
-    by_or false e = refl
+not_named [] new name none = grind arith
 not_named (n ∷ names) new name none = by_test (bytes_eq new n) refl (λ e. not_named names new name e)
   where
     parts : (a b : Bool) → (a || b) ≡ false → (a ≡ false) × (b ≡ false)

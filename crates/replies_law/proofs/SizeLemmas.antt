@@ -1,12 +1,6 @@
 -- No text is longer than what is written.
-use Rattle.std.proofs.Common.{◌≡◌, ℕ, ◌+◌, ◌≤◌, ◌<◌, ◌^◌, Bool, true, false, cond, List, [], ◌∷◌, ◌++◌, length, map, codes, arith, length-append}
+use Rattle.replies_law.proofs.Prelude.{◌≡◌, ℕ, ◌+◌, ◌≤◌, ◌<◌, ◌^◌, List, [], ◌∷◌, ◌++◌, length, map, arith, length-append, Act, Operator, Session, Section, section_text, Telling, sections_after, told_operator, told_session, with_text, replies_text, AreTellable, HasName}
 use Rattle.std.specs.Prelude.{flat_map}
-use Rattle.std.specs.Str.{bytes_eq}
-use Rattle.script_text.specs.declared.act.Act.{Act}
-use Rattle.script_text.specs.declared.act.Act.TheVariants.{Operator, Session}
-use Rattle.script_text.specs.Replies.{Section, heading, section_text}
-use Rattle.fpgad_run.specs.Run.{Telling, sections_after, told_operator, told_session, with_text, replies_text}
-use Rattle.replies_law.specs.ReadBack.{AreTellable, HasName}
 use Rattle.replies_law.proofs.EachLemmas.{Each}
 
 -- all texts together
@@ -21,12 +15,7 @@ in_sections (s ∷ sections) = length s.text + in_sections sections
 -- one more text
 text_more : (sections : List Section) (name text : List ℕ) → in_sections (with_text sections name text) ≡ in_sections sections + length text
 text_more [] name text = omega arith
-text_more (s ∷ sections) name text = by_test (bytes_eq name s.name) (text_more sections name text)
-  where
-    by_test : (b : Bool) → in_sections (with_text sections name text) ≡ in_sections sections + length text →
-        in_sections (cond b (record s { text = s.text ++ text } ∷ sections) (s ∷ with_text sections name text)) ≡ in_sections (s ∷ sections) + length text
-    by_test true more = let e = length-append s.text text in omega (arith, e)
-    by_test false more = omega (arith, more)
+text_more (s ∷ sections) name text = grind (arith, length-append, text_more sections name text)
 
 -- the replies to the operator and to the sessions are all of it
 told_somewhere : (sections : List Section) (ts : List Telling) → length (flat_map (λ t. told_operator t.act t.text) ts) + in_sections (sections_after sections ts) ≡ in_sections sections + all_told ts
@@ -41,21 +30,10 @@ told_somewhere sections (t ∷ ts) = by_act t.act (told_somewhere sections ts) (
 
 sections_long : (sections : List Section) → in_sections sections ≤ length (flat_map section_text sections)
 sections_long [] = omega arith
-sections_long (s ∷ sections) =
-    let more = sections_long sections in
-    let whole = length-append (section_text s) (flat_map section_text sections) in
-    let own = length-append (heading s.name) s.text in
-    omega (arith, more, whole, own)
+sections_long (s ∷ sections) = grind (arith, length-append, sections_long sections)
 
 all_written : (ts : List Telling) → all_told ts ≤ length (replies_text ts)
-all_written ts =
-    let operator = flat_map (λ t. told_operator t.act t.text) ts in
-    let sections = sections_after [] ts in
-    let told = told_somewhere [] ts in
-    let long = sections_long sections in
-    let whole = length-append (heading (codes "op") ++ operator) (flat_map section_text sections) in
-    let first = length-append (heading (codes "op")) operator in
-    omega (arith, told, long, whole, first)
+all_written ts = grind (arith, sections_long, length-append, told_somewhere [] ts)
 
 -- so all of it can be written
 tellable_from : (ts : List Telling) → Each HasName (map (λ t. t.act) ts) → all_told ts < 2 ^ 64 → AreTellable ts

@@ -1,42 +1,10 @@
 -- Alone on a device that is wide enough, a name's admissions are granted unless the name is in use.
-use Rattle.std.proofs.Common.{◌≡◌, ℕ, ◌+◌, ◌<◌, ◌≤◌, eqb, nat_le, nat_lt, ◌||◌, Bool, true, false, cond, List, [], ◌∷◌, ◌++◌, length, length-append, map, Option, Some, None, Result, Ok, Err, inl, inr, refl, sym, ap, ◌∙◌, subst, arith}
-use Rattle.std.specs.Prelude.{⊤, IsSome, option_map}
-use Rattle.std.proofs.lemmas.Bool.{and_parts, false≢true, leb-true}
-use Rattle.std.proofs.lemmas.Bool.Decides.{nat_tests, Decides-eqb}
-use Rattle.std.proofs.lemmas.List.Elements.{All-cons, All-nil}
-use Rattle.std.proofs.lemmas.Option.{none-some}
-use Rattle.std.proofs.lemmas.Slice.Eq.{bytes_eq-Decides}
-use Rattle.strips.specs.declared.placed_strip.PlacedStrip.{PlacedStrip}
-use Rattle.strips.specs.Plan.{FitsAt, IsParted, Plan, is_bad_width, strip_of}
-use Rattle.service_core.specs.declared.device.Device.{Device}
-use Rattle.service_core.specs.declared.op_refusal.OpRefusal.{OpRefusal}
+use Rattle.replies_law.proofs.Prelude.{◌≡◌, ℕ, ◌+◌, ◌<◌, ◌≤◌, Bool, true, false, cond, List, [], ◌∷◌, ◌++◌, length, length-append, map, Option, Some, None, Result, Ok, Err, inr, refl, sym, ap, ◌∙◌, subst, arith, ⊤, IsSome, option_map, and_parts, false≢true, leb-true, nat_tests, Decides-eqb, bytes_eq-Decides, PlacedStrip, FitsAt, Plan, is_bad_width, Device, OpRefusal, IsAdmitted, History, Call, Run, CanAdmit, RefusesAdmission, Admit as AdmitCall, ServiceState, admitted_history, empty_service, live_of, placed_width, IsService-empty, history_of-push, are_parted, own_graph, Act, Operator, Session, OperatorLine, Evict, Move, Owners, Step, Take, Put, last_id, names_after, IsAdmission, IsServed, Stage, lengths-evicted, lengths-run, device_of, IsAnswered, Telling, Tells, Run-append, answered_runs, HaveMemory, AreLeft, IsAlone, IsLeft, Plays, admissions, fits, grants, is_about, is_admit, is_own, own_tellings, own_acts}
+use Rattle.std.proofs.Common.{nat_le}
 use Rattle.service_core.specs.declared.op_refusal.OpRefusal.TheVariants as Op
-use Rattle.service_core.specs.Calls.{IsAdmitted}
-use Rattle.service_core.specs.History.{History}
-use Rattle.service_core.specs.Run.{Call, Run, CanAdmit, RefusesAdmission}
-use Rattle.service_core.specs.Run.Call.{Admit as AdmitCall}
-use Rattle.service_core.specs.Service.{ServiceState, admitted_history, empty_service, history_of, live_of, placed_width}
-use Rattle.service_core.specs.Tenancy.{if_live}
-use Rattle.service_core.proofs.Keeps.{IsService-empty}
-use Rattle.service_core.proofs.Lists.{history_of-push}
-use Rattle.service_core.proofs.Parted.{are_parted}
-use Rattle.sessions.specs.Fitting.{own_graph}
-use Rattle.script_text.specs.declared.act.Act.{Act}
-use Rattle.script_text.specs.declared.act.Act.TheVariants.{Operator, Session}
-use Rattle.script_text.specs.declared.operator_line.OperatorLine.{OperatorLine}
-use Rattle.script_text.specs.declared.operator_line.OperatorLine.TheVariants.{Admit, Evict, Move, List as ListAll, Owners, Step, Take, Put}
-use Rattle.operator.specs.OperatorText.{last_id, names_after}
-use Rattle.operator.specs.Serving.{IsAdmission, IsServed, Stage}
-use Rattle.operator.proofs.OperatorLemmas.{lengths-evicted}
-use Rattle.operator.proofs.Stepping.{lengths-run}
-use Rattle.fpgad_run.specs.Program.{device_of}
-use Rattle.fpgad_run.specs.Run.{IsAnswered, Telling, Tells}
-use Rattle.sessions.proofs.StepLemmas.{Run-append}
-use Rattle.fpgad_run.proofs.Telling.{answered_runs}
+use Rattle.script_text.specs.declared.operator_line.OperatorLine.TheVariants.{Admit, List as ListAll}
 use Rattle.replies_law.proofs.Found.{AllHadMemory, HadMemory}
 use Rattle.replies_law.proofs.Memory.{all_had}
-use Rattle.replies_law.specs.Memory.{HaveMemory}
-use Rattle.replies_law.specs.Alone.{AreLeft, IsAlone, IsLeft, Plays, admissions, fits, grants, is_about, is_admit, is_own, own_tellings, own_acts}
 use Rattle.replies_law.proofs.Lines.{newest_id}
 use Rattle.replies_law.proofs.Others.{Apart, AreFor, Same, eviction_local, for_line, for_tried, local_calls}
 use Rattle.replies_law.proofs.Scripts.{is_the_same, own_of, run_sits}
@@ -50,15 +18,7 @@ AllOwn name [] = ⊤
 AllOwn name (act ∷ acts) = (is_own name act ≡ true) × AllOwn name acts
 
 own_left : (name : List ℕ) (act : Act (List ℕ)) → is_own name act ≡ true → IsLeft name act
-own_left name (Session other line) own_tellings = tt
-own_left name (Operator (Admit other width)) own_tellings = tt
-own_left name (Operator (Evict other)) own_tellings = tt
-own_left name (Operator (Step other count)) own_tellings = tt
-own_left name (Operator (Move other offset)) own_tellings = tt
-own_left name (Operator (Take other)) own_tellings = absurd (false≢true own_tellings)
-own_left name (Operator (Put number)) own_tellings = tt
-own_left name (Operator ListAll) own_tellings = tt
-own_left name (Operator Owners) own_tellings = tt
+own_left name act h1 = grind arith
 
 all_left : (name : List ℕ) (ts : List Telling) → AllOwn name (map (λ t. t.act) ts) → AreLeft name ts
 all_left name [] all = tt
@@ -66,11 +26,7 @@ all_left name (t ∷ ts) all = (own_left name t.act all.0, all_left name ts all.
 
 filter_own : (name : List ℕ) (acts : List (Act (List ℕ))) → AllOwn name (own_acts name acts)
 filter_own name [] = tt
-filter_own name (act ∷ acts) = by_own (is_own name act) refl (filter_own name acts)
-  where
-    by_own : (b : Bool) → is_own name act ≡ b → AllOwn name (own_acts name acts) → AllOwn name (cond b (act ∷ own_acts name acts) (own_acts name acts))
-    by_own true e rest = (e, rest)
-    by_own false e rest = rest
+filter_own name (act ∷ acts) = grind (arith, filter_own name acts)
 
 own_all : (name : List ℕ) (acts : List (Act (List ℕ))) → AllOwn name acts → own_acts name acts ≡ acts
 own_all name [] all = refl
@@ -86,20 +42,10 @@ record Lonely (device : Device) (name : List ℕ) (stage : Stage) : Type 0 where
 -- there is no strip if no tenancy is live
 no_strips : (strips : List PlacedStrip) → ((id : ℕ) → placed_width strips id ≡ None) → strips ≡ []
 no_strips [] none = refl
-no_strips (s ∷ strips) none =
-    let same : eqb s.id s.id ≡ true = (Decides-eqb s.id s.id).1 refl in
-    let there : placed_width (s ∷ strips) s.id ≡ Some s.width = ap (λ b. option_map (λ (s : PlacedStrip). s.width) (cond b (Some s) (strip_of strips s.id))) same in
-    absurd (none-some s.width (sym (none s.id) ∙ there))
+no_strips (s ∷ strips) none = grind (arith, Decides-eqb s.id s.id)
 
 none_live : (device : Device) (name : List ℕ) (stage : Stage) → Lonely device name stage → live_of stage.service.histories (last_id stage.names name) ≡ None → (id : ℕ) → live_of stage.service.histories id ≡ None
-none_live device name stage lonely none id = by_live (live_of stage.service.histories id) refl
-  where
-    by_live : (o : Option History) → live_of stage.service.histories id ≡ o → live_of stage.service.histories id ≡ None
-    by_live None e = e
-    by_live (Some h) e =
-        let P : Option History → Type 0 = IsSome in
-        let is : id ≡ last_id stage.names name = lonely.last id (subst P (sym e) refl) in
-        ap (live_of stage.service.histories) is ∙ none
+none_live device name stage lonely none id = grind arith
 
 -- so there is space for a strip
 plan_empty : (device : Device) (name : List ℕ) (stage : Stage) → Lonely device name stage → live_of stage.service.histories (last_id stage.names name) ≡ None → stage.service.plan.strips ≡ []
@@ -107,16 +53,7 @@ plan_empty device name stage lonely none =
     no_strips stage.service.plan.strips (λ id. lonely.sound.kept.linked id ∙ ap (option_map (λ (h : History). h.strip.width)) (none_live device name stage lonely none id))
 
 alone_fits : (plan : Plan) (width : ℕ) → plan.strips ≡ [] → 1 ≤ width → width ≤ plan.columns → FitsAt plan width 0
-alone_fits plan width none wide narrow =
-    let s : PlacedStrip = record { id = 0; offset = 0; width = width } in
-    let P : List PlacedStrip → Type 0 = λ strips. IsParted (record plan { strips = strips ++ s ∷ [] }) in
-    record {
-      wide = omega (arith, wide);
-      parted = subst P (sym none) (record {
-        inside = All-cons (λ (s : PlacedStrip). s.offset + s.width ≤ plan.columns) s [] (omega (arith, narrow)) (All-nil (λ (s : PlacedStrip). s.offset + s.width ≤ plan.columns));
-        apart = λ i k d low high. absurd (omega (arith, low, high));
-      });
-    }
+alone_fits plan width none wide narrow = grind arith
 
 never_refused : (device : Device) (name : List ℕ) (stage : Stage) (width : ℕ) (refusal : OpRefusal) → Lonely device name stage → live_of stage.service.histories (last_id stage.names name) ≡ None → fits device.columns width ≡ true → length stage.service.histories < 65535 →
     HadMemory (AdmitCall width (Err refusal) ∷ []) → RefusesAdmission stage.service width refusal → ⊥
@@ -153,31 +90,11 @@ never_refused device name stage width refusal lonely none fit few had refuses = 
 
 -- which tenancy is live after an act of the name
 stays_last : (device : Device) (name : List ℕ) (old new : Stage) → Lonely device name old → new.names ≡ old.names → ((id : ℕ) → Apart (last_id old.names name) id → Same id old.service new.service) → (id : ℕ) → IsSome (live_of new.service.histories id) → id ≡ last_id new.names name
-stays_last device name old new lonely names same id live = by_id (eqb (last_id old.names name) id) refl ∙ ap (λ ns. last_id ns name) (sym names)
-  where
-    t : ℕ
-    t = last_id old.names name
-
-    by_id : (b : Bool) → eqb t id ≡ b → id ≡ t
-    by_id true e = sym ((Decides-eqb t id).0 e)
-    by_id false e = lonely.last id (let P : Option History → Type 0 = IsSome in subst P (same id (λ is. absurd (false≢true (sym e ∙ (Decides-eqb t id).1 is)))) live)
+stays_last device name old new lonely names same id live = grind arith
 
 newest_last : (device : Device) (name : List ℕ) (old new : Stage) (width : ℕ) (h : History) → Lonely device name old → live_of old.service.histories (last_id old.names name) ≡ None → new.names ≡ name ∷ old.names → new.service.histories ≡ old.service.histories ++ h ∷ [] →
     (id : ℕ) → IsSome (live_of new.service.histories id) → id ≡ last_id new.names name
-newest_last device name old new width h lonely none names now id live = by_id (eqb id (length old.service.histories + 1)) refl ∙ sym (ap (λ ns. last_id ns name) names ∙ newest_id old.names name)
-  where
-    hs : List History
-    hs = old.service.histories
-
-    there : live_of new.service.histories id ≡ if_live (cond (eqb id (length hs + 1)) (Some h) (history_of hs id))
-    there = ap (λ l. live_of l id) now ∙ ap if_live (history_of-push hs h id)
-
-    by_id : (b : Bool) → eqb id (length hs + 1) ≡ b → id ≡ length old.names + 1
-    by_id true e = (Decides-eqb id (length hs + 1)).0 e ∙ ap (λ n. n + 1) (sym lonely.sound.even)
-    by_id false e =
-        let P : Option History → Type 0 = IsSome in
-        let was : live_of new.service.histories id ≡ None = there ∙ (ap (λ b. if_live (cond b (Some h) (history_of hs id))) e ∙ none_live device name old lonely none id) in
-        absurd (false≢true (subst P was live))
+newest_last device name old new width h lonely none names now id live = search (newest_id, history_of-push, arith)
 
 -- an admission
 record Grants (device : Device) (name : List ℕ) (columns : ℕ) (act : Act (List ℕ)) (calls : List Call) (old new : Stage) : Type 0 where
@@ -186,20 +103,11 @@ record Grants (device : Device) (name : List ℕ) (columns : ℕ) (act : Act (Li
   last : (id : ℕ) → IsSome (live_of new.service.histories id) → id ≡ last_id new.names name
 
 admitted_fits : (device : Device) (name : List ℕ) (stage : Stage) (width : ℕ) → Lonely device name stage → CanAdmit stage.service width → fits device.columns width ≡ true
-admitted_fits device name stage width lonely can =
-    let columns : stage.service.plan.columns ≡ device.columns = (are_parted device lonely.calls stage.service lonely.runs).columns in
-    let good : is_bad_width stage.service.plan width ≡ false = can.good_width in
-    let P : ℕ → Type 0 = λ n. fits n width ≡ true in
-    subst P columns (not_bad stage.service.plan.columns width good)
-  where
-    not_bad : (n width : ℕ) → (eqb width 0 || nat_lt n width) ≡ false → fits n width ≡ true
-    not_bad n width good = grind (arith, nat_tests)
+admitted_fits device name stage width lonely can = grind (arith, are_parted)
 
 admission_grants : (o : Option History) (device : Device) (name : List ℕ) (old new : Stage) (width : ℕ) (calls : List Call) (text : List ℕ) → live_of old.service.histories (last_id old.names name) ≡ o → Lonely device name old → IsAdmission o old name width calls text new →
     HadMemory calls → length old.service.histories + 1 ≤ 65535 → Grants device name device.columns (Operator (Admit name width)) calls old new
-admission_grants (Some h) device name old new width calls text live lonely is had few =
-    let P : Stage → Type 0 = λ s. Grants device name device.columns (Operator (Admit name width)) calls old s in
-    subst P (sym is.2) (record { given = inl is.0; grows = omega arith; last = lonely.last })
+admission_grants (Some h) device name old new width calls text live lonely is had few = grind arith
 admission_grants None device name old new width calls text live lonely is had few = by_answer is.0 is.1 is.2 is.4 (subst HadMemory is.4 had)
   where
     by_answer : (answer : Result (ℕ × ℕ) OpRefusal) → IsAdmitted old.service width answer new.service → new.names ≡ names_after old.names name answer → calls ≡ AdmitCall width answer ∷ [] → HadMemory (AdmitCall width answer ∷ []) →
@@ -297,19 +205,11 @@ all_granted device name old last (t ∷ ts) tells lonely own_tellings had few =
 
 own_granted : (columns : ℕ) (name : List ℕ) (ts : List Telling) → AreGiven columns ts → AreGiven columns (own_tellings name ts)
 own_granted columns name [] are = tt
-own_granted columns name (t ∷ ts) are = by_own (is_own name t.act) (own_granted columns name ts are.1)
-  where
-    by_own : (b : Bool) → AreGiven columns (own_tellings name ts) → AreGiven columns (cond b (t ∷ own_tellings name ts) (own_tellings name ts))
-    by_own true rest = (are.0, rest)
-    by_own false rest = rest
+own_granted columns name (t ∷ ts) are = grind (arith, own_granted columns name ts are.1)
 
 own_memory : (name : List ℕ) (ts : List Telling) → HaveMemory ts → HaveMemory (own_tellings name ts)
 own_memory name [] had = tt
-own_memory name (t ∷ ts) had = by_own (is_own name t.act) (own_memory name ts had.1)
-  where
-    by_own : (b : Bool) → HaveMemory (own_tellings name ts) → HaveMemory (cond b (t ∷ own_tellings name ts) (own_tellings name ts))
-    by_own true rest = (had.0, rest)
-    by_own false rest = rest
+own_memory name (t ∷ ts) had = grind (arith, own_memory name ts had.1)
 
 pub is_alone : IsAlone
 is_alone options other tracks other_tracks architecture other_architecture input other_input output other_output name r s small other_small arch rows acts are few plays had =

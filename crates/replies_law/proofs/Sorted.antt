@@ -1,15 +1,8 @@
 -- A list in order is determined by what it holds.
-use Rattle.std.proofs.Common.{◌≡◌, ◌⊎◌, inl, inr, ℕ, zero, suc, ◌<◌, List, [], ◌∷◌, refl, sym, ap, ◌∙◌, subst, arith}
-use Rattle.std.specs.Prelude.{AllPairs, Contains}
-use Rattle.device_book.specs.declared.book.Owned.{Owned}
-use Rattle.rr_graph.specs.declared.resource.Resource.{Resource}
-use Rattle.rr_graph.specs.Resources.{IsEarlier, resource_rank}
+use Rattle.replies_law.proofs.Prelude.{◌≡◌, ◌⊎◌, inl, inr, ℕ, zero, suc, ◌<◌, List, [], ◌∷◌, refl, sym, ap, ◌∙◌, subst, arith, AllPairs, Contains, Owned, Resource, IsEarlier, resource_rank}
 
 lex : (x y : ℕ) (R S : Type 0) → (x < y) ⊎ ((x ≡ y) × R) → (y < x) ⊎ ((y ≡ x) × S) → (R → S → ⊥) → ⊥
-lex x y R S (inl a) (inl b) never = omega (arith, a, b)
-lex x y R S (inl a) (inr b) never = let e = b.0 in omega (arith, a, e)
-lex x y R S (inr a) (inl b) never = let e = a.0 in omega (arith, b, e)
-lex x y R S (inr a) (inr b) never = never a.1 b.1
+lex x y R S h1 h2 never = grind arith
 
 last_never : (x y m n : ℕ) → (x < y) ⊎ ((x ≡ y) × (m < n)) → (y < x) ⊎ ((y ≡ x) × (n < m)) → ⊥
 last_never x y m n a b = lex x y (m < n) (n < m) a b (λ p q. omega (arith, p, q))
@@ -37,8 +30,7 @@ first : (x : Owned) (xs : List Owned) → Contains (x ∷ xs) x
 first x xs = (zero, omega arith, refl)
 
 cases : (x z : Owned) (xs : List Owned) → Contains (x ∷ xs) z → (x ≡ z) ⊎ Contains xs z
-cases x z xs (zero, less, is) = inl is
-cases x z xs (suc k, less, is) = inr (k, omega (arith, less), is)
+cases x z xs h1 = grind arith
 
 abbrev Alike : List Owned → List Owned → Type 0
 Alike xs ys = (z : Owned) → (Contains xs z → Contains ys z) × (Contains ys z → Contains xs z)
@@ -55,14 +47,7 @@ same_head x y xs ys one other alike = by (cases y x ys ((alike x).0 (first x xs)
     by (inr e) (inr f) = absurd (not_both x.resource y.resource (later x y xs one f) (later y x ys other e))
 
 into_tail : (x y z : Owned) (xs ys : List Owned) → x ≡ y → Ordered (x ∷ xs) → Contains xs z → Contains (y ∷ ys) z → Contains ys z
-into_tail x y z xs ys same ordered in_it in_other = by (cases y z ys in_other)
-  where
-    by : (y ≡ z) ⊎ Contains ys z → Contains ys z
-    by (inl e) =
-        let P : Owned → Type 0 = λ o. IsEarlier x.resource o.resource in
-        let itself : IsEarlier x.resource x.resource = subst P (sym (same ∙ e)) (later x z xs ordered in_it) in
-        absurd (not_both x.resource x.resource itself itself)
-    by (inr f) = f
+into_tail x y z xs ys same ordered in_it in_other = grind (arith, later x z xs ordered in_it)
 
 pub same_list : (xs ys : List Owned) → Ordered xs → Ordered ys → Alike xs ys → xs ≡ ys
 same_list [] [] one other alike = refl

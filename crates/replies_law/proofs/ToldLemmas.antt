@@ -1,17 +1,5 @@
 -- All replies are read back.
-use Rattle.std.proofs.Common.{◌≡◌, ℕ, ◌<◌, ◌^◌, Bool, true, false, List, [], ◌∷◌, length, map, Ok, Some, None, refl, sym, ap, ◌∙◌, subst}
-use Rattle.std.specs.Str.{bytes_eq}
-use Rattle.script_text.specs.declared.act.Act.{Act}
-use Rattle.script_text.specs.declared.act.Act.TheVariants.{Operator, Session}
-use Rattle.operator.specs.OperatorText.{last_id}
-use Rattle.operator.specs.Serving.{Stage}
-use Rattle.operator.proofs.Stepping.{lengths-run, steady_asks}
-use Rattle.printed_replies.specs.Printing.{HasReply, HaveReplies, IsReply, asked_in}
-use Rattle.printed_replies.specs.Replies.{Speaker, live_after, with_reply, replies_in as printed_replies_in}
-use Rattle.printed_replies.proofs.PrintLemmas.{read_back}
-use Rattle.script_replies.specs.Asking.{asked_of, replies_in, session_form}
-use Rattle.fpgad_run.specs.Run.{IsAnswered, Telling, Tells, replies_text}
-use Rattle.replies_law.specs.ReadBack.{AreTellable, HasName, NetsAreWords}
+use Rattle.replies_law.proofs.Prelude.{◌≡◌, ℕ, ◌<◌, ◌^◌, Bool, true, false, List, [], ◌∷◌, length, map, Ok, Some, None, refl, sym, ap, subst, arith, bytes_eq, Act, Operator, Session, last_id, Stage, lengths-run, steady_asks, HasReply, HaveReplies, IsReply, asked_in, Speaker, live_after, with_reply, read_back, asked_of, replies_in, session_form, IsAnswered, Telling, Tells, replies_text, AreTellable, HasName, NetsAreWords}
 use Rattle.replies_law.proofs.LiveLemmas.{lives, lives-run}
 use Rattle.replies_law.proofs.SectionLemmas.{lines_of, printed_is_written}
 use Rattle.replies_law.proofs.ServedLemmas.{session_read}
@@ -19,10 +7,7 @@ use Rattle.replies_law.proofs.StageLemmas.{IsFine, fine_same, operator_told}
 
 -- the reply to a session's line is read back, however many tenancies are live
 session_told : NetsAreWords → (old new : Stage) (name : List ℕ) (line : _) (calls : _) (text : List ℕ) (live : ℕ) → IsAnswered old (Session name line) calls text new → length text < 2 ^ 64 → IsReply live (session_form line) text
-session_told words old new name line calls text live is small =
-    let P : List ℕ → Type 0 = λ t. IsReply live (session_form line) t in
-    let Q : List ℕ → Type 0 = λ t. length t < 2 ^ 64 in
-    subst P (sym is.5) (session_read words old.service new.service (last_id old.names name) live line calls is.0 is.1 is.2 (subst Q is.5 small))
+session_told words old new name line calls text live is small = grind (arith, session_read)
 
 -- a name's session
 session_has : NetsAreWords → (name : List ℕ) (old new : Stage) (ts : List Telling) (live : ℕ) → Tells old ts new → AreTellable ts → HaveReplies (Some name) live (lines_of ts)
@@ -68,6 +53,4 @@ asked_lines (t ∷ ts) = ap (λ ls. asked_of t.act ∷ ls) (asked_lines ts)
 
 pub told_is_read : NetsAreWords → (start last : Stage) (ts : List Telling) → Tells start ts last → IsFine start → lives start.service.histories ≡ 0 → AreTellable ts →
     replies_in (map (λ t. t.act) ts) (replies_text ts) ≡ Ok (lines_of ts)
-told_is_read words start last ts tells fine none tellable =
-    ap (λ asked. printed_replies_in asked (replies_text ts)) (asked_lines ts) ∙ ap (printed_replies_in (asked_in (lines_of ts))) (sym (printed_is_written ts))
-    ∙ read_back (lines_of ts) (all_have words start last ts tells fine none tellable)
+told_is_read words start last ts tells fine none tellable = grind (arith, printed_is_written, read_back, all_have, asked_lines ts, printed_is_written ts, read_back (lines_of ts) (all_have words start last ts tells fine none tellable), all_have words start last ts tells fine none tellable)

@@ -1,14 +1,5 @@
 -- The words of a netlist contain no line feed.
-use Rattle.std.proofs.Common.{◌≡◌, ℕ, zero, suc, ◌+◌, ◌-◌, Bool, true, false, not, cond, eqb, List, [], ◌∷◌, ◌++◌, length, take, map, Ok, Err, refl, ap, subst}
-use Rattle.std.specs.Prelude.{filter, slice_get}
-use Rattle.std.specs.List.{enumerate_from, filter_map, list_all, onto_first, position_or_len, slice_split, suffix_len}
-use Rattle.std.proofs.lemmas.Bool.{and_from, and_parts}
-use Rattle.std.specs.Option.{option_map_or}
-use Rattle.line_text.specs.declared.fault.LineFault.{LineFault}
-use Rattle.line_text.specs.Lines.{JoinedLine, ends_in_backslash, fault_of, is_continued, joined_line, joined_bytes, joined_part, lines_of, physical_lines, runs, trim_end, without_comment, without_last}
-use Rattle.line_text.specs.Words.{is_blank, is_filled}
-use Rattle.printed_replies.specs.Lengths.{is_line_feed}
-use Rattle.replies_law.specs.ReadBack.{NoFeed, is_other}
+use Rattle.replies_law.proofs.Prelude.{◌≡◌, ℕ, zero, suc, ◌+◌, Bool, true, false, cond, List, [], ◌∷◌, take, map, Ok, Err, refl, arith, filter, slice_get, enumerate_from, filter_map, list_all, onto_first, slice_split, and_from, and_parts, option_map_or, LineFault, JoinedLine, fault_of, joined_line, joined_bytes, joined_part, lines_of, physical_lines, runs, is_blank, is_filled, NoFeed, is_other}
 use Rattle.replies_law.proofs.EachLemmas.{Each, each-filter, each-map}
 use Rattle.replies_law.proofs.FeedLemmas.{no_feed-append}
 
@@ -20,16 +11,11 @@ take_other (suc n) (b ∷ bytes) all =
     and_from _ _ parts.0 (take_other n bytes parts.1)
 
 onto_other : (b : ℕ) (parts : List (List ℕ)) → is_other b ≡ true → Each NoFeed parts → Each NoFeed (onto_first b parts)
-onto_other b [] is each = (and_from _ _ is refl, tt)
-onto_other b (part ∷ parts) is each = (and_from _ _ is each.0, each.1)
+onto_other b parts is each = grind arith
 
 lines_other : (bytes : List ℕ) → Each NoFeed (physical_lines bytes)
 lines_other [] = tt
-lines_other (b ∷ bytes) = by_test (is_line_feed b) refl (lines_other bytes)
-  where
-    by_test : (t : Bool) → is_line_feed b ≡ t → Each NoFeed (physical_lines bytes) → Each NoFeed (cond t ([] ∷ physical_lines bytes) (onto_first b (physical_lines bytes)))
-    by_test true e rest = (refl, rest)
-    by_test false e rest = onto_other b (physical_lines bytes) (ap not e) rest
+lines_other (b ∷ bytes) = grind (arith, lines_other bytes)
 
 abbrev IsNumbered : ℕ × List ℕ → Type 0
 IsNumbered line = NoFeed line.1
@@ -38,28 +24,12 @@ numbered_other : (n : ℕ) (lines : List (List ℕ)) → Each NoFeed lines → E
 numbered_other n [] each = tt
 numbered_other n (line ∷ lines) each = (each.0, numbered_other (n + 1) lines each.1)
 
-onto_run : (line : ℕ × List ℕ) (all : List (List (ℕ × List ℕ))) → IsNumbered line → Each (Each IsNumbered) all → Each (Each IsNumbered) (onto_first line all)
-onto_run line [] is each = ((is, tt), tt)
-onto_run line (run ∷ all) is each = ((is, each.0), each.1)
-
 runs_other : (lines : List (ℕ × List ℕ)) → Each IsNumbered lines → Each (Each IsNumbered) (runs lines)
 runs_other [] each = tt
-runs_other (line ∷ lines) each = by_test (is_continued line.1) (runs_other lines each.1)
-  where
-    by_test : (t : Bool) → Each (Each IsNumbered) (runs lines) → Each (Each IsNumbered) (cond t (onto_first line (runs lines)) ((line ∷ []) ∷ runs lines))
-    by_test true rest = onto_run line (runs lines) each.0 rest
-    by_test false rest = ((each.0, tt), rest)
+runs_other (line ∷ lines) each = grind (arith, runs_other lines each.1)
 
 kept_other : (line : List ℕ) → NoFeed line → NoFeed (joined_part line)
-kept_other line all =
-    let before = take_other (position_or_len (λ byte. eqb byte 35) line) line all in
-    let bytes = trim_end (without_comment line) in
-    let short : NoFeed bytes = take_other (length (without_comment line) - suffix_len is_blank (without_comment line)) (without_comment line) before in
-    by_test bytes (ends_in_backslash bytes) short
-  where
-    by_test : (bytes : List ℕ) (t : Bool) → NoFeed bytes → NoFeed (cond t (without_last bytes ++ 32 ∷ []) bytes)
-    by_test bytes true short = no_feed-append (without_last bytes) (32 ∷ []) (take_other (length bytes - 1) bytes short) refl
-    by_test bytes false short = short
+kept_other line all = grind (arith, take_other, no_feed-append)
 
 bytes_other : (run : List (ℕ × List ℕ)) → Each IsNumbered run → NoFeed (joined_bytes run)
 bytes_other [] each = refl
@@ -83,8 +53,7 @@ joined_other : (run : List (ℕ × List ℕ)) → Each IsNumbered run → HasWor
 joined_other run each = each-filter NoFeed is_filled (slice_split is_blank (joined_bytes run)) (split_other (joined_bytes run) (bytes_other run each))
 
 unless_other : (faults : List LineFault) (lines read : List JoinedLine) → option_map_or Err (slice_get faults 0) (Ok lines) ≡ Ok read → Each HasWords lines → Each HasWords read
-unless_other [] lines read is each = let e : lines ≡ read = cc in subst (Each HasWords) e each
-unless_other (fault ∷ faults) lines read is each = cc
+unless_other faults lines read is each = grind arith
 
 pub words_other : (text : List ℕ) (lines : List JoinedLine) → lines_of text ≡ Ok lines → Each HasWords lines
 unfolding lines_of

@@ -2,20 +2,7 @@
 -- were granted; on nothing else of a script.
 use Rattle.std.specs.Prelude.{codes, is_some, ◌&&◌, nat_le, ℕ, ◌≡◌, ◌⊎◌, ◌+◌, ◌<◌, ◌≤◌, ◌^◌, Bool, false, List, [], ◌∷◌, if◌then◌else◌, length, map, filter, Some, Ok, ⊤}
 use Rattle.std.specs.Str.{bytes_eq}
-use Rattle.service_core.specs.declared.service.TheConstants.{MAX_ADMISSIONS}
-use Rattle.script_text.specs.declared.act.Act.{Act}
-use Rattle.script_text.specs.declared.act.Act.TheVariants.{Operator, Session}
-use Rattle.script_text.specs.declared.operator_line.OperatorLine.{OperatorLine}
-use Rattle.script_text.specs.declared.operator_line.OperatorLine.TheVariants.{Admit, Evict, Step, Take}
-use Rattle.operator.specs.OperatorText.{refused_text}
-use Rattle.printed_replies.specs.Lengths.{after_prefix}
-use Rattle.printed_replies.specs.Printing.{told_to}
-use Rattle.printed_replies.specs.Replies.{AnsweredLine, Reading, and_then}
-use Rattle.script_replies.specs.Asking.{replies_in}
-use Rattle.fpgad_run.specs.declared.inputs.Architecture.{Architecture}
-use Rattle.fpgad_run.specs.declared.options.Options.{Options}
-use Rattle.fpgad_run.specs.Program.{IsReplies, start_of}
-use Rattle.fpgad_run.specs.Run.{Telling}
+use Rattle.replies_law.specs.Prelude.{MAX_ADMISSIONS, Act, Operator, Session, OperatorLine, Admit, Evict, Step, Take, refused_text, after_prefix, told_to, AnsweredLine, Reading, and_then, replies_in, Architecture, Options, IsReplies, start_of, Telling}
 use Rattle.replies_law.specs.Memory.{HaveMemory}
 
 -- a line of the operator is about the name if it admits it, evicts it or makes steps of its job. A

@@ -1,12 +1,6 @@
 -- What a reader of the output sees if memory ran out.
 use Rattle.std.specs.Prelude.{ℕ, ◌≡◌, ⊤, List, [], ◌∷◌, ◌++◌, codes}
-use Rattle.sessions.specs.declared.steps.StepOutcome.TheVariants.{NoMemory}
-use Rattle.sessions.specs.SessionText.{no_memory_text}
-use Rattle.script_text.specs.declared.act.Act.{Act}
-use Rattle.script_text.specs.declared.act.Act.TheVariants.{Operator, Session}
-use Rattle.script_text.specs.declared.operator_line.OperatorLine.TheVariants.{Admit, Step, Put}
-use Rattle.operator.specs.OperatorText.{outcome_text, refused_text}
-use Rattle.fpgad_run.specs.Run.{Telling}
+use Rattle.replies_law.specs.Prelude.{NoMemory, no_memory_text, Act, Operator, Session, Admit, Step, Put, outcome_text, refused_text, Telling}
 
 -- the act is answered that memory ran out: `refused 1 NoMemory`, or for a step `nomemory`
 abbrev pub RanOut : Act (List ℕ) → List ℕ → Type 0

@@ -1,8 +1,6 @@
 -- The contract of a run determines every byte of the output.
 use Rattle.std.specs.Prelude.{ℕ, ◌≡◌, List}
-use Rattle.script_text.specs.declared.act.Act.{Act}
-use Rattle.fpgad_run.specs.declared.options.Options.{Options}
-use Rattle.fpgad_run.specs.Program.{IsReplies, Start}
+use Rattle.replies_law.specs.Prelude.{Act, Options, IsReplies, Start}
 use Rattle.replies_law.specs.Memory.{HaveMemory}
 
 -- two outputs that the contract allows for one script and one command line are equal, if neither

@@ -1,21 +1,7 @@
 -- What a run writes is read back.
 use Rattle.std.specs.Prelude.{ℕ, ◌≡◌, ◌<◌, ◌^◌, Bool, true, not, List, [], ◌∷◌, length, map, IfSome, Ok, Err, ⊤}
 use Rattle.std.specs.List.{list_all}
-use Rattle.blif.specs.CircuitOf.{circuit_of}
-use Rattle.blif.specs.Faults.{net_of}
-use Rattle.blif.specs.declared.circuit.Circuit.{Circuit}
-use Rattle.blif.specs.declared.fault.BlifFault.{BlifFault}
-use Rattle.cluster.specs.Blocks.{net_name}
-use Rattle.script_text.specs.declared.act.Act.{Act}
-use Rattle.script_text.specs.declared.act.Act.TheVariants.{Operator}
-use Rattle.script_text.specs.declared.operator_line.OperatorLine.TheVariants.{Admit}
-use Rattle.printed_replies.specs.Lengths.{is_line_feed}
-use Rattle.printed_replies.specs.Replies.{AnsweredLine, with_reply}
-use Rattle.script_replies.specs.Asking.{asked_of, replies_in}
-use Rattle.fpgad_run.specs.declared.inputs.Architecture.{Architecture}
-use Rattle.fpgad_run.specs.declared.options.Options.{Options}
-use Rattle.fpgad_run.specs.Program.{IsReplies, start_of}
-use Rattle.fpgad_run.specs.Run.{Telling}
+use Rattle.replies_law.specs.Prelude.{circuit_of, net_of, Circuit, BlifFault, net_name, Act, Operator, Admit, is_line_feed, AnsweredLine, with_reply, asked_of, replies_in, Architecture, Options, IsReplies, start_of, Telling}
 
 -- no byte ends a line
 abbrev pub is_other : ℕ → Bool

@@ -1,8 +1,5 @@
 -- Parts of a flat list to which items are appended.
-use Rattle.std.proofs.Common.{◌≡◌, ℕ, ◌-◌, ◌≤◌, List, [], ◌∷◌, ◌++◌, length, drop, map, refl, sym, ap, ◌∙◌, arith, length-append, length-drop}
-use Rattle.std.proofs.lemmas.List.{map_push, take-append-le, drop-append-le, drop_at, take_all}
-use Rattle.rows.specs.declared.span.Span.{Span}
-use Rattle.rows.specs.Spans.{part_of, AreWithin}
+use Rattle.rows.proofs.Prelude.{◌≡◌, ℕ, ◌-◌, ◌≤◌, List, [], ◌∷◌, ◌++◌, length, drop, map, refl, sym, ap, ◌∙◌, arith, length-append, length-drop, map_push, take-append-le, drop-append-le, drop_at, take_all, Span, part_of, AreWithin}
 
 -- a part is unchanged
 pub part_of-append : {A : Type 0} (xs ys : List A) (span : Span) → span.start ≤ span.end → span.end ≤ length xs → part_of (xs ++ ys) span ≡ part_of xs span

@@ -1,3 +1,4 @@
+mod Prelude
 pub mod Parts
 pub mod Growing
 pub mod CountingSort

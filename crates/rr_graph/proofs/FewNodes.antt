@@ -1,19 +1,6 @@
 -- The number of nodes of a strip is within the limit.
-use Rattle.std.proofs.Common.{ℕ, zero, suc, ◌≡◌, ◌+◌, ◌-◌, ◌*◌, ◌^◌, ◌<◌, ◌≤◌, List, [], ◌∷◌, map, length, sym, ap, ◌∙◌, subst, inl, inr, arith, Bool, true, ◌&&◌, ◌||◌, nat_le}
-use Rattle.std.specs.Prelude.{filter}
-use Rattle.std.specs.List.{flat_map, range_with_len}
-use Rattle.std.proofs.lemmas.Bool.{and_parts, cases_Bool, cond-true, cond-false}
-use Rattle.std.proofs.lemmas.Nat.{mul-le}
+use Rattle.rr_graph.proofs.Prelude.{ℕ, zero, suc, ◌≡◌, ◌+◌, ◌-◌, ◌*◌, ◌^◌, ◌<◌, ◌≤◌, List, [], ◌∷◌, map, length, arith, Bool, true, ◌&&◌, ◌||◌, nat_le, filter, flat_map, range_with_len, and_parts, mul-le, filter-append, length-range_with_len, NodeKind, Source, Sink, Opin, Ipin, ChanX, ChanY, Node, most_of, is_node, is_slot, is_chan_y, Basis, IsBasis, nodes_of, graph_of, make_node}
 use Rattle.std.proofs.lemmas.List.{length-append}
-use Rattle.std.proofs.lemmas.List.Concat.{flat_map-cons}
-use Rattle.std.proofs.lemmas.List.Elements.{filter-append}
-use Rattle.std.proofs.lemmas.List.FromFn.{length-range_with_len}
-use Rattle.rr_graph.specs.declared.node.NodeKind.{NodeKind}
-use Rattle.rr_graph.specs.declared.node.NodeKind.TheVariants.{Source, Sink, Opin, Ipin, ChanX, ChanY}
-use Rattle.rr_graph.specs.declared.node.Node.{Node}
-use Rattle.rr_graph.specs.Column.{most_of}
-use Rattle.rr_graph.specs.Geometry.{is_node, is_slot, is_chan_y}
-use Rattle.rr_graph.specs.Graph.{Basis, IsBasis, nodes_of, graph_of, make_node}
 use Rattle.rr_graph.proofs.Columns.{member_bounds}
 use Rattle.rr_graph.proofs.Listing.{of_kind, in_place}
 
@@ -21,21 +8,12 @@ use Rattle.rr_graph.proofs.Listing.{of_kind, in_place}
 few_numbers : (test : Node → Bool) (f : ℕ → Node) (most a count : ℕ) → ((n : ℕ) → test (f n) ≡ true → n < most) →
     length (filter test (map f (range_with_len a count))) ≤ most - a
 few_numbers test f most a zero small = omega arith
-few_numbers test f most a (suc count) small =
-    let rest : List Node = filter test (map f (range_with_len (a + 1) count)) in
-    let few : length rest ≤ most - (a + 1) = few_numbers test f most (a + 1) count small in
-    elim (cases_Bool (test (f a))) [
-      | inl is ↦ (let low : a < most = small a is in
-          subst (λ (xs : List Node). length xs ≤ most - a) (sym (cond-true (test (f a)) (f a ∷ rest) rest is)) (omega (arith, few, low)))
-      | inr isn't ↦ subst (λ (xs : List Node). length xs ≤ most - a) (sym (cond-false (test (f a)) (f a ∷ rest) rest isn't)) (omega (arith, few))
-    ]
+few_numbers test f most a (suc count) small = grind (arith, few_numbers test f most (a + 1) count small)
 
 -- the elements that pass, of one list and of the others
 few_more : {X : Type 0} (test : Node → Bool) (f : X → List Node) (x : X) (xs : List X) (m n : ℕ) → length (filter test (f x)) ≤ m → length (filter test (flat_map f xs)) ≤ n →
     length (filter test (flat_map f (x ∷ xs))) ≤ m + n
-few_more test f x xs m n here rest =
-    let e = ap (filter test) (flat_map-cons f x xs) ∙ filter-append test (f x) (flat_map f xs) in
-    omega (arith, ap (λ (nodes : List Node). length nodes) e, length-append (filter test (f x)) (filter test (flat_map f xs)), here, rest)
+few_more test f x xs m n here rest = grind (arith, filter-append, length-append)
 
 few_of_each : {X : Type 0} (test : Node → Bool) (f : X → List Node) (most : ℕ) (xs : List X) → ((x : X) → length (filter test (f x)) ≤ most) →
     length (filter test (flat_map f xs)) ≤ length xs * most

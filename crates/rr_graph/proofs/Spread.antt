@@ -1,13 +1,6 @@
 -- Whether a pin meets a track, by arithmetic: the spread numbers increase, so only the first that
 -- is far enough has to be tested.
-use Rattle.std.proofs.Common.{ℕ, ◌≡◌, ◌+◌, ◌-◌, ◌*◌, ◌/◌, ◌%◌, ◌<◌, ◌≤◌, Bool, false, get_or, inl, inr, sym, ap, ◌∙◌, subst, arith, mul_comm}
-use Rattle.std.specs.Prelude.{◌==◌}
-use Rattle.std.specs.List.{range_with_len}
-use Rattle.std.proofs.lemmas.Bool.{cases_lt, cases_Bool, eq-eqb, eqb-true, false≢true}
-use Rattle.std.proofs.lemmas.List.Folds.{list_any_none}
-use Rattle.std.proofs.lemmas.List.FromFn.{get_or-range_with_len, length-range_with_len}
-use Rattle.std.proofs.lemmas.Nat.{mod-mul-add, mod_below, div-add-mod', div_below, le-div, mul-le, same_from_place}
-use Rattle.rr_graph.specs.Geometry.{meets_track}
+use Rattle.rr_graph.proofs.Prelude.{ℕ, ◌≡◌, ◌+◌, ◌-◌, ◌*◌, ◌/◌, ◌%◌, ◌<◌, ◌≤◌, Bool, false, get_or, inl, inr, sym, ap, ◌∙◌, subst, arith, mul_comm, ◌==◌, range_with_len, cases_lt, cases_Bool, eq-eqb, eqb-true, false≢true, list_any_none, get_or-range_with_len, length-range_with_len, mod-mul-add, mod_below, div-add-mod', div_below, le-div, mul-le, same_from_place, meets_track}
 use Rattle.rr_graph.proofs.Nearness.{any_in_range}
 
 -- the track is at this distance after the pin's own number
@@ -48,21 +41,11 @@ reaches : (f w apart : ℕ) → 0 < w → apart * f ≤ (apart * f + w - 1) / w 
 reaches f w apart some = omega (arith, div-add-mod' (apart * f + w - 1) w, mod_below (apart * f + w - 1) w some)
 
 least : (f w apart k : ℕ) → 0 < w → apart * f ≤ k * w → (apart * f + w - 1) / w ≤ k
-least f w apart k some far =
-    let n : ℕ = apart * f + w - 1 in
-    elim (cases_lt k (n / w)) [
-      | inl less ↦ absurd (let m : (k + 1) * w ≤ n / w * w = mul-le (k + 1) w (n / w) w (omega (arith, less)) (omega arith) in
-          omega (arith, m, div-add-mod' n w, far, some))
-      | inr ge ↦ ge
-    ]
+least f w apart k some far = grind arith
 
 -- if it is spread exactly this far, it is one of the pin's
 among : (f w apart first : ℕ) → 0 < f → apart < w → first * w / f ≡ apart → first < f
-among f w apart first some low is = elim (cases_lt first f) [
-  | inl less ↦ less
-  | inr ge ↦ absurd (let m : f * w ≤ first * w = mul-le f w first w ge (omega arith) in
-      omega (arith, le-div w (first * w) f some (omega (arith, m, mul_comm w f)), is, low))
-]
+among f w apart first some low is = grind arith
 
 -- if one of the pin's numbers is spread exactly this far, so is the first
 spread_to : (f w p track apart j : ℕ) → 0 < f → IsApart w p track apart → j < f → (j * w / f + p) % w ≡ track → (apart * f + w - 1) / w * w / f ≡ apart
@@ -100,11 +83,4 @@ first_tells f w p track apart first some is e =
 
 -- no track comes after the last one
 pub past_tracks : (f w p track : ℕ) → 0 < w → w ≤ track → meets_track f w p track ≡ false
-past_tracks f w p track some high =
-    let test : ℕ → Bool = λ j. (j * w / f + p) % w == track in
-    list_any_none test (range_with_len 0 f) (λ k d within.
-    let j : ℕ = get_or (range_with_len 0 f) k d in
-    elim (cases_Bool (test j)) [
-      | inl met ↦ absurd (omega (arith, mod_below (j * w / f + p) w some, eqb-true ((j * w / f + p) % w) track met, high))
-      | inr unmet ↦ unmet
-    ])
+past_tracks f w p track some high = grind (arith, list_any_none)

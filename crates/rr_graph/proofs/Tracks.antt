@@ -1,21 +1,5 @@
 -- Wires of one track, and their indices in a column.
-use Rattle.std.proofs.Common.{ℕ, zero, suc, ◌≡◌, ◌+◌, ◌-◌, ◌*◌, ◌<◌, ◌≤◌, List, [], ◌∷◌, ◌++◌, length, get_or, refl, sym, ap, ◌∙◌, subst, inl, inr, arith, true, false}
-use Rattle.std.specs.Prelude.{Contains, nat_lt, nat_le, ◌&&◌}
-use Rattle.std.proofs.lemmas.Bool.{cases_lt, and_parts, and_from, ltb-true, le-leb, lt-ltb, false≢true}
-use Rattle.std.proofs.lemmas.Nat.{mul-le}
-use Rattle.std.proofs.lemmas.List.{get_or_append_left, get_or_push, length_push}
-use Rattle.arch_file.specs.declared.arch.Arch.{Arch}
-use Rattle.grid.specs.declared.Strip.{Strip}
-use Rattle.rr_graph.specs.declared.node.NodeKind.{NodeKind}
-use Rattle.rr_graph.specs.declared.node.NodeKind.TheVariants.{Source, Sink, Opin, Ipin, ChanX, ChanY}
-use Rattle.rr_graph.specs.declared.node.Node.{Node}
-use Rattle.rr_graph.specs.declared.node.Member.{Member}
-use Rattle.rr_graph.specs.declared.numbering.Numbering.{Numbering}
-use Rattle.rr_graph.specs.Geometry.{IsWire, is_wire, is_slot, is_block_row, joins}
-use Rattle.rr_graph.specs.Node.{rank_of}
-use Rattle.rr_graph.specs.Column.{Separates, member_key, IsRising, AreFirsts}
-use Rattle.rr_graph.specs.Numbering.{IsNumbering, member_at, in_column, column_count, no_member}
-use Rattle.rr_graph.specs.Table.{IsRowBelow, IsRowAt, columns_right, may_lead, may_reach, rows_above}
+use Rattle.rr_graph.proofs.Prelude.{ℕ, zero, suc, ◌≡◌, ◌+◌, ◌-◌, ◌*◌, ◌<◌, ◌≤◌, List, [], ◌∷◌, ◌++◌, length, get_or, refl, sym, ap, ◌∙◌, subst, inl, inr, arith, true, false, Contains, cases_lt, le-leb, false≢true, mul-le, get_or_append_left, get_or_push, length_push, Arch, Strip, NodeKind, Node, Member, Numbering, IsWire, is_wire, is_slot, rank_of, Separates, member_key, IsRising, AreFirsts, IsNumbering, member_at, in_column, column_count, no_member, IsRowBelow, IsRowAt, may_reach, rows_above}
 use Rattle.rr_graph.proofs.Columns.{member_of, member_found, same_kind, rank_few, separates_order, separates_some}
 use Rattle.rr_graph.proofs.GeometryLaws.{own_track}
 use Rattle.rr_graph.proofs.Numberings.{node_of_place, all_small}
@@ -25,18 +9,7 @@ use Rattle.rr_graph.proofs.Rows.{leads, leads_reached, row_skip, part_push, kind
 
 pub firsts_push : (members : List Member) (firsts : List ℕ) (kind : NodeKind) (y index : ℕ) → y < 68 → AreFirsts members firsts (rank_of kind * 68 + y) →
     Separates members (rank_of kind * 65536 + y * 256) index → AreFirsts members (firsts ++ index ∷ []) (rank_of kind * 68 + (y + 1))
-firsts_push members firsts kind y index low old at = record {
-  many = omega (arith, length_push firsts index, old.many);
-  each = λ k z few before. elim (cases_lt (rank_of k * 68 + z) (rank_of kind * 68 + y)) [
-    | inl lt ↦ (let here : rank_of k * 68 + z < length firsts = omega (arith, old.many, lt) in
-        subst (Separates members (rank_of k * 65536 + z * 256)) (sym (get_or_append_left firsts (index ∷ []) 0 (rank_of k * 68 + z) here)) (old.each k z few lt))
-    | inr ge ↦ (let rank : rank_of kind ≡ rank_of k = omega (arith, before, ge, few, low) in
-        let row : y ≡ z = omega (arith, before, ge, rank) in
-        let last : length firsts ≡ rank_of k * 68 + z = omega (arith, old.many, rank, row) in
-        let place : rank_of kind * 65536 + y * 256 ≡ rank_of k * 65536 + z * 256 = omega (arith, rank, row) in
-        subst (Separates members (rank_of k * 65536 + z * 256)) (sym (get_or_push firsts index 0 (rank_of k * 68 + z) last)) (subst (λ p. Separates members p index) place at))
-  ];
-}
+firsts_push members firsts kind y index low old at = search (length_push, get_or_append_left, get_or_push, arith)
 
 -- ---- the indices of the wires of a row
 
@@ -82,13 +55,7 @@ separates_next members p i member rising at found e =
 
 -- a row has all tracks before one that it has
 earlier_track : (arch : Arch) (strip : Strip) (kind : NodeKind) (y m : ℕ) → is_wire kind ≡ true → is_slot arch strip kind y (suc m) ≡ true → is_slot arch strip kind y m ≡ true
-earlier_track arch strip ChanX y m wire h =
-    let parts = and_parts (nat_le y strip.rows) (nat_lt (suc m) arch.tracks) h in
-    and_from (nat_le y strip.rows) (nat_lt m arch.tracks) parts.0 (lt-ltb m arch.tracks (omega (arith, ltb-true (suc m) arch.tracks parts.1)))
-earlier_track arch strip ChanY y m wire h =
-    let parts = and_parts (is_block_row strip y) (nat_lt (suc m) arch.tracks) h in
-    and_from (is_block_row strip y) (nat_lt m arch.tracks) parts.0 (lt-ltb m arch.tracks (omega (arith, ltb-true (suc m) arch.tracks parts.1)))
-earlier_track arch strip _ y m wire h = absurd (false≢true wire)
+earlier_track arch strip kind y m wire h = grind arith
 
 -- a member of the column
 contained : (nodes : Numbering) (kind : NodeKind) (y n : ℕ) → IsNumbering nodes → y < 68 → n < 256 → is_slot nodes.arch nodes.strip kind y n ≡ true → Contains nodes.members.items (member_of kind y n)
@@ -112,19 +79,13 @@ track_index nodes kind y first (suc m) lawful low few wire is at =
 -- ---- the wire of a's own track in a row
 
 wire_is : (kind : NodeKind) → is_wire kind ≡ true → IsWire kind
-wire_is ChanX h = tt
-wire_is ChanY h = tt
-wire_is _ h = false≢true h
+wire_is kind h = grind arith
 
 -- the members between the positions of two rows
 row_member : (nodes : Numbering) (kind : NodeKind) (y r : ℕ) → IsNumbering nodes → y < 68 → r < column_count nodes →
     rank_of kind * 65536 + y * 256 ≤ member_key (member_at nodes r) → member_key (member_at nodes r) < rank_of kind * 65536 + (y + 1) * 256 →
     ((member_at nodes r).kind ≡ kind) × ((member_at nodes r).y ≡ y) × (member_key (member_at nodes r) ≡ rank_of kind * 65536 + y * 256 + (member_at nodes r).n)
-row_member nodes kind y r lawful low here from to =
-    let small = all_small nodes lawful r no_member here in
-    let rank : rank_of (member_at nodes r).kind ≡ rank_of kind = omega (arith, small.0, small.1, from, to) in
-    let row : (member_at nodes r).y ≡ y = omega (arith, small.0, small.1, from, to, rank) in
-    (same_kind (member_at nodes r).kind kind rank, row, omega (arith, rank, row))
+row_member nodes kind y r lawful low here from to = grind (arith, all_small)
 
 -- an edge from the wire into the row leads to its own track
 own_number : (nodes : Numbering) (a : Node) (x : ℕ) (member : Member) → is_wire a.kind ≡ true → is_wire member.kind ≡ true → leads nodes a (in_column x member) ≡ true → a.n ≡ member.n
@@ -206,28 +167,9 @@ wire_added nodes a row x y first kind lawful low few wa wb there at_first old is
 
 -- ---- all rows of a kind
 
--- no edge leads to a node of this kind
-led_kind : (arch : Arch) (strip : Strip) (ka kb : NodeKind) (a b : Node) → joins arch strip ka kb a b ≡ true → may_lead ka kb ≡ true
-led_kind arch strip Source Opin a b h = refl
-led_kind arch strip Opin ChanX a b h = refl
-led_kind arch strip Opin ChanY a b h = refl
-led_kind arch strip Ipin Sink a b h = refl
-led_kind arch strip ChanX Ipin a b h = refl
-led_kind arch strip ChanX ChanX a b h = refl
-led_kind arch strip ChanX ChanY a b h = refl
-led_kind arch strip ChanY Ipin a b h = refl
-led_kind arch strip ChanY ChanX a b h = refl
-led_kind arch strip ChanY ChanY a b h = refl
-led_kind arch strip _ _ a b h = absurd (false≢true h)
-
 -- a node to which an edge leads can be reached
 reached : (nodes : Numbering) (a b : Node) → leads nodes a b ≡ true → may_reach a b.kind b.x ≡ true
-reached nodes a b led =
-    let is = leads_reached nodes a b led in
-    and_from (may_lead a.kind b.kind) (nat_le (a.x - columns_right b.kind a.kind) b.x && nat_le (b.x - columns_right a.kind b.kind) a.x)
-    (led_kind nodes.arch nodes.strip a.kind b.kind a b led)
-    (and_from (nat_le (a.x - columns_right b.kind a.kind) b.x) (nat_le (b.x - columns_right a.kind b.kind) a.x)
-    (le-leb (a.x - columns_right b.kind a.kind) b.x (omega (arith, is.left))) (le-leb (b.x - columns_right a.kind b.kind) a.x (omega (arith, is.right))))
+reached nodes a b led = grind (arith, leads_reached, le-leb)
 
 pub kind_none : (nodes : Numbering) (a : Node) (row : List ℕ) (x : ℕ) (kind : NodeKind) → IsNumbering nodes → may_reach a kind x ≡ false →
     IsRowAt nodes a row x (rank_of kind * 65536) → IsRowAt nodes a row x ((rank_of kind + 1) * 65536)

@@ -31,6 +31,7 @@ mod resource;
 mod table;
 mod targets;
 
+pub use column::rank_of;
 pub use fabric::Fabric;
 pub use graph::{EdgeEnds, Numbers, StripGraph, one_graph};
 pub use joins::{is_together, meets, sides_at};

@@ -1,8 +1,7 @@
 //! Searches for the ends of a node's edges only where they can be: in the node's own column and
 //! row, and in the next ones.
 ghost use Rattle.std.specs.Prelude.{◌≡◌, ◌+◌, ◌-◌, ◌*◌, ◌<◌, ◌≤◌, OnOk, []};
-ghost use Rattle.grid.specs.declared.TheConstants.{MAX_COLUMNS};
-ghost use Rattle.arch_file.specs.Arch.{IsWithin};
+ghost use Rattle.rr_graph.specs.Prelude.{MAX_COLUMNS, IsWithin};
 ghost use Rattle.rr_graph.specs.Node.{rank_of};
 ghost use Rattle.rr_graph.specs.Numbering.{column_count};
 ghost use Rattle.rr_graph.specs.Table.{HasSmallNumbers, AreWires, IsSpan, may_lead, may_reach, rows_above, columns_right, IsRowBelow, IsRowAt};

@@ -1,23 +1,5 @@
 -- What comes before the first session's line, in a script that has no line by hand.
-use Rattle.std.proofs.Common.{◌≡◌, ℕ, List, [], ◌∷◌, ◌++◌, false, Option, Some, None, refl, sym, ap, ◌∙◌, subst}
-use Rattle.std.proofs.lemmas.Grind.{flat_map-append}
-use Rattle.service_core.specs.History.{History}
-use Rattle.service_core.specs.OwnEvents.{own_exchange, own_exchanges}
-use Rattle.service_core.specs.Run.{Call, Run}
-use Rattle.service_core.specs.Service.{live_of}
-use Rattle.sessions.proofs.StepLemmas.{Run-append}
-use Rattle.script_text.specs.declared.act.Act.{Act}
-use Rattle.script_text.specs.declared.act.Act.TheVariants.{Operator, Session}
-use Rattle.script_text.specs.declared.operator_line.OperatorLine.{OperatorLine}
-use Rattle.script_text.specs.declared.operator_line.OperatorLine.TheVariants.{Admit, Evict, Move, List as ListAll, Owners, Step, Take, Put}
-use Rattle.script_text.specs.Threaded.{is_by_hand}
-use Rattle.operator.specs.OperatorText.{last_id}
-use Rattle.operator.specs.Serving.{IsAdmission, IsServed, Stage}
-use Rattle.operator.proofs.Served.{served_runs}
-use Rattle.workers_law.specs.SameScript.{items_by}
-use Rattle.fpgad_run.specs.Run.{IsAnswered, Telling, Tells}
-use Rattle.same_answers.specs.InOrder.{AreRepliedTo, IsRepliedTo, acts_of, answer_for, answers_for}
-use Rattle.same_answers.specs.SameAnswers.{stage_at_session, from_session, if_session}
+use Rattle.same_answers.proofs.Prelude.{◌≡◌, ℕ, List, [], ◌∷◌, ◌++◌, false, Option, refl, sym, ap, ◌∙◌, subst, arith, flat_map-append, History, own_exchange, own_exchanges, Call, Run, Run-append, Act, Operator, Session, OperatorLine, is_by_hand, IsAdmission, IsServed, Stage, served_runs, items_by, IsAnswered, Telling, Tells, AreRepliedTo, IsRepliedTo, acts_of, answer_for, answers_for, stage_at_session, from_session, if_session}
 use Rattle.same_answers.proofs.ByHand.{AreNotByHand, IsNotByHand}
 
 -- the calls are no events of any tenancy
@@ -28,18 +10,10 @@ no_events : (calls these : List Call) → calls ≡ these → AreNoEvents these 
 no_events calls these is none = subst AreNoEvents (sym is) none
 
 admission : (o : Option History) (old mid : Stage) (name : List ℕ) (width : ℕ) (calls : List Call) (text : List ℕ) → IsAdmission o old name width calls text mid → AreNoEvents calls × (mid.graph ≡ old.graph)
-admission (Some h) old mid name width calls text is = (no_events calls [] is.0 (λ id. refl), ap (λ (s : Stage). s.graph) is.2)
-admission None old mid name width calls text is = (no_events calls _ is.4 (λ id. refl), is.6)
+admission o old mid name width calls text is = grind arith
 
 quiet_line : (old : Stage) (line : OperatorLine (List ℕ)) (calls : List Call) (text : List ℕ) (mid : Stage) → is_by_hand line ≡ false → IsServed old line calls text mid → AreNoEvents calls × (mid.graph ≡ old.graph)
-quiet_line old (Admit name width) calls text mid none is = admission (live_of old.service.histories (last_id old.names name)) old mid name width calls text is
-quiet_line old (Evict name) calls text mid none is = (no_events calls _ is.4 (λ id. refl), is.6)
-quiet_line old (Move name offset) calls text mid none is = (no_events calls _ is.4 (λ id. refl), is.6)
-quiet_line old (Step name count) calls text mid none is = cc
-quiet_line old (Take name) calls text mid none is = cc
-quiet_line old (Put number) calls text mid none is = cc
-quiet_line old ListAll calls text mid none is = (no_events calls [] is.0 (λ id. refl), ap (λ (s : Stage). s.graph) is.2)
-quiet_line old Owners calls text mid none is = (no_events calls _ is.2 (λ id. refl), ap (λ (s : Stage). s.graph) is.4)
+quiet_line old line calls text mid none is = grind arith
 
 -- what was called before, and the tellings that are left
 pub record Begun (name : List ℕ) (old stage new : Stage) (acts : List (Act (List ℕ))) (text : List ℕ) (Replied : Type 0) : Type 0 where

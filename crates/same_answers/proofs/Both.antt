@@ -1,40 +1,5 @@
 -- One script, without workers and with them.
-use Rattle.std.proofs.Common.{◌≡◌, ℕ, List, [], ◌∷◌, Bool, true, false, Option, Some, Result, Ok, Err, refl, sym, ap, ◌∙◌, subst}
-use Rattle.std.specs.Prelude.{All, is_some, map, if◌then◌else◌}
-use Rattle.std.specs.Str.{bytes_eq}
-use Rattle.std.proofs.lemmas.Slice.Eq.{bytes_eq-Decides}
-use Rattle.std.proofs.lemmas.List.Elements.{All-head, All-tail}
-use Rattle.arch_file.specs.Arch.{arch_of}
-use Rattle.arch_file.specs.declared.arch.Arch.{Arch}
-use Rattle.arch_file.specs.declared.fault.ArchFault.{ArchFault}
-use Rattle.line_text.specs.Lines.{physical_lines}
-use Rattle.tenant_slot.specs.declared.event.Event.{Event}
-use Rattle.tenant_slot.specs.declared.reply.Reply.{Reply}
-use Rattle.tenant_slot.specs.SingleUser.{State, start}
-use Rattle.service_core.specs.declared.device.Device.{Device}
-use Rattle.service_core.specs.OwnEvents.{own_events}
-use Rattle.service_core.specs.Service.{ServiceState, empty_service, live_of, live_width, strip_on}
-use Rattle.service_core.proofs.Effects.{run_device}
-use Rattle.sessions.specs.Fitting.{own_graph}
-use Rattle.sessions.specs.Items.{items_of}
-use Rattle.script_text.specs.declared.act.Act.{Act}
-use Rattle.script_text.specs.Replies.{section_of}
-use Rattle.script_text.specs.Script.{acts_from}
-use Rattle.script_text.specs.Threaded.{Parts, nothing_said}
-use Rattle.script_text.specs.Threaded.Within.{Head, Script}
-use Rattle.operator.specs.OperatorText.{last_id}
-use Rattle.operator.specs.Serving.{HasOwnGraph, Stage}
-use Rattle.script_threads.specs.Served.{Conversation, told_in}
-use Rattle.workers_law.specs.SameScript.{IsReadTheSame, IsSameScript, input_of, items_by}
-use Rattle.workers_law.specs.Waited.{waits_for_each, waited_text}
-use Rattle.workers_law.specs.Workers.{HasWaitedText, Waits}
-use Rattle.fpgad_run.specs.declared.inputs.Architecture.{Architecture}
-use Rattle.fpgad_run.specs.declared.inputs.Architecture.TheVariants.{InScript, Text, Unreadable}
-use Rattle.fpgad_run.specs.OnThreads.{said_in, threaded_start_of}
-use Rattle.fpgad_run.specs.Program.{checked_start, device_of, start_of}
-use Rattle.fpgad_run.specs.Run.{sections_after}
-use Rattle.same_answers.specs.InOrder.{AreLeftAlone, HasTextInOrder, acts_of, answers_for}
-use Rattle.same_answers.specs.SameAnswers.{HasSameAnswers, HasStrip, IsRepliedIn, stage_at_session, from_session, text_of}
+use Rattle.same_answers.proofs.Prelude.{◌≡◌, ℕ, List, [], ◌∷◌, Bool, true, false, Option, Some, Result, Ok, Err, refl, sym, ap, ◌∙◌, subst, arith, All, is_some, map, bytes_eq-Decides, All-head, All-tail, Arch, ArchFault, physical_lines, Event, Reply, State, start, Device, own_events, ServiceState, empty_service, live_of, live_width, strip_on, run_device, own_graph, items_of, Act, section_of, acts_from, Parts, nothing_said, Head, Script, last_id, HasOwnGraph, Stage, Conversation, told_in, IsReadTheSame, IsSameScript, input_of, items_by, waits_for_each, waited_text, HasWaitedText, Waits, Architecture, said_in, threaded_start_of, checked_start, device_of, start_of, sections_after, AreLeftAlone, HasTextInOrder, acts_of, answers_for, HasSameAnswers, HasStrip, IsRepliedIn, stage_at_session, from_session, text_of}
 use Rattle.same_answers.proofs.Beginning.{has_begun, same_items}
 use Rattle.same_answers.proofs.ByHand.{AreNotByHand, not_by_hand}
 use Rattle.same_answers.proofs.Sections.{section_is}
@@ -68,9 +33,7 @@ are_read read_the_same (Ok own) head text arch other_arch acts parts (Ok said) i
     by_head false are hears same = from false are same (not_by_hand 1 Script nothing_said (physical_lines text) parts hears acts are) (read_the_same 1 text false parts hears)
 
 starts : IsReadTheSame → (tracks : ℕ) (architecture : Architecture) (input : List ℕ) (arch other_arch : Arch) (acts : List (Act (List ℕ))) (parts : Parts) → start_of tracks architecture input ≡ Ok (arch, acts) → threaded_start_of tracks architecture input ≡ Ok (other_arch, parts) → AreRead arch other_arch acts parts
-starts read_the_same tracks InScript input arch other_arch acts parts one other = are_read read_the_same _ true input arch other_arch acts parts _ refl _ refl one other
-starts read_the_same tracks (Text text) input arch other_arch acts parts one other = are_read read_the_same (arch_of text.now tracks) false input arch other_arch acts parts _ refl _ refl one other
-starts read_the_same tracks Unreadable input arch other_arch acts parts one other = cc
+starts read_the_same tracks architecture input arch other_arch acts parts one other = search (are_read, arith)
 
 -- the name's conversation
 abbrev HasText : (names : List (List ℕ)) → ServiceState → (ℕ → State) → Conversation → Type 0
@@ -82,18 +45,7 @@ IsNamed names service c = (c.id ≡ last_id names c.said.name) × (is_some c.tol
 conversation : (name : List ℕ) (width : ℕ) (names : List (List ℕ)) (service : ServiceState) (begin : ℕ → State) (cs : List Conversation) → All (HasText names service begin) cs → All (IsNamed names service) cs → All (IsRepliedIn name) cs → HasStrip name width names service →
     waits_for_each false (items_of (input_of name (map (λ c. c.said) cs))) ≡ true → text_of name (map told_in cs) ≡ waited_text (begin width) (items_of (input_of name (map (λ c. c.said) cs)))
 conversation name width names service begin [] texts named replied strip waits = refl
-conversation name width names service begin (c ∷ cs) texts named replied strip waits = by_test (bytes_eq name c.said.name) refl waits (conversation name width names service begin cs (All-tail (HasText names service begin) c cs texts) (All-tail (IsNamed names service) c cs named) (All-tail (IsRepliedIn name) c cs replied) strip)
-  where
-    rest : List ℕ
-    rest = input_of name (map (λ (c : Conversation). c.said) cs)
-
-    by_test : (b : Bool) → bytes_eq name c.said.name ≡ b → waits_for_each false (items_of (if b then c.said.input else rest)) ≡ true → (waits_for_each false (items_of rest) ≡ true → text_of name (map told_in cs) ≡ waited_text (begin width) (items_of rest)) →
-        (if b then (told_in c).text else text_of name (map told_in cs)) ≡ waited_text (begin width) (items_of (if b then c.said.input else rest))
-    by_test true e mine others =
-        let same : name ≡ c.said.name = (bytes_eq-Decides name c.said.name).0 e in
-        let id : c.id ≡ last_id names name = (All-head (IsNamed names service) c cs named).0 ∙ ap (last_id names) (sym same) in
-        All-head (HasText names service begin) c cs texts width (ap (live_width service.histories) id ∙ strip) (record { for_each = mine; replies = All-head (IsRepliedIn name) c cs replied e })
-    by_test false e mine others = others mine
+conversation name width names service begin (c ∷ cs) texts named replied strip waits = grind (arith, bytes_eq-Decides, All-head, conversation name width names service begin cs (All-tail (HasText names service begin) c cs texts) (All-tail (IsNamed names service) c cs named) (All-tail (IsRepliedIn name) c cs replied) strip)
 
 -- the two runs
 pub both_same : HasTextInOrder → HasWaitedText → IsReadTheSame → HasSameAnswers

@@ -1,12 +1,6 @@
 -- Examples that are computed.
-use Rattle.std.proofs.Common.{◌≡◌, ℕ, List, [], ◌∷◌, false, inl, inr, refl}
-use Rattle.std.specs.Str.{bytes_eq}
-use Rattle.tenant_slot.specs.declared.command.Command.TheVariants.{Pack}
-use Rattle.sessions.specs.declared.line.SessionLine.TheVariants.{Command, Wait}
-use Rattle.script_text.specs.declared.act.Act.TheVariants.{Operator, Session}
-use Rattle.script_text.specs.declared.operator_line.OperatorLine.TheVariants.{Admit, Evict, Move, List as ListAll}
-use Rattle.same_answers.specs.InOrder.{AreLeftAlone}
-use Rattle.same_answers.specs.SameAnswers.{from_session, text_of}
+use Rattle.same_answers.proofs.Prelude.{◌≡◌, ℕ, List, [], ◌∷◌, false, inl, inr, refl, bytes_eq, Pack, Command, Wait, Operator, Session, Admit, Evict, Move, AreLeftAlone, from_session, text_of}
+use Rattle.script_text.specs.declared.operator_line.OperatorLine.TheVariants.{List as ListAll}
 
 abbrev a : List ℕ
 a = 97 ∷ []

@@ -1,3 +1,4 @@
+mod Prelude
 mod Beginning
 mod Both
 mod ByHand

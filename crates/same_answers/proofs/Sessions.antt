@@ -1,39 +1,8 @@
 -- What a script's run without workers answers to one session, as that session's turns.
-use Rattle.std.proofs.Common.{◌≡◌, ◌≢◌, ℕ, List, [], ◌∷◌, ◌++◌, Bool, true, false, Option, Some, None, Result, Ok, Err, inl, inr, refl, sym, ap, ◌∙◌, subst}
-use Rattle.std.specs.Prelude.{if◌then◌else◌, option_map}
-use Rattle.std.specs.Str.{bytes_eq}
-use Rattle.std.proofs.lemmas.Slice.Eq.{bytes_eq-Decides}
-use Rattle.tenant_slot.specs.SingleUser.{start}
-use Rattle.service_core.specs.declared.op_refusal.OpRefusal.{OpRefusal}
-use Rattle.service_core.specs.History.{History}
-use Rattle.service_core.specs.Run.{Call, Happens, Run}
-use Rattle.service_core.specs.Service.{ServiceState, live_of, live_width, strip_on}
-use Rattle.service_core.proofs.Effects.{run_device}
-use Rattle.service_core.proofs.Lists.{history_of-zero}
-use Rattle.sessions.specs.declared.line.SessionLine.{SessionLine}
-use Rattle.sessions.specs.declared.line.SessionLine.TheVariants.{Blank, Command, Wait, Refused}
-use Rattle.sessions.specs.declared.told.Answer.{Answer}
-use Rattle.sessions.specs.Fitting.{own_graph}
-use Rattle.sessions.specs.Items.{with_item}
-use Rattle.sessions.specs.SessionAnswer.{Asks, LeavesNone}
-use Rattle.sessions.specs.SessionText.{answer_text}
-use Rattle.sessions.specs.WholeSession.{Turn, Item, Meanwhile, text_of_turns}
-use Rattle.script_text.specs.declared.act.Act.{Act}
-use Rattle.script_text.specs.declared.act.Act.TheVariants.{Operator, Session}
-use Rattle.script_text.specs.declared.operator_line.OperatorLine.{OperatorLine}
-use Rattle.script_text.specs.declared.operator_line.OperatorLine.TheVariants.{Admit, Evict, Move, List as ListAll, Owners, Step, Take, Put}
-use Rattle.operator.specs.HeldJobs.{job_at}
-use Rattle.operator.specs.OperatorText.{last_id, names_after}
-use Rattle.operator.specs.Serving.{HasOwnGraph, IsAdmission, IsServed, Stage}
-use Rattle.operator.proofs.Served.{served_runs}
-use Rattle.operator.proofs.Stepping.{steady_asks}
-use Rattle.workers_law.specs.SameScript.{items_by}
-use Rattle.workers_law.specs.Waited.{IsReply, waits_for_each, waited_text}
-use Rattle.workers_law.specs.Workers.{AreReplied, HasSameText, OwnTurns, items_in}
-use Rattle.fpgad_run.specs.Run.{IsAnswered, Telling, Tells}
-use Rattle.same_answers.specs.InOrder.{AreLeftAlone, AreRepliedTo, HasTextInOrder, IsLeftAlone, IsRepliedTo, acts_of, answer_for, answers_for}
+use Rattle.same_answers.proofs.Prelude.{◌≡◌, ◌≢◌, ℕ, List, [], ◌∷◌, ◌++◌, Bool, true, false, Option, None, Result, inl, inr, refl, sym, ap, ◌∙◌, subst, arith, if◌then◌else◌, bytes_eq, bytes_eq-Decides, start, OpRefusal, History, Call, Happens, Run, ServiceState, live_of, strip_on, run_device, history_of-zero, SessionLine, Blank, Command, Wait, Refused, Answer, own_graph, with_item, Asks, LeavesNone, answer_text, Turn, Item, Meanwhile, text_of_turns, Act, Operator, Session, OperatorLine, Admit, Evict, Move, Owners, Step, Take, Put, job_at, last_id, names_after, HasOwnGraph, IsAdmission, IsServed, Stage, served_runs, steady_asks, items_by, IsReply, waits_for_each, waited_text, AreReplied, HasSameText, OwnTurns, items_in, IsAnswered, Telling, Tells, AreLeftAlone, AreRepliedTo, HasTextInOrder, IsLeftAlone, IsRepliedTo, acts_of, answer_for, answers_for}
+use Rattle.script_text.specs.declared.operator_line.OperatorLine.TheVariants.{List as ListAll}
 use Rattle.same_answers.proofs.Elsewhere.{AreElsewhere, Elsewhere, elsewhere_sparing, holding, line_elsewhere, of_others, older_id, other_id, putting, to_elsewhere, tried_steps}
-use Rattle.same_answers.proofs.Widths.{HasWidth, after_calls, steady_sparing, width_in}
+use Rattle.same_answers.proofs.Widths.{HasWidth, after_calls, steady_sparing}
 
 -- the turns of a session of that tenancy, with these items and this text
 pub record IsSession (id : ℕ) (old : ServiceState) (items : List SessionLine) (text : List ℕ) : Type 0 where
@@ -81,10 +50,7 @@ one_item id old mid line calls answer text more items asks run leaves told reply
 
 own_line : (id : ℕ) (old mid : ServiceState) (line : SessionLine) (calls : List Call) (answer : Answer) (text more : List ℕ) (items : List SessionLine) → Asks id line calls answer → Run old calls mid → LeavesNone id line calls answer mid →
     text ≡ answer_text answer → IsReply text → IsSession id mid items more → IsSession id old (with_item line items) (text ++ more)
-own_line id old mid Blank calls answer text more items asks run leaves told reply s =
-    let same : mid ≡ old = (let P : List Call → Type 0 = λ cs. Run old cs mid in subst P asks.0 run) in
-    let none : text ≡ [] = told ∙ ap answer_text asks.1 in
-    from id old mid items (text ++ more) same (subst (IsSession id mid items) (ap (λ t. t ++ more) (sym none)) s)
+own_line id old mid Blank calls answer text more items asks run leaves told reply s = grind arith
 own_line id old mid (Refused refusal) calls answer text more items asks run leaves told reply s = one_item id old mid (Refused refusal) calls answer text more items asks run leaves told reply s
 own_line id old mid (Command command) calls answer text more items asks run leaves told reply s = one_item id old mid (Command command) calls answer text more items asks run leaves told reply s
 own_line id old mid Wait calls answer text more items asks run leaves told reply s = one_item id old mid Wait calls answer text more items asks run leaves told reply s
@@ -97,11 +63,7 @@ pub record IsOn (id width : ℕ) (name : List ℕ) (stage : Stage) : Type 0 wher
 
 -- an id with a tenancy isn't 0
 never_zero : (id width : ℕ) (state : ServiceState) → HasWidth id width state → id ≢ 0
-never_zero id width state has is =
-    let none : live_width state.histories 0 ≡ None = ap width_in (history_of-zero state.histories) in
-    let some : live_width state.histories 0 ≡ Some width = ap (live_width state.histories) (sym is) ∙ has in
-    let never : None ≡ Some width = sym none ∙ some in
-    cc
+never_zero id width state has is = grind (arith, history_of-zero)
 
 -- calls after which it is still there
 record Serves (id : ℕ) (name : List ℕ) (old mid : Stage) (calls : List Call) : Type 0 where
@@ -113,36 +75,21 @@ same_names : (name : List ℕ) (old mid : Stage) → mid.names ≡ old.names →
 same_names name old mid same = ap (λ names. last_id names name) same
 
 newer_names : (name other : List ℕ) (names : List (List ℕ)) (answer : Result (ℕ × ℕ) OpRefusal) → bytes_eq name other ≡ false → last_id (names_after names other answer) name ≡ last_id names name
-newer_names name other names (Ok given) differ = older_id names name other differ
-newer_names name other names (Err refusal) differ = refl
+newer_names name other names answer differ = grind (arith, older_id)
 
 other_admitted : (id : ℕ) (name other : List ℕ) (o : Option History) (old mid : Stage) (width : ℕ) (calls : List Call) (text : List ℕ) → bytes_eq name other ≡ false → IsAdmission o old other width calls text mid → Serves id name old mid calls
-other_admitted id name other (Some h) old mid width calls text differ is = record { are = to_elsewhere id calls [] is.0 tt; names = same_names name old mid (ap (λ (s : Stage). s.names) is.2); graph = ap (λ (s : Stage). s.graph) is.2 }
-other_admitted id name other None old mid width calls text differ is =
-    record { are = to_elsewhere id calls _ is.4 (tt, tt); names = ap (λ names. last_id names name) is.2 ∙ newer_names name other old.names is.0 differ; graph = is.6 }
+other_admitted id name other o old mid width calls text differ is = grind (arith, newer_names)
 
 -- a name that is in use isn't admitted
 own_admitted : (id : ℕ) (name other : List ℕ) (o : Option History) (old mid : Stage) (width : ℕ) (calls : List Call) (text : List ℕ) → (o ≡ None → ⊥) → IsAdmission o old other width calls text mid → Serves id name old mid calls
-own_admitted id name other (Some h) old mid width calls text some is = record { are = to_elsewhere id calls [] is.0 tt; names = same_names name old mid (ap (λ (s : Stage). s.names) is.2); graph = ap (λ (s : Stage). s.graph) is.2 }
-own_admitted id name other None old mid width calls text some is = absurd (some refl)
+own_admitted id name other o old mid width calls text some is = grind arith
 
 is_there : (id width : ℕ) (state : ServiceState) → HasWidth id width state → live_of state.histories id ≡ None → ⊥
-is_there id width state has none =
-    let never : None ≡ Some width = sym (ap (λ (o : Option History). option_map (λ (h : History). h.strip.width) o) none) ∙ has in
-    cc
+is_there id width state has none = grind arith
 
 served_line : (id width : ℕ) (name : List ℕ) (old : Stage) (line : OperatorLine (List ℕ)) (calls : List Call) (text : List ℕ) (mid : Stage) → IsOn id width name old → IsLeftAlone name (Operator line) → IsServed old line calls text mid → Serves id name old mid calls
-served_line id width name old (Admit other w) calls text mid on left is = by_test (bytes_eq name other) refl
-  where
-    by_test : (b : Bool) → bytes_eq name other ≡ b → Serves id name old mid calls
-    by_test true e =
-        let one : name ≡ other = (bytes_eq-Decides name other).0 e in
-        let own : last_id old.names other ≡ id = ap (last_id old.names) (sym one) ∙ on.id_is in
-        own_admitted id name other (live_of old.service.histories (last_id old.names other)) old mid w calls text (λ none. is_there id width old.service on.width_is (ap (live_of old.service.histories) (sym own) ∙ none)) is
-    by_test false e = other_admitted id name other (live_of old.service.histories (last_id old.names other)) old mid w calls text e is
-served_line id width name old (Evict other) calls text mid on left is =
-    let apart = other_id old.names name other id on.id_is (never_zero id width old.service on.width_is) left in
-    record { are = to_elsewhere id calls _ is.4 (apart, tt); names = same_names name old mid is.2; graph = is.6 }
+served_line id width name old (Admit other w) calls text mid on left is = grind (arith, bytes_eq-Decides, own_admitted, is_there, other_admitted)
+served_line id width name old (Evict other) calls text mid on left is = search (other_id, never_zero, to_elsewhere, same_names, arith)
 served_line id width name old (Move other offset) calls text mid on left is = record { are = to_elsewhere id calls _ is.4 (tt, tt); names = same_names name old mid is.2; graph = is.6 }
 served_line id width name old (Step other count) calls text mid on left is =
     let apart = other_id old.names name other id on.id_is (never_zero id width old.service on.width_is) left in
@@ -198,18 +145,7 @@ after_act id width name old mid (Session other line) calls text on left reply is
 
 -- a session without items is answered nothing
 no_answer : (name : List ℕ) (old mid : Stage) (act : Act (List ℕ)) (calls : List Call) (text : List ℕ) (acts : List (Act (List ℕ))) → IsAnswered old act calls text mid → items_by name (act ∷ acts) ≡ [] → (answer_for name act text ≡ []) × (items_by name acts ≡ [])
-no_answer name old mid (Operator line) calls text acts is none = (refl, none)
-no_answer name old mid (Session other line) calls text acts is none = by_test (bytes_eq name other) none
-  where
-    by_line : (l : SessionLine) → Asks (last_id old.names other) l calls is.0 → with_item l (items_by name acts) ≡ [] → (text ≡ []) × (items_by name acts ≡ [])
-    by_line Blank asks none = (is.5 ∙ ap answer_text asks.1, none)
-    by_line (Refused refusal) asks none = cc
-    by_line (Command command) asks none = cc
-    by_line Wait asks none = cc
-
-    by_test : (b : Bool) → (if b then with_item line (items_by name acts) else items_by name acts) ≡ [] → ((if b then text else []) ≡ []) × (items_by name acts ≡ [])
-    by_test true none = by_line line is.1 none
-    by_test false none = (refl, none)
+no_answer name old mid act calls text acts is none = grind arith
 
 no_answers : (name : List ℕ) (old : Stage) (tellings : List Telling) (new : Stage) → Tells old tellings new → items_by name (acts_of tellings) ≡ [] → answers_for name tellings ≡ []
 no_answers name old [] new tells none = refl

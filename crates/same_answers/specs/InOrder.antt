@@ -1,19 +1,7 @@
 -- Without workers, what a session is answered that waits for each of its jobs.
 use Rattle.std.specs.Prelude.{ℕ, ◌≡◌, ◌⊎◌, ⊤, false, true, List, [], ◌∷◌, ◌++◌, map, Some, if◌then◌else◌}
 use Rattle.std.specs.Str.{bytes_eq}
-use Rattle.tenant_slot.specs.SingleUser.{start}
-use Rattle.service_core.specs.declared.device.Device.{Device}
-use Rattle.service_core.specs.OwnEvents.{own_events}
-use Rattle.service_core.specs.Run.{Call, Run}
-use Rattle.service_core.specs.Service.{empty_service, live_width, strip_on}
-use Rattle.script_text.specs.declared.act.Act.{Act}
-use Rattle.script_text.specs.declared.act.Act.TheVariants.{Operator, Session}
-use Rattle.script_text.specs.declared.operator_line.OperatorLine.TheVariants.{Evict, Step, Take}
-use Rattle.operator.specs.OperatorText.{last_id}
-use Rattle.operator.specs.Serving.{HasOwnGraph, Stage}
-use Rattle.workers_law.specs.SameScript.{items_by}
-use Rattle.workers_law.specs.Waited.{IsReply, waits_for_each, waited_text}
-use Rattle.fpgad_run.specs.Run.{Telling, Tells}
+use Rattle.same_answers.specs.Prelude.{start, Device, own_events, Call, Run, empty_service, live_width, strip_on, Act, Operator, Session, Evict, Step, Take, last_id, HasOwnGraph, Stage, items_by, IsReply, waits_for_each, waited_text, Telling, Tells}
 
 -- the act doesn't evict the name's tenancy, and steps or takes no job of it by hand
 abbrev pub IsLeftAlone : List ℕ → Act (List ℕ) → Type 0

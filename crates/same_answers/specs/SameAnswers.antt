@@ -1,23 +1,7 @@
 -- More workers never change what a session is answered that waits for each of its jobs.
 use Rattle.std.specs.Prelude.{ℕ, ◌≡◌, false, true, List, [], ◌∷◌, map, All, IfSome, Some, if◌then◌else◌}
 use Rattle.std.specs.Str.{bytes_eq}
-use Rattle.tenant_slot.specs.SingleUser.{start}
-use Rattle.service_core.specs.Service.{ServiceState, empty_service, live_width, strip_on}
-use Rattle.sessions.specs.Fitting.{own_graph}
-use Rattle.session_threads.specs.Told.{told_text}
-use Rattle.script_text.specs.declared.act.Act.{Act}
-use Rattle.script_text.specs.declared.act.Act.TheVariants.{Operator, Session}
-use Rattle.script_text.specs.Replies.{Section, section_of}
-use Rattle.operator.specs.OperatorText.{last_id}
-use Rattle.operator.specs.Serving.{Stage}
-use Rattle.script_threads.specs.Served.{Conversation}
-use Rattle.workers_law.specs.SameScript.{items_by}
-use Rattle.workers_law.specs.Waited.{IsReply, waits_for_each, waited_text}
-use Rattle.fpgad_run.specs.declared.inputs.Architecture.{Architecture}
-use Rattle.fpgad_run.specs.declared.options.Options.{Options}
-use Rattle.fpgad_run.specs.OnThreads.{AreThreadedReplies, threaded_start_of}
-use Rattle.fpgad_run.specs.Program.{IsReplies, Start, device_of, start_of}
-use Rattle.fpgad_run.specs.Run.{Telling, Tells, sections_after}
+use Rattle.same_answers.specs.Prelude.{start, ServiceState, empty_service, live_width, strip_on, own_graph, told_text, Act, Operator, Session, Section, section_of, last_id, Stage, Conversation, items_by, IsReply, waits_for_each, waited_text, Architecture, Options, AreThreadedReplies, threaded_start_of, IsReplies, Start, device_of, start_of, Telling, Tells, sections_after}
 use Rattle.same_answers.specs.InOrder.{AreLeftAlone, AreRepliedTo}
 
 -- the acts from the first session's line on

@@ -1,27 +1,7 @@
 -- The accounts of names, act by act.
-use Rattle.std.proofs.Common.{ℕ, suc, zero, ◌≡◌, ◌∙◌, ◌+◌, ◌-◌, ◌^◌, ◌<◌, ◌≤◌, Bool, true, false, cond, List, [], ◌∷◌, ◌++◌, length, map, min, set, take, get_or, slice_get, Option, Some, None, sym, subst, refl, ap, arith}
-use Rattle.std.specs.List.{zip}
-use Rattle.std.specs.Str.{bytes_eq}
-use Rattle.std.proofs.lemmas.List.{get_or-map, length-map, map-append, map-set, take_all, take_more}
-use Rattle.std.proofs.lemmas.List.Sums.{fold_push}
-use Rattle.std.proofs.lemmas.Option.{get_or_from_slice_get, slice_get_within}
-use Rattle.std.proofs.lemmas.Slice.Zip.{get_or-zip, length-zip}
+use Rattle.script_replies.proofs.Prelude.{ℕ, suc, zero, ◌≡◌, ◌∙◌, ◌+◌, ◌-◌, ◌^◌, ◌<◌, ◌≤◌, Bool, true, false, cond, List, [], ◌∷◌, ◌++◌, length, map, min, set, take, get_or, slice_get, Option, Some, None, sym, subst, refl, ap, arith, zip, bytes_eq, get_or-map, length-map, map-append, map-set, take_all, take_more, fold_push, get_or_from_slice_get, slice_get_within, get_or-zip, length-zip, number_of, asked_in, AnsweredLine, answered_line, names_of, Answered, AreOnce, names_once, one_updated, named_act, Act, Operator, Session, OperatorLine, Admit, Evict, Move, Owners, Step, Take, Put, AreAccountsWithin, NameAccount, account_after, account_now, account_of, name_in, no_account, operator_name, update_named, updated, FileStates, after_act, after_operator, files_after, files_in, IsWithin, Told, is_refusal, told_of, usage_in, with_act, with_operator, Account, Usage}
 use Rattle.std.specs.Borrow.{Bor}
-use Rattle.line_text.specs.Names.{number_of}
-use Rattle.printed_replies.specs.Printing.{asked_in}
-use Rattle.printed_replies.specs.Replies.{AnsweredLine, answered_line, names_of}
-use Rattle.printed_replies.specs.declared.answered.Answered.{Answered}
-use Rattle.printed_replies.proofs.OnePass.{AreOnce, names_once, one_updated}
-use Rattle.script_text.specs.Script.{named_act}
-use Rattle.script_text.specs.declared.act.Act.{Act}
-use Rattle.script_text.specs.declared.act.Act.TheVariants.{Operator, Session}
-use Rattle.script_text.specs.declared.operator_line.OperatorLine.{OperatorLine}
-use Rattle.script_text.specs.declared.operator_line.OperatorLine.TheVariants.{Admit, Evict, Move, List as ListAll, Owners, Step, Take, Put}
-use Rattle.script_replies.specs.Accounts.{AreAccountsWithin, NameAccount, account_after, account_now, account_of, name_in, no_account, operator_name, update_named, updated}
-use Rattle.script_replies.specs.Present.{FileStates, after_act, after_operator, files_after, files_in}
-use Rattle.script_replies.specs.Usage.{IsWithin, Told, is_refusal, told_of, usage_in, with_act, with_operator}
-use Rattle.script_replies.specs.declared.accounts.Account.{Account}
-use Rattle.script_replies.specs.declared.usage.Usage.{Usage}
+use Rattle.script_text.specs.declared.operator_line.OperatorLine.TheVariants.{List as ListAll}
 use Rattle.script_replies.proofs.Counting.{all_told, counted_next, counted_within, told_at, told_long}
 
 same_either : {X : Type 0} (b : Bool) (x : X) → cond b x x ≡ x

@@ -1,23 +1,6 @@
 -- What a name used, act by act.
-use Rattle.std.proofs.Common.{ℕ, ◌≡◌, ◌+◌, ◌-◌, ◌^◌, ◌<◌, ◌≤◌, ◌∙◌, Bool, true, false, cond, not, ◌&&◌, List, [], ◌∷◌, ◌++◌, length, map, min, take, get_or, Option, Some, None, sym, refl, ap, arith}
-use Rattle.std.specs.List.{cons_option, filter, filter_map, last_or, sum, zip}
-use Rattle.std.specs.Option.{option_map_or}
-use Rattle.std.specs.Prelude.{if◌then◌else◌}
-use Rattle.std.specs.Str.{bytes_eq}
-use Rattle.std.proofs.lemmas.List.{append-nil, get_or-map, length-append, length-map, length-take, map-append, take_all, take_more}
-use Rattle.std.proofs.lemmas.List.Elements.{filter-append, filter_map-append}
-use Rattle.std.proofs.lemmas.List.Sums.{sum_by_push}
-use Rattle.std.proofs.lemmas.Slice.Zip.{get_or-zip, length-zip}
-use Rattle.std.specs.Borrow.{Bor}
-use Rattle.printed_replies.specs.Replies.{AnsweredLine, answered_line}
-use Rattle.printed_replies.specs.declared.answered.Answered.{Answered}
-use Rattle.script_text.specs.Script.{named_act}
-use Rattle.script_text.specs.declared.act.Act.{Act}
-use Rattle.script_text.specs.declared.act.Act.TheVariants.{Operator, Session}
-use Rattle.script_text.specs.declared.operator_line.OperatorLine.{OperatorLine}
-use Rattle.script_text.specs.declared.operator_line.OperatorLine.TheVariants.{Admit, Evict, Move, List as ListAll, Owners, Step, Take, Put}
-use Rattle.script_replies.specs.declared.usage.Usage.{Usage}
-use Rattle.script_replies.specs.Usage.{IsWithin, Told, admitted_columns, begins_job, usage_in, is_job, is_own, is_refusal, last_of, steps_asked, told_of, usage_of, with_act, with_operator}
+use Rattle.script_replies.proofs.Prelude.{ℕ, ◌≡◌, ◌+◌, ◌-◌, ◌^◌, ◌<◌, ◌≤◌, ◌∙◌, Bool, true, false, cond, not, ◌&&◌, List, [], ◌∷◌, ◌++◌, length, map, min, take, get_or, Option, Some, None, refl, ap, arith, cons_option, filter, filter_map, last_or, sum, zip, option_map_or, if◌then◌else◌, bytes_eq, append-nil, get_or-map, length-append, length-map, length-take, map-append, take_all, take_more, filter-append, filter_map-append, sum_by_push, get_or-zip, length-zip, AnsweredLine, Act, Operator, Session, OperatorLine, Admit, Evict, Move, Owners, Step, Take, Put, Usage, IsWithin, Told, admitted_columns, begins_job, usage_in, is_job, is_own, is_refusal, last_of, steps_asked, told_of, usage_of, with_act, with_operator}
+use Rattle.script_text.specs.declared.operator_line.OperatorLine.TheVariants.{List as ListAll}
 
 abbrev make : ℕ → ℕ → ℕ → ℕ → ℕ → Usage
 make columns lines refused jobs steps = record { columns = columns; lines = lines; refused = refused; jobs = jobs; steps = steps }
@@ -162,21 +145,3 @@ pub all_told : (name : List ℕ) (acts : List (Act (List ℕ))) (replies : List 
 all_told name acts replies place many =
     let long : length (told_of acts replies) ≡ min (length acts) (length replies) = told_long acts replies in
     ap (usage_in name) (take_all place (told_of acts replies) (omega arith))
-
--- one more act is counted
-pub counted_step : (name : List ℕ) (acts : List (Act (Bor (List ℕ)))) (lines : List Answered) (place : ℕ) (act : Act (Bor (List ℕ))) (none : Answered) (refused : Bool) (usage result : Usage)
-    → place < length acts → place < length lines → act ≡ get_or acts place act → refused ≡ is_refusal (answered_line (get_or lines place none)).reply
-    → usage ≡ usage_in name (take place (told_of (map named_act acts) (map answered_line lines))) → result ≡ with_act name (named_act act) refused usage
-    → result ≡ usage_in name (take (place + 1) (told_of (map named_act acts) (map answered_line lines)))
-counted_step name acts lines place act none refused usage result in_acts in_lines act_is refused_is usage_is result_is =
-    let many : List (Act (List ℕ)) = map named_act acts in
-    let replies : List AnsweredLine = map answered_line lines in
-    let line : AnsweredLine = answered_line (get_or lines place none) in
-    let one : Told = record { act = named_act act; refused = is_refusal line.reply } in
-    let long_acts : length many ≡ length acts = length-map acts named_act in
-    let long_lines : length replies ≡ length lines = length-map lines answered_line in
-    let long : length (told_of many replies) ≡ min (length many) (length replies) = told_long many replies in
-    let at : get_or (told_of many replies) place one ≡ one =
-    told_at many replies place (named_act act) line (omega arith) (omega arith) (get_or-map named_act acts place act (named_act act) in_acts ∙ ap named_act (sym act_is)) (get_or-map answered_line lines place none line in_lines) in
-    let next = counted_next name (told_of many replies) place one (omega arith) at in
-    result_is ∙ (ap (λ (r : Bool). with_act name (named_act act) r usage) refused_is ∙ (ap (λ (u : Usage). with_act name (named_act act) (is_refusal line.reply) u) usage_is ∙ sym next))

@@ -1,14 +1,6 @@
 -- Examples that are computed.
-use Rattle.std.proofs.Common.{◌≡◌, ℕ, true, false, List, [], ◌∷◌, ◌++◌, codes, Some, None, refl}
-use Rattle.script_text.specs.declared.act.Act.{Act}
-use Rattle.script_text.specs.declared.act.Act.TheVariants.{Operator, Session}
-use Rattle.script_text.specs.declared.operator_line.OperatorLine.TheVariants.{Admit}
-use Rattle.sessions.specs.declared.line.SessionLine.TheVariants.{Command}
+use Rattle.script_replies.proofs.Prelude.{◌≡◌, ℕ, true, false, List, [], ◌∷◌, ◌++◌, codes, Some, None, refl, Act, Operator, Session, Admit, Command, Net, Place, PlaceFile, Withdraw, AnsweredLine, with_reply, asked_of, FileState, FileStates, files_in, no_file}
 use Rattle.tenant_slot.specs.declared.command.Command.{Command as TenantCommand}
-use Rattle.tenant_slot.specs.declared.command.Command.TheVariants.{Net, Place, PlaceFile, Withdraw}
-use Rattle.printed_replies.specs.Replies.{AnsweredLine, with_reply}
-use Rattle.script_replies.specs.Asking.{asked_of}
-use Rattle.script_replies.specs.Present.{FileState, FileStates, files_in, no_file}
 
 abbrev told : Act (List ℕ) → List ℕ → Act (List ℕ) × AnsweredLine
 told act reply = (act, with_reply (asked_of act) reply)

@@ -1,3 +1,4 @@
+mod Prelude
 mod AccountLemmas
 mod Counting
 mod Examples

@@ -1,13 +1,5 @@
 -- The lines of a listing, one after another.
-use Rattle.std.proofs.Common.{ℕ, ◌≡◌, ◌∙◌, ◌+◌, ◌<◌, ◌≤◌, List, [], ◌∷◌, ◌++◌, length, map, min, take, set, get_or, ap, sym, arith, append_assoc}
-use Rattle.std.proofs.lemmas.List.{get_or-map, length-map, map-set, set-get_or, take_all, take_more}
-use Rattle.std.proofs.lemmas.Slice.Zip.{get_or-zip, length-zip}
-use Rattle.std.specs.List.{zip}
-use Rattle.printed_replies.specs.Replies.{AnsweredLine, answered_line}
-use Rattle.printed_replies.specs.declared.answered.Answered.{Answered}
-use Rattle.script_replies.specs.LineReplies.{LineReply, line_replies, line_reply, reply_to}
-use Rattle.script_replies.specs.declared.lines.ScriptLine.{ScriptLine}
-use Rattle.script_replies.specs.declared.listing.ToldLine.{ToldLine}
+use Rattle.script_replies.proofs.Prelude.{ℕ, ◌≡◌, ◌∙◌, ◌+◌, ◌<◌, ◌≤◌, List, [], ◌∷◌, ◌++◌, length, map, min, take, set, get_or, ap, sym, arith, append_assoc, get_or-map, length-map, map-set, set-get_or, take_all, take_more, get_or-zip, length-zip, zip, AnsweredLine, answered_line, Answered, LineReply, line_replies, line_reply, reply_to, ScriptLine, ToldLine}
 
 -- a line is counted once more
 pub told_again : (items : List ToldLine) (place : ℕ) (none again : ToldLine) → place < length items → line_reply again ≡ line_reply (get_or items place none)

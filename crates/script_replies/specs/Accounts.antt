@@ -1,13 +1,7 @@
 -- What the replies to a script say of each name.
 use Rattle.std.specs.Prelude.{ℕ, List, [], map, set, slice_index_or, Option, Some, None}
 use Rattle.std.specs.List.{AllByRecursion}
-use Rattle.line_text.specs.Names.{number_of}
-use Rattle.script_text.specs.declared.act.Act.{Act}
-use Rattle.script_text.specs.declared.act.Act.TheVariants.{Operator, Session}
-use Rattle.script_text.specs.declared.operator_line.OperatorLine.{OperatorLine}
-use Rattle.script_text.specs.declared.operator_line.OperatorLine.TheVariants.{Admit, Evict, Move, List as ListAll, Owners, Step, Take, Put}
-use Rattle.printed_replies.specs.Printing.{asked_in}
-use Rattle.printed_replies.specs.Replies.{AnsweredLine, names_of}
+use Rattle.script_replies.specs.Prelude.{number_of, Act, Operator, Session, OperatorLine, Admit, Evict, Move, List as ListAll, Owners, Step, Take, Put, asked_in, AnsweredLine, names_of}
 use Rattle.script_replies.specs.Present.{FileStates, files_after, files_of, no_files, states_of}
 use Rattle.script_replies.specs.Usage.{IsWithin, is_refusal, usage_of, with_act}
 use Rattle.script_replies.specs.declared.accounts.Account.{Account}

@@ -1,14 +1,7 @@
 -- The replies to the acts of a script, from the printed text.
 use Rattle.std.specs.Prelude.{ℕ, List, map, Some, None}
-use Rattle.script_text.specs.declared.act.Act.{Act}
-use Rattle.script_text.specs.declared.act.Act.TheVariants.{Operator, Session}
-use Rattle.script_text.specs.declared.operator_line.OperatorLine.{OperatorLine}
-use Rattle.script_text.specs.declared.operator_line.OperatorLine.TheVariants.{Admit, Evict, Move, List as ListAll, Owners as OwnersLine, Step, Take, Put}
-use Rattle.sessions.specs.declared.line.SessionLine.{SessionLine}
-use Rattle.sessions.specs.declared.line.SessionLine.TheVariants.{Blank}
-use Rattle.printed_replies.specs.declared.asked.ReplyForm.{ReplyForm}
-use Rattle.printed_replies.specs.declared.asked.ReplyForm.TheVariants.{Silence, Line, Session as SessionReply, Admission, Eviction, Lines, Tenancies, Owners}
-use Rattle.printed_replies.specs.Replies.{AnsweredLine, AskedLine, Reading, replies_in as printed_replies_in}
+use Rattle.script_replies.specs.Prelude.{Act, Operator, Session, OperatorLine, Admit, Evict, Move, List as ListAll, Owners as OwnersLine, Step, Take, Put, SessionLine, Blank, ReplyForm, Silence, Line, Admission, Eviction, Lines, Tenancies, AnsweredLine, AskedLine, Reading, replies_in as printed_replies_in}
+use Rattle.printed_replies.specs.declared.asked.ReplyForm.TheVariants.{Session as SessionReply, Owners}
 
 -- the form of the reply to a line of the operator
 abbrev pub operator_form : OperatorLine (List ℕ) → ReplyForm

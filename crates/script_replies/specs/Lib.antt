@@ -1,3 +1,4 @@
+pub mod Prelude
 pub mod Accounts
 pub mod Asking
 pub mod LineReplies

@@ -1,8 +1,7 @@
 -- A script's lines, each with the first line of its reply.
 use Rattle.std.specs.Prelude.{ℕ, List, [], ◌∷◌, map, Option, Some, None, option_map}
 use Rattle.std.specs.List.{zip}
-use Rattle.line_text.specs.Physical.{first_line}
-use Rattle.printed_replies.specs.Replies.{AnsweredLine}
+use Rattle.script_replies.specs.Prelude.{first_line, AnsweredLine}
 use Rattle.script_replies.specs.declared.lines.ScriptLine.{ScriptLine}
 use Rattle.script_replies.specs.declared.listing.ToldLine.{ToldLine}
 

@@ -3,16 +3,8 @@ use Rattle.std.specs.Prelude.{ℕ, Bool, false, ◌||◌, List, fold, codes, is_
 use Rattle.std.specs.List.{zip}
 use Rattle.std.specs.Option.{option_map_or}
 use Rattle.std.specs.Str.{bytes_eq}
-use Rattle.script_text.specs.declared.act.Act.{Act}
-use Rattle.script_text.specs.declared.act.Act.TheVariants.{Operator, Session}
-use Rattle.script_text.specs.declared.operator_line.OperatorLine.{OperatorLine}
-use Rattle.script_text.specs.declared.operator_line.OperatorLine.TheVariants.{Admit, Evict}
-use Rattle.sessions.specs.declared.line.SessionLine.{SessionLine}
-use Rattle.sessions.specs.declared.line.SessionLine.TheVariants.{Command}
+use Rattle.script_replies.specs.Prelude.{Act, Operator, Session, OperatorLine, Admit, Evict, SessionLine, Command, Upload, Change, Pack, Place, Route, Cancel, Withdraw, Status, Net, PlaceFile, RouteFile, file_in, AnsweredLine}
 use Rattle.tenant_slot.specs.declared.command.Command.{Command as TenantCommand}
-use Rattle.tenant_slot.specs.declared.command.Command.TheVariants.{Upload, Change, Pack, Place, Route, Cancel, Withdraw, Status, Net, PlaceFile, RouteFile}
-use Rattle.printed_replies.specs.Files.{file_in}
-use Rattle.printed_replies.specs.Replies.{AnsweredLine}
 use Rattle.script_replies.specs.Usage.{is_refusal}
 use Rattle.script_replies.specs.declared.present.NameFiles.{NameFiles}
 use Rattle.script_replies.specs.declared.present.PrintedFile.{PrintedFile}

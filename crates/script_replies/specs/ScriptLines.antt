@@ -1,12 +1,8 @@
 -- The lines of a script that are no comment, not empty and not in a text.
 use Rattle.std.specs.Prelude.{ℕ, ◌+◌, ◌==◌, ◌&&◌, Bool, true, false, not, List, [], ◌∷◌, if◌then◌else◌}
 use Rattle.std.specs.List.{after_first, before_first}
-use Rattle.line_text.specs.Lines.{physical_lines}
-use Rattle.line_text.specs.Words.{is_blank}
+use Rattle.script_replies.specs.Prelude.{physical_lines, is_blank, is_name, without_blanks, begins_text as line_begins, ends_text, without_cr, line_form}
 use Rattle.script_replies.specs.declared.lines.ScriptLine.{ScriptLine}
-use Rattle.script_text.specs.Script.{is_name, without_blanks}
-use Rattle.sessions.specs.Items.{begins_text as line_begins, ends_text, without_cr}
-use Rattle.sessions.specs.SessionLines.{line_form}
 
 -- a line with its number, without the CR at its end
 pub record NumberedLine : Type 0 where

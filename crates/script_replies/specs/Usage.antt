@@ -3,17 +3,8 @@ use Rattle.std.specs.Prelude.{ℕ, ◌+◌, ◌^◌, ◌-◌, ◌<◌, Bool, tru
 use Rattle.std.specs.List.{before_first, last_or, zip}
 use Rattle.std.specs.Option.{option_map_or}
 use Rattle.std.specs.Str.{bytes_eq}
-use Rattle.line_text.specs.Words.{is_blank}
-use Rattle.script_text.specs.Script.{without_blanks}
-use Rattle.script_text.specs.declared.act.Act.{Act}
-use Rattle.script_text.specs.declared.act.Act.TheVariants.{Operator, Session}
-use Rattle.script_text.specs.declared.operator_line.OperatorLine.{OperatorLine}
-use Rattle.script_text.specs.declared.operator_line.OperatorLine.TheVariants.{Admit, Step}
-use Rattle.sessions.specs.declared.line.SessionLine.{SessionLine}
-use Rattle.sessions.specs.declared.line.SessionLine.TheVariants.{Blank, Command, Wait, Refused}
+use Rattle.script_replies.specs.Prelude.{is_blank, without_blanks, Act, Operator, Session, OperatorLine, Admit, Step, SessionLine, Blank, Command, Wait, Refused, Upload, Change, Pack, Place, Route, Cancel, Withdraw, Status, Net, PlaceFile, RouteFile, AnsweredLine}
 use Rattle.tenant_slot.specs.declared.command.Command.{Command as TenantCommand}
-use Rattle.tenant_slot.specs.declared.command.Command.TheVariants.{Upload, Change, Pack, Place, Route, Cancel, Withdraw, Status, Net, PlaceFile, RouteFile}
-use Rattle.printed_replies.specs.Replies.{AnsweredLine}
 use Rattle.script_replies.specs.declared.usage.Usage.{Usage}
 
 -- a reply is a refusal by its first word

@@ -1,10 +1,8 @@
 //! What the replies to a script say of each name, by one pass over its acts.
 ghost use Rattle.std.specs.Prelude.{◌≡◌, ◌-◌, ◌^◌, [], map, option_map, take, IfOk, OnOk};
-ghost use Rattle.printed_replies.specs.Printing.{asked_in};
-ghost use Rattle.printed_replies.specs.Replies.{answered_line, names_of};
+ghost use Rattle.script_replies.specs.Prelude.{asked_in, answered_line, names_of, named_act, named_operator};
 ghost use Rattle.script_replies.specs.Accounts.{AreAccountsWithin, account_after, account_now, accounts_of, name_in, no_account, operator_name, updated};
 ghost use Rattle.script_replies.specs.Usage.{IsWithin};
-ghost use Rattle.script_text.specs.Script.{named_act, named_operator};
 
 use crate::advising::is_refusal;
 use crate::present::NameFiles;

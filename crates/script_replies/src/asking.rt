@@ -1,8 +1,7 @@
 //! The replies to acts.
 ghost use Rattle.std.specs.Prelude.{◌≡◌, List, ℕ, map, IfOk};
-ghost use Rattle.printed_replies.specs.Replies.{Gives, asked_line};
+ghost use Rattle.script_replies.specs.Prelude.{Gives, asked_line, named_act, named_operator};
 ghost use Rattle.script_replies.specs.Asking.{asked_of, operator_form, replies_in, session_form};
-ghost use Rattle.script_text.specs.Script.{named_act, named_operator};
 
 use printed_replies::{Asked, Replies, ReplyError, ReplyForm};
 use script_text::{Act, OperatorLine};

@@ -1,7 +1,7 @@
 //! The lines of a script that are acts.
 ghost use Rattle.std.specs.Prelude.{◌≡◌, ◌+◌, ◌<◌, ◌++◌, ◌∷◌, ◌^◌, ℕ, List, IfOk, drop, length, map};
 ghost use Rattle.script_replies.specs.ScriptLines.{asked_from, begins_text, begins_text_by, is_skipped, is_skipped_by, lines_asked, numbered};
-ghost use Rattle.sessions.specs.Items.{begins_text as line_begins};
+ghost use Rattle.script_replies.specs.Prelude.{begins_text as line_begins};
 
 use line_text::{skip_blanks, split_line, split_word};
 use script_text::is_name;

@@ -1,6 +1,6 @@
 //! A script's lines with their replies.
 ghost use Rattle.std.specs.Prelude.{◌≡◌, ◌++◌, ◌∷◌, [], map, IfOk, OnOk};
-ghost use Rattle.printed_replies.specs.Replies.{answered_line};
+ghost use Rattle.script_replies.specs.Prelude.{answered_line};
 ghost use Rattle.script_replies.specs.LineReplies.{line_replies, line_reply, reply_to};
 ghost use Rattle.script_replies.specs.Told.{is_refused};
 

@@ -1,7 +1,7 @@
 //! The netlist and the files that a name has, by the replies to a script.
 ghost use Rattle.std.specs.Prelude.{◌≡◌, None, Some, option_map};
 ghost use Rattle.script_replies.specs.Present.{after_act, after_command, after_line, after_operator, files_after, no_file, no_files, outdate, with_printed, state_of, states_of, with_netlist, without_route};
-ghost use Rattle.script_text.specs.Script.{named_act, named_operator};
+ghost use Rattle.script_replies.specs.Prelude.{named_act, named_operator};
 
 use crate::advising::is_refusal;
 use printed_replies::file_in;

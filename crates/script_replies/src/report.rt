@@ -1,8 +1,7 @@
 //! Writes a script's lines with their replies.
 ghost use Rattle.std.specs.Prelude.{◌≡◌, [], flat_map, decimal};
 ghost use Rattle.std.specs.Option.{option_map_or};
-ghost use Rattle.line_text.specs.Writing.{Writes};
-ghost use Rattle.text_parts.specs.Parts.{bytes_of_part};
+ghost use Rattle.script_replies.specs.Prelude.{Writes, bytes_of_part};
 ghost use Rattle.script_replies.specs.Told.{advice_text, asked_text, count_text, count_words, end_text, meaning_text, refusal_text, refused_text, reply_text, text_if, told_text};
 
 use crate::listing::ToldLine;

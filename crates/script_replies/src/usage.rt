@@ -2,7 +2,7 @@
 ghost use Rattle.std.specs.Prelude.{◌≡◌, ◌^◌, ◌-◌};
 ghost use Rattle.script_replies.specs.Accounts.{no_usage};
 ghost use Rattle.script_replies.specs.Usage.{IsWithin, begins_job, with_act, with_line, with_operator};
-ghost use Rattle.script_text.specs.Script.{named_act, named_operator};
+ghost use Rattle.script_replies.specs.Prelude.{named_act, named_operator};
 
 use script_text::{Act, OperatorLine};
 use sessions::SessionLine;

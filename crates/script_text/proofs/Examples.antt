@@ -1,10 +1,6 @@
 -- Examples computed by the checker.
-use Rattle.std.proofs.Common.{◌≡◌, ◌∷◌, [], codes, Ok, Err, refl}
-use Rattle.script_text.specs.declared.operator_line.OperatorLine.TheVariants.{Admit, Step}
-use Rattle.sessions.specs.declared.refusal.SessionRefusal.TheVariants.{UnfinishedUpload}
-use Rattle.sessions.specs.declared.line.SessionLine.TheVariants.{Refused}
-use Rattle.script_text.specs.declared.act.Act.TheVariants.{Operator, Session}
-use Rattle.script_text.specs.Script.{form_in, script_of}
+use Rattle.script_text.proofs.Prelude.{◌≡◌, ◌∷◌, [], codes, Err, refl, Admit, Step, UnfinishedUpload, Refused, Operator, Session, form_in, script_of}
+use Rattle.std.proofs.Common.{Ok}
 
 admission : script_of 1 (codes "op admit T 1\n") ≡ Ok (Operator (Admit (codes "T") 1) ∷ [])
 unfolding form_in

@@ -1,14 +1,5 @@
 -- The inputs of sessions, found by name.
-use Rattle.std.proofs.Common.{◌≡◌, ℕ, ◌<◌, ◌≤◌, List, [], ◌∷◌, ◌++◌, true, false, suc, zero, length, get_or, refl, sym, ap, ◌∙◌, arith}
-use Rattle.std.specs.Prelude.{map, OnOk, Result, Ok, Err}
-use Rattle.std.specs.Str.{bytes_eq}
-use Rattle.std.proofs.Math.ListN.{set}
-use Rattle.std.proofs.lemmas.List.{map_push}
-use Rattle.script_text.specs.declared.inputs.SessionInput.{SessionInput}
-use Rattle.line_text.specs.Names.{number_of, with_name}
-use Rattle.line_text.proofs.NameLemmas.{number_of-first, number_of-later, with_name-first, with_name-later}
-use Rattle.script_text.specs.Names.{names_in}
-use Rattle.script_text.specs.Threaded.{Said, said_by, with_input}
+use Rattle.script_text.proofs.Prelude.{◌≡◌, ℕ, ◌<◌, ◌≤◌, List, [], ◌∷◌, ◌++◌, true, false, suc, zero, length, get_or, refl, sym, ap, ◌∙◌, arith, map, OnOk, Result, bytes_eq, set, SessionInput, number_of, with_name, number_of-first, number_of-later, with_name-first, with_name-later, names_in, Said, said_by, with_input}
 
 with_input-first : (s : Said) (said : List Said) (name bytes : List ℕ) → bytes_eq name s.name ≡ true → with_input (s ∷ said) name bytes ≡ record s { input = s.input ++ bytes } ∷ said
 with_input-first s said name bytes e = rw e refl
@@ -50,15 +41,6 @@ with_name-found (n ∷ names) name h =
       | false ↦ λ e. let later = number_of-later n names name e in with_name-later n names name e ∙ ap (λ ns. n ∷ ns) (with_name-found names name (omega (arith, h, later)))
     ] refl
 
--- a name that isn't yet in the list
-pub with_name-new : (names : List (List ℕ)) (name : List ℕ) → length names ≤ number_of names name → with_name names name ≡ names ++ name ∷ []
-with_name-new [] name h = refl
-with_name-new (n ∷ names) name h =
-    elim (bytes_eq name n) as (λ b. bytes_eq name n ≡ b → with_name (n ∷ names) name ≡ n ∷ (names ++ name ∷ [])) [
-      | true ↦ λ e. let first = number_of-first n names name e in absurd (omega (arith, h, first))
-      | false ↦ λ e. let later = number_of-later n names name e in with_name-later n names name e ∙ ap (λ ns. n ∷ ns) (with_name-new names name (omega (arith, h, later)))
-    ] refl
-
 pub with_input-push : (xs : List SessionInput) (name bytes : List ℕ) (v : SessionInput) → length xs ≤ number_of (names_in xs) name → v.name.now ≡ name → v.input.items ≡ bytes →
     map said_by (xs ++ v ∷ []) ≡ with_input (map said_by xs) name bytes
 with_input-push [] name bytes v past named said = ap (λ n. says n v.input.items ∷ []) named ∙ ap (λ i. says name i ∷ []) said
@@ -70,16 +52,11 @@ with_input-push (x ∷ xs) name bytes v past named said =
           ∙ sym (with_input-later (said_by x) (map said_by xs) name bytes e)
     ] refl
 
-pub names_in-push : (xs : List SessionInput) (v : SessionInput) (name : List ℕ) → v.name.now ≡ name → names_in (xs ++ v ∷ []) ≡ names_in xs ++ name ∷ []
-names_in-push xs v name named = map_push (λ (s : SessionInput). s.name.now) xs v ∙ ap (λ n. names_in xs ++ n ∷ []) named
-
 pub on_ok : {E P Q : Type 0} (r : Result (Unit {0}) E) → (P → Q) → OnOk r P → OnOk r Q
-on_ok (Ok u) f p = f p
-on_ok (Err e) f p = tt
+on_ok r f p = grind arith
 
 pub on_ok_any : {E Q : Type 0} (r : Result (Unit {0}) E) → Q → OnOk r Q
-on_ok_any (Ok u) q = q
-on_ok_any (Err e) q = tt
+on_ok_any r q = grind arith
 
 pub length-names : (xs : List SessionInput) → length (names_in xs) ≡ length xs
 length-names [] = refl

@@ -1,3 +1,4 @@
+mod Prelude
 mod AheadLemmas
 mod ApartLemmas
 mod Examples

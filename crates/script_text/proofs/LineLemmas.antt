@@ -1,27 +1,13 @@
 -- The text that is kept, without the CRs at the ends of its lines.
-use Rattle.std.proofs.Common.{◌≡◌, ℕ, zero, suc, ◌-◌, ◌<◌, ◌≤◌, List, [], ◌∷◌, ◌++◌, Bool, true, false, cond, eqb, length, take, min, inl, inr, length-append, append_assoc, refl, sym, ap, ◌∙◌, arith}
-use Rattle.std.specs.Prelude.{slice_index}
-use Rattle.std.specs.List.{flat_map, onto_first}
-use Rattle.std.proofs.lemmas.Bool.{cases_lt, eqb-true}
-use Rattle.std.proofs.lemmas.List.{take_all}
-use Rattle.line_text.specs.Lines.{physical_lines}
-use Rattle.sessions.specs.Items.{kept_part, without_cr}
-use Rattle.sessions.proofs.KeptLemmas.{kept-kept}
-use Rattle.script_text.specs.Cuts.{IsEnded, without_crs}
+use Rattle.script_text.proofs.Prelude.{◌≡◌, ℕ, zero, suc, ◌<◌, ◌≤◌, List, [], ◌∷◌, ◌++◌, Bool, true, false, cond, eqb, length, take, min, inl, inr, length-append, append_assoc, refl, sym, ap, ◌∙◌, arith, slice_index, flat_map, onto_first, eqb-true, take_all, physical_lines, kept_part, without_cr, kept-kept, IsEnded, without_crs}
 
 -- LF, and CR
 abbrev pub is_lf : ℕ → Bool
 is_lf b = eqb b 10
 
-abbrev pub is_cr : ℕ → Bool
-is_cr b = eqb b 13
-
 -- the bytes up to that index, or all of them
 take-min : (n : ℕ) (xs : List ℕ) → take (min (length xs) n) xs ≡ take n xs
-take-min n xs = elim (cases_lt n (length xs)) [
-  | inl h ↦ let e : min (length xs) n ≡ n = omega arith in ap (λ k. take k xs) e
-  | inr h ↦ let e : min (length xs) n ≡ length xs = omega arith in ap (λ k. take k xs) e ∙ take_all (length xs) xs (omega arith) ∙ sym (take_all n xs h)
-]
+take-min n xs = grind (arith, take_all)
 
 pub kept-short : (xs : List ℕ) → take (min (length xs) 1048577) xs ≡ kept_part xs
 unfolding kept_part
@@ -37,31 +23,22 @@ ended_line line = without_cr line ++ 10 ∷ []
 
 -- a byte other than CR before a line is unaffected when the line's CR is removed
 without_cr-later : (b : ℕ) (line : List ℕ) → eqb b 13 ≡ false → without_cr (b ∷ line) ≡ b ∷ without_cr line
-without_cr-later b [] e =
-    rw e (elim (eqb (slice_index [] 0) 13) as (λ v. b ∷ [] ≡ b ∷ cond v [] []) [ true ↦ refl | false ↦ refl ])
-without_cr-later b (c ∷ line) e =
-    let n : length (b ∷ c ∷ line) - 1 ≡ suc (length line) = omega arith in
-    let m : length (c ∷ line) - 1 ≡ length line = omega arith in
-    rw (n, m) (elim (eqb (slice_index (c ∷ line) (length line)) 13) as (λ v. cond v (b ∷ take (length line) (c ∷ line)) (b ∷ c ∷ line) ≡ b ∷ cond v (take (length line) (c ∷ line)) (c ∷ line)) [ true ↦ refl | false ↦ refl ])
+without_cr-later b [] e = grind arith
+without_cr-later b (c ∷ line) e = grind arith
 
 without_cr-none : without_cr [] ≡ []
 without_cr-none = elim (eqb (slice_index [] 0) 13) as (λ v. cond {A = List ℕ} v [] [] ≡ []) [ true ↦ refl | false ↦ refl ]
 
 -- this also holds for the first of a text's lines
 onto_line : (b : ℕ) (lines : List (List ℕ)) → eqb b 13 ≡ false → 0 < length lines → flat_map ended_line (onto_first b lines) ≡ b ∷ flat_map ended_line lines
-onto_line b [] e some = absurd (omega arith)
-onto_line b (line ∷ lines) e some = ap (λ l. (l ++ 10 ∷ []) ++ flat_map ended_line lines) (without_cr-later b line e)
+onto_line b lines e some = grind (arith, without_cr-later)
 
 length-onto : (b : ℕ) (lines : List (List ℕ)) → 0 < length (onto_first b lines)
-length-onto b [] = omega arith
-length-onto b (line ∷ lines) = omega arith
+length-onto b lines = grind arith
 
 -- a text that isn't empty has a line
 some_lines : (b : ℕ) (text : List ℕ) → 0 < length (physical_lines (b ∷ text))
-some_lines b text = elim (eqb b 10) as (λ v. 0 < length (cond v ([] ∷ physical_lines text) (onto_first b (physical_lines text)))) [
-  | true ↦ omega arith
-  | false ↦ length-onto b (physical_lines text)
-]
+some_lines b text = grind arith
 
 lines_ahead : (text : List ℕ) → 0 < length text → 0 < length (physical_lines text)
 lines_ahead [] some = absurd (omega arith)
@@ -92,9 +69,7 @@ HasNoCr-front front rest none = λ k within. ap (λ b. eqb b 13) (sym (slice_ind
 -- a text without CRs stays as it is
 pub without_crs-none : (text : List ℕ) → IsEnded text → HasNoCr text → without_crs text ≡ text
 without_crs-none text (inl empty) none = rw empty refl
-without_crs-none text (inr ended) none =
-    let front : HasNoCr ended.0 = HasNoCr-front ended.0 (10 ∷ []) (rw (← ended.1) none) in
-    ap without_crs ended.1 ∙ whole_lines ended.0 front ∙ sym ended.1
+without_crs-none text (inr ended) none = grind (arith, whole_lines, HasNoCr-front ended.0 (10 ∷ []) (rw (← ended.1) none))
 
 pub no_cr : (text : List ℕ) → ((k : ℕ) → 0 ≤ k → k < length text → ¬ (eqb (slice_index text k) 13 ≡ true)) → HasNoCr text
 no_cr text never = λ k within. elim (eqb (slice_index text k) 13) as (λ v. ¬ (v ≡ true) → v ≡ false) [ true ↦ λ f. absurd (f refl) | false ↦ λ f. refl ] (never k (omega arith) within)
@@ -102,9 +77,4 @@ no_cr text never = λ k within. elim (eqb (slice_index text k) 13) as (λ v. ¬ 
 -- one more line of a text
 pub kept_line : (text line after bytes : List ℕ) (lines : List (List ℕ)) → lines ≡ line ∷ physical_lines after → kept_part (kept_part (text ++ without_cr line) ++ 10 ∷ []) ≡ bytes →
     kept_part (bytes ++ without_crs after) ≡ kept_part (text ++ flat_map ended_line lines)
-kept_line text line after bytes lines first is =
-    ap (λ b. kept_part (b ++ without_crs after)) (sym is ∙ kept-kept (text ++ without_cr line) (10 ∷ []))
-    ∙ kept-kept ((text ++ without_cr line) ++ 10 ∷ []) (without_crs after)
-    ∙ ap kept_part (append_assoc (text ++ without_cr line) (10 ∷ []) (without_crs after) ∙ append_assoc text (without_cr line) (10 ∷ without_crs after)
-    ∙ ap (λ t. text ++ t) (sym (append_assoc (without_cr line) (10 ∷ []) (without_crs after))))
-    ∙ ap (λ ls. kept_part (text ++ flat_map ended_line ls)) (sym first)
+kept_line text line after bytes lines first is = grind (arith, kept-kept, append_assoc)

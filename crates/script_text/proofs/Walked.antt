@@ -1,18 +1,5 @@
 -- The lines of a text before the one that ends it.
-use Rattle.std.proofs.Common.{◌≡◌, ℕ, ◌+◌, ◌-◌, ◌⊎◌, ◌<◌, ◌≤◌, List, [], ◌∷◌, ◌++◌, true, false, Option, Some, None, inl, inr, length, take, get_or, refl, sym, ap, ◌∙◌, arith, append_assoc, append-nil, length-append, length-drop}
-use Rattle.std.specs.Prelude.{option_map}
-use Rattle.std.specs.List.{position_or_len, before_first, after_first}
-use Rattle.std.proofs.lemmas.Bool.{cases_lt, eqb-true}
-use Rattle.std.proofs.lemmas.List.{drop_all}
-use Rattle.std.proofs.lemmas.List.Sums.{passes_at_first, split_at_first}
-use Rattle.std.proofs.Math.Seq.{take-append_seam}
-use Rattle.line_text.specs.Lines.{physical_lines}
-use Rattle.script_text.specs.Cuts.{HasNoEnd, IsCut, IsEnded}
-use Rattle.script_text.specs.Script.{acts_from}
-use Rattle.script_text.specs.Threaded.{heard_so_far, nothing_said, threaded_from, Heard}
-use Rattle.script_text.specs.Threaded.Within.{Head, Script}
-use Rattle.sessions.specs.Items.{ends_text}
-use Rattle.script_text.specs.Texts.{bytes_ahead}
+use Rattle.script_text.proofs.Prelude.{◌≡◌, ℕ, ◌+◌, ◌⊎◌, ◌<◌, ◌≤◌, List, [], ◌∷◌, ◌++◌, true, false, Option, None, inl, inr, length, get_or, refl, sym, ap, ◌∙◌, arith, append_assoc, append-nil, length-drop, option_map, position_or_len, before_first, after_first, cases_lt, eqb-true, drop_all, passes_at_first, split_at_first, physical_lines, acts_from, heard_so_far, nothing_said, threaded_from, Heard, Head, ends_text, bytes_ahead}
 use Rattle.script_text.proofs.LineLemmas.{is_lf}
 
 -- a text is its first line, LF and the rest, unless nothing comes after the line
@@ -46,20 +33,11 @@ pub record Walked (first : ℕ) (text rest : List ℕ) (number : ℕ) : Type 0 w
   pub counted : number + length rest ≤ first + length text
   pub later : first ≤ number
 
-behind-nothing : (text : Option (List ℕ)) → text ≡ behind [] text
-behind-nothing None = refl
-behind-nothing (Some bytes) = refl
-
 behind-behind : (a b : List ℕ) (text : Option (List ℕ)) → behind a (behind b text) ≡ behind (a ++ b) text
-behind-behind a b None = refl
-behind-behind a b (Some bytes) = ap Some (sym (append_assoc a b bytes))
-
-pub walked_none : (first : ℕ) (text : List ℕ) → Walked first text text first
-walked_none first text = record { front = []; whole = refl; ended = inl refl; ahead = behind-nothing (bytes_ahead (physical_lines text)); acts = refl; threads = refl; counted = omega arith; later = omega arith }
+behind-behind a b text = grind (arith, append_assoc)
 
 line-behind : (line : List ℕ) (text : Option (List ℕ)) → option_map (λ bytes. line ++ 10 ∷ bytes) text ≡ behind (line ++ 10 ∷ []) text
-line-behind line None = refl
-line-behind line (Some bytes) = ap Some (sym (append_assoc line (10 ∷ []) bytes))
+line-behind line text = grind (arith, append_assoc)
 
 passed : (line : List ℕ) (lines : List (List ℕ)) → ends_text line ≡ false → bytes_ahead (line ∷ lines) ≡ behind (line ++ 10 ∷ []) (bytes_ahead lines)
 passed line lines ends = rw ends (line-behind line (bytes_ahead lines))
@@ -67,14 +45,8 @@ passed line lines ends = rw ends (line-behind line (bytes_ahead lines))
 acts_passed : (number : ℕ) (line : List ℕ) (lines : List (List ℕ)) → ends_text line ≡ false → acts_from number true (line ∷ lines) ≡ acts_from (number + 1) true lines
 acts_passed number line lines ends = rw ends refl
 
-acts_found : (number : ℕ) (line : List ℕ) (lines : List (List ℕ)) → ends_text line ≡ true → acts_from number true (line ∷ lines) ≡ acts_from (number + 1) false lines
-acts_found number line lines ends = rw ends refl
-
 threads_passed : (number : ℕ) (line : List ℕ) (lines : List (List ℕ)) → ends_text line ≡ false → threaded_from number at_head (line ∷ lines) ≡ threaded_from (number + 1) at_head lines
 threads_passed number line lines ends = rw ends refl
-
-threads_found : (number : ℕ) (line : List ℕ) (lines : List (List ℕ)) → ends_text line ≡ true → threaded_from number at_head (line ∷ lines) ≡ threaded_from (number + 1) (heard_so_far nothing_said Script) lines
-threads_found number line lines ends = rw ends refl
 
 pub walked_more : (first : ℕ) (text rest line after : List ℕ) (number : ℕ) → Walked first text rest number → physical_lines rest ≡ line ∷ physical_lines after → length after < length rest →
     (rest ≡ line ++ 10 ∷ after) ⊎ (after ≡ []) → ends_text line ≡ false → Walked first text after (number + 1)
@@ -102,32 +74,3 @@ walked_more first text rest line after number w lines less (inr over) ends =
       counted = let was = w.counted in omega arith;
       later = let was = w.later in omega arith;
     }
-
-ended_of : (front line rest after : List ℕ) → physical_lines rest ≡ line ∷ physical_lines after → (front ≡ []) ⊎ ((before : List ℕ) × (front ≡ before ++ 10 ∷ [])) ⊎ (rest ≡ []) → IsEnded front
-ended_of front line rest after lines (inl none) = inl none
-ended_of front line rest after lines (inr (inl some)) = inr some
-ended_of front line rest after lines (inr (inr over)) = let bad : [] ≡ line ∷ physical_lines after = rw over at lines in cc
-
--- the line that ends the text
-pub walked_found : (first : ℕ) (text rest line after : List ℕ) (number : ℕ) → Walked first text rest number → physical_lines rest ≡ line ∷ physical_lines after → length after < length rest → ends_text line ≡ true →
-    IsCut first text (take (length text - length rest) text) (number + 1) after
-walked_found first text rest line after number w lines less ends =
-    let len : length text ≡ length w.front + length rest = ap length w.whole ∙ length-append w.front rest in
-    let count : length text - length rest ≡ length w.front = omega arith in
-    let front : take (length text - length rest) text ≡ w.front =
-    ap (λ n. take n text) count ∙ ap (take (length w.front)) w.whole ∙ take-append_seam w.front rest in
-    let here : bytes_ahead (line ∷ physical_lines after) ≡ Some [] = rw ends refl in
-    let was = w.counted in
-    let late = w.later in
-    rw front (record {
-      text = w.ahead ∙ ap (λ ls. behind w.front (bytes_ahead ls)) lines ∙ ap (behind w.front) here ∙ ap Some (append-nil w.front);
-      goes_on = w.acts ∙ ap (acts_from number true) lines ∙ acts_found number line (physical_lines after) ends;
-      threads = w.threads ∙ ap (threaded_from number at_head) lines ∙ threads_found number line (physical_lines after) ends;
-      ended = ended_of w.front line rest after lines w.ended;
-      counted = omega arith;
-      later = omega arith;
-    })
-
-pub walked_all : (first : ℕ) (text rest : List ℕ) (number : ℕ) → Walked first text rest number → length rest ≡ 0 → HasNoEnd first text
-walked_all first text [] number w none = (w.ahead, w.acts, w.threads)
-walked_all first text (b ∷ bytes) number w none = absurd (omega arith)

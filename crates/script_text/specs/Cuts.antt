@@ -1,8 +1,7 @@
 -- Private: how a text is cut off from the start of a script.
 use Rattle.std.specs.Prelude.{ℕ, ◌≡◌, ◌≤◌, ◌+◌, ◌⊎◌, List, [], ◌∷◌, ◌++◌, length, true, false, Some, None, Ok}
-use Rattle.line_text.specs.Lines.{physical_lines}
+use Rattle.script_text.specs.Prelude.{physical_lines, without_cr}
 use Rattle.std.specs.List.{flat_map}
-use Rattle.sessions.specs.Items.{without_cr}
 use Rattle.script_text.specs.Texts.{bytes_ahead}
 use Rattle.script_text.specs.Script.{acts_from}
 use Rattle.script_text.specs.Threaded.{nothing_said, threaded_behind, threaded_of}

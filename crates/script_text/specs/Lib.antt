@@ -1,3 +1,4 @@
+pub mod Prelude
 pub mod Cuts
 pub mod Names
 pub mod Reading

@@ -1,14 +1,9 @@
 -- Private: a script that is being read, and the acts that follow from its current state.
 use Rattle.std.specs.Prelude.{ℕ, ◌≡◌, ◌≤◌, ◌<◌, ◌+◌, List, ◌++◌, length, map, true, false, Result, Ok, Err, ⊤}
-use Rattle.line_text.specs.Lines.{physical_lines}
+use Rattle.script_text.specs.Prelude.{physical_lines, TextError, NoMemory, Fault, SessionLine, TextKind, text_ahead, text_item}
 use Rattle.script_text.specs.declared.act.Act.{Act}
 use Rattle.script_text.specs.declared.script.Reader.{Reader}
-use Rattle.line_text.specs.declared.text_error.TextError.{TextError}
-use Rattle.line_text.specs.declared.text_error.TextError.TheVariants.{NoMemory, Fault}
-use Rattle.sessions.specs.declared.line.SessionLine.{SessionLine}
-use Rattle.sessions.specs.declared.line.TextKind.{TextKind}
 use Rattle.script_text.specs.Script.{Acts, acts_from, named_act}
-use Rattle.sessions.specs.Items.{text_ahead, text_item}
 
 abbrev pub with_acts : List (Act (List ℕ)) → Acts → Acts
 with_acts acts (Ok more) = Ok (acts ++ more)

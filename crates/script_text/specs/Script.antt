@@ -9,15 +9,9 @@ use Rattle.script_text.specs.declared.operator_line.OperatorLine.{OperatorLine}
 use Rattle.script_text.specs.declared.operator_line.OperatorLine.TheVariants.{Admit, Evict, Move, List as ListAll, Owners, Step, Take, Put}
 use Rattle.script_text.specs.declared.act.Act.{Act}
 use Rattle.script_text.specs.declared.act.Act.TheVariants.{Operator, Session}
-use Rattle.sessions.specs.declared.line.LineForm.{LineForm}
-use Rattle.sessions.specs.declared.line.LineForm.TheVariants.{Asks as LineAsks, Begins as LineBegins}
-use Rattle.sessions.specs.SessionLines.{line_form}
+use Rattle.script_text.specs.Prelude.{LineForm, Asks as LineAsks, Begins as LineBegins, line_form, physical_lines, without_cr, ends_text, text_ahead, text_item, is_blank, words_of, decimal_of}
 use Rattle.script_text.specs.declared.form.Form.{Form}
 use Rattle.script_text.specs.declared.form.Form.TheVariants.{Skipped, Faulty, Asks, Begins}
-use Rattle.line_text.specs.Lines.{physical_lines}
-use Rattle.sessions.specs.Items.{without_cr, ends_text, text_ahead, text_item}
-use Rattle.line_text.specs.Words.{is_blank, words_of}
-use Rattle.line_text.specs.Decimal.{decimal_of}
 
 -- a letter, a digit or `_`
 abbrev pub is_name_byte : ℕ → Bool

@@ -1,6 +1,6 @@
 -- Texts within a script.
 use Rattle.std.specs.Prelude.{ℕ, List, [], ◌∷◌, ◌++◌, Option, Some, None, option_map, if◌then◌else◌}
-use Rattle.sessions.specs.Items.{ends_text}
+use Rattle.script_text.specs.Prelude.{ends_text}
 
 -- the bytes of the lines before the first line that ends a text; `None` if no line does
 abbrev pub bytes_ahead : List (List ℕ) → Option (List ℕ)

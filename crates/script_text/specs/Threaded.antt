@@ -3,16 +3,12 @@ use Rattle.std.specs.Prelude.{ℕ, ◌≡◌, ◌≢◌, ◌+◌, List, [], ◌�
 use Rattle.std.specs.List.{after_first}
 use Rattle.std.specs.Option.{option_map_or}
 use Rattle.std.specs.Str.{bytes_eq}
-use Rattle.line_text.specs.Lines.{physical_lines}
-use Rattle.line_text.specs.Words.{is_blank}
-use Rattle.sessions.specs.Items.{ends_text}
+use Rattle.script_text.specs.Prelude.{physical_lines, is_blank, ends_text, TextError, NoMemory, Fault}
 use Rattle.script_text.specs.declared.act.Act.TheVariants.{Operator, Session}
 use Rattle.script_text.specs.declared.form.Form.{Form}
 use Rattle.script_text.specs.declared.form.Form.TheVariants.{Skipped, Faulty, Asks, Begins}
 use Rattle.script_text.specs.declared.operator_line.OperatorLine.{OperatorLine}
 use Rattle.script_text.specs.declared.operator_line.OperatorLine.TheVariants.{Step, Take, Put}
-use Rattle.line_text.specs.declared.text_error.TextError.{TextError}
-use Rattle.line_text.specs.declared.text_error.TextError.TheVariants.{NoMemory, Fault}
 use Rattle.script_text.specs.declared.inputs.SessionInput.{SessionInput}
 use Rattle.script_text.specs.declared.threaded.ThreadedScript.{ThreadedScript}
 use Rattle.script_text.specs.Script.{form_of, named_operator, without_blanks}

@@ -2,8 +2,7 @@
 use Rattle.std.specs.Prelude.{ℕ, ◌≡◌, List, map, Option, Some, None, Result, Ok, Err, ⊤}
 use Rattle.std.specs.Borrow.{Bor}
 use Rattle.std.specs.Option.{option_map_or}
-use Rattle.line_text.specs.declared.text_error.TextError.{TextError}
-use Rattle.line_text.specs.declared.text_error.TextError.TheVariants.{NoMemory, Fault}
+use Rattle.script_text.specs.Prelude.{TextError, NoMemory, Fault}
 use Rattle.script_text.specs.declared.threaded.ThreadedReader.{ThreadedReader}
 use Rattle.script_text.specs.declared.form.Form.{Form}
 use Rattle.script_text.specs.declared.operator_line.OperatorLine.{OperatorLine}

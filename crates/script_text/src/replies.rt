@@ -1,7 +1,7 @@
 //! What a script is answered.
 ghost use Rattle.std.specs.Prelude.{◌++◌, map};
 ghost use Rattle.std.specs.List.{flat_map};
-ghost use Rattle.line_text.specs.Writing.{Writes};
+ghost use Rattle.script_text.specs.Prelude.{Writes};
 ghost use Rattle.script_text.specs.Replies.{heading, run_text, section_of, section_text};
 
 use line_text::{Failed, Sink, write_slices};

@@ -1,6 +1,6 @@
 //! A script, read whole into its acts.
 ghost use Rattle.std.specs.Prelude.{◌≡◌, ◌+◌, ◌<◌, ◌^◌, ◌++◌, ◌∷◌, [], length, IfOk, OnOk, map};
-ghost use Rattle.line_text.specs.TextErrors.{Gives};
+ghost use Rattle.script_text.specs.Prelude.{Gives};
 ghost use Rattle.script_text.specs.Script.{script_of, named_act};
 
 use crate::act::Act;

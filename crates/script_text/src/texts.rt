@@ -1,6 +1,6 @@
 //! Texts within a script: the lines up to one that is only `.`.
 ghost use Rattle.std.specs.Prelude.{◌≡◌, ◌+◌, ◌<◌, ◌^◌, length, IfOk, MatchOption};
-ghost use Rattle.sessions.specs.Items.{kept_part};
+ghost use Rattle.script_text.specs.Prelude.{kept_part};
 ghost use Rattle.script_text.specs.Cuts.{HasNoEnd, IsCut, IsEnded, without_crs};
 
 use line_text::split_line;

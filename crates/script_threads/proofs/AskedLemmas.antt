@@ -1,31 +1,10 @@
 -- Refused commands among the turns: a command that is refused since the journal is full changes
 -- nothing, and the journal stays full, so it may stand at the end of the turns.
-use Rattle.std.proofs.Common.{◌≡◌, ◌≢◌, ℕ, List, [], ◌∷◌, ◌++◌, length, map, Bool, true, false, eqb, Option, Some, None, Ok, Err, refl, sym, ap, ◌∙◌, arith}
-use Rattle.std.specs.Prelude.{All, IsSomeAnd, is_some, ◌&&◌, ◌||◌, if◌then◌else◌}
-use Rattle.std.specs.List.{AllZip, cons_option, filter_map}
-use Rattle.std.proofs.lemmas.Bool.Decides.{nat_tests}
-use Rattle.std.proofs.lemmas.List.Elements.{All-cons, All-head, All-nil, All-tail}
+use Rattle.script_threads.proofs.Prelude.{◌≡◌, ◌≢◌, ℕ, List, [], ◌∷◌, ◌++◌, length, Bool, true, false, Option, Some, None, Err, refl, sym, ap, ◌∙◌, arith, All, is_some, ◌||◌, AllZip, cons_option, filter_map, All-head, All-nil, All-tail, NoteCause, JournalFull, Noted, Receipted, Call, Happens, Run, Tenant, ServiceState, journal_of, live_of, SessionLine, Blank, Command, Wait, Refused, own_receipts, IsOfThreads, AnswersCommand, IsTold, ItemAnswer, Receipt, Note, receipt_in, is_note, served_late, is_turn, own_answers, receipts_told, told_answer, told_answers}
+use Rattle.std.proofs.Common.{map}
 use Rattle.tenant_slot.specs.declared.command.Command.{Command as TenantCommand}
-use Rattle.tenant_slot.specs.declared.command.Command.TheVariants.{Status}
-use Rattle.service_core.specs.declared.not_served.NoteCause.{NoteCause}
 use Rattle.service_core.specs.declared.not_served.NoteCause.TheVariants.{JournalFull as CauseFull}
-use Rattle.service_core.specs.declared.not_served.NotServed.TheVariants.{JournalFull}
-use Rattle.service_core.specs.History.{History}
-use Rattle.service_core.specs.Receipt.{Noted, Receipted}
-use Rattle.service_core.specs.Run.{Call, Happens, IsReceipt, Run}
-use Rattle.service_core.specs.Run.Call.{Admit, Evict, Move, Tenant, Take, Put, GiveBack, Owners}
-use Rattle.service_core.specs.Service.{ServiceState, entries_in, history_of, journal_of, live_of}
-use Rattle.service_core.proofs.Keeps.{if_live_some}
-use Rattle.sessions.specs.declared.line.SessionLine.{SessionLine}
-use Rattle.sessions.specs.declared.line.SessionLine.TheVariants.{Blank, Command, Wait, Refused}
-use Rattle.shared_core.specs.Reaching.{own_receipts}
-use Rattle.shared_core.proofs.Reaching.{IsOfThreads}
-use Rattle.session_threads.specs.Told.{AnswersCommand, IsTold}
-use Rattle.transcripts.specs.declared.item.ItemAnswer.{ItemAnswer}
-use Rattle.transcripts.specs.declared.item.ItemAnswer.TheVariants.{Receipt, Note, Refused as RefusedPlace}
-use Rattle.transcripts.specs.Transcripts.{receipt_in}
-use Rattle.script_threads.specs.Refusals.{is_note, is_receipt, served_late}
-use Rattle.script_threads.specs.Turns.{is_turn, own_answers, receipts_told, told_answer, told_answers}
+use Rattle.transcripts.specs.declared.item.ItemAnswer.TheVariants.{Refused as RefusedPlace}
 
 abbrev pub Answer : Type 0
 Answer = TenantCommand × ItemAnswer
@@ -58,71 +37,29 @@ refused_calls id answers = filter_map (λ a. refused_by id a.0 a.1) answers
 
 -- these calls have those answers
 own_one : (id : ℕ) (command : TenantCommand) (place : ItemAnswer) (calls : List Call) → own_answers id (cons_option (refused_by id command place) calls) ≡ cons_option (note_by command place) (own_answers id calls)
-own_one id command (Receipt r) calls = refl
-own_one id command (Note n) calls =
-    let e : eqb id id ≡ true = grind (arith, nat_tests) in
-    ap (λ b. cons_option (if b then Some (command, Note n) else None) (own_answers id calls)) e
-own_one id command (RefusedPlace refusal) calls = refl
+own_one id command place calls = grind arith
 
 pub own_notes : (id : ℕ) (answers : List Answer) → own_answers id (refused_calls id answers) ≡ notes_of answers
 own_notes id [] = refl
 own_notes id (a ∷ answers) = own_one id a.0 a.1 (refused_calls id answers) ∙ ap (cons_option (note_by a.0 a.1)) (own_notes id answers)
 
 other_one : (id t : ℕ) → id ≢ t → (command : TenantCommand) (place : ItemAnswer) (calls : List Call) → own_answers id (cons_option (refused_by t command place) calls) ≡ own_answers id calls
-other_one id t apart command (Receipt r) calls = refl
-other_one id t apart command (Note n) calls =
-    let e : eqb t id ≡ false = grind (arith, nat_tests) in
-    ap (λ b. cons_option (if b then Some (command, Note n) else None) (own_answers id calls)) e
-other_one id t apart command (RefusedPlace refusal) calls = refl
+other_one id t apart command place calls = grind arith
 
 pub other_notes : (id t : ℕ) → id ≢ t → (answers : List Answer) → own_answers id (refused_calls t answers) ≡ []
 other_notes id t apart [] = refl
 other_notes id t apart (a ∷ answers) = other_one id t apart a.0 a.1 (refused_calls t answers) ∙ other_notes id t apart answers
 
--- the answers to commands that are served are their receipts
-served_one : (id t : ℕ) (command : TenantCommand) (r : Receipted) (calls : List Call) → r.command ≡ command → own_answers id calls ≡ map of_receipt (own_receipts id calls) →
-    own_answers id (Tenant t command (Ok r) ∷ calls) ≡ map of_receipt (own_receipts id (Tenant t command (Ok r) ∷ calls))
-served_one id t command r calls same rest = by_test (eqb t id)
-  where
-    by_test : (b : Bool) → cons_option (if b then Some (command, Receipt r) else None) (own_answers id calls) ≡ map of_receipt ((if b then r ∷ [] else []) ++ own_receipts id calls)
-    by_test false = rest
-    by_test true = ap (λ c. (c, Receipt r) ∷ own_answers id calls) (sym same) ∙ ap (λ answers. of_receipt r ∷ answers) rest
-
-receipt_asks : (o : Option History) (t : ℕ) (command : TenantCommand) (r : Receipted) → IsReceipt o t command r → r.command ≡ command
-receipt_asks None t command r never = absurd never
-receipt_asks (Some h) t command r said = said.2
-
-served_call : (id : ℕ) (a mid : ServiceState) (calls : List Call) (c : Call) → own_answers id calls ≡ map of_receipt (own_receipts id calls) → IsOfThreads c → Happens a c mid → own_answers id (c ∷ calls) ≡ map of_receipt (own_receipts id (c ∷ calls))
-served_call id a mid calls (Admit width answer) rest never is = cc
-served_call id a mid calls (Evict t answer) rest never is = cc
-served_call id a mid calls (Move t offset answer) rest never is = cc
-served_call id a mid calls (Tenant t command (Err refusal)) rest never is = cc
-served_call id a mid calls (Tenant t command (Ok r)) rest kind is = served_one id t command r calls (receipt_asks (live_of a.histories t) t command r is.0) rest
-served_call id a mid calls (Take t answer) rest kind is = rest
-served_call id a mid calls (Put done foreign answer) rest kind is = rest
-served_call id a mid calls (GiveBack job) rest kind is = rest
-served_call id a mid calls (Owners list) rest never is = cc
-
 pub own_served : (id : ℕ) (a : ServiceState) (calls : List Call) (b : ServiceState) → All IsOfThreads calls → Run a calls b → own_answers id calls ≡ map of_receipt (own_receipts id calls)
 own_served id a [] b kinds run = refl
-own_served id a (call ∷ calls) b kinds run =
-    served_call id a run.0 calls call (own_served id run.0 calls b (All-tail IsOfThreads call calls kinds) run.2) (All-head IsOfThreads call calls kinds) run.1
+own_served id a (call ∷ calls) b kinds run = grind (arith, All-head, own_served id run.0 calls b (All-tail IsOfThreads call calls kinds) run.2)
 
 -- what is said of each answer
 abbrev pub IsAnswerTo : ℕ → Answer → Type 0
 IsAnswerTo id a = AnswersCommand id a.0 a.1
 
 one_answer : (id : ℕ) (item : SessionLine) (t : Option ItemAnswer) (answers : List Answer) → IsTold id item t → All (IsAnswerTo id) answers → All (IsAnswerTo id) (cons_option (told_answer item t) answers)
-one_answer id Blank None answers is rest = rest
-one_answer id Wait None answers is rest = rest
-one_answer id (Command command) None answers is rest = rest
-one_answer id (Refused refusal) None answers is rest = rest
-one_answer id Blank (Some place) answers is rest = rest
-one_answer id (Refused refusal) (Some place) answers is rest = rest
-one_answer id (Command command) (Some place) answers is rest = All-cons (IsAnswerTo id) (command, place) answers is rest
-one_answer id Wait (Some (Receipt r)) answers is rest = All-cons (IsAnswerTo id) (Status, Receipt r) answers is.0 rest
-one_answer id Wait (Some (Note n)) answers is rest = All-cons (IsAnswerTo id) (Status, Note n) answers is rest
-one_answer id Wait (Some (RefusedPlace refusal)) answers is rest = absurd is
+one_answer id item t answers is rest = grind arith
 
 pub are_answers : (id : ℕ) (items : List SessionLine) (told : List (Option ItemAnswer)) → AllZip (IsTold id) items told → All (IsAnswerTo id) (told_answers items told)
 are_answers id [] told zip = All-nil (IsAnswerTo id)
@@ -130,16 +67,10 @@ are_answers id (item ∷ items) [] zip = All-nil (IsAnswerTo id)
 are_answers id (item ∷ items) (t ∷ told) zip = one_answer id item t (told_answers items told) zip.0 (are_answers id items told zip.1)
 
 one_place : (P : ItemAnswer → Type 0) (item : SessionLine) (place : ItemAnswer) (answers : List Answer) → P place → All (λ (a : Answer). P a.1) answers → All (λ (a : Answer). P a.1) (cons_option (told_answer item (Some place)) answers)
-one_place P Blank place answers is rest = rest
-one_place P Wait place answers is rest = All-cons (λ (a : Answer). P a.1) (Status, place) answers is rest
-one_place P (Command command) place answers is rest = All-cons (λ (a : Answer). P a.1) (command, place) answers is rest
-one_place P (Refused refusal) place answers is rest = rest
+one_place P item place answers is rest = grind arith
 
 no_place : (item : SessionLine) (answers : List Answer) → cons_option (told_answer item None) answers ≡ answers
-no_place Blank answers = refl
-no_place Wait answers = refl
-no_place (Command command) answers = refl
-no_place (Refused refusal) answers = refl
+no_place item answers = grind arith
 
 -- the places of the answers
 abbrev pub places : List (Option ItemAnswer) → List ItemAnswer
@@ -154,16 +85,7 @@ all_places P (item ∷ items) (Some place ∷ told) all = one_place P item place
 -- the receipts among them
 one_receipt : (id : ℕ) (item : SessionLine) (t : Option ItemAnswer) (answers : List Answer) (told : List (Option ItemAnswer)) → IsTold id item t → filter_map receipt_by answers ≡ receipts_told told →
     filter_map receipt_by (cons_option (told_answer item t) answers) ≡ receipts_told (t ∷ told)
-one_receipt id Blank None answers told is rest = rest
-one_receipt id Wait None answers told is rest = rest
-one_receipt id (Command command) None answers told is rest = rest
-one_receipt id (Refused refusal) None answers told is rest = rest
-one_receipt id Blank (Some place) answers told is rest = absurd is
-one_receipt id (Refused refusal) (Some (Receipt r)) answers told is rest = let never : Receipt r ≡ RefusedPlace refusal = is in cc
-one_receipt id (Refused refusal) (Some (Note n)) answers told is rest = rest
-one_receipt id (Refused refusal) (Some (RefusedPlace other)) answers told is rest = rest
-one_receipt id (Command command) (Some place) answers told is rest = ap (cons_option (receipt_in place)) rest
-one_receipt id Wait (Some place) answers told is rest = ap (cons_option (receipt_in place)) rest
+one_receipt id item t answers told is rest = grind arith
 
 pub receipts_are : (id : ℕ) (items : List SessionLine) (told : List (Option ItemAnswer)) → AllZip (IsTold id) items told → filter_map receipt_by (told_answers items told) ≡ receipts_told told
 receipts_are id [] [] zip = refl
@@ -171,16 +93,9 @@ receipts_are id [] (t ∷ told) zip = absurd zip
 receipts_are id (item ∷ items) [] zip = absurd zip
 receipts_are id (item ∷ items) (t ∷ told) zip = one_receipt id item t (told_answers items told) told zip.0 (receipts_are id items told zip.1)
 
--- no receipt follows a note among them
-both_false : (a b : Bool) → (a || b) ≡ false → (a ≡ false) × (b ≡ false)
-both_false true b is = cc
-both_false false b is = (refl, is)
-
 late_cons : (refused : Bool) (place : ItemAnswer) (places more : List ItemAnswer) → (served_late (is_note place || refused) places ≡ false → served_late (is_note place || refused) more ≡ false) → served_late refused (place ∷ places) ≡ false →
     served_late refused (place ∷ more) ≡ false
-late_cons refused place places more rest fine =
-    let both = both_false (is_receipt place && refused) (served_late (is_note place || refused) places) fine in
-    ap (λ b. b || served_late (is_note place || refused) more) both.0 ∙ rest both.1
+late_cons refused place places more rest fine = grind arith
 
 pub none_late : (id : ℕ) (refused : Bool) (items : List SessionLine) (told : List (Option ItemAnswer)) → AllZip (IsTold id) items told → served_late refused (places told) ≡ false → served_late refused (map place_in (told_answers items told)) ≡ false
 none_late id refused [] told zip fine = refl
@@ -202,9 +117,7 @@ record AllNotes (answers : List Answer) : Type 0 where
 
 one_note : (id : ℕ) (command : TenantCommand) (place : ItemAnswer) (answers : List Answer) → AnswersCommand id command place → served_late true (place ∷ map place_in answers) ≡ false → (served_late true (map place_in answers) ≡ false → AllNotes answers) →
     AllNotes ((command, place) ∷ answers)
-one_note id command (Receipt r) answers is fine rest = cc
-one_note id command (Note n) answers is fine rest = let more = rest fine in record { receipts = more.receipts; notes = ap (λ xs. (command, Note n) ∷ xs) more.notes }
-one_note id command (RefusedPlace refusal) answers is fine rest = absurd is
+one_note id command place answers is fine rest = grind arith
 
 all_notes : (id : ℕ) (answers : List Answer) → All (IsAnswerTo id) answers → served_late true (map place_in answers) ≡ false → AllNotes answers
 all_notes id [] all fine = record { receipts = refl; notes = refl }
@@ -216,9 +129,7 @@ Parted answers = answers ≡ map of_receipt (filter_map receipt_by answers) ++ n
 one_parted : (id : ℕ) (command : TenantCommand) (place : ItemAnswer) (answers : List Answer) → AnswersCommand id command place → All (IsAnswerTo id) answers → served_late false (place ∷ map place_in answers) ≡ false → (served_late false (map place_in answers) ≡ false → Parted answers) →
     Parted ((command, place) ∷ answers)
 one_parted id command (Receipt r) answers is all fine rest = ap (λ c. (c, Receipt r) ∷ answers) (sym is.1) ∙ ap (λ xs. of_receipt r ∷ xs) (rest fine)
-one_parted id command (Note n) answers is all fine rest =
-    let more = all_notes id answers all fine in
-    ap (λ xs. (command, Note n) ∷ xs) more.notes ∙ ap (λ rs. map of_receipt rs ++ (command, Note n) ∷ notes_of answers) (sym more.receipts)
+one_parted id command (Note n) answers is all fine rest = grind (arith, all_notes id answers all fine)
 one_parted id command (RefusedPlace refusal) answers is all fine rest = absurd is
 
 pub parted : (id : ℕ) (answers : List Answer) → All (IsAnswerTo id) answers → served_late false (map place_in answers) ≡ false → answers ≡ map of_receipt (filter_map receipt_by answers) ++ notes_of answers
@@ -238,25 +149,9 @@ IsFullNote service id place = (n : Noted) → place ≡ Note n → (n.cause ≡ 
 abbrev noted : ℕ → NoteCause → Noted
 noted id cause = record { id = id; cause = cause }
 
-full_there : (service : ServiceState) (id : ℕ) (o : Option History) → live_of service.histories id ≡ o → is_some o ≡ true → length (journal_of service id) ≡ 65536 → IsSomeAnd o (λ h. length h.entries ≡ 65536)
-full_there service id None e live full = cc
-full_there service id (Some h) e live full =
-    let was : history_of service.histories id ≡ Some h = if_live_some (history_of service.histories id) h e in
-    ap (λ o. length (entries_in o)) (sym was) ∙ full
-
-refused_happens : (service : ServiceState) (id : ℕ) (command : TenantCommand) (n : Noted) → n.id ≡ id → n.cause ≡ CauseFull → is_some (live_of service.histories id) ≡ true → length (journal_of service id) ≡ 65536 →
-    Happens service (Tenant id command (Err (JournalFull n))) service
-refused_happens service id command n own cause live full =
-    let there : IsSomeAnd (live_of service.histories id) (λ h. length h.entries ≡ 65536) = full_there service id (live_of service.histories id) refl live full in
-    (ap (λ i. noted i n.cause) own ∙ ap (noted id) cause, there, refl)
-
 one_idle : (service : ServiceState) (id : ℕ) (command : TenantCommand) (place : ItemAnswer) (calls : List Call) → is_some (live_of service.histories id) ≡ true → AnswersCommand id command place → IsFullNote service id place → All (IsIdle service) calls →
     All (IsIdle service) (cons_option (refused_by id command place) calls)
-one_idle service id command (Receipt r) calls live is full rest = rest
-one_idle service id command (Note n) calls live is full rest =
-    let its = full n refl in
-    All-cons (IsIdle service) (Tenant id command (Err (JournalFull n))) calls (record { happens = refused_happens service id command n is its.0 live its.1; turn = refl }) rest
-one_idle service id command (RefusedPlace refusal) calls live is full rest = rest
+one_idle service id command place calls live is full rest = grind arith
 
 pub are_idle : (service : ServiceState) (id : ℕ) (answers : List Answer) → is_some (live_of service.histories id) ≡ true → All (IsAnswerTo id) answers → All (λ (a : Answer). IsFullNote service id a.1) answers → All (IsIdle service) (refused_calls id answers)
 are_idle service id [] live all full = All-nil (IsIdle service)
@@ -270,12 +165,4 @@ idle_run service (call ∷ calls) all = (service, (All-head (IsIdle service) cal
 
 -- each call of threads is a turn
 pub kind_turn : (call : Call) → IsOfThreads call → is_turn call ≡ true
-kind_turn (Admit width answer) never = cc
-kind_turn (Evict t answer) never = cc
-kind_turn (Move t offset answer) never = cc
-kind_turn (Tenant t command (Err refusal)) never = cc
-kind_turn (Tenant t command (Ok r)) kind = refl
-kind_turn (Take t answer) kind = refl
-kind_turn (Put done foreign answer) kind = refl
-kind_turn (GiveBack job) kind = refl
-kind_turn (Owners list) never = cc
+kind_turn call never = grind arith

@@ -1,21 +1,9 @@
 -- The answers of the sessions, put together.
-use Rattle.std.proofs.Common.{◌≡◌, List, [], ◌∷◌, ◌++◌, length, get_or, Option, Some, None, refl, sym, ap, subst, ◌∙◌}
-use Rattle.std.specs.Prelude.{All, IfSome}
-use Rattle.std.proofs.lemmas.List.{map_push}
-use Rattle.std.proofs.lemmas.List.Elements.{All-append, All-cons, All-nil, All-push, filter_map-append}
-use Rattle.service_core.specs.Service.{ServiceState, journal_of}
-use Rattle.settling.specs.Settling.{IsFullIfTold}
-use Rattle.transcripts.specs.Transcripts.{AreOfLive, TranscriptState}
-use Rattle.script_threads.specs.Parts.{Adds, AreFullNotes, AreParts, part_told}
-use Rattle.script_text.specs.Replies.{Section}
-use Rattle.script_threads.specs.Sessions.{IsTold, PartState, transcripts_of}
+use Rattle.script_threads.proofs.Prelude.{◌≡◌, List, [], ◌∷◌, ◌++◌, length, get_or, sym, ap, subst, ◌∙◌, arith, All, IfSome, map_push, All-append, All-push, filter_map-append, ServiceState, journal_of, IsFullIfTold, AreOfLive, TranscriptState, Adds, AreFullNotes, AreParts, part_told, Section, PartState, transcripts_of}
+use Rattle.script_threads.specs.Sessions.{IsTold}
 
 one_live : (part : PartState) → IfSome part.transcript (λ t. AreOfLive t.items) → All (λ (t : TranscriptState). AreOfLive t.items) (transcripts_of (part ∷ []))
-one_live part live = by_option part.transcript refl live
-  where
-    by_option : (o : Option TranscriptState) → part.transcript ≡ o → IfSome o (λ t. AreOfLive t.items) → All (λ (t : TranscriptState). AreOfLive t.items) (transcripts_of (part ∷ []))
-    by_option None e is = rw e (All-nil (λ (t : TranscriptState). AreOfLive t.items))
-    by_option (Some t) e is = rw e (All-cons (λ (u : TranscriptState). AreOfLive u.items) t [] is (All-nil (λ (u : TranscriptState). AreOfLive u.items)))
+one_live part live = grind arith
 
 -- the journals of the service that is left are full, if an answer says so
 pub full_notes : (core_service service : ServiceState) (ts : List TranscriptState) → core_service ≡ service → All (λ t. AreOfLive t.items) ts → All (IsFullIfTold core_service) ts → All (AreFullNotes service) ts

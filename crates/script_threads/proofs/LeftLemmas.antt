@@ -1,49 +1,17 @@
 -- The jobs that are left, tenancy by tenancy.
-use Rattle.std.proofs.Common.{◌≡◌, ◌≢◌, ◌⊎◌, inl, inr, ℕ, ◌+◌, ◌≤◌, ◌<◌, List, [], ◌∷◌, ◌++◌, length, Bool, true, false, eqb, Option, Some, None, Ok, Err, refl, sym, ap, ◌∙◌, subst, arith}
-use Rattle.std.specs.Prelude.{All, nat_le, option_map, if◌then◌else◌}
-use Rattle.std.specs.List.{Contains, flat_map}
-use Rattle.std.proofs.lemmas.Bool.Decides.{nat_tests, Decides-eqb}
-use Rattle.std.proofs.lemmas.Grind.{flat_map-append}
-use Rattle.std.proofs.lemmas.List.Elements.{All-append, All-cons, All-contains, All-head, All-nil, All-same, All-tail, All-weaker, Contains-append_left, Contains-append_right}
-use Rattle.rr_graph.specs.Graph.{Basis}
-use Rattle.job_state.specs.declared.step.JobStep.{JobStep}
-use Rattle.job_state.specs.declared.sources.Sources.{Sources}
-use Rattle.job_state.specs.Job.{JobState}
-use Rattle.tenant_slot.specs.Slot.{SlotState, is_takeable, next_job, running_sources}
-use Rattle.service_core.specs.declared.put_reply.PutReply.TheVariants.{Recorded as PutRecorded, Full as PutFull, Gone as PutGone}
-use Rattle.service_core.specs.Calls.{IsTaken, takeable_in}
-use Rattle.service_core.specs.History.{History, slot_of, with_here}
-use Rattle.service_core.specs.Run.{Call, Happens, Run, IsGivenBackTo}
-use Rattle.service_core.specs.Run.Call.{Admit, Evict, Move, Tenant, Take, Put, GiveBack, Owners}
-use Rattle.service_core.specs.Service.{ServiceState, history_of, live_of, with_changed}
-use Rattle.service_core.specs.Tenancy.{if_live}
-use Rattle.service_core.proofs.Lists.{history_of-modified, history_of-past, history_of-zero}
-use Rattle.sessions.specs.declared.steps.StepOutcome.{StepOutcome}
-use Rattle.sessions.specs.declared.steps.StepOutcome.TheVariants.{Recorded, Full, Gone, NoMemory, Nothing, Unfit}
-use Rattle.sessions.specs.Fitting.{own_graph}
-use Rattle.sessions.specs.Steps.{MadeStep, MakesStep, StepsAndPuts, Waits}
-use Rattle.sessions.proofs.Counted.{some_and}
-use Rattle.sessions.proofs.EndToEndLemmas.{split}
-use Rattle.sessions.proofs.StepLemmas.{Run-append}
-use Rattle.shared_core.specs.Reaching.{is_of_threads, own_receipt, own_receipts}
-use Rattle.shared_core.proofs.Reaching.{IsOfThreads, run_goes_on}
-use Rattle.script_threads.specs.Left.{HaveMadeSteps, IsEnded, IsJobOf, MakesSteps, MakesStepsOf}
+use Rattle.script_threads.proofs.Prelude.{◌≡◌, ◌≢◌, ◌⊎◌, inl, inr, ℕ, ◌+◌, ◌≤◌, ◌<◌, List, [], ◌∷◌, ◌++◌, length, Bool, true, false, eqb, Option, Some, refl, sym, ap, ◌∙◌, subst, arith, All, nat_le, option_map, Contains, flat_map, nat_tests, Decides-eqb, flat_map-append, All-append, All-cons, All-contains, All-head, All-nil, All-same, All-tail, All-weaker, Contains-append_left, Contains-append_right, Basis, JobStep, Sources, JobState, SlotState, is_takeable, next_job, IsTaken, takeable_in, History, slot_of, Call, Happens, Run, IsGivenBackTo, Take, GiveBack, ServiceState, live_of, with_changed, if_live, history_of-modified, history_of-past, history_of-zero, StepOutcome, Recorded, Unfit, own_graph, MadeStep, MakesStep, StepsAndPuts, Waits, split, Run-append, is_of_threads, own_receipt, own_receipts, IsOfThreads, run_goes_on, HaveMadeSteps, IsEnded, IsJobOf, MakesSteps, MakesStepsOf}
+use Rattle.sessions.specs.declared.steps.StepOutcome.TheVariants.{NoMemory}
 use Rattle.script_threads.proofs.TurnLemmas.{none_asked}
 
 -- a job that is taken is its tenancy's
 next_own : (slot : SlotState) (o : Option Sources) (s : JobStep) → option_map (λ sources. record { id = slot.id; generation = slot.state.generation; number = slot.state.steps + 1; sources = sources }) o ≡ Some s → s.id ≡ slot.id
-next_own slot None s is = cc
-next_own slot (Some sources) s is =
-    let e : record { id = slot.id; generation = slot.state.generation; number = slot.state.steps + 1; sources = sources } ≡ s = cc in
-    ap (λ (x : JobStep). x.id) (sym e)
+next_own slot o s is = grind arith
 
 abbrev IsTakenOf : ℕ → JobState → History → Type 0
 IsTakenOf id job h = (h.id ≡ id) × (is_takeable (slot_of h) ≡ true) × (next_job (slot_of h) ≡ Some job.step) × (h.here ≡ Some job.made)
 
 taken_own : (old mid : ServiceState) (id : ℕ) (job : JobState) → IsTaken old id (Some job) mid → job.step.id ≡ id
-taken_own old mid id job takes =
-    let was = some_and (IsTakenOf id job) (live_of old.histories id) takes.0 in
-    next_own (slot_of was.0) (running_sources (slot_of was.0).state) job.step was.2.2 ∙ was.2.0
+taken_own old mid id job takes = grind arith
 
 -- all calls of its steps are about that job
 abbrev AreJobsOf : ℕ → List Call → Type 0
@@ -55,27 +23,8 @@ two id a b one other = All-cons (IsJobOf id) a (b ∷ []) one (All-cons (IsJobOf
 one : (id : ℕ) (a : Call) → IsJobOf id a → AreJobsOf id (a ∷ [])
 one id a is = All-cons (IsJobOf id) a [] is (All-nil (IsJobOf id))
 
-puts_own : (id : ℕ) (job : JobState) (calls : List Call) (outcome : StepOutcome) → job.step.id ≡ id → StepsAndPuts job calls outcome → AreJobsOf id calls
-puts_own id job calls (Recorded reply) own is = All-same (IsJobOf id) calls _ is.1 (one id _ own)
-puts_own id job calls Full own is = All-same (IsJobOf id) calls _ is.1 (one id _ own)
-puts_own id job calls Gone own is = All-same (IsJobOf id) calls _ is.1 (one id _ own)
-puts_own id job calls NoMemory own (inl is) = All-same (IsJobOf id) calls _ is (one id _ own)
-puts_own id job calls NoMemory own (inr is) = All-same (IsJobOf id) calls _ is.2 (two id _ _ own own)
-puts_own id job calls Nothing own is = absurd is
-puts_own id job calls Unfit own is = All-same (IsJobOf id) calls _ is (one id _ own)
-
-taking_own : (id : ℕ) (job : JobState) (old : ServiceState) (calls more : List Call) (new : ServiceState) (outcome : StepOutcome) → StepsAndPuts job more outcome → calls ≡ Take id (Some job) ∷ more → Run old calls new → AreJobsOf id calls
-taking_own id job old calls more new outcome puts is runs =
-    let run : Run old (Take id (Some job) ∷ more) new = (let P : List Call → Type 0 = λ cs. Run old cs new in subst P is runs) in
-    All-same (IsJobOf id) calls _ is (All-cons (IsJobOf id) (Take id (Some job)) more refl (puts_own id job more outcome (taken_own old run.0 id job run.1) puts))
-
 step_own : (id : ℕ) (old : ServiceState) (calls : List Call) (new : ServiceState) (outcome : StepOutcome) → MakesStep id calls outcome → Run old calls new → AreJobsOf id calls
-step_own id old calls new (Recorded reply) is runs = taking_own id is.0 old calls is.1 new (Recorded reply) is.2 is.3 runs
-step_own id old calls new Full is runs = taking_own id is.0 old calls is.1 new Full is.2 is.3 runs
-step_own id old calls new Gone is runs = taking_own id is.0 old calls is.1 new Gone is.2 is.3 runs
-step_own id old calls new NoMemory is runs = taking_own id is.0 old calls is.1 new NoMemory is.2 is.3 runs
-step_own id old calls new Nothing is runs = All-same (IsJobOf id) calls _ is (one id _ refl)
-step_own id old calls new Unfit is runs = taking_own id is.0 old calls is.1 new Unfit is.2 is.3 runs
+step_own id old calls new outcome is runs = grind arith
 
 abbrev made_calls : List MadeStep → List Call
 made_calls made = flat_map (λ (m : MadeStep). m.0) made
@@ -132,29 +81,14 @@ job_ends graph old id new calls last waits runs fits how = record { calls = call
 
 -- such calls are calls of threads, serve no command, and change no other tenancy
 kind_of : (id : ℕ) (call : Call) → IsJobOf id call → is_of_threads call ≡ true
-kind_of id (Admit width answer) never = absurd never
-kind_of id (Evict t answer) never = absurd never
-kind_of id (Move t offset answer) never = absurd never
-kind_of id (Tenant t command served) never = absurd never
-kind_of id (Take t answer) is = refl
-kind_of id (Put done foreign answer) is = refl
-kind_of id (GiveBack job) is = refl
-kind_of id (Owners list) never = absurd never
+kind_of id call never = grind arith
 
 no_receipt : (id other : ℕ) (call : Call) → IsJobOf id call → own_receipt other call ≡ []
-no_receipt id other (Admit width answer) never = absurd never
-no_receipt id other (Evict t answer) never = absurd never
-no_receipt id other (Move t offset answer) never = absurd never
-no_receipt id other (Tenant t command served) never = absurd never
-no_receipt id other (Take t answer) is = refl
-no_receipt id other (Put done foreign answer) is = refl
-no_receipt id other (GiveBack job) is = refl
-no_receipt id other (Owners list) never = absurd never
+no_receipt id other call never = grind arith
 
 no_receipts : (id other : ℕ) (calls : List Call) → AreJobsOf id calls → own_receipts other calls ≡ []
 no_receipts id other [] are = refl
-no_receipts id other (call ∷ calls) are =
-    ap (λ rs. rs ++ own_receipts other calls) (no_receipt id other call (All-head (IsJobOf id) call calls are)) ∙ no_receipts id other calls (All-tail (IsJobOf id) call calls are)
+no_receipts id other (call ∷ calls) are = grind (arith, All-head, no_receipts id other calls (All-tail (IsJobOf id) call calls are))
 
 abbrev Same : ℕ → ServiceState → ServiceState → Type 0
 Same id old new = live_of new.histories id ≡ live_of old.histories id
@@ -163,46 +97,24 @@ nothing : (id : ℕ) (old new : ServiceState) → new ≡ old → Same id old ne
 nothing id old new same = ap (λ (s : ServiceState). live_of s.histories id) same
 
 changed : (id t : ℕ) (old new : ServiceState) (change : History → History) → id ≢ t → new ≡ record old { histories = with_changed old.histories t change } → Same id old new
-changed id t old new change apart is =
-    let no : eqb id t ≡ false = grind (arith, nat_tests) in
-    let same : history_of (with_changed old.histories t change) id ≡ history_of old.histories id = history_of-modified old.histories t id change ∙ ap (λ b. if b then option_map change (history_of old.histories id) else history_of old.histories id) no in
-    ap (λ (s : ServiceState). live_of s.histories id) is ∙ ap if_live same
+changed id t old new change apart is = grind (arith, history_of-modified)
 
 given : (o : Option History) (id : ℕ) (old new : ServiceState) (job : JobState) → id ≢ job.step.id → IsGivenBackTo o old job new → Same id old new
-given None id old new job apart is = nothing id old new is
-given (Some h) id old new job apart is = changed id job.step.id old new (with_here is.0) apart is.2
+given o id old new job apart is = grind (arith, changed)
 
 to : (t u id : ℕ) → u ≡ t → id ≢ t → id ≢ u
 to t u id is apart = λ same. apart (same ∙ is)
 
 other_call : (id t : ℕ) (old new : ServiceState) (call : Call) → IsJobOf t call → id ≢ t → Happens old call new → Same id old new
-other_call id t old new (Admit width answer) never apart is = absurd never
-other_call id t old new (Evict u answer) never apart is = absurd never
-other_call id t old new (Move u offset answer) never apart is = absurd never
-other_call id t old new (Tenant u command served) never apart is = absurd never
-other_call id t old new (Take u None) on apart is = nothing id old new is.1
-other_call id t old new (Take u (Some job)) on apart is = changed id u old new _ (to t u id on apart) is.1
-other_call id t old new (Put done foreign (Ok (PutRecorded reply))) on apart is = changed id done.id old new _ (to t done.id id on apart) is.1
-other_call id t old new (Put done foreign (Ok PutFull)) on apart is = nothing id old new is.1
-other_call id t old new (Put done foreign (Ok PutGone)) on apart is = nothing id old new is.1
-other_call id t old new (Put done foreign (Err back)) on apart is = nothing id old new is.2
-other_call id t old new (GiveBack job) on apart is = given (live_of old.histories job.step.id) id old new job (to t job.step.id id on apart) is
-other_call id t old new (Owners list) never apart is = absurd never
+other_call id t old new call never apart is = grind (arith, changed)
 
 other_calls : (id t : ℕ) (old : ServiceState) (calls : List Call) (new : ServiceState) → AreJobsOf t calls → id ≢ t → Run old calls new → Same id old new
 other_calls id t old [] new on apart run = nothing id old new run
-other_calls id t old (call ∷ calls) new on apart run =
-    other_calls id t run.0 calls new (All-tail (IsJobOf t) call calls on) apart run.2 ∙ other_call id t old run.0 call (All-head (IsJobOf t) call calls on) apart run.1
+other_calls id t old (call ∷ calls) new on apart run = search (other_call, All-head, other_calls id t run.0 calls new (All-tail (IsJobOf t) call calls on) apart run.2, arith)
 
 -- one tenancy after another
 pub none_made : (graph : Basis) (old : ServiceState) → HaveMadeSteps graph old 0 old
-none_made graph old = record {
-  calls = [];
-  run = refl;
-  kinds = All-nil IsOfThreads;
-  none_served = λ id. refl;
-  ended = λ own id first. inl (ap (λ i. takeable_in (live_of old.histories i)) (let e : id ≡ 0 = omega arith in e) ∙ ap (λ o. takeable_in (if_live o)) (history_of-zero old.histories));
-}
+none_made graph old = grind (arith, history_of-zero old.histories)
 
 pub one_more : (graph : Basis) (old mid new : ServiceState) (n : ℕ) → HaveMadeSteps graph old n mid → MakesStepsOf graph mid (n + 1) new → HaveMadeSteps graph old (n + 1) new
 one_more graph old mid new n done next = record {

@@ -1,3 +1,4 @@
+mod Prelude
 mod AskedLemmas
 mod CrowdLemmas
 mod FinishLemmas

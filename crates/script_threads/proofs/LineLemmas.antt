@@ -1,15 +1,5 @@
 -- Lines of the operator, served one after another.
-use Rattle.std.proofs.Common.{◌≡◌, ℕ, Some, None, List, [], ◌∷◌, ◌++◌, length, refl, sym, ap, ◌∙◌, subst, append_assoc, append-nil}
-use Rattle.std.specs.List.{filter_map}
-use Rattle.std.specs.Prelude.{option_map, reverse}
-use Rattle.service_core.specs.Run.{Call, Run}
-use Rattle.service_core.specs.Run.Call.{GiveBack}
-use Rattle.service_core.specs.Service.{ServiceState}
-use Rattle.shared_core.proofs.Journals.{given_back}
-use Rattle.operator.specs.HeldJobs.{HeldList, give_backs}
-use Rattle.script_text.specs.declared.operator_line.OperatorLine.{OperatorLine}
-use Rattle.operator.specs.Serving.{IsServed, Stage}
-use Rattle.script_threads.specs.Lines.{AreServed, RepliesEach}
+use Rattle.script_threads.proofs.Prelude.{◌≡◌, ℕ, Some, None, List, [], ◌∷◌, ◌++◌, length, refl, sym, ap, ◌∙◌, subst, append_assoc, append-nil, arith, filter_map, option_map, reverse, Call, Run, GiveBack, ServiceState, given_back, HeldList, give_backs, OperatorLine, IsServed, Stage, AreServed, RepliesEach}
 
 pub AreServed-push : (a : Stage) (lines : List (OperatorLine (List ℕ))) (before : List Call) (text : List ℕ) (b : Stage) (line : OperatorLine (List ℕ)) (calls : List Call) (more : List ℕ) (c : Stage) →
     AreServed a lines before text b → IsServed b line calls more c → AreServed a (lines ++ line ∷ []) (before ++ calls) (text ++ more) c
@@ -36,25 +26,15 @@ AreServed-push a (x ∷ xs) before text b line calls more c done next = (
   ap (λ t. t ++ more) done.8 ∙ append_assoc done.1 done.4 more,
 )
 
-pub replies_none : (a : Stage) (before : List ℕ) → length a.names ≡ length a.service.histories → RepliesEach a [] before before a
-replies_none a before even = record { calls = []; text = []; served = (refl, refl, refl); reply = sym (append-nil before); even = even }
-
 pub replies_more : (a : Stage) (lines : List (OperatorLine (List ℕ))) (before mid_text after : List ℕ) (b : Stage) (line : OperatorLine (List ℕ)) (calls : List Call) (more : List ℕ) (c : Stage) →
     RepliesEach a lines before mid_text b → IsServed b line calls more c → after ≡ mid_text ++ more → length c.names ≡ length c.service.histories → RepliesEach a (lines ++ line ∷ []) before after c
-replies_more a lines before mid_text after b line calls more c done next told even = record {
-  calls = done.calls ++ calls;
-  text = done.text ++ more;
-  served = AreServed-push a lines done.calls done.text b line calls more c done.served next;
-  reply = told ∙ ap (λ t. t ++ more) done.reply ∙ append_assoc before done.text more;
-  even = even;
-}
+replies_more a lines before mid_text after b line calls more c done next told even = grind (arith, AreServed-push a lines done.calls done.text b line calls more c done.served next, append_assoc before done.text more)
 
 -- giving jobs back keeps the tenancies
 gives : (old new : ServiceState) (jobs : HeldList) → Run old (filter_map (option_map GiveBack) jobs) new → length new.histories ≡ length old.histories
 gives old new [] is = ap (λ (s : ServiceState). length s.histories) is
 gives old new (None ∷ jobs) is = gives old new jobs is
-gives old new (Some job ∷ jobs) is =
-    let first = given_back old is.0 job is.1 in gives is.0 new jobs is.2 ∙ first.stays.count
+gives old new (Some job ∷ jobs) is = grind (arith, given_back, gives is.0 new jobs is.2)
 
 pub gives_keep : (old new : ServiceState) (jobs : HeldList) → Run old (give_backs jobs) new → length new.histories ≡ length old.histories
 gives_keep old new jobs is = gives old new (reverse jobs) is

@@ -1,48 +1,14 @@
 -- A script on threads is one run of the core.
-use Rattle.std.proofs.Common.{◌≡◌, ℕ, List, [], ◌∷◌, ◌++◌, Option, Some, None, ap, sym, ◌∙◌, subst}
-use Rattle.std.specs.Prelude.{All, IfSome}
-use Rattle.std.proofs.lemmas.List.Elements.{All-weaker}
-use Rattle.rr_graph.specs.Graph.{Basis}
-use Rattle.service_core.specs.declared.device.Device.{Device}
-use Rattle.service_core.specs.Run.{Call, Run}
-use Rattle.service_core.specs.Service.{ServiceState, empty_service}
-use Rattle.service_core.proofs.Alone.{each_alone, is_book, own_journals}
-use Rattle.service_core.proofs.Effects.{Kept, run_device, run_keeps}
-use Rattle.service_core.proofs.Keeps.{IsService-empty}
-use Rattle.service_core.proofs.Owning.{one_owner}
-use Rattle.service_core.proofs.Parted.{are_parted}
-use Rattle.sessions.specs.Fitting.{own_graph}
-use Rattle.sessions.proofs.StepLemmas.{Run-append}
-use Rattle.shared_core.specs.Following.{Follows, Stays}
-use Rattle.shared_core.specs.Reaching.{own_receipts}
-use Rattle.settling.proofs.AllCalls.{Stands, own_stand}
-use Rattle.transcripts.specs.declared.item.ItemAnswer.{ItemAnswer}
-use Rattle.operator.specs.HeldJobs.{give_backs}
-use Rattle.operator.specs.Serving.{Stage}
-use Rattle.operator.proofs.Served.{served_runs}
-use Rattle.script_text.specs.declared.operator_line.OperatorLine.{OperatorLine}
-use Rattle.script_text.specs.Threaded.{Parts as Script}
-use Rattle.script_threads.specs.Lines.{AreServed, Serves, stage, with_give_backs}
-use Rattle.script_threads.specs.OneRun.{IsOneRun, calls_of}
-use Rattle.script_threads.specs.Left.{IsEnded}
-use Rattle.script_text.specs.Replies.{Section}
-use Rattle.script_threads.specs.Served.{Conversation, IsAnswered, IsServedFrom}
-use Rattle.script_threads.specs.Turns.{receipts_told}
+use Rattle.script_threads.proofs.Prelude.{◌≡◌, ℕ, List, [], ◌∷◌, ◌++◌, Option, Some, None, ap, sym, ◌∙◌, subst, arith, All, IfSome, All-weaker, Basis, Device, Call, Run, ServiceState, empty_service, each_alone, is_book, own_journals, Kept, run_device, run_keeps, IsService-empty, one_owner, are_parted, own_graph, Run-append, Follows, Stays, own_receipts, Stands, own_stand, ItemAnswer, Stage, OperatorLine, Parts as Script, AreServed, Serves, with_give_backs, IsOneRun, calls_of, IsEnded, Section, Conversation, IsAnswered, IsServedFrom, receipts_told}
 use Rattle.script_threads.proofs.TurnLemmas.{IsFullFrom, IsTurn, full_from, served_told, turns_go_on, without_refused}
 
 lines_run : (old : Stage) (lines : List (OperatorLine (List ℕ))) (calls : List Call) (text : List ℕ) (new : Stage) → AreServed old lines calls text new → Run old.service calls new.service
-lines_run old [] calls text new is =
-    let P : List Call → Type 0 = λ cs. Run old.service cs new.service in subst P (sym is.0) (ap (λ (s : Stage). s.service) is.2)
-lines_run old (line ∷ lines) calls text new is =
-    let first = served_runs old line is.0 is.1 is.2 is.5 in
-    let rest = lines_run is.2 lines is.3 is.4 new is.6 in
-    let P : List Call → Type 0 = λ cs. Run old.service cs new.service in
-    subst P (sym is.7) (Run-append old.service is.0 (is.2).service is.3 new.service first rest)
+lines_run old [] calls text new is = grind arith
+lines_run old (line ∷ lines) calls text new is = grind (arith, Run-append, lines_run is.2 lines is.3 is.4 new is.6)
 
 pub serves_run : (graph : Basis) (names : List (List ℕ)) (service : ServiceState) (lines : List (OperatorLine (List ℕ))) (text : List ℕ) (new_names : List (List ℕ)) (new : ServiceState) →
     (is : Serves graph names service lines text new_names new) → Run service (with_give_backs is.calls is.last) new
-serves_run graph names service lines text new_names new is =
-    Run-append service is.calls is.last.service (give_backs is.last.jobs) new (lines_run (stage graph names [] service) lines is.calls text is.last is.served) is.given_back
+serves_run graph names service lines text new_names new is = grind (arith, Run-append, lines_run)
 
 pub is_one_run : (device : Device) (script : Script) (sections : List Section) (text : List ℕ) (is : IsServedFrom (own_graph device) (empty_service device) script sections text) → IsOneRun device (calls_of is) is.last
 is_one_run device script sections text is =

@@ -1,35 +1,9 @@
 -- The answers of the sessions, by their conversations.
-use Rattle.std.proofs.Common.{◌≡◌, ◌≢◌, ◌<◌, get_or, ℕ, zero, suc, List, [], ◌∷◌, ◌++◌, length, map, true, false, eqb, Option, Some, None, refl, sym, ap, ◌∙◌, subst, arith, append_assoc, append-nil}
-use Rattle.std.specs.Prelude.{All, AllPairs, IfSome, is_some}
-use Rattle.std.specs.List.{AllZip, cons_option, filter_map}
-use Rattle.std.proofs.lemmas.Bool.Decides.{nat_tests}
-use Rattle.std.proofs.lemmas.List.{map_push}
-use Rattle.std.proofs.lemmas.List.Elements.{All-append, All-cons, All-head, All-map, All-nil, All-tail, All-weaker, filter_map-append}
-use Rattle.std.proofs.lemmas.List.Kept.{AllPairs-cons}
-use Rattle.service_core.specs.History.{History}
-use Rattle.service_core.specs.Run.{Call, Run}
-use Rattle.service_core.specs.Service.{ServiceState, live_of}
-use Rattle.sessions.specs.declared.line.SessionLine.{SessionLine}
-use Rattle.sessions.specs.Items.{items_of}
-use Rattle.sessions.proofs.StepLemmas.{Run-append}
-use Rattle.shared_core.specs.Reaching.{own_receipts}
-use Rattle.shared_core.proofs.Reaching.{IsOfThreads, run_goes_on}
-use Rattle.settling.specs.Settling.{has_id}
-use Rattle.session_threads.specs.Told.{AreTold, noted_all, IsTold as IsToldTo}
-use Rattle.transcripts.specs.declared.item.Item.{Item}
-use Rattle.transcripts.specs.declared.item.ItemAnswer.{ItemAnswer}
-use Rattle.session_threads.specs.WholeSession.{new_transcript}
-use Rattle.transcripts.specs.Transcripts.{TranscriptState, receipt_in, receipts_of, with_no_memory}
-use Rattle.operator.specs.OperatorText.{last_id}
-use Rattle.script_text.specs.Threaded.{Said}
-use Rattle.script_threads.specs.Refusals.{NoneLate, served_late}
-use Rattle.script_threads.specs.Turns.{own_answer, own_answers, receipts_told, told_answers}
+use Rattle.script_threads.proofs.Prelude.{◌≡◌, ◌≢◌, ◌<◌, get_or, ℕ, zero, suc, List, [], ◌∷◌, ◌++◌, length, true, false, Option, Some, None, refl, sym, ap, ◌∙◌, subst, arith, append_assoc, append-nil, All, AllPairs, IfSome, is_some, AllZip, cons_option, filter_map, map_push, All-append, All-cons, All-head, All-map, All-nil, All-tail, All-weaker, filter_map-append, AllPairs-cons, History, Call, Run, ServiceState, live_of, SessionLine, items_of, Run-append, own_receipts, IsOfThreads, run_goes_on, has_id, AreTold, noted_all, IsTold as IsToldTo, Item, ItemAnswer, new_transcript, TranscriptState, receipt_in, receipts_of, with_no_memory, last_id, Said, NoneLate, served_late, own_answer, own_answers, receipts_told, told_answers, AreFullNotes, Finishes, part_told, Section, Conversation, IsAnswered, Ran, told_in, Asked, IsToldBy, PartState, asked_in, asked_of, transcripts_of}
+use Rattle.std.proofs.Common.{map}
 use Rattle.script_threads.proofs.AskedLemmas.{Answer, IsFullNote, IsIdle, all_places, are_answers, are_idle, idle_run, kind_turn, none_late, notes_of, of_receipt, other_notes, own_notes, own_served, parted, places, receipt_by, receipts_are, refused_calls}
 use Rattle.script_threads.proofs.TurnLemmas.{IsTurn}
-use Rattle.script_threads.specs.Parts.{AreFullNotes, Finishes, part_told}
-use Rattle.script_text.specs.Replies.{Section}
-use Rattle.script_threads.specs.Served.{Conversation, IsAnswered, Ran, told_in}
-use Rattle.script_threads.specs.Sessions.{Asked, IsTold, IsToldBy, PartState, asked_in, asked_of, transcripts_of}
+use Rattle.script_threads.specs.Sessions.{IsTold}
 
 -- a part as a conversation
 abbrev conversation : (p : PartState) (o : Option TranscriptState) → IsToldBy o p → Conversation
@@ -42,26 +16,17 @@ conversations (p ∷ ps) all = conversation p p.transcript (All-head IsTold p ps
 
 -- its text, and whether its tenancy is live
 same_told : (p : PartState) (o : Option TranscriptState) (is : IsToldBy o p) → part_told p ≡ told_in (conversation p o is)
-same_told p None is = ap (λ text. record { name = p.name; text = text }) is
-same_told p (Some t) is = ap (λ text. record { name = p.name; text = text }) is.written
+same_told p o is = grind arith
 
 all_told : (ps : List PartState) (all : All IsTold ps) → map part_told ps ≡ map told_in (conversations ps all)
 all_told [] all = refl
-all_told (p ∷ ps) all =
-    let rest = all_told ps (All-tail IsTold p ps all) in
-    ap (λ t. t ∷ map part_told ps) (same_told p p.transcript (All-head IsTold p ps all)) ∙ ap (λ ts. told_in (conversation p p.transcript (All-head IsTold p ps all)) ∷ ts) rest
-
-same_live : (p : PartState) (o : Option TranscriptState) (is : IsToldBy o p) → is_some (conversation p o is).told ≡ is_some o
-same_live p None is = refl
-same_live p (Some t) is = refl
+all_told (p ∷ ps) all = grind (arith, all_told ps (All-tail IsTold p ps all))
 
 same_id : (p : PartState) (o : Option TranscriptState) (is : IsToldBy o p) → (conversation p o is).id ≡ p.id
-same_id p None is = refl
-same_id p (Some t) is = refl
+same_id p o is = grind arith
 
 same_said : (p : PartState) (o : Option TranscriptState) (is : IsToldBy o p) → (conversation p o is).said ≡ record { name = p.name; input = p.input }
-same_said p None is = refl
-same_said p (Some t) is = refl
+same_said p o is = grind arith
 
 -- the session is its name's, and its tenancy is the name's last one
 abbrev IsOf : List (List ℕ) → List History → Conversation → Type 0
@@ -72,13 +37,7 @@ said_of a = record { name = a.name; input = a.input }
 
 one_of : (names : List (List ℕ)) (hs : List History) (p : PartState) (s : Said) (o : Option TranscriptState) (is : IsToldBy o p) → p.transcript ≡ o → asked_in p ≡ asked_of names hs s →
     ((conversation p o is).said ≡ s) × IsOf names hs (conversation p o is)
-one_of names hs p s o is e same =
-    let c : Conversation = conversation p o is in
-    let said : c.said ≡ s = same_said p o is ∙ ap said_of same in
-    let name : c.said.name ≡ s.name = ap (λ (x : Said). x.name) said in
-    let id : c.id ≡ last_id names s.name = same_id p o is ∙ ap (λ (a : Asked). a.id) same in
-    let live : is_some c.told ≡ is_some (live_of hs (last_id names s.name)) = same_live p o is ∙ (ap is_some (sym e) ∙ ap (λ (a : Asked). a.live) same) in
-    (said, (id ∙ ap (last_id names) (sym name), live ∙ ap (λ i. is_some (live_of hs i)) (sym id)))
+one_of names hs p s o is e same = grind arith
 
 abbrev head_or : {A : Type 0} → A → List A → A
 head_or d [] = d
@@ -93,11 +52,7 @@ all_of : (names : List (List ℕ)) (hs : List History) (ps : List PartState) (ss
 all_of names hs [] [] all same = (refl, All-nil (IsOf names hs))
 all_of names hs [] (s ∷ ss) all same = cc
 all_of names hs (p ∷ ps) [] all same = cc
-all_of names hs (p ∷ ps) (s ∷ ss) all same =
-    let c : Conversation = conversation p p.transcript (All-head IsTold p ps all) in
-    let one = one_of names hs p s p.transcript (All-head IsTold p ps all) refl (ap (head_or (asked_in p)) same) in
-    let rest = all_of names hs ps ss (All-tail IsTold p ps all) (ap tail_of same) in
-    (ap (λ x. x ∷ map (λ (c : Conversation). c.said) (conversations ps (All-tail IsTold p ps all))) one.0 ∙ ap (λ xs. s ∷ xs) rest.0, All-cons (IsOf names hs) c (conversations ps (All-tail IsTold p ps all)) one.1 rest.1)
+all_of names hs (p ∷ ps) (s ∷ ss) all same = grind (arith, all_of names hs ps ss (All-tail IsTold p ps all) (ap tail_of same))
 
 -- the places of a transcript that has these answers
 places_noted : (t : TranscriptState) (told : List (Option ItemAnswer)) → map (λ (i : Item). i.place) (noted_all t told).items ≡ map (λ (i : Item). i.place) t.items ++ places told
@@ -225,11 +180,7 @@ abbrev IsNotOf : ℕ → Conversation → Type 0
 IsNotOf id c = is_some c.told ≡ true → c.id ≢ id
 
 one_absent : (id : ℕ) (p : PartState) (o : Option TranscriptState) (is : IsToldBy o p) (ts : List TranscriptState) → IsNotOf id (conversation p o is) → has_id ts id ≡ false → has_id (cons_option o ts) id ≡ false
-one_absent id p None is ts other rest = rest
-one_absent id p (Some t) is ts other rest =
-    let differ : t.id ≢ id = λ same. other refl (sym (id_told p t is) ∙ same) in
-    let no : eqb t.id id ≡ false = grind (arith, nat_tests) in
-    rw no rest
+one_absent id p o is ts other rest = grind (arith, id_told)
 
 all_absent : (id : ℕ) (ps : List PartState) (all : All IsTold ps) → All (IsNotOf id) (conversations ps all) → has_id (transcripts_of ps) id ≡ false
 all_absent id [] all other = refl
@@ -259,9 +210,7 @@ one_idle calls service c (Some told) live is =
 
 all_idle : (calls : List Call) (service : ServiceState) (cs : List Conversation) → All (IsLiveIn service) cs → All (Answers calls service) cs → All (IsIdle service) (refusals cs)
 all_idle calls service [] live all = All-nil (IsIdle service)
-all_idle calls service (c ∷ cs) live all =
-    All-append (IsIdle service) (refusals_of c.id (items_of c.said.input) c.told) (refusals cs) (one_idle calls service c c.told (All-head (IsLiveIn service) c cs live) (All-head (Answers calls service) c cs all))
-    (all_idle calls service cs (All-tail (IsLiveIn service) c cs live) (All-tail (Answers calls service) c cs all))
+all_idle calls service (c ∷ cs) live all = search (All-append, one_idle, All-head, all_idle calls service cs (All-tail (IsLiveIn service) c cs live) (All-tail (Answers calls service) c cs all), arith)
 
 -- each conversation has its own among them
 one_none : (id : ℕ) (c : Conversation) (o : Option (List (Option ItemAnswer))) → (is_some o ≡ true → c.id ≢ id) → own_answers id (refusals_of c.id (items_of c.said.input) o) ≡ []
@@ -270,16 +219,13 @@ one_none id c (Some told) differ = other_notes id c.id (λ same. differ refl (sy
 
 all_none : (id : ℕ) (cs : List Conversation) → All (IsNotOf id) cs → own_answers id (refusals cs) ≡ []
 all_none id [] other = refl
-all_none id (c ∷ cs) other =
-    let first : List Call = refusals_of c.id (items_of c.said.input) c.told in
-    filter_map-append (own_answer id) first (refusals cs) ∙ (ap (λ xs. xs ++ own_answers id (refusals cs)) (one_none id c c.told (All-head (IsNotOf id) c cs other)) ∙ all_none id cs (All-tail (IsNotOf id) c cs other))
+all_none id (c ∷ cs) other = search (filter_map-append, one_none, All-head, all_none id cs (All-tail (IsNotOf id) c cs other), arith)
 
 abbrev HasOwn : List Call → Conversation → Type 0
 HasOwn calls c = (told : List (Option ItemAnswer)) → c.told ≡ Some told → own_answers c.id calls ≡ notes_of (told_answers (items_of c.said.input) told)
 
 its_own : (id : ℕ) (items : List SessionLine) (o : Option (List (Option ItemAnswer))) (told : List (Option ItemAnswer)) → o ≡ Some told → own_answers id (refusals_of id items o) ≡ notes_of (told_answers items told)
-its_own id items None told is = cc
-its_own id items (Some x) told is = let same : x ≡ told = cc in own_notes id (told_answers items x) ∙ ap (λ t. notes_of (told_answers items t)) same
+its_own id items o told is = grind (arith, own_notes)
 
 abbrev first_of : Conversation → List Call
 first_of c = refusals_of c.id (items_of c.said.input) c.told

@@ -1,37 +1,15 @@
 -- Sessions of different names are seated, each with a lease of its own.
-use Rattle.std.proofs.Common.{◌≡◌, ◌≢◌, ◌⊎◌, inl, inr, ℕ, ◌+◌, ◌-◌, ◌<◌, ◌≤◌, List, [], ◌∷◌, ◌++◌, Bool, true, false, zero, suc, length, map, get_or, eqb, Option, Some, None, refl, sym, ap, ◌∙◌, subst, take, arith, replicate}
-use Rattle.std.specs.Prelude.{option_map, if◌then◌else◌}
-use Rattle.std.specs.Str.{bytes_eq}
-use Rattle.std.proofs.lemmas.Bool.Decides.{Decides-eqb}
-use Rattle.std.proofs.lemmas.List.{map-append, map-id}
-use Rattle.std.proofs.lemmas.Slice.Eq.{bytes_eq-Decides}
-use Rattle.operator.specs.OperatorText.{last_id}
-use Rattle.script_text.specs.declared.inputs.SessionInput.{SessionInput}
-use Rattle.script_text.specs.Threaded.{AreApart, Said, said_by}
-use Rattle.shared_core.specs.CoreCalls.{GivesLease}
-use Rattle.shared_core.specs.CoreState.{CoreState, LeaseState, Marked, with_lease, given_in, is_leased, marked_of, with_changed_marks, no_marks}
-use Rattle.shared_core.proofs.Marks.{marked_of-remarked, marked_of-zero}
-use Rattle.script_threads.specs.Seats.{AreFree, GivesOneLease, HasSeat}
+use Rattle.script_threads.proofs.Prelude.{◌≡◌, ◌≢◌, ◌⊎◌, inl, inr, ℕ, ◌-◌, ◌<◌, ◌≤◌, List, [], ◌∷◌, ◌++◌, Bool, true, false, zero, suc, length, get_or, eqb, Option, refl, sym, ap, ◌∙◌, subst, take, arith, replicate, option_map, if◌then◌else◌, map-append, map-id, bytes_eq-Decides, last_id, SessionInput, AreApart, Said, said_by, GivesLease, CoreState, LeaseState, Marked, with_lease, given_in, is_leased, marked_of, with_changed_marks, no_marks, marked_of-remarked, marked_of-zero, AreFree, GivesOneLease, HasSeat}
+use Rattle.std.proofs.Common.{map}
 
 last_id-most : (names : List (List ℕ)) (a : List ℕ) → last_id names a ≤ length names
 last_id-most [] a = omega arith
-last_id-most (newest ∷ older) a = by_test (bytes_eq newest a) (last_id-most older a)
-  where
-    by_test : (b : Bool) → last_id older a ≤ length older → (if b then length older + 1 else last_id older a) ≤ length (newest ∷ older)
-    by_test true most = omega arith
-    by_test false most = omega arith
+last_id-most (newest ∷ older) a = grind (arith, last_id-most older a)
 
 -- two names with the same last id are one
 last_id-same : (names : List (List ℕ)) (a b : List ℕ) → 1 ≤ last_id names a → last_id names a ≡ last_id names b → a ≡ b
 last_id-same [] a b least same = absurd (omega arith)
-last_id-same (newest ∷ older) a b least same = by_tests (bytes_eq newest a) (bytes_eq newest b) refl refl least same (last_id-same older a b)
-  where
-    by_tests : (x y : Bool) → bytes_eq newest a ≡ x → bytes_eq newest b ≡ y → 1 ≤ (if x then length older + 1 else last_id older a)
-        → (if x then length older + 1 else last_id older a) ≡ (if y then length older + 1 else last_id older b) → (1 ≤ last_id older a → last_id older a ≡ last_id older b → a ≡ b) → a ≡ b
-    by_tests true true ea eb l s ih = sym ((bytes_eq-Decides newest a).0 ea) ∙ (bytes_eq-Decides newest b).0 eb
-    by_tests true false ea eb l s ih = let most = last_id-most older b in absurd (omega arith)
-    by_tests false true ea eb l s ih = let most = last_id-most older a in absurd (omega arith)
-    by_tests false false ea eb l s ih = ih l s
+last_id-same (newest ∷ older) a b least same = grind (arith, bytes_eq-Decides, last_id-most, last_id-same older a b)
 
 at_middle : (before : List Said) (s : Said) (rest : List Said) (d : Said) → get_or (before ++ s ∷ rest) (length before) d ≡ s
 at_middle [] s rest d = refl
@@ -75,15 +53,10 @@ has_seat-last names (t ∷ before) s = inr (has_seat-last names before s)
 -- after it is seated, exactly the sessions that are seated have leases
 pub seated_more : (names : List (List ℕ)) (old new : List Marked) (before : List Said) (s : Said) → ((id : ℕ) → is_leased old id ≡ true → HasSeat names before id)
     → GivesOneLease old (last_id names s.name) new → (id : ℕ) → is_leased new id ≡ true → HasSeat names (before ++ s ∷ []) id
-seated_more names old new before s seated gives id leased = by_case (gives id leased)
-  where
-    by_case : (is_leased old id ≡ true) ⊎ (id ≡ last_id names s.name) → HasSeat names (before ++ s ∷ []) id
-    by_case (inl before_it) = has_seat-more names before s id (seated id before_it)
-    by_case (inr same) = subst (λ n. HasSeat names (before ++ s ∷ []) n) (sym same) (has_seat-last names before s)
+seated_more names old new before s seated gives id leased = grind (arith, has_seat-more, has_seat-last)
 
 given_in-mapped : (m : Option Marked) (other id : ℕ) (b : Bool) → eqb other id ≡ b → given_in (if b then option_map with_lease m else m) ≡ true → (given_in m ≡ true) ⊎ (other ≡ id)
-given_in-mapped m other id true e leased = inr ((Decides-eqb other id).0 e)
-given_in-mapped m other id false e leased = inl leased
+given_in-mapped m other id b e leased = grind arith
 
 pub gives_one : (marks : List Marked) (id : ℕ) → GivesOneLease marks id (with_changed_marks marks id with_lease)
 gives_one marks id other leased = given_in-mapped (marked_of marks other) other id (eqb other id) refl (sym (ap given_in (marked_of-remarked marks id other with_lease)) ∙ leased)
@@ -93,15 +66,10 @@ gives_none marks id other leased = inl leased
 
 pub none_given : (count : ℕ) → AreFree (replicate count no_marks)
 none_given zero id = refl
-none_given (suc count) id = by_test (eqb id 1) (none_given count (id - 1))
-  where
-    by_test : (b : Bool) → is_leased (replicate count no_marks) (id - 1) ≡ false → given_in (if b then Some no_marks else marked_of (replicate count no_marks) (id - 1)) ≡ false
-    by_test true rest = refl
-    by_test false rest = rest
+none_given (suc count) id = grind (arith, none_given count (id - 1))
 
 pub lease_gives : (old : CoreState) (id : ℕ) (result : Option LeaseState) (new : CoreState) → GivesLease old id result new → GivesOneLease old.marks id new.marks
-lease_gives old id None new gives = subst (λ (c : CoreState). GivesOneLease old.marks id c.marks) (sym gives.1) (gives_none old.marks id)
-lease_gives old id (Some lease) new gives = subst (λ (c : CoreState). GivesOneLease old.marks id c.marks) (sym gives.2) (gives_one old.marks id)
+lease_gives old id result new gives = grind (arith, gives_one)
 
 split : {X : Type 0} (all : List X) (k : ℕ) (x : X) → k < length all → x ≡ get_or all k x → (rest : List X) × (all ≡ take k all ++ x ∷ rest)
 split [] k x within is = absurd (omega arith)

@@ -1,36 +1,10 @@
 -- What the turns of the sessions say: without the refused commands they are a run too, and after a
 -- refused one its journal is full.
-use Rattle.std.proofs.Common.{◌≡◌, ◌≢◌, ℕ, ◌≤◌, zero, suc, List, [], ◌∷◌, ◌++◌, length, take, Bool, true, false, eqb, Option, Some, None, Ok, Err, refl, sym, ap, ◌∙◌, subst, arith}
-use Rattle.std.specs.Prelude.{All, IsSomeAnd, if◌then◌else◌}
-use Rattle.std.specs.List.{AllZip, cons_option, filter_map}
-use Rattle.std.proofs.lemmas.Bool.Decides.{Decides-eqb}
-use Rattle.std.proofs.lemmas.List.Elements.{All-cons, All-head, All-nil, All-tail}
+use Rattle.script_threads.proofs.Prelude.{◌≡◌, ◌≢◌, ℕ, ◌≤◌, zero, suc, List, [], ◌∷◌, ◌++◌, length, take, Bool, true, eqb, Option, Some, None, Ok, Err, refl, sym, ap, ◌∙◌, subst, arith, All, IsSomeAnd, if◌then◌else◌, AllZip, cons_option, filter_map, All-cons, All-head, All-nil, All-tail, Status, step-served, JournalFull, NoSuchTenancy, NoMemory, History, state_of, Noted, Receipted, Call, Happens, IsReceipt, Run, Admit, Evict, Move, Tenant, Take, Put, GiveBack, Owners, IsAloneOn, ServiceState, entries_in, history_of, journal_of, live_of, Kept, kept_after, run_keeps, if_live_some, All-history_of, SessionLine, Blank, Command, Wait, Refused, items_of, split, Follows, GoesOn, Stays, own_receipt, own_receipts, IsOfThreads, run_goes_on, IsTold, ItemAnswer, Receipt, Note, Conversation, IsAnswered, is_turn, own_answer, own_answers, receipts_told, told_answer, told_answers}
 use Rattle.tenant_slot.specs.declared.command.Command.{Command as TenantCommand}
-use Rattle.tenant_slot.specs.declared.command.Command.TheVariants.{Status}
 use Rattle.tenant_slot.specs.declared.event.Event.TheVariants.{Command as Asked}
-use Rattle.tenant_slot.proofs.Runs.{step-served}
 use Rattle.service_core.specs.declared.not_served.NoteCause.TheVariants.{JournalFull as CauseFull}
-use Rattle.service_core.specs.declared.not_served.NotServed.TheVariants.{JournalFull, NoSuchTenancy, NoMemory}
-use Rattle.service_core.specs.History.{History, state_of}
-use Rattle.service_core.specs.Receipt.{Noted, Receipted}
-use Rattle.service_core.specs.Run.{Call, Happens, IsReceipt, Run}
-use Rattle.service_core.specs.Run.Call.{Admit, Evict, Move, Tenant, Take, Put, GiveBack, Owners}
-use Rattle.service_core.specs.Service.{IsAloneOn, ServiceState, entries_in, history_of, journal_of, live_of}
-use Rattle.service_core.proofs.Effects.{Kept, kept_after, run_keeps}
-use Rattle.service_core.proofs.Keeps.{if_live_some}
-use Rattle.service_core.proofs.Lists.{All-history_of}
-use Rattle.sessions.specs.declared.line.SessionLine.{SessionLine}
-use Rattle.sessions.specs.declared.line.SessionLine.TheVariants.{Blank, Command, Wait, Refused}
-use Rattle.sessions.specs.Items.{items_of}
-use Rattle.sessions.proofs.EndToEndLemmas.{split}
-use Rattle.shared_core.specs.Following.{Follows, GoesOn, Stays}
-use Rattle.shared_core.specs.Reaching.{own_receipt, own_receipts}
-use Rattle.shared_core.proofs.Reaching.{IsOfThreads, run_goes_on}
-use Rattle.session_threads.specs.Told.{IsTold}
-use Rattle.transcripts.specs.declared.item.ItemAnswer.{ItemAnswer}
-use Rattle.transcripts.specs.declared.item.ItemAnswer.TheVariants.{Receipt, Note, Refused as RefusedPlace}
-use Rattle.script_threads.specs.Served.{Conversation, IsAnswered}
-use Rattle.script_threads.specs.Turns.{is_turn, own_answer, own_answers, receipts_told, told_answer, told_answers}
+use Rattle.transcripts.specs.declared.item.ItemAnswer.TheVariants.{Refused as RefusedPlace}
 use Rattle.script_threads.proofs.AskedLemmas.{Answer, receipt_by, receipts_are}
 
 abbrev pub IsTurn : Call → Type 0
@@ -58,12 +32,7 @@ one_turn a mid b calls (Move t offset answer) rest never is = cc
 one_turn a mid b calls (Owners list) rest never is = cc
 one_turn a mid b calls (Tenant t command (Err NoMemory)) rest never is = cc
 one_turn a mid b calls (Tenant t command (Err (NoSuchTenancy n))) rest never is = cc
-one_turn a mid b calls (Tenant t command (Err (JournalFull n))) rest turn is = record {
-  served = rest.served;
-  run = let P : ServiceState → Type 0 = λ s. Run s rest.served b in subst P is.2 rest.run;
-  kinds = rest.kinds;
-  receipts = rest.receipts;
-}
+one_turn a mid b calls (Tenant t command (Err (JournalFull n))) rest turn is = grind arith
 one_turn a mid b calls (Tenant t command (Ok r)) rest turn is = one_stays a mid b calls (Tenant t command (Ok r)) rest refl is
 one_turn a mid b calls (Take t answer) rest turn is = one_stays a mid b calls (Take t answer) rest refl is
 one_turn a mid b calls (Put done foreign answer) rest turn is = one_stays a mid b calls (Put done foreign answer) rest refl is
@@ -71,8 +40,7 @@ one_turn a mid b calls (GiveBack job) rest turn is = one_stays a mid b calls (Gi
 
 pub without_refused : (a : ServiceState) (calls : List Call) (b : ServiceState) → All IsTurn calls → Run a calls b → Serving a calls b
 without_refused a [] b kinds run = record { served = []; run = run; kinds = All-nil IsOfThreads; receipts = λ id. refl }
-without_refused a (call ∷ calls) b kinds run =
-    one_turn a run.0 b calls call (without_refused run.0 calls b (All-tail IsTurn call calls kinds) run.2) (All-head IsTurn call calls kinds) run.1
+without_refused a (call ∷ calls) b kinds run = grind (arith, one_turn, All-head, without_refused run.0 calls b (All-tail IsTurn call calls kinds) run.2)
 
 pub turns_go_on : (a : ServiceState) (calls : List Call) (b : ServiceState) → All IsTurn calls → Run a calls b → Follows a b × Stays a b
 turns_go_on a calls b kinds run = let is = without_refused a calls b kinds run in run_goes_on a is.served b is.kinds is.run
@@ -80,14 +48,10 @@ turns_go_on a calls b kinds run = let is = without_refused a calls b kinds run i
 -- the receipts of a conversation are those of its tenancy
 receipts_one : (id t : ℕ) (command : TenantCommand) (place : ItemAnswer) (answers : List Answer) (rs : List Receipted) → filter_map receipt_by answers ≡ rs → (b : Bool) →
     filter_map receipt_by (cons_option (if b then Some (command, place) else None) answers) ≡ (if b then filter_map receipt_by ((command, place) ∷ []) else []) ++ rs
-receipts_one id t command place answers rs is false = is
-receipts_one id t command (Receipt r) answers rs is true = ap (λ xs. r ∷ xs) is
-receipts_one id t command (Note n) answers rs is true = is
-receipts_one id t command (RefusedPlace refusal) answers rs is true = is
+receipts_one id t command place answers rs is b = grind arith
 
 no_receipt : (b : Bool) (rs : List Receipted) → (if b then [] else []) ++ rs ≡ rs
-no_receipt true rs = refl
-no_receipt false rs = refl
+no_receipt b rs = grind arith
 
 pub receipts_by : (id : ℕ) (calls : List Call) → filter_map receipt_by (own_answers id calls) ≡ own_receipts id calls
 receipts_by id [] = refl
@@ -95,8 +59,7 @@ receipts_by id (Admit width answer ∷ calls) = receipts_by id calls
 receipts_by id (Evict t answer ∷ calls) = receipts_by id calls
 receipts_by id (Move t offset answer ∷ calls) = receipts_by id calls
 receipts_by id (Tenant t command (Ok r) ∷ calls) = receipts_one id t command (Receipt r) (own_answers id calls) (own_receipts id calls) (receipts_by id calls) (eqb t id)
-receipts_by id (Tenant t command (Err (JournalFull n)) ∷ calls) =
-    receipts_one id t command (Note n) (own_answers id calls) (own_receipts id calls) (receipts_by id calls) (eqb t id) ∙ no_receipt (eqb t id) (own_receipts id calls)
+receipts_by id (Tenant t command (Err (JournalFull n)) ∷ calls) = grind (arith, receipts_by id calls)
 receipts_by id (Tenant t command (Err (NoSuchTenancy n)) ∷ calls) = receipts_by id calls
 receipts_by id (Tenant t command (Err NoMemory) ∷ calls) = receipts_by id calls
 receipts_by id (Take t answer ∷ calls) = receipts_by id calls
@@ -107,22 +70,8 @@ receipts_by id (Owners list ∷ calls) = receipts_by id calls
 pub served_told : (calls : List Call) (c : Conversation) (told : List (Option ItemAnswer)) → IsAnswered calls c told → own_receipts c.id calls ≡ receipts_told told
 served_told calls c told is = sym (receipts_by c.id calls) ∙ (ap (filter_map receipt_by) is.asked ∙ receipts_are c.id (items_of c.said.input) told is.each)
 
--- no answer is that of a command, if no command is asked
-none_if : (id : ℕ) (calls : List Call) (command : TenantCommand) (r : Receipted) (b : Bool) → (own_receipts id calls ≡ [] → own_answers id calls ≡ []) → (if b then r ∷ [] else []) ++ own_receipts id calls ≡ [] →
-    cons_option (if b then Some (command, Receipt r) else None) (own_answers id calls) ≡ []
-none_if id calls command r true rest is = cc
-none_if id calls command r false rest is = rest is
-
 none_call : (id : ℕ) (calls : List Call) (c : Call) → (own_receipts id calls ≡ [] → own_answers id calls ≡ []) → IsOfThreads c → own_receipts id (c ∷ calls) ≡ [] → own_answers id (c ∷ calls) ≡ []
-none_call id calls (Admit width answer) rest never is = cc
-none_call id calls (Evict t answer) rest never is = cc
-none_call id calls (Move t offset answer) rest never is = cc
-none_call id calls (Owners list) rest never is = cc
-none_call id calls (Tenant t command (Err refusal)) rest never is = cc
-none_call id calls (Tenant t command (Ok r)) rest kind is = none_if id calls command r (eqb t id) rest is
-none_call id calls (Take t answer) rest kind is = rest is
-none_call id calls (Put done foreign answer) rest kind is = rest is
-none_call id calls (GiveBack job) rest kind is = rest is
+none_call id calls c rest never is = grind arith
 
 pub none_asked : (id : ℕ) (calls : List Call) → All IsOfThreads calls → own_receipts id calls ≡ [] → own_answers id calls ≡ []
 none_asked id [] kinds none = refl
@@ -130,8 +79,7 @@ none_asked id (call ∷ calls) kinds none = none_call id calls call (λ is. none
 
 -- the answers around a note, and the turns around its command
 cons_append : {A : Type 0} (o : Option A) (xs ys : List A) → cons_option o (xs ++ ys) ≡ cons_option o xs ++ ys
-cons_append None xs ys = refl
-cons_append (Some x) xs ys = refl
+cons_append o xs ys = grind arith
 
 record NoteAmong (items : List SessionLine) (told after : List (Option ItemAnswer)) (n : Noted) : Type 0 where
   command : TenantCommand
@@ -196,35 +144,8 @@ place_or other (Some a) = a.1
 same_place : (command other : TenantCommand) (p q : ItemAnswer) → answer_if true other p ≡ answer_if true command q → p ≡ q
 same_place command other p q is = ap (place_or p) is
 
-never_note : (r : Receipted) (n : Noted) → Receipt r ≡ Note n → ⊥
-never_note r n is = cc
-
-same_note : (m n : Noted) → Note m ≡ Note n → m ≡ n
-same_note m n is = cc
-
 refused_then : (a b : ServiceState) (id : ℕ) (call : Call) (command : TenantCommand) (n : Noted) → own_answer id call ≡ Some (command, Note n) → Happens a call b → (n.cause ≡ CauseFull) × IsFullHere a id × (b ≡ a)
-refused_then a b id (Admit width answer) command n never is = cc
-refused_then a b id (Evict t answer) command n never is = cc
-refused_then a b id (Move t offset answer) command n never is = cc
-refused_then a b id (Owners list) command n never is = cc
-refused_then a b id (Take t answer) command n never is = cc
-refused_then a b id (Put done foreign answer) command n never is = cc
-refused_then a b id (GiveBack job) command n never is = cc
-refused_then a b id (Tenant t other (Err NoMemory)) command n never is = cc
-refused_then a b id (Tenant t other (Err (NoSuchTenancy m))) command n never is = cc
-refused_then a b id (Tenant t other (Ok r)) command n its is = by_test (eqb t id) its
-  where
-    by_test : (test : Bool) → answer_if test other (Receipt r) ≡ Some (command, Note n) → (n.cause ≡ CauseFull) × IsFullHere a id × (b ≡ a)
-    by_test false never = cc
-    by_test true never = absurd (never_note r n (same_place command other (Receipt r) (Note n) never))
-refused_then a b id (Tenant t other (Err (JournalFull m))) command n its is = by_test (eqb t id) refl its
-  where
-    by_test : (test : Bool) → eqb t id ≡ test → answer_if test other (Note m) ≡ Some (command, Note n) → (n.cause ≡ CauseFull) × IsFullHere a id × (b ≡ a)
-    by_test false e never = cc
-    by_test true e same =
-        let own : t ≡ id = (Decides-eqb t id).0 e in
-        let one : m ≡ n = same_note m n (same_place command other (Note m) (Note n) same) in
-        (ap (λ (x : Noted). x.cause) (sym one) ∙ ap (λ (x : Noted). x.cause) is.0, subst (IsFullHere a) own is.1, is.2)
+refused_then a b id call command n never is = grind arith
 
 -- a journal that is full stays so
 take_few : {A : Type 0} (n : ℕ) (xs : List A) → length (take n xs) ≤ length xs
@@ -262,22 +183,7 @@ full_never a id command r (Some h) e kept full is =
     (step-served (state_of h) (Asked command) r.reply is.3).1 count
 
 none_here : (a b : ServiceState) (id : ℕ) (call : Call) → Kept a → IsFull a id → Happens a call b → own_receipt id call ≡ []
-none_here a b id (Admit width answer) kept full is = refl
-none_here a b id (Evict t answer) kept full is = refl
-none_here a b id (Move t offset answer) kept full is = refl
-none_here a b id (Owners list) kept full is = refl
-none_here a b id (Take t answer) kept full is = refl
-none_here a b id (Put done foreign answer) kept full is = refl
-none_here a b id (GiveBack job) kept full is = refl
-none_here a b id (Tenant t command (Err refusal)) kept full is = refl
-none_here a b id (Tenant t command (Ok r)) kept full is = by_test (eqb t id) refl
-  where
-    by_test : (test : Bool) → eqb t id ≡ test → (if test then r ∷ [] else []) ≡ []
-    by_test false e = refl
-    by_test true e =
-        let own : t ≡ id = (Decides-eqb t id).0 e in
-        let said : IsReceipt (live_of a.histories id) id command r = (let P : ℕ → Type 0 = λ i. IsReceipt (live_of a.histories i) i command r in subst P own is.0) in
-        absurd (full_never a id command r (live_of a.histories id) refl kept full said)
+none_here a b id call kept full is = grind (arith, full_never)
 
 none_served : (a : ServiceState) (calls : List Call) (b : ServiceState) (id : ℕ) → All IsTurn calls → Run a calls b → Kept a → IsFull a id → own_receipts id calls ≡ []
 none_served a [] b id kinds run kept full = refl
@@ -292,8 +198,7 @@ All-later P [] x after all = All-tail P x after all
 All-later P (y ∷ before) x after all = All-later P before x after (All-tail P y (before ++ x ∷ after) all)
 
 full_at : (a : ServiceState) (id : ℕ) (o : Option History) → live_of a.histories id ≡ o → IsSomeAnd o (λ h. length h.entries ≡ 65536) → IsFull a id
-full_at a id None e never = absurd never
-full_at a id (Some h) e full = ap (λ o. length (entries_in o)) (if_live_some (history_of a.histories id) h e) ∙ full
+full_at a id o e never = grind arith
 
 -- each note of a conversation
 abbrev pub IsFullFrom : ServiceState → ℕ → List (Option ItemAnswer) → Type 0

@@ -1,14 +1,7 @@
 -- Jobs that are left after the threads have ended.
 use Rattle.std.specs.Prelude.{ℕ, ◌≡◌, ◌≤◌, ◌⊎◌, List, [], All, true, false}
 use Rattle.std.specs.List.{Contains}
-use Rattle.rr_graph.specs.Graph.{Basis}
-use Rattle.job_state.specs.Job.{JobState}
-use Rattle.service_core.specs.Calls.{takeable_in}
-use Rattle.service_core.specs.Run.{Call, Run}
-use Rattle.service_core.specs.Run.Call.{Take, Put, GiveBack}
-use Rattle.service_core.specs.Service.{ServiceState, live_of}
-use Rattle.sessions.specs.Fitting.{own_graph}
-use Rattle.shared_core.specs.Reaching.{is_of_threads, own_receipts}
+use Rattle.script_threads.specs.Prelude.{Basis, JobState, takeable_in, Call, Run, Take, Put, GiveBack, ServiceState, live_of, own_graph, is_of_threads, own_receipts}
 use Rattle.script_threads.specs.Turns.{own_answers}
 
 -- the jobs that are left make their steps, and no command is asked. On the device's own graph each

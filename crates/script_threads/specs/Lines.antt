@@ -1,11 +1,6 @@
 -- Lines of the operator, one after another.
 use Rattle.std.specs.Prelude.{ℕ, ◌≡◌, List, [], ◌∷◌, ◌++◌, length}
-use Rattle.rr_graph.specs.Graph.{Basis}
-use Rattle.service_core.specs.Run.{Call, Run}
-use Rattle.service_core.specs.Service.{ServiceState}
-use Rattle.script_text.specs.declared.operator_line.OperatorLine.{OperatorLine}
-use Rattle.operator.specs.HeldJobs.{HeldList, give_backs}
-use Rattle.operator.specs.Serving.{IsServed, Stage}
+use Rattle.script_threads.specs.Prelude.{Basis, Call, Run, ServiceState, OperatorLine, HeldList, give_backs, IsServed, Stage}
 
 -- private: a stage from its parts
 abbrev pub stage : Basis → List (List ℕ) → HeldList → ServiceState → Stage

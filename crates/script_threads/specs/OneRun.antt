@@ -1,14 +1,7 @@
 -- The calls of a script on threads as one run of the core.
 use Rattle.std.specs.Prelude.{ℕ, List, ◌++◌}
-use Rattle.rr_graph.specs.Graph.{Basis}
-use Rattle.service_core.specs.declared.device.Device.{Device}
-use Rattle.service_core.specs.Headline.{AreOwnJournals, AreParted, EachIsAlone, IsBook}
-use Rattle.service_core.specs.Owners.{HasOneOwner}
-use Rattle.service_core.specs.Run.{Call, Run}
-use Rattle.service_core.specs.Service.{ServiceState, empty_service}
-use Rattle.script_text.specs.Threaded.{Parts as Script}
+use Rattle.script_threads.specs.Prelude.{Basis, Device, AreOwnJournals, AreParted, EachIsAlone, IsBook, HasOneOwner, Call, Run, ServiceState, empty_service, Parts as Script, Section}
 use Rattle.script_threads.specs.Lines.{with_give_backs}
-use Rattle.script_text.specs.Replies.{Section}
 use Rattle.script_threads.specs.Served.{IsServedFrom}
 
 -- the calls of the lines before the sessions, then those of the threads, then those of the jobs

@@ -1,16 +1,9 @@
 -- Private: sessions that are seated, started and have ended.
 use Rattle.std.specs.Prelude.{◌≡◌, ◌≢◌, List, [], ◌∷◌, ◌++◌, length, map, All, AllPairs}
-use Rattle.tenant_slot.specs.declared.slot.TheConstants.{MAX_ENTRIES}
-use Rattle.service_core.specs.declared.not_served.NoteCause.TheVariants.{JournalFull}
-use Rattle.service_core.specs.Receipt.{Noted}
-use Rattle.service_core.specs.Service.{ServiceState, journal_of}
-use Rattle.settling.specs.Settling.{AreAllCalls}
-use Rattle.transcripts.specs.declared.item.ItemAnswer.TheVariants.{Note}
-use Rattle.transcripts.specs.Transcripts.{AreOfLive, TranscriptState}
+use Rattle.script_threads.specs.Prelude.{MAX_ENTRIES, JournalFull, Noted, ServiceState, journal_of, AreAllCalls, Note, AreOfLive, TranscriptState, Section}
 use Rattle.script_threads.specs.declared.crowd.Started.{Started}
 use Rattle.script_threads.specs.declared.crowd.Started.TheVariants.{Answered, Runs}
 use Rattle.script_threads.specs.Refusals.{NoneLate}
-use Rattle.script_text.specs.Replies.{Section}
 use Rattle.script_threads.specs.Sessions.{Asked, IsPart, IsTold, PartState, asked_in, transcripts_of}
 
 -- what a session asked that has its answers, or that runs

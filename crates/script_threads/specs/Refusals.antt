@@ -1,9 +1,6 @@
 -- Private: whether a command is served after one that is not.
 use Rattle.std.specs.Prelude.{◌≡◌, List, [], ◌∷◌, map, Bool, true, false, ◌&&◌, ◌||◌}
-use Rattle.transcripts.specs.declared.item.Item.{Item}
-use Rattle.transcripts.specs.declared.item.ItemAnswer.{ItemAnswer}
-use Rattle.transcripts.specs.declared.item.ItemAnswer.TheVariants.{Receipt, Note}
-use Rattle.transcripts.specs.Transcripts.{TranscriptState}
+use Rattle.script_threads.specs.Prelude.{Item, ItemAnswer, Receipt, Note, TranscriptState}
 
 abbrev pub is_note : ItemAnswer → Bool
 is_note (Note n) = true

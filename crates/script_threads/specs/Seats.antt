@@ -1,8 +1,6 @@
 -- Private: sessions that are seated.
 use Rattle.std.specs.Prelude.{ℕ, ◌≡◌, ◌⊎◌, List, [], ◌∷◌, Option, Some, None, true, false, ⊤}
-use Rattle.operator.specs.OperatorText.{last_id}
-use Rattle.shared_core.specs.CoreState.{LeaseState, Marked, is_leased}
-use Rattle.script_text.specs.Threaded.{Said}
+use Rattle.script_threads.specs.Prelude.{last_id, LeaseState, Marked, is_leased, Said}
 use Rattle.script_threads.specs.Sessions.{Asked}
 
 -- the lease of a session that is seated is its tenancy's, and has made no entry

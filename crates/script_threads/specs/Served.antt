@@ -2,19 +2,7 @@
 use Rattle.std.specs.Prelude.{ℕ, ◌≡◌, ◌≢◌, List, [], ◌++◌, map, All, AllPairs, true, Option, IfSome, is_some}
 use Rattle.std.specs.List.{AllZip}
 use Rattle.std.specs.Option.{option_map_or}
-use Rattle.rr_graph.specs.Graph.{Basis}
-use Rattle.service_core.specs.declared.device.Device.{Device}
-use Rattle.service_core.specs.Run.{Call, Run}
-use Rattle.service_core.specs.Service.{ServiceState, empty_service, live_of}
-use Rattle.sessions.specs.Fitting.{own_graph}
-use Rattle.sessions.specs.Items.{items_of}
-use Rattle.session_threads.specs.Told.{IsTold, told_texts}
-use Rattle.transcripts.specs.declared.item.ItemAnswer.{ItemAnswer}
-use Rattle.operator.specs.OperatorText.{last_id}
-use Rattle.script_text.specs.declared.operator_line.OperatorLine.{OperatorLine}
-use Rattle.script_text.specs.declared.replies.RunReplies.{RunReplies}
-use Rattle.script_text.specs.Replies.{Section, section_of}
-use Rattle.script_text.specs.Threaded.{Parts as Script, Said}
+use Rattle.script_threads.specs.Prelude.{Basis, Device, Call, Run, ServiceState, empty_service, live_of, own_graph, items_of, IsTold, told_texts, ItemAnswer, last_id, OperatorLine, RunReplies, Section, section_of, Parts as Script, Said}
 use Rattle.script_threads.specs.Left.{MakesSteps}
 use Rattle.script_threads.specs.Lines.{Replies, Serves}
 use Rattle.script_threads.specs.Sessions.{evicted_text}

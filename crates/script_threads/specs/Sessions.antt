@@ -1,21 +1,7 @@
 -- The answers to each name's session.
 use Rattle.std.specs.Prelude.{ℕ, ◌≡◌, List, Bool, Option, Some, None, IfSome, is_some}
 use Rattle.std.specs.List.{filter_map, flat_map}
-use Rattle.service_core.specs.History.{History}
-use Rattle.service_core.specs.Service.{live_of}
-use Rattle.sessions.specs.declared.line.SessionLine.{SessionLine}
-use Rattle.sessions.specs.declared.line.SessionLine.TheVariants.{Refused}
-use Rattle.sessions.specs.declared.refusal.SessionRefusal.{SessionRefusal}
-use Rattle.sessions.specs.declared.refusal.SessionRefusal.TheVariants.{Evicted}
-use Rattle.sessions.specs.Items.{items_of}
-use Rattle.sessions.specs.SessionText.{session_refusal_text}
-use Rattle.session_threads.specs.Told.{AreTold, noted_all, told_texts}
-use Rattle.session_threads.specs.WholeSession.{new_transcript}
-use Rattle.transcripts.specs.declared.item.SessionEnd.TheVariants.{Ended}
-use Rattle.transcripts.specs.declared.item.ItemAnswer.{ItemAnswer}
-use Rattle.transcripts.specs.Transcripts.{AreOfLive, TranscriptState}
-use Rattle.script_text.specs.Threaded.{Said}
-use Rattle.operator.specs.OperatorText.{last_id}
+use Rattle.script_threads.specs.Prelude.{History, live_of, SessionLine, Refused, SessionRefusal, Evicted, items_of, session_refusal_text, AreTold, noted_all, told_texts, new_transcript, Ended, ItemAnswer, AreOfLive, TranscriptState, Said, last_id}
 
 -- private: what a name's session says, the name's last tenancy, and whether that is live
 pub record Asked : Type 0 where

@@ -1,18 +1,9 @@
 -- What the core is asked in a session's name, and how it answers.
 use Rattle.std.specs.Prelude.{ℕ, List, Bool, true, Option, Some, None, Ok, Err, option_and_then, ◌==◌, if◌then◌else◌}
 use Rattle.std.specs.List.{filter_map, zip}
+use Rattle.script_threads.specs.Prelude.{Status, Receipted, Call, Tenant, SessionLine, Command, Wait, is_of_threads, ItemAnswer, Receipt, Note, receipt_in}
 use Rattle.tenant_slot.specs.declared.command.Command.{Command as TenantCommand}
-use Rattle.tenant_slot.specs.declared.command.Command.TheVariants.{Status}
 use Rattle.service_core.specs.declared.not_served.NotServed.TheVariants.{JournalFull}
-use Rattle.service_core.specs.Receipt.{Receipted}
-use Rattle.service_core.specs.Run.{Call}
-use Rattle.service_core.specs.Run.Call.{Tenant}
-use Rattle.sessions.specs.declared.line.SessionLine.{SessionLine}
-use Rattle.sessions.specs.declared.line.SessionLine.TheVariants.{Command, Wait}
-use Rattle.shared_core.specs.Reaching.{is_of_threads}
-use Rattle.transcripts.specs.declared.item.ItemAnswer.{ItemAnswer}
-use Rattle.transcripts.specs.declared.item.ItemAnswer.TheVariants.{Receipt, Note}
-use Rattle.transcripts.specs.Transcripts.{receipt_in}
 
 -- what a thread does in a turn under the lock: a call of threads, or a command that is refused
 -- because the journal is full

@@ -1,7 +1,7 @@
 //! Sessions on threads, beside the workers.
 
 ghost use Rattle.std.specs.Prelude.{◌≡◌, ◌++◌, ◌∷◌, All, IfSome, IsSomeAnd, IsTrue, Some, [], map};
-ghost use Rattle.script_text.specs.Threaded.{said_by};
+ghost use Rattle.script_threads.specs.Prelude.{said_by};
 ghost use Rattle.script_threads.specs.Parts.{started_by};
 ghost use Rattle.script_threads.specs.Seats.{asked_by};
 ghost use Rattle.script_threads.specs.Sessions.{asked_in};

@@ -1,6 +1,6 @@
 //! The answers to the sessions, after they and the workers have ended.
 ghost use Rattle.std.specs.Prelude.{◌≡◌, List, [], true, length, map, IfOk, OnOk};
-ghost use Rattle.script_text.specs.Replies.{section_of};
+ghost use Rattle.script_threads.specs.Prelude.{section_of};
 ghost use Rattle.script_threads.specs.Parts.{Adds, AreParts, Finishes};
 ghost use Rattle.script_threads.specs.Sessions.{PartState};
 

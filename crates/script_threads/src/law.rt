@@ -1,22 +1,9 @@
 ghost use Rattle.std.specs.Prelude.{◌≡◌, ◌⊎◌, ◌++◌, ◌∷◌, [], List, Option, length, ℕ, false, All, IfSome, Some, slice_get};
 ghost use Rattle.std.specs.List.{Contains};
-ghost use Rattle.tenant_slot.specs.declared.slot.TheConstants.{MAX_ENTRIES};
-ghost use Rattle.job_state.specs.Job.{JobState};
-ghost use Rattle.service_core.specs.Calls.{takeable_in};
-ghost use Rattle.service_core.specs.Run.Call.{GiveBack};
-ghost use Rattle.service_core.specs.declared.device.Device.{Device};
-ghost use Rattle.service_core.specs.Service.{journal_of, live_of};
-ghost use Rattle.settling.specs.Settling.{entry_of};
-ghost use Rattle.script_text.specs.Threaded.{Parts as Script};
-ghost use Rattle.script_text.specs.declared.replies.RunReplies.{RunReplies};
+ghost use Rattle.script_threads.specs.Prelude.{MAX_ENTRIES, JobState, takeable_in, GiveBack, Device, journal_of, live_of, entry_of, Parts as Script, RunReplies, Noted, JournalFull, ItemAnswer, Note, Follows, Stays};
 ghost use Rattle.script_threads.specs.OneRun.{IsOneRun, calls_of};
 ghost use Rattle.script_threads.specs.Served.{IsServedOnThreads};
 ghost use Rattle.script_threads.specs.Turns.{receipts_told};
-ghost use Rattle.service_core.specs.Receipt.{Noted};
-ghost use Rattle.service_core.specs.declared.not_served.NoteCause.TheVariants.{JournalFull};
-ghost use Rattle.transcripts.specs.declared.item.ItemAnswer.{ItemAnswer};
-ghost use Rattle.transcripts.specs.declared.item.ItemAnswer.TheVariants.{Note};
-ghost use Rattle.shared_core.specs.Following.{Follows, Stays};
 
 /// With workers as without, all calls of a script are one run of the core from the empty device on.
 /// Each tenancy is served as if it were alone, with exactly the commands that its session and the

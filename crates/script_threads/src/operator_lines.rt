@@ -1,7 +1,6 @@
 //! Lines of the operator, one after another.
 ghost use Rattle.std.specs.Prelude.{◌≡◌, length, map, OnOk};
-ghost use Rattle.operator.specs.Held.{sink_text};
-ghost use Rattle.script_text.specs.Script.{named_operator};
+ghost use Rattle.script_threads.specs.Prelude.{sink_text, named_operator};
 ghost use Rattle.script_threads.specs.Lines.{Replies, RepliesEach, stage};
 
 use line_text::MemorySink;

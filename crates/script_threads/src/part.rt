@@ -1,9 +1,7 @@
 //! The answers to one name's session.
 ghost use Rattle.std.specs.Prelude.{◌≡◌, ◌++◌, [], false, IfOk, IfSome, OnOk};
 ghost use Rattle.std.specs.List.{flat_map};
-ghost use Rattle.script_text.specs.Threaded.{said_by};
-ghost use Rattle.operator.specs.Held.{sink_text};
-ghost use Rattle.sessions.specs.SessionText.{session_refusal_text};
+ghost use Rattle.script_threads.specs.Prelude.{said_by, sink_text, session_refusal_text};
 ghost use Rattle.script_threads.specs.Seats.{asked_by};
 ghost use Rattle.script_threads.specs.Sessions.{asked_in, evicted_line, evicted_refusal, evicted_text};
 

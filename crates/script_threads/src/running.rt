@@ -1,9 +1,6 @@
 //! The sessions of a script, run on threads beside the workers.
 ghost use Rattle.std.specs.Prelude.{◌≡◌, ◌≤◌, ◌+◌, List, ℕ, true, length, map, All, IfOk};
-ghost use Rattle.shared_core.specs.declared.shared.TheConstants.{MAX_WORKERS};
-ghost use Rattle.service_core.specs.declared.service.TheConstants.{MAX_ADMISSIONS};
-ghost use Rattle.script_text.specs.Replies.{section_of};
-ghost use Rattle.script_text.specs.Threaded.{AreApart, Said, said_by};
+ghost use Rattle.script_threads.specs.Prelude.{MAX_WORKERS, MAX_ADMISSIONS, section_of, AreApart, Said, said_by};
 ghost use Rattle.script_threads.specs.Seats.{AreFree};
 ghost use Rattle.script_threads.specs.Served.{Ran};
 ghost use Rattle.script_threads.specs.Sessions.{asked_of};

@@ -1,9 +1,6 @@
 //! Sessions, each with its tenancy's lease if that is live.
 ghost use Rattle.std.specs.Prelude.{◌≡◌, ◌≤◌, false, map, IfOk};
-ghost use Rattle.shared_core.specs.declared.shared.TheConstants.{MAX_WORKERS};
-ghost use Rattle.operator.specs.OperatorText.{last_id};
-ghost use Rattle.script_text.specs.Threaded.{AreApart, said_by};
-ghost use Rattle.shared_core.specs.CoreState.{is_leased};
+ghost use Rattle.script_threads.specs.Prelude.{MAX_WORKERS, last_id, AreApart, said_by, is_leased};
 ghost use Rattle.script_threads.specs.Seats.{AreFree, GivesOneLease};
 ghost use Rattle.script_threads.specs.Sessions.{asked_of};
 

@@ -1,12 +1,6 @@
 //! A whole script.
 ghost use Rattle.std.specs.Prelude.{◌≡◌, ◌≤◌, [], length, map, IfOk};
-ghost use Rattle.shared_core.specs.declared.shared.TheConstants.{MAX_WORKERS};
-ghost use Rattle.operator.specs.Held.{sink_text};
-ghost use Rattle.script_text.specs.Replies.{section_of};
-ghost use Rattle.script_text.specs.Script.{named_operator};
-ghost use Rattle.script_text.specs.Threaded.{AreApart, parts_of, said_by};
-ghost use Rattle.service_core.specs.Kept.{IsDevice};
-ghost use Rattle.sessions.specs.Fitting.{own_graph};
+ghost use Rattle.script_threads.specs.Prelude.{MAX_WORKERS, sink_text, section_of, named_operator, AreApart, parts_of, said_by, IsDevice, own_graph};
 ghost use Rattle.script_threads.specs.Served.{Ends, IsServedFrom, IsServedOnThreads, RunsOn};
 
 use crate::left_jobs::end_jobs;

@@ -1,6 +1,6 @@
 //! What a script is served with.
 ghost use Rattle.std.specs.Prelude.{◌≤◌};
-ghost use Rattle.shared_core.specs.declared.shared.TheConstants.{MAX_WORKERS};
+ghost use Rattle.script_threads.specs.Prelude.{MAX_WORKERS};
 
 use strips::DeviceGraph;
 

@@ -1,48 +1,18 @@
 -- Each tenancy is served as if it were alone, over every run.
-use Rattle.std.proofs.Common.{◌≡◌, ℕ, ◌+◌, List, [], ◌∷◌, ◌++◌, length, map, Bool, true, false, eqb, Option, Some, None, Ok, Err, append_assoc, append-nil, refl, sym, ap, ◌∙◌, subst, arith}
-use Rattle.std.specs.Prelude.{◌↔◌, is_some, option_map, if◌then◌else◌, IfSome, IsSomeAnd}
-use Rattle.std.specs.List.{filter}
-use Rattle.std.proofs.lemmas.Bool.Decides.{nat_tests, Decides-eqb}
-use Rattle.std.proofs.lemmas.List.{map-append, map_push}
-use Rattle.std.proofs.lemmas.List.Elements.{filter-append}
-use Rattle.grid.specs.declared.Strip.{Strip}
-use Rattle.rr_graph.specs.declared.resource.Resource.{Resource}
-use Rattle.rr_graph.specs.Resources.{has, moved_resource}
-use Rattle.strips.specs.Plan.{offset_of}
-use Rattle.job_state.specs.Job.{JobState}
-use Rattle.tenant_slot.specs.declared.event.Event.{Event}
-use Rattle.tenant_slot.specs.declared.event.Event.TheVariants.{Command as Asked}
-use Rattle.tenant_slot.specs.declared.reply.Reply.{Reply}
-use Rattle.tenant_slot.specs.RoutedSet.{routed_set}
-use Rattle.tenant_slot.specs.SingleUser.{State, start, step, state_after, replies_to, run}
-use Rattle.tenant_slot.proofs.Runs.{state_after-append, replies_to-append, step-full}
-use Rattle.service_core.specs.declared.device.Device.{Device}
-use Rattle.service_core.specs.declared.entry.Entry.{Entry}
-use Rattle.service_core.specs.declared.not_served.NotServed.TheVariants.{NoMemory, JournalFull, NoSuchTenancy}
-use Rattle.service_core.specs.declared.put_reply.PutReply.TheVariants.{Recorded, Full, Gone}
-use Rattle.service_core.specs.History.{History, events_of, state_of, with_entry, with_here}
-use Rattle.service_core.specs.Tenancy.{closed_history}
-use Rattle.service_core.specs.Service.{AreAlone, IsAloneOn, ServiceState, admitted_history, empty_service, entries_in, history_of, journal_of, live_of, with_changed, strip_on, with_tenancy}
-use Rattle.service_core.specs.Kept.{with_entry_of, with_here_of}
+use Rattle.service_core.proofs.Prelude.{◌≡◌, ℕ, List, [], ◌∷◌, ◌++◌, length, map, Bool, true, false, eqb, Option, Some, None, Ok, Err, append_assoc, append-nil, refl, sym, ap, ◌∙◌, subst, arith, is_some, option_map, if◌then◌else◌, IfSome, IsSomeAnd, filter, nat_tests, Decides-eqb, map-append, map_push, filter-append, Strip, has, JobState, Event, Command as Asked, Reply, State, start, step, state_after, replies_to, run, state_after-append, replies_to-append, step-full, Device, Entry, NoMemory, JournalFull, NoSuchTenancy, Recorded, Full, Gone, History, events_of, state_of, with_entry, with_here, closed_history, AreAlone, IsAloneOn, ServiceState, empty_service, entries_in, history_of, journal_of, live_of, with_changed, strip_on, with_tenancy, with_entry_of, with_here_of, Call, Admit, Evict, GiveBack, Happens, Move, Put, Run, Take, Tenant, IsGivenBackTo, IsStepOf, step_entry, step_event, if_own, own_exchange, own_exchanges, own_events, own_replies, AreOwnJournals, EachIsAlone, IsBook}
 use Rattle.service_core.proofs.MovedStrips.{same_histories}
-use Rattle.service_core.specs.Run.{Call, Admit, Evict, GiveBack, Happens, Move, Owners, Put, Run, Take, Tenant, IsGivenBackTo, IsStepOf, step_entry, step_event}
-use Rattle.service_core.specs.OwnEvents.{if_own, own_exchange, own_exchanges, own_events, own_replies}
-use Rattle.service_core.specs.Headline.{AreOwnJournals, EachIsAlone, IsBook}
+use Rattle.service_core.specs.Run.{Owners}
 use Rattle.service_core.proofs.Lists.{history_of-past, history_of-modified, history_of-push, All-history_of}
 use Rattle.service_core.proofs.Histories.{state_after-push}
-use Rattle.service_core.proofs.Keeps.{IsService-empty, if_live_some}
-use Rattle.service_core.proofs.Effects.{Admitted, Effect, Entered, Evicted, IsNext, Kept, Moved, Nothing, Turned, effect, kept_after, of_live, run_device, run_keeps, served_entry, served_next}
+use Rattle.service_core.proofs.Keeps.{IsService-empty}
+use Rattle.service_core.proofs.Effects.{Effect, IsNext, Kept, effect, kept_after, of_live, run_device, run_keeps, served_entry, served_next}
 
 -- the journals after each call
 journal_of-with_tenancy : (s : ServiceState) (width offset id : ℕ) → journal_of (with_tenancy s width offset) id ≡ journal_of s id
-journal_of-with_tenancy s width offset id =
-    let h : History = admitted_history s.device (length s.histories + 1) width in
-    let past : id ≡ length s.histories + 1 → history_of s.histories id ≡ None = λ is. history_of-past s.histories id (omega arith) in
-    grind (arith, nat_tests, history_of-push s.histories h id, past)
+journal_of-with_tenancy s width offset id = grind (arith, history_of-past, history_of-push)
 
 entries_in-kept : (change : History → History) → ((h : History) → (change h).entries ≡ h.entries) → (o : Option History) → entries_in (option_map change o) ≡ entries_in o
-entries_in-kept change keeps None = refl
-entries_in-kept change keeps (Some h) = keeps h
+entries_in-kept change keeps o = grind arith
 
 journal-kept : (hs : List History) (t id : ℕ) (change : History → History) → ((h : History) → (change h).entries ≡ h.entries) → entries_in (history_of (with_changed hs t change) id) ≡ entries_in (history_of hs id)
 journal-kept hs t id change keeps = grind (arith, nat_tests, history_of-modified hs t id change, entries_in-kept change keeps (history_of hs id))
@@ -89,16 +59,7 @@ same_journal first old new id same = record { replies = refl; state = ap (λ es.
 
 -- an entry is an event with its reply
 own_entry : (first : State) (old new : ServiceState) (id : ℕ) (h : History) (e : Entry) → IsNext old id e h → new ≡ with_entry_of old id e → HasFirst first old id → Exchanged first old new id ((e.event, Some e.reply) ∷ [])
-own_entry first old new id h e next changes has =
-    let its : first_of h ≡ first = rw next.here at has in
-    let was : journal_of old id ≡ h.entries = ap entries_in next.here in
-    let is : journal_of new id ≡ h.entries ++ e ∷ [] = rw changes (journal_of-own old id h e next.here) in
-    let reply : (step (state_after first (events_of h.entries)) e.event).1 ≡ Some e.reply = rw its at next.told in
-    record {
-      replies = rw (was, reply) refl;
-      state = rw (was, is) (state_after-push first h.entries e);
-      journal = rw (was, is) (map_push (λ (entry : Entry). (entry.event, Some entry.reply)) h.entries e);
-    }
+own_entry first old new id h e next changes has = grind (arith, state_after-push, map_push, journal_of-own old id h e next.here, state_after-push first h.entries e)
 
 -- if the journal is full, the event has no reply
 own_full : (first : State) (old new : ServiceState) (id : ℕ) (event : Event) → IsSomeAnd (live_of old.histories id) (λ h. length h.entries ≡ 65536) → new ≡ old → AreAlone old → HasFirst first old id → Exchanged first old new id ((event, None) ∷ [])
@@ -170,32 +131,14 @@ exchanged first old (Put done foreign (Err back)) new id happens alone_all has =
 exchanged first old (GiveBack job) new id happens alone_all has = given first old job new id (live_of old.histories job.step.id) happens
 exchanged first old (Owners list) new id happens alone_all has = unchanged first old new id happens.1
 
--- a tenancy keeps its first state
-first_in-change : (first : State) (change : History → History) → ((h : History) → first_of (change h) ≡ first_of h) → (o : Option History) → IfSome (option_map change o) (λ h. first_of h ≡ first) → IfSome o (λ h. first_of h ≡ first)
-first_in-change first change keeps None has = has
-first_in-change first change keeps (Some h) has = sym (keeps h) ∙ has
-
 modified_back : (first : State) (hs : List History) (t id : ℕ) (change : History → History) → ((h : History) → first_of (change h) ≡ first_of h) → IfSome (history_of (with_changed hs t change) id) (λ h. first_of h ≡ first) → IfSome (history_of hs id) (λ h. first_of h ≡ first)
-modified_back first hs t id change keeps has =
-    elim (eqb id t) as (λ b. IfSome (if b then option_map change (history_of hs id) else history_of hs id) (λ h. first_of h ≡ first) → IfSome (history_of hs id) (λ h. first_of h ≡ first)) [
-      | true ↦ λ changed. first_in-change first change keeps (history_of hs id) changed
-      | false ↦ λ same. same
-    ] (rw (history_of-modified hs t id change) at has)
+modified_back first hs t id change keeps has = grind (arith, history_of-modified)
 
 pushed_back : (first : State) (hs : List History) (h : History) (id : ℕ) → IfSome (history_of (hs ++ h ∷ []) id) (λ g. first_of g ≡ first) → IfSome (history_of hs id) (λ g. first_of g ≡ first)
-pushed_back first hs h id has = by_id (eqb id (length hs + 1)) refl (rw (history_of-push hs h id) at has)
-  where
-    by_id : (b : Bool) → eqb id (length hs + 1) ≡ b → IfSome (if b then Some h else history_of hs id) (λ g. first_of g ≡ first) → IfSome (history_of hs id) (λ g. first_of g ≡ first)
-    by_id true e new = let none : history_of hs id ≡ None = history_of-past hs id (grind (arith, nat_tests)) in rw none tt
-    by_id false e same = same
+pushed_back first hs h id has = grind (arith, history_of-push, history_of-past)
 
 back : (first : State) (old new : ServiceState) (id : ℕ) → Effect old new → HasFirst first new id → HasFirst first old id
-back first old new id (Nothing same) has = rw same at has
-back first old new id (Admitted width offset can fits is) has = pushed_back first old.histories (admitted_history old.device (length old.histories + 1) width) id (rw is at has)
-back first old new id (Evicted t is) has = modified_back first old.histories t id closed_history (λ h. refl) (rw is at has)
-back first old new id (Moved t offset parted is) has = rw is at has
-back first old new id (Entered t e h next is) has = modified_back first old.histories t id (with_entry e) (λ h. refl) (rw is at has)
-back first old new id (Turned t here is) has = modified_back first old.histories t id (with_here here) (λ h. refl) (rw is at has)
+back first old new id h1 h2 = grind (arith, pushed_back, modified_back)
 
 -- over a run
 run_back : (first : State) (old : ServiceState) (calls : List Call) (new : ServiceState) (id : ℕ) → Run old calls new → HasFirst first new id → HasFirst first old id
@@ -204,16 +147,7 @@ run_back first old (call ∷ calls) new id run has = back first old run.0 id (ef
 
 -- first these exchanges, then those
 Exchanged-append : (first : State) (old mid new : ServiceState) (id : ℕ) (xs ys : List (Event × Option Reply)) → Exchanged first old mid id xs → Exchanged first mid new id ys → Exchanged first old new id (xs ++ ys)
-Exchanged-append first old mid new id xs ys one rest =
-    let both : asked (xs ++ ys) ≡ asked xs ++ asked ys = map-append (λ (x : Event × Option Reply). x.0) xs ys in
-    let answers : told (xs ++ ys) ≡ told xs ++ told ys = map-append (λ (x : Event × Option Reply). x.1) xs ys in
-    record {
-      replies = rw (answers, both, replies_to-append (alone first old id) (asked xs) (asked ys), one.replies, rest.replies, one.state) refl;
-      state = rw (both, state_after-append (alone first old id) (asked xs) (asked ys), ← one.state) rest.state;
-      journal = rest.journal
-          ∙ (ap (λ es. es ++ filter has_reply ys) one.journal
-          ∙ (append_assoc (recorded (journal_of old id)) (filter has_reply xs) (filter has_reply ys) ∙ ap (λ es. recorded (journal_of old id) ++ es) (sym (filter-append has_reply xs ys))));
-    }
+Exchanged-append first old mid new id xs ys one rest = grind (arith, map-append, replies_to-append, state_after-append, append_assoc, filter-append)
 
 run_exchanged : (first : State) (old : ServiceState) (calls : List Call) (new : ServiceState) (id : ℕ) → Run old calls new → Kept old → HasFirst first new id → Exchanged first old new id (own_exchanges id calls)
 run_exchanged first old [] new id run was has = same_journal first old new id (rw run refl)
@@ -253,21 +187,7 @@ own_journals device calls state runs id = by_history (history_of state.histories
 -- a live tenancy is in the state that its own events result in alone
 pub state_alone : (device : Device) (calls : List Call) (state : ServiceState) (id : ℕ) (h : History) → Run (empty_service device) calls state → live_of state.histories id ≡ Some h →
     state_of h ≡ (run device.arch (strip_on device h.strip.width) (own_events id calls)).0
-state_alone device calls state id h runs live =
-    let here : history_of state.histories id ≡ Some h = if_live_some (history_of state.histories id) h live in
-    let P : Option History → Type 0 = λ o. IfSome o (λ h. (state_of h, own_replies id calls) ≡ run device.arch (strip_on device h.strip.width) (own_events id calls)) in
-    let alone : (state_of h, own_replies id calls) ≡ run device.arch (strip_on device h.strip.width) (own_events id calls) = subst P here (each_alone device calls state runs id) in
-    ap (λ (p : State × List (Option Reply)). p.0) alone
-
--- and owns what that state has routed
-abbrev HoldsAt : ServiceState → ℕ → Resource → State → Type 0
-HoldsAt state id resource s = IsSomeAnd (offset_of state.plan.strips id) (λ offset. has (map (moved_resource offset) (routed_set s)) resource ≡ true)
+state_alone device calls state id h runs live = grind (arith, each_alone device calls state runs id)
 
 pub is_book : (device : Device) (calls : List Call) (state : ServiceState) → Run (empty_service device) calls state → IsBook device calls state
-is_book device calls state runs resource id = by_live (live_of state.histories id) refl
-  where
-    by_live : (o : Option History) → live_of state.histories id ≡ o → IsSomeAnd o (λ h. HoldsAt state id resource (state_of h)) ↔ IsSomeAnd o (λ h. HoldsAt state id resource (run device.arch (strip_on device h.strip.width) (own_events id calls)).0)
-    by_live None e = ((λ never. never), (λ never. never))
-    by_live (Some h) e =
-        let same = state_alone device calls state id h runs e in
-        ((λ is. subst (HoldsAt state id resource) same is), (λ is. subst (HoldsAt state id resource) (sym same) is))
+is_book device calls state runs resource id = grind (arith, state_alone)

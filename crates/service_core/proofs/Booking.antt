@@ -1,50 +1,15 @@
 -- Each call keeps the book exact.
-use Rattle.std.proofs.Common.{◌≡◌, ◌≢◌, inl, inr, ℕ, ◌+◌, ◌-◌, ◌<◌, ◌≤◌, List, [], ◌∷◌, ◌++◌, length, get_or, map, Bool, true, false, eqb, Result, Ok, Err, Option, Some, None, refl, sym, ap, ◌∙◌, subst, arith}
-use Rattle.std.specs.Prelude.{All, option_map, if◌then◌else◌}
-use Rattle.std.specs.declared.alloc.AllocError.{AllocError}
-use Rattle.std.proofs.Math.ListN.{set}
-use Rattle.std.proofs.lemmas.Bool.Decides.{Decides-eqb}
-use Rattle.std.proofs.lemmas.Bool.{false≢true}
-use Rattle.std.proofs.lemmas.List.Elements.{All-head, All-tail}
-use Rattle.std.proofs.lemmas.Option.{none-some, same_Some}
-use Rattle.arch_file.specs.declared.arch.Arch.{Arch}
-use Rattle.grid.specs.declared.Strip.{Strip}
-use Rattle.rr_graph.specs.declared.resource.Resource.{Resource}
-use Rattle.rr_graph.specs.Resources.{has, is_there, moved_resource}
-use Rattle.strips.specs.declared.placed_strip.PlacedStrip.{PlacedStrip}
-use Rattle.strips.specs.Plan.{IsParted, offset_of, strip_of, strips_without}
-use Rattle.device_book.specs.declared.book.Owned.{Owned}
-use Rattle.device_book.specs.Owners.{AreOwned, IsFree, ListsOwners, Owners, Releases, StandIn, extent_of, no_owners, owner_of}
-use Rattle.job_state.specs.declared.step.JobStep.{JobStep}
-use Rattle.job_state.specs.Job.{JobState}
+use Rattle.service_core.proofs.Prelude.{◌≡◌, ◌≢◌, inl, inr, ℕ, ◌+◌, ◌-◌, ◌<◌, ◌≤◌, List, [], ◌∷◌, ◌++◌, length, get_or, map, Bool, true, false, eqb, Result, Ok, Err, Option, Some, None, refl, sym, ap, ◌∙◌, subst, arith, All, option_map, if◌then◌else◌, AllocError, set, Decides-eqb, false≢true, All-head, All-tail, none-some, same_Some, Arch, Strip, Resource, has, is_there, moved_resource, PlacedStrip, IsParted, offset_of, strip_of, strips_without, Owned, AreOwned, IsFree, ListsOwners, Owners, Releases, StandIn, extent_of, owner_of, JobStep, JobState, Command as Asked, Reply, StepReply, Advanced, Finished, Stale, NotAnswered, routed_set, State, start, step, Device, Entry, History, state_of, with_entry, with_here, AreParted, AreAlone, IsAloneOn, ServiceState, admitted_history, history_of, live_of, live_width, with_changed, placed_width, strip_on, step_entry, HasOneOwner, ListsOwnersOf, GivesHistoryBack, GivesUp, GivesUpOrKeeps, PutsHistory, ServesHistory, StandsIn, TakesHistory, closed_history, if_live, AreFree, IsLiveIn, IsSound, KeepsBook, TakesUp, held_at}
 use Rattle.tenant_slot.specs.declared.command.Command.{Command}
-use Rattle.tenant_slot.specs.declared.event.Event.TheVariants.{Command as Asked}
-use Rattle.tenant_slot.specs.declared.reply.Reply.{Reply}
-use Rattle.tenant_slot.specs.declared.reply.Reply.TheVariants.{Accepted, Status as InState, File, Refused, Step}
-use Rattle.tenant_slot.specs.declared.reply.StepReply.{StepReply}
-use Rattle.tenant_slot.specs.declared.reply.StepReply.TheVariants.{Advanced, Finished, Stale}
-use Rattle.tenant_slot.specs.declared.not_served.NotAnswered.{NotAnswered}
-use Rattle.tenant_slot.specs.declared.not_served.NotAnswered.TheVariants.{NoMemory, JournalFull}
-use Rattle.tenant_slot.specs.RoutedSet.{routed_set}
-use Rattle.tenant_slot.specs.SingleUser.{State, start, step}
-use Rattle.service_core.specs.declared.device.Device.{Device}
-use Rattle.service_core.specs.declared.entry.Entry.{Entry}
-use Rattle.service_core.specs.History.{History, state_of, with_entry, with_here}
-use Rattle.service_core.specs.Headline.{AreParted}
-use Rattle.service_core.specs.Service.{AreAlone, IsAloneOn, ServiceState, admitted_history, history_of, live_of, live_width, with_changed, placed_width, strip_on}
-use Rattle.service_core.specs.Run.{step_entry}
-use Rattle.service_core.specs.Owners.{HasOneOwner, ListsOwnersOf}
-use Rattle.service_core.specs.Tenancy.{GivesHistoryBack, GivesUp, GivesUpOrKeeps, PutsHistory, ServesHistory, StandsIn, TakesHistory, closed_history, if_live}
-use Rattle.service_core.specs.Kept.{AreFree, IsDevice, IsLiveIn, IsSound, KeepsBook, TakesUp, held_at}
 use Rattle.service_core.proofs.Lists.{All-history_of}
 use Rattle.service_core.proofs.Histories.{state_after-push}
-use Rattle.service_core.proofs.Keeps.{IsService-admitted, IsService-empty, IsService-evicted, if_live_some, live_is, set-kept, set-live}
+use Rattle.service_core.proofs.Keeps.{IsService-admitted, IsService-evicted, if_live_some, live_is, set-kept, set-live}
 use Rattle.service_core.proofs.Serving.{IsService-given, IsService-put, IsService-served, IsService-taken}
 use Rattle.service_core.proofs.Held.{HeldAfter, IsOnStrip, StepHeld, command_held, step_held}
 use Rattle.service_core.proofs.Holdings.{all_had, has_all, moved_same, owned_same}
 use Rattle.service_core.proofs.Exact.{exact_claimed, exact_released, exact_same}
 use Rattle.service_core.proofs.Owning.{admitted_owned, evicted_other, evicted_owned, in_window, nobody_else, own_owned, owned_in, owner_has, same_owned, set_live_of, set_other}
-use Rattle.service_core.proofs.There.{nobody_owns, stands}
+use Rattle.service_core.proofs.There.{stands}
 
 abbrev pub state_on : Device → List PlacedStrip → List History → ServiceState
 state_on device strips hs = record { device = device; plan = record { columns = device.columns; strips = strips }; histories = hs }
@@ -52,27 +17,14 @@ state_on device strips hs = record { device = device; plan = record { columns = 
 keeps_same : (book : Owners) (device : Device) (strips after : List PlacedStrip) (hs new : List History) → ((k : ℕ) → owned_in after new k ≡ owned_in strips hs k) → KeepsBook book (state_on device strips hs) → KeepsBook book (state_on device after new)
 keeps_same book device strips after hs new same was = record { extent = was.extent; exact = exact_same book (owned_in strips hs) (owned_in after new) same was.exact }
 
--- a new device
-pub sound_empty : (device : Device) → IsDevice device → IsSound (no_owners (extent_of device.arch device.columns device.rows)) device [] []
-sound_empty device lawful = record {
-  lawful = lawful;
-  kept = IsService-empty device;
-  book = record { extent = refl; exact = λ r id. ((λ some. absurd (none-some id (sym (nobody_owns (extent_of device.arch device.columns device.rows) r) ∙ some))), (λ never. absurd (false≢true never))) };
-}
-
 -- an admission
 pub sound_admitted : (book : Owners) (device : Device) (strips : List PlacedStrip) (hs : List History) (width offset : ℕ) → IsSound book device strips hs → length hs < 65535 →
     IsSound book device (strips ++ record { id = length hs + 1; offset = offset; width = width } ∷ []) (hs ++ admitted_history device (length hs + 1) width ∷ [])
-sound_admitted book device strips hs width offset was few = record {
-  lawful = was.lawful;
-  kept = IsService-admitted device strips hs width offset was.kept few;
-  book = keeps_same book device strips _ hs _ (λ k. admitted_owned device strips hs width offset k was.kept) was.book;
-}
+sound_admitted book device strips hs width offset was few = search (IsService-admitted, keeps_same, admitted_owned, arith)
 
 -- a take, and a job that is given back
 turned : (book : Owners) (device : Device) (strips : List PlacedStrip) (hs : List History) (id : ℕ) (old new : History) (here : Option Bool) → KeepsBook book (state_on device strips hs) → IsLiveIn hs id → old ≡ get_or hs (id - 1) old → new ≡ with_here here old → KeepsBook book (state_on device strips (set hs (id - 1) new))
-turned book device strips hs id old new here was live is changes =
-    subst (λ xs. KeepsBook book (state_on device strips xs)) (sym (set-live hs id old (with_here here) new live is changes)) (keeps_same book device strips strips hs (with_changed hs id (with_here here)) (same_owned strips hs id (with_here here) (λ h found. (refl, refl))) was)
+turned book device strips hs id old new here was live is changes = grind (arith, same_owned, set-live hs id old (with_here here) new live is changes)
 
 stayed : (book : Owners) (device : Device) (strips : List PlacedStrip) (hs : List History) (id : ℕ) (old new : History) → KeepsBook book (state_on device strips hs) → old ≡ get_or hs (id - 1) old → new ≡ old → KeepsBook book (state_on device strips (set hs (id - 1) new))
 stayed book device strips hs id old new was is same = subst (λ xs. KeepsBook book (state_on device strips xs)) (sym (set-kept hs id old new is same)) was
@@ -121,9 +73,7 @@ module _ (book left : Owners) (device : Device) (strips : List PlacedStrip) (hs 
 
 -- a command
 served_live : (old : History) (command : Command) (answer : Result (Command × Reply) NotAnswered) (new : History) → ServesHistory old command answer new → new.live ≡ old.live
-served_live old command (Ok told) new served = ap (λ (h : History). h.live) served.2
-served_live old command (Err JournalFull) new served = ap (λ (h : History). h.live) served.1
-served_live old command (Err NoMemory) new served = ap (λ (h : History). h.live) served.1
+served_live old command answer new served = grind arith
 
 pub sound_served : (book left : Owners) (device : Device) (strips : List PlacedStrip) (hs : List History) (id offset : ℕ) (old : History) (command : Command) (answer : Result (Command × Reply) NotAnswered) (new : History) →
     IsSound book device strips hs → IsLiveIn hs id → old ≡ get_or hs (id - 1) old → offset_of strips id ≡ Some offset → old.live ≡ true → ServesHistory old command answer new → GivesUpOrKeeps book offset old left new →
@@ -146,11 +96,7 @@ next_state : (old new : History) (e : Entry) → new ≡ with_entry e old → st
 next_state old new e is = ap state_of is ∙ state_after-push (start old.arch old.strip) old.entries e
 
 pub gives_up_or_keeps : (book left : Owners) (offset : ℕ) (old new : History) (reply : Reply) → GivesUp book (held_at offset old) reply left → HeldAfter (state_of old) (state_of new) reply → GivesUpOrKeeps book offset old left new
-gives_up_or_keeps book left offset old new (Accepted name) given held = inl (given, held)
-gives_up_or_keeps book left offset old new (InState status) given held = inr (given, held)
-gives_up_or_keeps book left offset old new (File kind text) given held = inr (given, held)
-gives_up_or_keeps book left offset old new (Refused refusal) given held = inr (given, held)
-gives_up_or_keeps book left offset old new (Step reply) given held = inr (given, held)
+gives_up_or_keeps book left offset old new reply given held = grind arith
 
 -- a put
 put_held : (old : History) (done : JobStep) (reply : StepReply) (new : History) → PutsHistory old done (Ok reply) new → StepHeld (state_of old) (state_of new) reply
@@ -180,11 +126,7 @@ sound_put book left device strips hs id offset old done reply new was live is at
 
 pub sound_back : (book : Owners) (device : Device) (strips : List PlacedStrip) (hs : List History) (id : ℕ) (old : History) (done : JobStep) (back : JobStep × AllocError) (new : History) →
     IsSound book device strips hs → IsLiveIn hs id → old ≡ get_or hs (id - 1) old → PutsHistory old done (Err back) new → IsSound book device strips (set hs (id - 1) new)
-sound_back book device strips hs id old done back new was live is put = record {
-  lawful = was.lawful;
-  kept = IsService-put device strips hs id old done (Err back) new was.kept live is put;
-  book = stayed book device strips hs id old new was.book is put.1;
-}
+sound_back book device strips hs id old done back new was live is put = grind (arith, IsService-put device strips hs id old done (Err back) new was.kept live is put, stayed book device strips hs id old new was.book is put.1)
 
 -- an eviction
 pub sound_evicted : (book left : Owners) (device : Device) (strips : List PlacedStrip) (hs : List History) (id offset : ℕ) (old : History) →
@@ -201,11 +143,7 @@ sound_evicted book left device strips hs id offset old was live is at released =
 
 -- the offset of a live tenancy's strip
 pub placed_strip : (strips : List PlacedStrip) (id offset : ℕ) → offset_of strips id ≡ Some offset → (s : PlacedStrip) × (strip_of strips id ≡ Some s) × (s.offset ≡ offset)
-placed_strip strips id offset at = by_strip (strip_of strips id) refl at
-  where
-    by_strip : (o : Option PlacedStrip) → strip_of strips id ≡ o → option_map (λ (s : PlacedStrip). s.offset) o ≡ Some offset → (s : PlacedStrip) × (strip_of strips id ≡ Some s) × (s.offset ≡ offset)
-    by_strip None e never = absurd (none-some offset never)
-    by_strip (Some s) e same = (s, e, same_Some _ _ same)
+placed_strip strips id offset at = grind arith
 
 strip_all : (P : PlacedStrip → Type 0) (strips : List PlacedStrip) (id : ℕ) (s : PlacedStrip) → strip_of strips id ≡ Some s → All P strips → P s
 strip_all P [] id s is all = absurd (none-some s is)
@@ -217,8 +155,7 @@ strip_all P (t ∷ strips) id s is all =
 
 -- its width
 pub its_width : (strips : List PlacedStrip) (hs : List History) (id : ℕ) (s : PlacedStrip) (h : History) → ((j : ℕ) → placed_width strips j ≡ live_width hs j) → strip_of strips id ≡ Some s → live_of hs id ≡ Some h → s.width ≡ h.strip.width
-its_width strips hs id s h linked found live =
-    same_Some _ _ (sym (ap (option_map (λ (s : PlacedStrip). s.width)) found) ∙ (linked id ∙ ap (option_map (λ (g : History). g.strip.width)) live))
+its_width strips hs id s h linked found live = grind arith
 
 -- nobody owns what a live tenancy starts to occupy
 pub put_free : (book : Owners) (device : Device) (strips : List PlacedStrip) (hs : List History) (id offset : ℕ) (old : History) (done : JobStep) (reply : StepReply) (new : History) →
@@ -297,12 +234,10 @@ live_some device hs id live =
 
 -- what a slot's strip has, its tenancy's strip has
 pub there_for : (arch : Arch) (strip : Strip) (state : State) (resources : List Resource) → IsOnStrip arch strip state → All (λ r. is_there state.arch state.strip r ≡ true) resources → All (λ r. is_there arch strip r ≡ true) resources
-there_for arch strip state resources on all = λ i d lt.
-    ap (λ a. is_there a strip (get_or resources i d)) (sym on.arch_is) ∙ (ap (λ s. is_there state.arch s (get_or resources i d)) (sym on.strip_is) ∙ all i d lt)
+there_for arch strip state resources on all = grind arith
 
 pub stands_for : (book : Owners) (offset : ℕ) (arch : Arch) (strip : Strip) (state : State) → IsOnStrip arch strip state → StandsIn book.extent offset arch strip → StandsIn book.extent offset state.arch state.strip
-stands_for book offset arch strip state on stand = λ r there.
-    stand r (ap (λ a. is_there a strip r) (sym on.arch_is) ∙ (ap (λ s. is_there state.arch s r) (sym on.strip_is) ∙ there))
+stands_for book offset arch strip state on stand = grind arith
 
 -- a release and a claim of a list of exactly what is occupied
 pub released_held : (book left : Owners) (offset : ℕ) (held resources : List Resource) → ((r : Resource) → has resources r ≡ has held r) → Releases book (map (moved_resource offset) resources) left → Releases book (map (moved_resource offset) held) left
@@ -314,10 +249,7 @@ claimed_held book left id offset held resources same claimed = owned_same book l
 -- a command that a slot has served
 pub slot_gives_up : (book left : Owners) (offset : ℕ) (old new : History) (state : State) (command : Command) (reply : Reply) → state ≡ state_of old → (step state (Asked command)).1 ≡ Some reply →
     state_of new ≡ (step (state_of old) (Asked command)).0 → GivesUp book (map (moved_resource offset) (routed_set state)) reply left → GivesUpOrKeeps book offset old left new
-slot_gives_up book left offset old new state command reply is told after given =
-    let said : (step (state_of old) (Asked command)).1 ≡ Some reply = subst (λ s. (step s (Asked command)).1 ≡ Some reply) is told in
-    let held : GivesUp book (held_at offset old) reply left = subst (λ s. GivesUp book (map (moved_resource offset) (routed_set s)) reply left) is given in
-    gives_up_or_keeps book left offset old new reply held (subst (λ s. HeldAfter (state_of old) s reply) (sym after) (command_held (state_of old) command reply said))
+slot_gives_up book left offset old new state command reply is told after given = grind (arith, gives_up_or_keeps, command_held)
 
 -- and in the current book
 pub in_book_there : (book : Owners) (device : Device) (offset : ℕ) (h : History) → book.extent ≡ extent_of device.arch device.columns device.rows →
@@ -330,10 +262,4 @@ one_in_book book state keeps = λ r id other is is_other. same_Some _ _ (sym ((k
 
 -- and the book lists them
 pub listed_owners : (book : Owners) (state : ServiceState) (list : List Owned) → KeepsBook book state → ListsOwners book list → ListsOwnersOf state list
-listed_owners book state list keeps listed = (
-  listed.in_order,
-  λ owned. (
-    (λ within. (owner_has state owned.resource owned.id).1 ((keeps.exact owned.resource owned.id).0 ((listed.exact owned).0 within))),
-    (λ is. (listed.exact owned).1 ((keeps.exact owned.resource owned.id).1 ((owner_has state owned.resource owned.id).0 is))),
-  ),
-)
+listed_owners book state list keeps listed = grind (arith, owner_has)

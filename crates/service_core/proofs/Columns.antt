@@ -1,58 +1,12 @@
 -- What a tenancy occupies is in its strip's columns.
-use Rattle.std.proofs.Common.{◌≡◌, ℕ, zero, suc, ◌+◌, ◌*◌, ◌%◌, ◌≤◌, inl, inr, Bool, true, false, cond, Option, Some, None, List, [], ◌∷◌, ◌++◌, length, get_or, map, ◌&&◌, ◌||◌, nat_le, Result, Ok, Err, refl, arith}
-use Rattle.std.specs.Prelude.{All, IfSome, find, not, option_and_then, unwrap_or}
-use Rattle.std.specs.List.{flat_map, list_any, range_with_len, zip}
-use Rattle.std.specs.Option.{option_to_list}
-use Rattle.std.proofs.lemmas.Bool.{and_parts, cases_lt, false≢true, leb-true}
-use Rattle.std.proofs.lemmas.List.{get_or_past}
-use Rattle.std.proofs.lemmas.List.Elements.{All-append, All-cons, All-head, All-nil, All-tail, filter_passes}
-use Rattle.arch_file.specs.declared.arch.Arch.{Arch}
-use Rattle.blif.specs.declared.circuit.Circuit.{Circuit}
-use Rattle.blif.specs.declared.fault.BlifFault.{BlifFault}
-use Rattle.cluster.specs.declared.block.Block.{Block}
-use Rattle.cluster.specs.declared.block.Block.TheVariants.{InputPad, OutputPad, Cluster}
-use Rattle.cluster.specs.Clusters.{PackedCircuit, packed_of}
-use Rattle.cluster.specs.Blocks.{blocks_of}
-use Rattle.cluster.specs.Keys.{keys_of}
-use Rattle.grid.specs.declared.Strip.{Strip}
-use Rattle.grid.specs.declared.place.Kind.{Kind}
-use Rattle.grid.specs.declared.place.Kind.TheVariants.{Logic, Pad}
-use Rattle.grid.specs.declared.place.Place.{Place}
-use Rattle.grid.specs.Places.{column_of, pads_at, place_at, places_of}
-use Rattle.rr_graph.specs.declared.node.NodeKind.{NodeKind}
+use Rattle.service_core.proofs.Prelude.{◌≡◌, ℕ, zero, suc, ◌+◌, ◌*◌, ◌%◌, ◌≤◌, Bool, true, false, cond, Option, Some, None, List, [], ◌∷◌, ◌++◌, length, get_or, map, ◌&&◌, ◌||◌, nat_le, Result, Ok, Err, refl, arith, All, IfSome, find, option_and_then, unwrap_or, flat_map, list_any, range_with_len, zip, option_to_list, and_parts, false≢true, leb-true, get_or_past, All-append, All-cons, All-head, All-nil, All-tail, filter_passes, Arch, Circuit, BlifFault, Block, InputPad, OutputPad, Cluster, PackedCircuit, packed_of, blocks_of, keys_of, Strip, Kind, Logic, Pad, Place, column_of, pads_at, place_at, places_of, NodeKind, Node, Resource, is_chan_y, is_node, is_slot, graph_of, make_node, nodes_of, has, resource_of, PlacingUnderWay, placed_after, places_by_block, temperature_at, kind_for, Draw, after_draw, after_move, cost_of, drawn_place, place_after, is_kept, pass_of, block_at, is_same_place, place_of, kept_by_block, place_for, placed_behind, placed_first, places_at_start, Task, task_of, Tree, Standing, More, Done, GaveUp as GivenUp, NoPath as WithoutPath, Routed as RoutedTrees, routed_after, wiring_of, routes_by_node, Net, Sources, KeptPlaces, kept_place, basis_in, circuit_in, nets_in, pads_in, pass_count, placing_at, routing_sources, routing_stands, step_count, value_of, pad_of, pads_of, on_path, on_tree, on_trees, held_at_end, resources_of, StateName, Empty, Loaded, Packing, Packed, Placing, Placed, Routing, Unrouted, State, held_in, routed_set}
+use Rattle.std.specs.Prelude.{not}
 use Rattle.rr_graph.specs.declared.node.NodeKind.TheVariants as Nodes
-use Rattle.rr_graph.specs.declared.node.Node.{Node}
-use Rattle.rr_graph.specs.declared.resource.Resource.{Resource}
-use Rattle.rr_graph.specs.Geometry.{is_chan_y, is_node, is_slot}
-use Rattle.rr_graph.specs.Graph.{graph_of, make_node, nodes_of}
-use Rattle.rr_graph.specs.Resources.{has, resource_of}
-use Rattle.strip_place.specs.Anneal.{PlacingUnderWay, placed_after, places_by_block, temperature_at}
-use Rattle.strip_place.specs.Keeping.{kind_for}
-use Rattle.strip_place.specs.Pass.{Draw, after_draw, after_move, cost_of, drawn_place, place_after, is_kept, pass_of}
-use Rattle.block_places.specs.Placed.{block_at, is_same_place, place_of}
-use Rattle.strip_place.specs.Start.{kept_by_block, place_for, placed_behind, placed_first, places_at_start}
-use Rattle.strip_place.specs.Task.{Task, task_of}
-use Rattle.pathfinder.specs.Negotiation.{Tree, Standing, More, Done, GaveUp as GivenUp, NoPath as WithoutPath, Routed as RoutedTrees, routed_after}
-use Rattle.pathfinder.specs.PlacedNets.{wiring_of}
-use Rattle.pathfinder.specs.Routings.{routes_by_node}
-use Rattle.pathfinder.specs.Wiring.{Net}
-use Rattle.job_state.specs.declared.sources.Sources.{Sources}
-use Rattle.kept_places.specs.Kept.{KeptPlaces, kept_place}
-use Rattle.job_state.specs.JobValue.{basis_in, circuit_in, nets_in, pads_in, pass_count, placing_at, routing_sources, routing_stands, step_count, value_of}
-use Rattle.job_state.specs.RoutedCircuits.{pad_of, pads_of}
-use Rattle.job_state.specs.Gathered.{on_path, on_tree, on_trees}
-use Rattle.job_state.specs.RoutedSet.{held_at_end, resources_of}
-use Rattle.tenant_slot.specs.declared.reply.StateName.{StateName}
-use Rattle.tenant_slot.specs.declared.reply.StateName.TheVariants.{Empty, Loaded, Packing, Packed, Placing, Placed, Routing, Routed, Unrouted}
-use Rattle.tenant_slot.specs.SingleUser.{State}
-use Rattle.tenant_slot.specs.RoutedSet.{held_in, routed_set}
+use Rattle.tenant_slot.specs.declared.reply.StateName.TheVariants.{Routed}
 use Rattle.service_core.proofs.Holdings.{has_all}
 
 at_any : {X : Type 0} (P : X → Type 0) (xs : List X) (i : ℕ) (d : X) → All P xs → P d → P (get_or xs i d)
-at_any P xs i d all default = elim (cases_lt i (length xs)) [
-  | inl within ↦ all i d within
-  | inr past ↦ rw (get_or_past xs i d past) default
-]
+at_any P xs i d all default = grind (arith, get_or_past)
 
 all_map : {X Y : Type 0} (P : Y → Type 0) (f : X → Y) (xs : List X) → ((x : X) → P (f x)) → All P (map f xs)
 all_map P f [] each = All-nil P

@@ -1,21 +1,9 @@
 -- How a call changes the state: in one of six ways, whichever call it is.
-use Rattle.std.proofs.Common.{◌≡◌, ℕ, List, [], ◌∷◌, Bool, Option, Some, None, Ok, Err, refl, ap, ◌∙◌}
-use Rattle.std.specs.Prelude.{IsSomeAnd}
-use Rattle.strips.specs.Plan.{IsFirstFit, IsParted, with_moved}
+use Rattle.service_core.proofs.Prelude.{◌≡◌, ℕ, List, [], ◌∷◌, Bool, Option, Some, None, Ok, Err, refl, ◌∙◌, arith, IsSomeAnd, IsFirstFit, IsParted, with_moved, Command as Asked, step, JobState, Entry, NoRoom, TooManyStrips, BadWidth, IdsSpent, NoMemory, JournalFull, NoSuchTenancy, Recorded, Full, Gone, History, state_of, Receipted, ServiceState, history_of, live_of, with_tenancy, without_tenancy, Call, Admit, Evict, GiveBack, Happens, Move, Put, Run, Take, Tenant, CanAdmit, IsGivenBackTo, IsReceipt, IsStepOf, step_entry, IsService, with_entry_of, with_here_of}
 use Rattle.tenant_slot.specs.declared.command.Command.{Command}
-use Rattle.tenant_slot.specs.declared.event.Event.TheVariants.{Command as Asked}
-use Rattle.tenant_slot.specs.SingleUser.{step}
-use Rattle.job_state.specs.Job.{JobState}
-use Rattle.service_core.specs.declared.entry.Entry.{Entry}
-use Rattle.service_core.specs.declared.op_refusal.OpRefusal.TheVariants.{NoMemory as OpNoMemory, NoRoom, TooManyStrips, BadWidth, NoSuchTenancy as OpNoSuchTenancy, IdsSpent}
-use Rattle.service_core.specs.declared.not_served.NotServed.TheVariants.{NoMemory, JournalFull, NoSuchTenancy}
-use Rattle.service_core.specs.declared.put_reply.PutReply.TheVariants.{Recorded, Full, Gone}
-use Rattle.service_core.specs.History.{History, state_of}
-use Rattle.service_core.specs.Receipt.{Receipted}
-use Rattle.service_core.specs.Service.{ServiceState, history_of, live_of, with_tenancy, without_tenancy}
-use Rattle.service_core.specs.Run.{Call, Admit, Evict, GiveBack, Happens, Move, Owners, Put, Run, Take, Tenant, CanAdmit, IsGivenBackTo, IsReceipt, IsStepOf, step_entry}
-use Rattle.service_core.specs.Kept.{IsService, with_entry_of, with_here_of}
-use Rattle.service_core.proofs.Keeps.{IsService-admitted, IsService-entry, IsService-evicted, IsService-here, if_live_some}
+use Rattle.service_core.specs.declared.op_refusal.OpRefusal.TheVariants.{NoMemory as OpNoMemory, NoSuchTenancy as OpNoSuchTenancy}
+use Rattle.service_core.specs.Run.{Owners}
+use Rattle.service_core.proofs.Keeps.{IsService-admitted, IsService-entry, IsService-evicted, IsService-here}
 use Rattle.service_core.proofs.MovedStrips.{IsService-moved}
 
 -- an entry is the next one of a tenancy's journal
@@ -37,22 +25,14 @@ pub data Effect (old new : ServiceState) : Type 0 where
 
 -- what holds of the live tenancy
 pub of_live : (P : History → Type 0) (old : ServiceState) (id : ℕ) → IsSomeAnd (live_of old.histories id) P → (h : History) × (history_of old.histories id ≡ Some h) × P h
-of_live P old id is = at_option (live_of old.histories id) refl is
-  where
-    at_option : (o : Option History) → live_of old.histories id ≡ o → IsSomeAnd o P → (h : History) × (history_of old.histories id ≡ Some h) × P h
-    at_option None e never = absurd never
-    at_option (Some h) e said = (h, if_live_some (history_of old.histories id) h e, said)
+of_live P old id is = grind arith
 
 -- a command that is served is the next entry
 abbrev pub served_entry : Command → Receipted → Entry
 served_entry command r = record { event = Asked command; reply = r.reply }
 
 pub served_next : (old : ServiceState) (id : ℕ) (command : Command) (r : Receipted) → IsReceipt (live_of old.histories id) id command r → (h : History) × IsNext old id (served_entry command r) h
-served_next old id command r is = at_option (live_of old.histories id) refl is
-  where
-    at_option : (o : Option History) → live_of old.histories id ≡ o → IsReceipt o id command r → (h : History) × IsNext old id (served_entry command r) h
-    at_option None e never = absurd never
-    at_option (Some h) e said = (h, record { here = if_live_some (history_of old.histories id) h e; told = said.3 })
+served_next old id command r is = grind arith
 
 given_effect : (o : Option History) (old : ServiceState) (job : JobState) (new : ServiceState) → IsGivenBackTo o old job new → Effect old new
 given_effect None old job new given = Nothing given
@@ -87,12 +67,7 @@ effect old (Owners list) new happens = Nothing happens.1
 
 -- the device stays
 effect_device : (old new : ServiceState) → Effect old new → new.device ≡ old.device
-effect_device old new (Nothing same) = ap (λ (s : ServiceState). s.device) same
-effect_device old new (Admitted width offset can fits is) = ap (λ (s : ServiceState). s.device) is
-effect_device old new (Evicted id is) = ap (λ (s : ServiceState). s.device) is
-effect_device old new (Moved id offset parted is) = ap (λ (s : ServiceState). s.device) is
-effect_device old new (Entered id e h next is) = ap (λ (s : ServiceState). s.device) is
-effect_device old new (Turned id here is) = ap (λ (s : ServiceState). s.device) is
+effect_device old new h1 = grind arith
 
 -- each call keeps the core's invariant
 abbrev pub Kept : ServiceState → Type 0

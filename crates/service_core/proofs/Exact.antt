@@ -1,12 +1,5 @@
 -- Claims and releases keep a book exact.
-use Rattle.std.proofs.Common.{◌≡◌, ◌≢◌, ℕ, List, [], Bool, true, false, eqb, Some, None, refl, sym, ap, ◌∙◌, subst}
-use Rattle.std.specs.Prelude.{◌↔◌, if◌then◌else◌}
-use Rattle.std.proofs.lemmas.Bool.Decides.{Decides-eqb}
-use Rattle.std.proofs.lemmas.Bool.{false≢true}
-use Rattle.std.proofs.lemmas.Option.{none-some, same_Some}
-use Rattle.rr_graph.specs.declared.resource.Resource.{Resource}
-use Rattle.rr_graph.specs.Resources.{has}
-use Rattle.device_book.specs.Owners.{AreOwned, Owners, Shifts, owner_of}
+use Rattle.service_core.proofs.Prelude.{◌≡◌, ◌≢◌, ℕ, List, [], Bool, true, false, eqb, Some, None, refl, sym, ap, ◌∙◌, subst, arith, ◌↔◌, if◌then◌else◌, Decides-eqb, false≢true, none-some, same_Some, Resource, has, AreOwned, Owners, Shifts, owner_of}
 
 -- the book has exactly these owners, each with what it owns
 abbrev pub Exact : Owners → (ℕ → List Resource) → Type 0
@@ -20,25 +13,7 @@ ids_differ id k e same = false≢true (sym e ∙ (Decides-eqb k id).1 same)
 
 -- nobody owns now what that one owned
 pub exact_released : (book left : Owners) (old new : ℕ → List Resource) (id : ℕ) → AreOwned book (old id) None left → new id ≡ [] → ((k : ℕ) → k ≢ id → new k ≡ old k) → Exact book old → Exact left new
-exact_released book left old new id released nothing others exact = λ r k. by_id r k (eqb k id) refl (has (old id) r) refl
-  where
-    owner : (r : Resource) (b : Bool) → has (old id) r ≡ b → owner_of left r ≡ (if b then None else owner_of book r)
-    owner r b e = released.1 r ∙ ap (λ t. if t then None else owner_of book r) e
-
-    by_id : (r : Resource) (k : ℕ) (t : Bool) → eqb k id ≡ t → (b : Bool) → has (old id) r ≡ b → (owner_of left r ≡ Some k) ↔ (has (new k) r ≡ true)
-    by_id r k true e true h = ((λ some. absurd (none-some k (sym (owner r true h) ∙ some))), (λ in_new. absurd (false≢true (ap (λ xs. has xs r) (sym (ap new ((Decides-eqb k id).0 e) ∙ nothing)) ∙ in_new))))
-    by_id r k true e false h = (
-      (λ some. absurd (false≢true (sym h ∙ (exact r id).0 (sym (owner r false h) ∙ (some ∙ ap Some ((Decides-eqb k id).0 e)))))),
-      (λ in_new. absurd (false≢true (ap (λ xs. has xs r) (sym (ap new ((Decides-eqb k id).0 e) ∙ nothing)) ∙ in_new))),
-    )
-    by_id r k false e true h = (
-      (λ some. absurd (none-some k (sym (owner r true h) ∙ some))),
-      (λ in_new. absurd (ids_differ id k e (same_Some _ _ (sym ((exact r k).1 (ap (λ xs. has xs r) (sym (others k (ids_differ id k e))) ∙ in_new)) ∙ (exact r id).1 h)))),
-    )
-    by_id r k false e false h = (
-      (λ some. ap (λ xs. has xs r) (others k (ids_differ id k e)) ∙ (exact r k).0 (sym (owner r false h) ∙ some)),
-      (λ in_new. owner r false h ∙ (exact r k).1 (ap (λ xs. has xs r) (sym (others k (ids_differ id k e))) ∙ in_new)),
-    )
+exact_released book left old new id released nothing others exact = grind arith
 
 -- that one owns now what nobody owned
 pub exact_claimed : (book left : Owners) (old new : ℕ → List Resource) (id : ℕ) → AreOwned book (new id) (Some id) left → old id ≡ [] → ((k : ℕ) → k ≢ id → new k ≡ old k) →
@@ -66,30 +41,4 @@ exact_claimed book left old new id claimed nothing others free exact = λ r k. b
 -- what one owns moves to places at which nobody else owns anything
 pub exact_shifted : (book left : Owners) (old new : ℕ → List Resource) (id : ℕ) → Shifts book id (old id) (new id) left → ((k : ℕ) → k ≢ id → new k ≡ old k) →
     ((r : Resource) (k : ℕ) → k ≢ id → has (new id) r ≡ true → has (new k) r ≡ true → ⊥) → Exact book old → Exact left new
-exact_shifted book left old new id shifted others apart exact = λ r k. by_id r k (eqb k id) refl (has (new id) r) refl (has (old id) r) refl
-  where
-    owner : (r : Resource) (b a : Bool) → has (new id) r ≡ b → has (old id) r ≡ a → owner_of left r ≡ (if b then Some id else if a then None else owner_of book r)
-    owner r b a is was = shifted.1 r ∙ (ap (λ t. if t then Some id else if has (old id) r then None else owner_of book r) is ∙ ap (λ t. if b then Some id else if t then None else owner_of book r) was)
-
-    by_id : (r : Resource) (k : ℕ) (t : Bool) → eqb k id ≡ t → (b : Bool) → has (new id) r ≡ b → (a : Bool) → has (old id) r ≡ a → (owner_of left r ≡ Some k) ↔ (has (new k) r ≡ true)
-    by_id r k true e true is a was = ((λ some. ap (λ n. has (new n) r) ((Decides-eqb k id).0 e) ∙ is), (λ in_new. owner r true a is was ∙ ap Some (sym ((Decides-eqb k id).0 e))))
-    by_id r k true e false is true was = (
-      (λ some. absurd (none-some k (sym (owner r false true is was) ∙ some))),
-      (λ in_new. absurd (false≢true (sym is ∙ (ap (λ n. has (new n) r) (sym ((Decides-eqb k id).0 e)) ∙ in_new)))),
-    )
-    by_id r k true e false is false was = (
-      (λ some. absurd (false≢true (sym was ∙ (exact r id).0 (sym (owner r false false is was) ∙ (some ∙ ap Some ((Decides-eqb k id).0 e)))))),
-      (λ in_new. absurd (false≢true (sym is ∙ (ap (λ n. has (new n) r) (sym ((Decides-eqb k id).0 e)) ∙ in_new)))),
-    )
-    by_id r k false e true is a was = (
-      (λ some. absurd (ids_differ id k e (same_Some _ _ (sym some ∙ owner r true a is was)))),
-      (λ in_new. absurd (apart r k (ids_differ id k e) is in_new)),
-    )
-    by_id r k false e false is true was = (
-      (λ some. absurd (none-some k (sym (owner r false true is was) ∙ some))),
-      (λ in_new. absurd (ids_differ id k e (same_Some _ _ (sym ((exact r k).1 (ap (λ xs. has xs r) (sym (others k (ids_differ id k e))) ∙ in_new)) ∙ (exact r id).1 was)))),
-    )
-    by_id r k false e false is false was = (
-      (λ some. ap (λ xs. has xs r) (others k (ids_differ id k e)) ∙ (exact r k).0 (sym (owner r false false is was) ∙ some)),
-      (λ in_new. owner r false false is was ∙ (exact r k).1 (ap (λ xs. has xs r) (sym (others k (ids_differ id k e))) ∙ in_new)),
-    )
+exact_shifted book left old new id shifted others apart exact = grind arith

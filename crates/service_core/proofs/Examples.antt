@@ -1,22 +1,7 @@
 -- The definitions on small cases, computed by the checker.
-use Rattle.std.proofs.Common.{◌≡◌, List, [], ◌∷◌, true, false, Ok, Err, Some, None, refl}
-use Rattle.tenant_slot.specs.declared.reply.StateName.TheVariants.{Empty}
-use Rattle.tenant_slot.specs.declared.command.Command.TheVariants.{Status, Withdraw}
-use Rattle.tenant_slot.specs.declared.event.Event.TheVariants.{Command as Asked}
-use Rattle.job_state.specs.declared.step.JobStep.{JobStep}
-use Rattle.job_state.specs.Job.{JobState}
-use Rattle.tenant_slot.specs.declared.reply.Reply.TheVariants.{Refused, Step}
-use Rattle.tenant_slot.specs.declared.reply.StepReply.TheVariants.{Advanced, Stale}
-use Rattle.tenant_slot.specs.declared.reply.Refusal.TheVariants.{WrongState}
-use Rattle.service_core.specs.declared.device.Device.{Device}
+use Rattle.service_core.proofs.Prelude.{◌≡◌, List, [], ◌∷◌, true, false, Ok, Err, Some, None, refl, Empty, Status, Withdraw, Command as Asked, JobStep, JobState, Refused, Step, Advanced, Stale, WrongState, Device, NoMemory, JournalFull, NoSuchTenancy, Recorded, Full, Gone, History, closed_history, admitted_history, empty_service, history_of, live_of, with_changed, strip_on, with_tenancy, without_tenancy, Call, Admit, Evict, GiveBack, Put, Take, Tenant, step_event, own_events, own_replies}
 use Rattle.service_core.specs.declared.not_served.NoteCause.TheVariants as cause
-use Rattle.service_core.specs.declared.not_served.NotServed.TheVariants.{NoMemory, JournalFull, NoSuchTenancy}
-use Rattle.service_core.specs.declared.put_reply.PutReply.TheVariants.{Recorded, Full, Gone}
-use Rattle.service_core.specs.History.{History}
-use Rattle.service_core.specs.Tenancy.{closed_history}
-use Rattle.service_core.specs.Service.{admitted_history, empty_service, history_of, live_of, with_changed, strip_on, with_tenancy, without_tenancy}
-use Rattle.service_core.specs.Run.{Call, Admit, Evict, GiveBack, Owners, Put, Take, Tenant, step_event}
-use Rattle.service_core.specs.OwnEvents.{own_events, own_replies}
+use Rattle.service_core.specs.Run.{Owners}
 
 -- the strip of a tenancy has its own width, and the device's rows and pads
 strip_of_two_columns : (device : Device) → strip_on device 2 ≡ record { width = 2; rows = device.rows; io_rat = device.arch.io_rat }

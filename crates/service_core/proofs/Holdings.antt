@@ -1,36 +1,19 @@
 -- Membership in lists of resources, also after a move by the strip's offset.
-use Rattle.std.proofs.Common.{◌≡◌, ℕ, ◌-◌, List, [], ◌∷◌, get_or, map, ◌&&◌, ◌||◌, nat_le, Bool, true, false, Option, refl, sym, ap, ◌∙◌, subst, arith}
-use Rattle.std.specs.Prelude.{All, if◌then◌else◌}
-use Rattle.std.proofs.lemmas.Bool.Decides.{nat_tests}
-use Rattle.std.proofs.lemmas.Bool.{false≢true}
-use Rattle.std.proofs.lemmas.List.Elements.{All-head, All-tail}
-use Rattle.std.proofs.lemmas.List.Folds.{list_any_at}
-use Rattle.rr_graph.specs.declared.resource.Resource.{Resource}
-use Rattle.rr_graph.specs.Resources.{has, is_same, moved_resource}
-use Rattle.device_book.specs.Owners.{AreOwned, Owners, owner_of}
-use Rattle.device_book.proofs.Places.{same_resource}
+use Rattle.service_core.proofs.Prelude.{◌≡◌, ℕ, ◌-◌, List, [], ◌∷◌, get_or, map, ◌&&◌, ◌||◌, nat_le, Bool, true, false, Option, refl, sym, ap, ◌∙◌, subst, arith, All, if◌then◌else◌, nat_tests, false≢true, All-head, All-tail, list_any_at, Resource, has, is_same, moved_resource, AreOwned, Owners, owner_of, same_resource}
 
 -- the resource moved a number of columns to the left
 abbrev pub moved_left : ℕ → Resource → Resource
 moved_left columns resource = record resource { x = resource.x - columns }
 
 and_false : (a : Bool) → (a && false) ≡ false
-and_false true = refl
-and_false false = refl
+and_false a = grind arith
 
 same_moved : (o : ℕ) (r x : Resource) → is_same r (moved_resource o x) ≡ (nat_le o r.x && is_same (moved_left o r) x)
 same_moved o r x = grind (arith, nat_tests)
 
-or_and : (a b c : Bool) → ((a && b) || (a && c)) ≡ (a && (b || c))
-or_and true b c = refl
-or_and false b c = refl
-
 pub has-moved : (o : ℕ) (xs : List Resource) (r : Resource) → has (map (moved_resource o) xs) r ≡ (nat_le o r.x && has xs (moved_left o r))
 has-moved o [] r = sym (and_false (nat_le o r.x))
-has-moved o (x ∷ xs) r =
-    ap (λ b. b || has (map (moved_resource o) xs) r) (same_moved o r x)
-    ∙ (ap (λ b. (nat_le o r.x && is_same (moved_left o r) x) || b) (has-moved o xs r)
-    ∙ or_and (nat_le o r.x) (is_same (moved_left o r) x) (has xs (moved_left o r)))
+has-moved o (x ∷ xs) r = grind (arith, same_moved, has-moved o xs r)
 
 -- lists with equal members have equal members after the move
 pub moved_same : (o : ℕ) (xs ys : List Resource) → ((r : Resource) → has xs r ≡ has ys r) → (r : Resource) → has (map (moved_resource o) xs) r ≡ has (map (moved_resource o) ys) r

@@ -1,22 +1,6 @@
 -- The texts of a journal with one more entry.
-use Rattle.std.proofs.Common.{◌≡◌, ◌∙◌, ℕ, ◌+◌, ◌≤◌, List, [], ◌∷◌, ◌++◌, length, Some, inl, inr, subst, arith}
-use Rattle.std.specs.Prelude.{All, Contains, slice_get}
-use Rattle.std.proofs.lemmas.List.Elements.{All-append, All-contains_itself, All-get_or, All-nil, All-push, All-weaker, Contains-append_left, Contains-append_right}
-use Rattle.std.proofs.lemmas.List.Sums.{sum_by-append}
-use Rattle.std.proofs.lemmas.Option.{get_or_from_slice_get, slice_get_within}
-use Rattle.cluster.proofs.Pairs.{all_back}
+use Rattle.service_core.proofs.Prelude.{◌≡◌, ◌∙◌, ℕ, ◌+◌, ◌≤◌, List, [], ◌∷◌, ◌++◌, length, Some, inl, inr, subst, arith, All, Contains, slice_get, All-append, All-contains_itself, All-get_or, All-nil, All-push, All-weaker, Contains-append_left, Contains-append_right, sum_by-append, get_or_from_slice_get, slice_get_within, all_back, Command as Asked, Reply, Entry, Adds, AddsBytes, CountAs, FitInto, all_bytes, bytes_of, command_texts, entry_texts, event_texts, reply_texts}
 use Rattle.tenant_slot.specs.declared.command.Command.{Command}
-use Rattle.tenant_slot.specs.declared.event.Event.TheVariants.{Command as Asked}
-use Rattle.tenant_slot.specs.declared.reply.Reply.{Reply}
-use Rattle.service_core.specs.declared.entry.Entry.{Entry}
-use Rattle.service_core.specs.Texts.{Adds, AddsBytes, CountAs, FitInto, all_bytes, bytes_of, command_texts, entry_texts, event_texts, reply_texts}
-
--- an empty journal has no texts
-pub CountAs-none : CountAs 0 []
-CountAs-none = record {
-  fits = record { texts = []; total = omega arith; each = All-nil (λ (entry : Entry). All (Contains []) (entry_texts entry)) };
-  most = omega arith;
-}
 
 -- one more entry has its own texts
 all_bytes-push : (entries : List Entry) (e : Entry) → all_bytes (entries ++ e ∷ []) ≡ all_bytes entries + bytes_of (entry_texts e)
@@ -68,13 +52,5 @@ fits_reply entries command reply added (inr again) held fits =
     let old : All (Contains (fits.texts ++ command_texts command)) (reply_texts reply) = All-weaker (Contains fits.texts) (Contains (fits.texts ++ command_texts command)) (λ text there. Contains-append_left fits.texts (command_texts command) text there) (reply_texts reply) texts in
     FitInto-with held (bytes_of (command_texts command) + added) entries e (command_texts command) fits (omega arith) (All-append (Contains (fits.texts ++ command_texts command)) (command_texts command) (reply_texts reply) (own_there fits.texts (command_texts command)) old)
 
--- and it is counted at most as often as it is there
-most_added : (entries : List Entry) (reply : Reply) (added : ℕ) → AddsBytes entries reply added → added ≤ bytes_of (reply_texts reply)
-most_added entries reply added (inl is) = omega (arith, is)
-most_added entries reply added (inr again) = omega (arith, again.0)
-
 pub Adds-reply : (entries : List Entry) (command : Command) (reply : Reply) (added : ℕ) → AddsBytes entries reply added → Adds entries command reply (bytes_of (command_texts command) + added)
-Adds-reply entries command reply added adds held counted = record {
-  fits = fits_reply entries command reply added adds held counted.fits;
-  most = omega (arith, counted.most, most_added entries reply added adds, sum_by-append length (command_texts command) (reply_texts reply), all_bytes-push entries (record { event = Asked command; reply = reply }));
-}
+Adds-reply entries command reply added adds held counted = grind (arith, fits_reply, all_bytes-push)

@@ -1,21 +1,6 @@
 -- What a change of one tenancy preserves: exactly the live tenancies have strips, and each is
 -- served as if alone.
-use Rattle.std.proofs.Common.{◌≡◌, ℕ, ◌+◌, ◌-◌, ◌<◌, List, [], ◌∷◌, ◌++◌, length, get_or, Bool, true, false, eqb, Option, Some, None, refl, sym, ap, ◌∙◌, arith, length-append}
-use Rattle.std.specs.Prelude.{option_map, if◌then◌else◌}
-use Rattle.std.proofs.lemmas.Bool.Decides.{nat_tests, Decides-eqb}
-use Rattle.std.proofs.lemmas.List.Elements.{All-nil, All-push}
-use Rattle.std.proofs.Math.ListN.{set}
-use Rattle.std.proofs.lemmas.List.{set-get_or}
-use Rattle.strips.specs.declared.placed_strip.PlacedStrip.{PlacedStrip}
-use Rattle.strips.specs.Plan.{strip_of, strips_without}
-use Rattle.strips.proofs.Laid.{strip_of-without, strip_of-push}
-use Rattle.tenant_slot.specs.SingleUser.{step}
-use Rattle.service_core.specs.declared.device.Device.{Device}
-use Rattle.service_core.specs.declared.entry.Entry.{Entry}
-use Rattle.service_core.specs.History.{History, IsReplayed, state_of, with_entry, with_here}
-use Rattle.service_core.specs.Tenancy.{closed_history, if_live}
-use Rattle.service_core.specs.Service.{IsAloneOn, admitted_history, history_of, live_of, with_changed, placed_width, strip_on}
-use Rattle.service_core.specs.Kept.{IsLiveIn, IsService}
+use Rattle.service_core.proofs.Prelude.{◌≡◌, ℕ, ◌+◌, ◌-◌, ◌<◌, List, [], ◌∷◌, ◌++◌, length, get_or, Bool, true, false, Option, Some, None, refl, sym, ap, ◌∙◌, arith, length-append, option_map, if◌then◌else◌, nat_tests, All-nil, All-push, set, set-get_or, PlacedStrip, strip_of, strips_without, strip_of-without, strip_of-push, step, Device, Entry, History, IsReplayed, state_of, with_entry, with_here, closed_history, if_live, IsAloneOn, admitted_history, history_of, live_of, with_changed, IsLiveIn, IsService}
 use Rattle.service_core.proofs.Lists.{history_of-past, history_of-modified, history_of-push, length-modified, All-modified, set-modified}
 use Rattle.service_core.proofs.Histories.{IsReplayed-push}
 
@@ -43,31 +28,16 @@ width_some g = elim g.live as (λ b. option_map (λ (h : History). h.strip.width
 
 -- a tenancy that stays live keeps its width
 same_width : (change : History → History) → Keeps change → ((h : History) → (change h).live ≡ h.live) → (o : Option History) → width_in (option_map change o) ≡ width_in o
-same_width change keeps live None = refl
-same_width change keeps live (Some h) = width_some (change h) ∙ ((rw (live h, keeps.strip h) refl) ∙ sym (width_some h))
+same_width change keeps live o = grind arith
 
 no_width : (o : Option History) → width_in (option_map closed_history o) ≡ None
-no_width None = refl
-no_width (Some h) = refl
+no_width o = grind arith
 
 ids-modified : (hs : List History) (t : ℕ) (change : History → History) → Keeps change → ((id : ℕ) (h : History) → history_of hs id ≡ Some h → h.id ≡ id) → (id : ℕ) (h : History) → history_of (with_changed hs t change) id ≡ Some h → h.id ≡ id
-ids-modified hs t change keeps ids id h is =
-    elim (eqb id t) as (λ b. (if b then option_map change (history_of hs id) else history_of hs id) ≡ Some h → h.id ≡ id) [
-      | true ↦ λ changed. by_old (history_of hs id) refl changed
-      | false ↦ λ same. ids id h same
-    ] (rw (history_of-modified hs t id change) at is)
-  where
-    by_old : (o : Option History) → history_of hs id ≡ o → option_map change o ≡ Some h → h.id ≡ id
-    by_old None e never = cc
-    by_old (Some g) e same = let is_h : change g ≡ h = cc in ap (λ (x : History). x.id) (sym is_h) ∙ (keeps.id g ∙ ids id g e)
+ids-modified hs t change keeps ids id h is = grind (arith, history_of-modified)
 
 alone-changed : (device : Device) (change : History → History) (h : History) → Keeps change → IsAloneOn device h → IsReplayed (change h).arch (change h).strip (change h).entries → IsAloneOn device (change h)
-alone-changed device change h keeps was replayed = record {
-  arch = keeps.arch h ∙ was.arch;
-  strip = keeps.strip h ∙ (was.strip ∙ ap (λ width. strip_on device width) (ap (λ s. s.width) (sym (keeps.strip h))));
-  limit = keeps.limit h ∙ was.limit;
-  replayed = replayed;
-}
+alone-changed device change h keeps was replayed = grind arith
 
 -- a tenancy that stays live
 IsService-changed : (device : Device) (strips : List PlacedStrip) (hs : List History) (id : ℕ) (change : History → History) → IsService device strips hs → Keeps change → ((h : History) → (change h).live ≡ h.live) → ((h : History) → history_of hs id ≡ Some h → IsReplayed h.arch h.strip h.entries → IsReplayed (change h).arch (change h).strip (change h).entries) → IsService device strips (with_changed hs id change)
@@ -93,23 +63,12 @@ IsService-evicted device strips hs id was = record {
   alone = All-modified (IsAloneOn device) hs id closed_history (λ h at is. record { arch = is.arch; strip = is.strip; limit = is.limit; replayed = is.replayed }) was.alone;
 }
 
-none_from_width : (o : Option PlacedStrip) → option_map (λ (s : PlacedStrip). s.width) o ≡ None → o ≡ None
-none_from_width None none = refl
-none_from_width (Some s) none = cc
-
 -- the next id has no strip
 pub no_strip-next : (device : Device) (strips : List PlacedStrip) (hs : List History) → IsService device strips hs → strip_of strips (length hs + 1) ≡ None
-no_strip-next device strips hs was =
-    let past : history_of hs (length hs + 1) ≡ None = history_of-past hs (length hs + 1) (omega arith) in
-    let none : placed_width strips (length hs + 1) ≡ None = was.linked (length hs + 1) ∙ ap width_in past in
-    none_from_width (strip_of strips (length hs + 1)) none
+no_strip-next device strips hs was = grind (arith, history_of-past)
 
 ids-push : (hs : List History) (h : History) → h.id ≡ length hs + 1 → ((id : ℕ) (g : History) → history_of hs id ≡ Some g → g.id ≡ id) → (id : ℕ) (g : History) → history_of (hs ++ h ∷ []) id ≡ Some g → g.id ≡ id
-ids-push hs h its ids id g is =
-    elim (eqb id (length hs + 1)) as (λ b. eqb id (length hs + 1) ≡ b → (if b then Some h else history_of hs id) ≡ Some g → g.id ≡ id) [
-      | true ↦ λ e new. let same : h ≡ g = cc in ap (λ (x : History). x.id) (sym same) ∙ (its ∙ sym ((Decides-eqb id (length hs + 1)).0 e))
-      | false ↦ λ e old. ids id g old
-    ] refl (rw (history_of-push hs h id) at is)
+ids-push hs h its ids id g is = grind (arith, history_of-push)
 
 pub IsService-admitted : (device : Device) (strips : List PlacedStrip) (hs : List History) (width offset : ℕ) → IsService device strips hs → length hs < 65535 → IsService device (strips ++ record { id = length hs + 1; offset = offset; width = width } ∷ []) (hs ++ admitted_history device (length hs + 1) width ∷ [])
 IsService-admitted device strips hs width offset was few =
@@ -130,10 +89,7 @@ pub history-live : (hs : List History) (id : ℕ) (old : History) → IsLiveIn h
 history-live hs id old live is = live.history old ∙ ap Some (sym is)
 
 pub live_is : (hs : List History) (id : ℕ) (old : History) → IsLiveIn hs id → old ≡ get_or hs (id - 1) old → live_of hs id ≡ Some old
-live_is hs id old live is =
-    let flag : old.live ≡ true = ap (λ (h : History). h.live) is ∙ live.flag old in
-    let here : history_of hs id ≡ Some old = history-live hs id old live is in
-    rw (here, flag) refl
+live_is hs id old live is = grind arith
 
 -- a live tenancy is written back
 pub set-live : (hs : List History) (id : ℕ) (old : History) (change : History → History) (new : History) → IsLiveIn hs id → old ≡ get_or hs (id - 1) old → new ≡ change old → set hs (id - 1) new ≡ with_changed hs id change
@@ -144,5 +100,4 @@ pub set-kept : (hs : List History) (id : ℕ) (old new : History) → old ≡ ge
 set-kept hs id old new is kept = ap (λ h. set hs (id - 1) h) (kept ∙ is) ∙ set-get_or hs (id - 1) old
 
 pub if_live_some : (o : Option History) (h : History) → if_live o ≡ Some h → o ≡ Some h
-if_live_some None h is = is
-if_live_some (Some g) h is = grind arith
+if_live_some o h is = grind arith

@@ -1,3 +1,4 @@
+mod Prelude
 mod Examples
 pub mod Lists
 pub mod Held

@@ -1,11 +1,5 @@
 -- Tenancies by their ids.
-use Rattle.std.proofs.Common.{◌≡◌, ℕ, zero, suc, ◌+◌, ◌-◌, ◌<◌, ◌≤◌, List, [], ◌∷◌, ◌++◌, length, get_or, true, false, eqb, Some, None, refl, sym, ap, ◌∙◌, subst, arith}
-use Rattle.std.specs.Prelude.{option_map, if◌then◌else◌, All}
-use Rattle.std.proofs.Math.ListN.{set}
-use Rattle.std.proofs.lemmas.Bool.Decides.{nat_tests}
-use Rattle.std.proofs.lemmas.List.Elements.{All-cons, All-head, All-tail}
-use Rattle.service_core.specs.History.{History}
-use Rattle.service_core.specs.Service.{history_of, with_changed}
+use Rattle.service_core.proofs.Prelude.{◌≡◌, ℕ, zero, suc, ◌+◌, ◌-◌, ◌<◌, ◌≤◌, List, [], ◌∷◌, ◌++◌, length, get_or, true, false, eqb, Some, None, refl, subst, arith, option_map, if◌then◌else◌, All, set, nat_tests, All-cons, All-head, All-tail, History, history_of, with_changed}
 
 -- no tenancy has the id 0, or an id past the last
 pub history_of-zero : (hs : List History) → history_of hs 0 ≡ None
@@ -37,10 +31,7 @@ modified-next (h ∷ hs) (suc i) d change lt = grind (arith, nat_tests, modified
 
 -- the changed tenancy is written back
 pub set-modified : (hs : List History) (id : ℕ) (old : History) (change : History → History) → 0 < id → id ≤ length hs → old ≡ get_or hs (id - 1) old → set hs (id - 1) (change old) ≡ with_changed hs id change
-set-modified hs id old change pos le is =
-    let e : id - 1 + 1 ≡ id = omega arith in
-    let m : with_changed hs id change ≡ set hs (id - 1) (change (get_or hs (id - 1) old)) = rw e at (modified-next hs (id - 1) old change (omega arith)) in
-    sym (m ∙ ap (λ h. set hs (id - 1) (change h)) (sym is))
+set-modified hs id old change pos le is = grind (arith, modified-next)
 
 pub All-modified : (P : History → Type 0) (hs : List History) (id : ℕ) (change : History → History) → ((h : History) → history_of hs id ≡ Some h → P h → P (change h)) → All P hs → All P (with_changed hs id change)
 All-modified P [] id change keeps all = all

@@ -1,23 +1,6 @@
 -- A strip's move, with all that its tenancy owns, keeps the book exact.
-use Rattle.std.proofs.Common.{◌≡◌, ◌≢◌, inl, inr, ℕ, ◌+◌, ◌-◌, ◌≤◌, List, get_or, map, Bool, true, false, eqb, Option, Some, None, refl, sym, ap, ◌∙◌, subst, arith}
-use Rattle.std.proofs.Common.{Result, Ok, Err}
-use Rattle.std.specs.Prelude.{All, option_map, if◌then◌else◌}
-use Rattle.std.specs.Result.{is_err}
-use Rattle.std.proofs.lemmas.Bool.Decides.{Decides-eqb}
-use Rattle.std.proofs.lemmas.Bool.{false≢true}
-use Rattle.rr_graph.specs.declared.resource.Resource.{Resource}
-use Rattle.rr_graph.specs.Resources.{has, moved_resource}
-use Rattle.strips.specs.declared.placed_strip.PlacedStrip.{PlacedStrip}
+use Rattle.service_core.proofs.Prelude.{◌≡◌, ◌≢◌, inl, inr, ℕ, ◌+◌, ◌-◌, ◌≤◌, List, get_or, map, Bool, true, false, eqb, Option, Some, None, refl, sym, ap, ◌∙◌, subst, arith, Result, All, option_map, is_err, Decides-eqb, false≢true, Resource, has, moved_resource, PlacedStrip, IsParted, Moves, Plan, moved_strip, offset_of, strip_of, with_moved, found_id, IsNoOneElses, Owners, OwnsJust, Shifts, extent_of, owner_of, routed_set, Device, History, state_of, IsLiveIn, IsSound, held_at, placed_at, routed_in, live_of, StandsIn}
 use Rattle.strips.specs.declared.layout.NoRoom.{NoRoom}
-use Rattle.strips.specs.Plan.{IsParted, Moves, Plan, moved_strip, offset_of, strip_of, with_moved}
-use Rattle.strips.proofs.Laid.{found_id}
-use Rattle.device_book.specs.Owners.{IsNoOneElses, Owners, OwnsJust, Shifts, extent_of, owner_of}
-use Rattle.tenant_slot.specs.RoutedSet.{routed_set}
-use Rattle.service_core.specs.declared.device.Device.{Device}
-use Rattle.service_core.specs.History.{History, state_of}
-use Rattle.service_core.specs.Kept.{IsLiveIn, IsSound, held_at, placed_at, routed_in}
-use Rattle.service_core.specs.Service.{live_of}
-use Rattle.service_core.specs.Tenancy.{StandsIn}
 use Rattle.service_core.proofs.Booking.{its_width, placed_strip, stands_there}
 use Rattle.service_core.proofs.Exact.{exact_shifted}
 use Rattle.service_core.proofs.Holdings.{all_had, moved_same}
@@ -27,23 +10,17 @@ use Rattle.service_core.proofs.Owning.{in_window, nobody_else, own_owned, owned_
 
 -- the other strips keep their offsets
 moved_not : (id offset k : ℕ) (o : Option PlacedStrip) → ((s : PlacedStrip) → o ≡ Some s → eqb s.id id ≡ false) → option_map (moved_strip id offset) o ≡ o
-moved_not id offset k None other = refl
-moved_not id offset k (Some s) other = ap (λ b. Some (if b then record s { offset = offset } else s)) (other s refl)
+moved_not id offset k o other = grind arith
 
 differs : (k id : ℕ) → k ≢ id → (b : Bool) → eqb k id ≡ b → eqb k id ≡ false
-differs k id differ true e = absurd (differ ((Decides-eqb k id).0 e))
-differs k id differ false e = e
+differs k id differ b e = grind arith
 
 pub other_stands : (strips : List PlacedStrip) (id offset k : ℕ) → k ≢ id → strip_of (map (moved_strip id offset) strips) k ≡ strip_of strips k
-other_stands strips id offset k differ =
-    strip_of-moved id offset strips k ∙ moved_not id offset k (strip_of strips k) (λ s is. ap (λ j. eqb j id) (found_id strips k s is) ∙ differs k id differ (eqb k id) refl)
+other_stands strips id offset k differ = grind (arith, strip_of-moved, found_id)
 
 -- the moved strip has the new offset
 pub own_stands : (strips : List PlacedStrip) (id from offset : ℕ) → offset_of strips id ≡ Some from → offset_of (map (moved_strip id offset) strips) id ≡ Some offset
-own_stands strips id from offset at =
-    let place = placed_strip strips id from at in
-    ap (option_map (λ (s : PlacedStrip). s.offset)) (strip_of-moved id offset strips id ∙ ap (option_map (moved_strip id offset)) place.1)
-    ∙ ap (λ b. Some (if b then record place.0 { offset = offset } else place.0).offset) ((Decides-eqb place.0.id id).1 (found_id strips id place.0 place.1))
+own_stands strips id from offset at = grind (arith, strip_of-moved, found_id)
 
 other_owned : (strips : List PlacedStrip) (hs : List History) (id offset k : ℕ) → k ≢ id → owned_in (map (moved_strip id offset) strips) hs k ≡ owned_in strips hs k
 other_owned strips hs id offset k differ = ap (λ o. placed_at (option_map (λ (s : PlacedStrip). s.offset) o) (routed_in (live_of hs k))) (other_stands strips id offset k differ)
@@ -113,14 +90,8 @@ module _ (book : Owners) (device : Device) (strips : List PlacedStrip) (hs : Lis
 -- a shift by a list of exactly what is occupied
 pub shifted_held : (book left : Owners) (id from offset : ℕ) (held resources : List Resource) → ((r : Resource) → has resources r ≡ has held r) →
     Shifts book id (map (moved_resource from) resources) (map (moved_resource offset) resources) left → Shifts book id (map (moved_resource from) held) (map (moved_resource offset) held) left
-shifted_held book left id from offset held resources same shifted = (
-  shifted.0,
-  λ r. shifted.1 r
-      ∙ (ap (λ b. if b then Some id else if has (map (moved_resource from) resources) r then None else owner_of book r) (moved_same offset resources held same r)
-      ∙ ap (λ b. if has (map (moved_resource offset) held) r then Some id else if b then None else owner_of book r) (moved_same from resources held same r)),
-)
+shifted_held book left id from offset held resources same shifted = grind (arith, moved_same)
 
 -- a strip that has moved
 pub moved_there : (old : Plan) (id offset : ℕ) (answer : Result (Unit {0}) NoRoom) (new : Plan) → Moves old id offset answer new → is_err answer ≡ false → IsParted (with_moved old id offset) × (new ≡ with_moved old id offset)
-moved_there old id offset (Ok nothing) new moves ok = moves
-moved_there old id offset (Err refusal) new moves ok = absurd (false≢true (sym ok))
+moved_there old id offset answer new moves ok = grind arith

@@ -1,24 +1,9 @@
 -- The strips stay separated over every run.
-use Rattle.std.proofs.Common.{◌≡◌, ◌+◌, ◌≤◌, ℕ, List, [], ◌∷◌, Bool, not, eqb, refl, arith}
-use Rattle.std.proofs.lemmas.List.Elements.{All-filter, All-nil}
-use Rattle.std.proofs.lemmas.List.Kept.{AllPairs-filter}
-use Rattle.strips.specs.declared.placed_strip.PlacedStrip.{PlacedStrip}
-use Rattle.strips.specs.Plan.{Plan, AreApart, IsParted, strips_without}
-use Rattle.strips.proofs.Laid.{IsParted-with, IsParted-with-inside, IsParted-with-apart}
-use Rattle.service_core.specs.declared.device.Device.{Device}
-use Rattle.service_core.specs.Service.{ServiceState, empty_service}
-use Rattle.service_core.specs.Run.{Call, Run}
-use Rattle.service_core.specs.Headline.{AreParted}
-use Rattle.service_core.proofs.Keeps.{IsService-empty}
-use Rattle.service_core.proofs.Effects.{Admitted, Effect, Entered, Evicted, Kept, Moved, Nothing, Turned, effect, run_keeps}
+use Rattle.service_core.proofs.Prelude.{◌≡◌, ℕ, List, [], ◌∷◌, arith, All-filter, AllPairs-filter, PlacedStrip, Plan, IsParted, strips_without, IsParted-with, IsParted-with-inside, IsParted-with-apart, Device, ServiceState, empty_service, Call, Run, AreParted}
+use Rattle.service_core.proofs.Effects.{Admitted, Effect, Entered, Evicted, Moved, Nothing, Turned, effect, run_keeps}
 
 IsParted-without : (plan : Plan) (id : ℕ) → IsParted plan → IsParted (record plan { strips = strips_without plan.strips id })
-IsParted-without plan id parted =
-    let others : PlacedStrip → Bool = λ s. not (eqb s.id id) in
-    record {
-      inside = All-filter others (λ s. s.offset + s.width ≤ plan.columns) plan.strips parted.inside;
-      apart = AllPairs-filter AreApart others plan.strips parted.apart;
-    }
+IsParted-without plan id parted = search (All-filter, AllPairs-filter, arith)
 
 -- the strips are separated on a device of `columns` columns
 record IsPartedOn (columns : ℕ) (state : ServiceState) : Type 0 where
@@ -41,7 +26,4 @@ run_parted columns old [] new run was = rw run was
 run_parted columns old (call ∷ calls) new run was = run_parted columns run.0 calls new run.2 (parted_after columns old run.0 (effect old call run.0 run.1) was)
 
 pub are_parted : (device : Device) (calls : List Call) (state : ServiceState) → Run (empty_service device) calls state → AreParted device state
-are_parted device calls state run =
-    let kept : Kept state = run_keeps (empty_service device) calls state run (IsService-empty device) in
-    let parted : IsPartedOn device.columns state = run_parted device.columns (empty_service device) calls state run (record { same = refl; parted = record { inside = All-nil (λ (s : PlacedStrip). s.offset + s.width ≤ device.columns); apart = λ i k d low high. absurd (omega arith) } }) in
-    record { columns = parted.same; parted = parted.parted; of_live = kept.linked }
+are_parted device calls state run = grind (arith, run_keeps, run_parted)

@@ -1,23 +1,7 @@
 -- The book has a place for each resource of a strip.
-use Rattle.std.proofs.Common.{◌≡◌, ◌⊎◌, inl, inr, ℕ, ◌+◌, ◌<◌, ◌≤◌, List, length, Bool, true, false, ◌&&◌, ◌||◌, nat_le, nat_lt, Option, Some, None, refl, subst, arith}
-use Rattle.std.specs.Prelude.{max, slice_get, ◌==◌, if◌then◌else◌, replicate, slice_index_or}
-use Rattle.std.specs.Option.{option_map_or}
-use Rattle.std.proofs.lemmas.Bool.{and_parts, and_from, or_cases, eqb-true, leb-true, ltb-true, le-leb, lt-ltb, false≢true}
-use Rattle.std.proofs.lemmas.List.{get_or-replicate}
-use Rattle.std.proofs.lemmas.Option.{slice_get_within}
-use Rattle.arch_file.specs.declared.arch.Arch.{Arch}
-use Rattle.arch_file.specs.declared.arch.Pin.{Pin}
-use Rattle.arch_file.specs.Arch.{is_input_class, is_output_class}
-use Rattle.grid.specs.declared.Strip.{Strip}
+use Rattle.service_core.proofs.Prelude.{◌≡◌, ◌⊎◌, inl, inr, ℕ, ◌+◌, ◌<◌, ◌≤◌, List, length, Bool, true, false, ◌&&◌, ◌||◌, nat_le, nat_lt, subst, arith, max, slice_get, option_map_or, and_parts, and_from, or_cases, leb-true, ltb-true, le-leb, lt-ltb, slice_get_within, Arch, Pin, is_input_class, is_output_class, Strip, ResourceKind, Opin, Ipin, ChanX, ChanY, Resource, is_block_number, is_block_row, is_pad_row, is_slot, is_there, moved_resource, extent_of, in_book}
 use Rattle.rr_graph.specs.declared.node.NodeKind.TheVariants as Nodes
-use Rattle.rr_graph.specs.declared.resource.ResourceKind.{ResourceKind}
-use Rattle.rr_graph.specs.declared.resource.ResourceKind.TheVariants.{Opin, Ipin, ChanX, ChanY, Pad}
-use Rattle.rr_graph.specs.declared.resource.Resource.{Resource}
-use Rattle.rr_graph.specs.Geometry.{is_block_number, is_block_row, is_pad_row, is_slot}
-use Rattle.rr_graph.specs.Resources.{is_there, moved_resource}
-use Rattle.device_book.specs.declared.book.Extent.{Extent}
-use Rattle.device_book.specs.Owners.{extent_of, in_book, no_owners, number_of, owner_of, size_of}
-use Rattle.device_book.proofs.Places.{place_within}
+use Rattle.rr_graph.specs.declared.resource.ResourceKind.TheVariants.{Pad}
 
 -- a number greater than any number of a pin, a track or a pad
 abbrev numbers_in : Arch → ℕ → ℕ
@@ -29,21 +13,13 @@ record Within (arch : Arch) (strip : Strip) (x y n : ℕ) : Type 0 where
   number : n < numbers_in arch strip.io_rat
 
 pad_row : (strip : Strip) (y : ℕ) → is_pad_row strip y ≡ true → y ≤ strip.rows + 1
-pad_row strip y is = by_row (or_cases (y == 0) (y == strip.rows + 1) is)
-  where
-    by_row : ((y == 0) ≡ true) ⊎ ((y == strip.rows + 1) ≡ true) → y ≤ strip.rows + 1
-    by_row (inl e) = let low : y ≡ 0 = eqb-true y 0 e in omega (arith, low)
-    by_row (inr e) = let high : y ≡ strip.rows + 1 = eqb-true y (strip.rows + 1) e in omega (arith, high)
+pad_row strip y is = grind arith
 
 block_row : (strip : Strip) (y : ℕ) → is_block_row strip y ≡ true → y ≤ strip.rows + 1
 block_row strip y is = let both = and_parts (nat_le 1 y) (nat_le y strip.rows) is in let high : y ≤ strip.rows = leb-true y strip.rows both.1 in omega (arith, high)
 
 pin_within : (test : Pin → Bool) (pins : List Pin) (n : ℕ) → option_map_or test (slice_get pins n) false ≡ true → n < length pins
-pin_within test pins n is = by_pin (slice_get pins n) refl is
-  where
-    by_pin : (o : Option Pin) → slice_get pins n ≡ o → option_map_or test o false ≡ true → n < length pins
-    by_pin None e is = absurd (false≢true is)
-    by_pin (Some pin) e is = slice_get_within pins n pin e
+pin_within test pins n is = grind (arith, slice_get_within)
 
 module _ (arch : Arch) (strip : Strip) (x y n : ℕ) where
   pad_number : nat_lt n strip.io_rat ≡ true → n < numbers_in arch strip.io_rat
@@ -89,11 +65,3 @@ stands arch strip columns offset r rate inside there =
     let few : r.n < numbers_in arch arch.io_rat = subst (λ rate. r.n < numbers_in arch rate) rate bounds.number in
     and_from (nat_le (r.x + offset) columns) (nat_le r.y (strip.rows + 1) && nat_lt r.n (numbers_in arch arch.io_rat)) (le-leb (r.x + offset) columns (let low : r.x ≤ strip.width = bounds.column in omega (arith, low, inside)))
     (and_from (nat_le r.y (strip.rows + 1)) (nat_lt r.n (numbers_in arch arch.io_rat)) (le-leb r.y (strip.rows + 1) bounds.row) (lt-ltb r.n (numbers_in arch arch.io_rat) few))
-
--- nobody owns anything on a new device
-pub nobody_owns : (extent : Extent) (r : Resource) → owner_of (no_owners extent) r ≡ None
-nobody_owns extent r = by_place (in_book extent r) refl
-  where
-    by_place : (b : Bool) → in_book extent r ≡ b → (if b then slice_index_or (replicate {A = Option ℕ} (size_of extent) None) (number_of extent r) None else None) ≡ None
-    by_place false e = refl
-    by_place true e = get_or-replicate (size_of extent) (number_of extent r) None None (place_within extent r e)

@@ -2,12 +2,7 @@
 use Rattle.std.specs.Prelude.{ℕ, ◌≡◌, Bool, false, Option, Some, IsSomeAnd, Result, ⊤}
 use Rattle.std.specs.Option.{option_map_or}
 use Rattle.std.specs.declared.alloc.AllocError.{AllocError}
-use Rattle.job_state.specs.declared.step.JobStep.{JobStep}
-use Rattle.job_state.specs.Job.{JobState}
-use Rattle.tenant_slot.specs.declared.command.Command.{Command}
-use Rattle.tenant_slot.specs.declared.origin.Origin.{Origin}
-use Rattle.tenant_slot.specs.declared.origin.Origin.TheVariants.{Running, Unknown}
-use Rattle.tenant_slot.specs.Slot.{is_takeable, next_job}
+use Rattle.service_core.specs.Prelude.{JobStep, JobState, Command, Origin, Running, Unknown, is_takeable, next_job}
 use Rattle.service_core.specs.declared.op_refusal.OpRefusal.{OpRefusal}
 use Rattle.service_core.specs.declared.not_served.NotServed.{NotServed}
 use Rattle.service_core.specs.declared.put_reply.PutReply.{PutReply}

@@ -1,13 +1,7 @@
 -- The main theorem's statements about a list of calls and the state after it.
 use Rattle.std.specs.Prelude.{ℕ, ◌≡◌, List, map, Option, Some, is_some, option_map, true, IfSome, IsSomeAnd, ◌↔◌}
 use Rattle.std.specs.List.{filter}
-use Rattle.rr_graph.specs.declared.resource.Resource.{Resource}
-use Rattle.rr_graph.specs.Resources.{has, moved_resource}
-use Rattle.strips.specs.Plan.{IsParted, offset_of, strip_of}
-use Rattle.tenant_slot.specs.declared.reply.StepReply.{StepReply}
-use Rattle.tenant_slot.specs.declared.reply.StepReply.TheVariants.{Advanced, Finished, Stale}
-use Rattle.tenant_slot.specs.RoutedSet.{routed_set}
-use Rattle.tenant_slot.specs.SingleUser.{run}
+use Rattle.service_core.specs.Prelude.{Resource, has, moved_resource, IsParted, offset_of, strip_of, StepReply, Advanced, Finished, Stale, routed_set, run}
 use Rattle.service_core.specs.declared.device.Device.{Device}
 use Rattle.service_core.specs.History.{History, state_of}
 use Rattle.service_core.specs.Owners.{IsOwner}

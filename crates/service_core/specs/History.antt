@@ -1,11 +1,6 @@
 -- One tenancy's history: its journal, and the replies that it must contain.
 use Rattle.std.specs.Prelude.{ℕ, ◌≡◌, ◌≤◌, List, [], ◌∷◌, ◌++◌, length, map, Bool, Option, Some}
-use Rattle.tenant_slot.specs.declared.slot.TheConstants.{MAX_ENTRIES}
-use Rattle.arch_file.specs.declared.arch.Arch.{Arch}
-use Rattle.grid.specs.declared.Strip.{Strip}
-use Rattle.tenant_slot.specs.declared.event.Event.{Event}
-use Rattle.tenant_slot.specs.SingleUser.{State, start, state_after, replies_to}
-use Rattle.tenant_slot.specs.Slot.{SlotState, after_event}
+use Rattle.service_core.specs.Prelude.{MAX_ENTRIES, Arch, Strip, Event, State, start, state_after, replies_to, SlotState, after_event}
 use Rattle.service_core.specs.declared.entry.Entry.{Entry}
 
 -- a tenancy, live or closed: its id, the device's architecture, its strip's size, whether the next

@@ -1,16 +1,7 @@
 -- Private: the core's invariant, and what its own read calls return.
 use Rattle.std.specs.Prelude.{ℕ, ◌≡◌, ◌-◌, ◌<◌, ◌≤◌, ◌↔◌, List, [], length, map, Bool, true, Option, Some, None, Result, Ok, Err, All, slice_index_or}
 use Rattle.service_core.specs.declared.service.TheConstants.{MAX_ADMISSIONS}
-use Rattle.grid.specs.declared.TheConstants.{MAX_COLUMNS, MAX_ROWS}
-use Rattle.arch_file.specs.Arch.{IsArch, IsWithin}
-use Rattle.strips.specs.declared.placed_strip.PlacedStrip.{PlacedStrip}
-use Rattle.rr_graph.specs.declared.resource.Resource.{Resource}
-use Rattle.rr_graph.specs.Resources.{has, moved_resource}
-use Rattle.strips.specs.Plan.{IsFirstFit, IsParted, offset_of}
-use Rattle.device_book.specs.Owners.{Claims, IsFree, Owners, extent_of, owner_of}
-use Rattle.tenant_slot.specs.declared.reply.StepReply.{StepReply}
-use Rattle.tenant_slot.specs.declared.reply.StepReply.TheVariants.{Finished}
-use Rattle.tenant_slot.specs.RoutedSet.{routed_set}
+use Rattle.service_core.specs.Prelude.{MAX_COLUMNS, MAX_ROWS, IsArch, IsWithin, PlacedStrip, Resource, has, moved_resource, IsFirstFit, IsParted, offset_of, Claims, IsFree, Owners, extent_of, owner_of, StepReply, Finished, routed_set}
 use Rattle.service_core.specs.declared.device.Device.{Device}
 use Rattle.service_core.specs.declared.op_refusal.OpRefusal.{OpRefusal}
 use Rattle.service_core.specs.declared.entry.Entry.{Entry}

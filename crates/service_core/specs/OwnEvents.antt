@@ -1,10 +1,8 @@
 -- A tenancy's view of a list of calls.
 use Rattle.std.specs.Prelude.{ℕ, List, [], ◌∷◌, map, Ok, Err, Option, Some, None, ◌==◌, if◌then◌else◌}
 use Rattle.std.specs.List.{flat_map}
-use Rattle.tenant_slot.specs.declared.event.Event.{Event}
+use Rattle.service_core.specs.Prelude.{Event, Reply, Step}
 use Rattle.tenant_slot.specs.declared.event.Event.TheVariants.{Command as Asked}
-use Rattle.tenant_slot.specs.declared.reply.Reply.{Reply}
-use Rattle.tenant_slot.specs.declared.reply.Reply.TheVariants.{Step}
 use Rattle.service_core.specs.declared.not_served.NotServed.TheVariants.{JournalFull}
 use Rattle.service_core.specs.declared.put_reply.PutReply.TheVariants.{Recorded, Full}
 use Rattle.service_core.specs.Run.{Call, step_event}

@@ -1,10 +1,6 @@
 -- Who owns which pins, wires and pads of the device.
 use Rattle.std.specs.Prelude.{ℕ, ◌≡◌, List, map, true, AllPairs, Contains, IsSomeAnd, ◌↔◌}
-use Rattle.rr_graph.specs.declared.resource.Resource.{Resource}
-use Rattle.rr_graph.specs.Resources.{IsEarlier, has, moved_resource}
-use Rattle.strips.specs.Plan.{offset_of}
-use Rattle.device_book.specs.declared.book.Owned.{Owned}
-use Rattle.tenant_slot.specs.RoutedSet.{routed_set}
+use Rattle.service_core.specs.Prelude.{Resource, IsEarlier, has, moved_resource, offset_of, Owned, routed_set}
 use Rattle.service_core.specs.History.{state_of}
 use Rattle.service_core.specs.Service.{ServiceState, live_of}
 

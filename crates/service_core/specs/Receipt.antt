@@ -1,7 +1,6 @@
 -- The contents of a receipt and of a note.
 use Rattle.std.specs.Prelude.{ℕ}
-use Rattle.tenant_slot.specs.declared.command.Command.{Command}
-use Rattle.tenant_slot.specs.declared.reply.Reply.{Reply}
+use Rattle.service_core.specs.Prelude.{Command, Reply}
 use Rattle.service_core.specs.declared.not_served.NoteCause.{NoteCause}
 
 -- a command of a tenancy, the index of its entry in the journal, and its reply

@@ -2,20 +2,9 @@
 -- refused call changes nothing.
 use Rattle.std.specs.Prelude.{ℕ, ◌≡◌, ◌+◌, ◌<◌, length, List, [], ◌∷◌, Bool, true, false, Option, Some, None, IfSome, IsSome, IsSomeAnd, MatchOption, Result, Ok, Err}
 use Rattle.std.specs.declared.alloc.AllocError.{AllocError}
-use Rattle.tenant_slot.specs.declared.slot.TheConstants.{MAX_ENTRIES}
+use Rattle.service_core.specs.Prelude.{MAX_ENTRIES, MAX_STRIPS, IsFirstFit, IsParted, is_bad_width, with_moved, Owned, JobStep, JobState, Command, Event, Advance as Stepped, Step, StepReply, step, GivesBack, IsAdvanceOf, is_takeable, next_job}
 use Rattle.service_core.specs.declared.service.TheConstants.{MAX_ADMISSIONS}
-use Rattle.strips.specs.declared.layout.TheConstants.{MAX_STRIPS}
-use Rattle.strips.specs.Plan.{IsFirstFit, IsParted, is_bad_width, with_moved}
-use Rattle.device_book.specs.declared.book.Owned.{Owned}
-use Rattle.job_state.specs.declared.step.JobStep.{JobStep}
-use Rattle.job_state.specs.Job.{JobState}
-use Rattle.tenant_slot.specs.declared.command.Command.{Command}
-use Rattle.tenant_slot.specs.declared.event.Event.{Event}
-use Rattle.tenant_slot.specs.declared.event.Event.TheVariants.{Command as Asked, Advance as Stepped}
-use Rattle.tenant_slot.specs.declared.reply.Reply.TheVariants.{Step}
-use Rattle.tenant_slot.specs.declared.reply.StepReply.{StepReply}
-use Rattle.tenant_slot.specs.SingleUser.{step}
-use Rattle.tenant_slot.specs.Slot.{GivesBack, IsAdvanceOf, is_takeable, next_job}
+use Rattle.tenant_slot.specs.declared.event.Event.TheVariants.{Command as Asked}
 use Rattle.service_core.specs.declared.entry.Entry.{Entry}
 use Rattle.service_core.specs.declared.op_refusal.OpRefusal.{OpRefusal}
 use Rattle.service_core.specs.declared.op_refusal.OpRefusal.TheVariants.{NoMemory, NoRoom, TooManyStrips, BadWidth, NoSuchTenancy, IdsSpent}

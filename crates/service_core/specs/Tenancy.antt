@@ -1,25 +1,8 @@
 -- Private: a tenancy's invariant, and what its calls do.
 use Rattle.std.specs.Prelude.{ℕ, ◌≡◌, ◌<◌, ◌≤◌, ◌⊎◌, List, [], length, map, Bool, true, false, Result, Ok, Err, Option, Some, None, IfSome, option_and_then, if◌then◌else◌}
 use Rattle.std.specs.declared.alloc.AllocError.{AllocError}
-use Rattle.tenant_slot.specs.declared.slot.TheConstants.{MAX_ENTRIES}
-use Rattle.arch_file.specs.declared.arch.Arch.{Arch}
-use Rattle.grid.specs.declared.Strip.{Strip}
-use Rattle.rr_graph.specs.declared.resource.Resource.{Resource}
-use Rattle.rr_graph.specs.Resources.{is_there, moved_resource}
-use Rattle.device_book.specs.declared.book.Extent.{Extent}
-use Rattle.device_book.specs.Owners.{Owners, Releases, in_book}
-use Rattle.job_state.specs.declared.step.JobStep.{JobStep}
-use Rattle.job_state.specs.Job.{JobState}
-use Rattle.tenant_slot.specs.declared.command.Command.{Command}
+use Rattle.service_core.specs.Prelude.{MAX_ENTRIES, Arch, Strip, Resource, is_there, moved_resource, Extent, Owners, Releases, in_book, JobStep, JobState, Command, StepReply, Reply, Accepted, NotAnswered, NoMemory, JournalFull, start, step, state_after, routed_set, GivesBack, SlotState, is_takeable, next_job}
 use Rattle.tenant_slot.specs.declared.event.Event.TheVariants.{Command as Asked}
-use Rattle.tenant_slot.specs.declared.reply.StepReply.{StepReply}
-use Rattle.tenant_slot.specs.declared.reply.Reply.{Reply}
-use Rattle.tenant_slot.specs.declared.reply.Reply.TheVariants.{Accepted}
-use Rattle.tenant_slot.specs.declared.not_served.NotAnswered.{NotAnswered}
-use Rattle.tenant_slot.specs.declared.not_served.NotAnswered.TheVariants.{NoMemory, JournalFull}
-use Rattle.tenant_slot.specs.SingleUser.{start, step, state_after}
-use Rattle.tenant_slot.specs.RoutedSet.{routed_set}
-use Rattle.tenant_slot.specs.Slot.{GivesBack, SlotState, is_takeable, next_job}
 use Rattle.service_core.specs.declared.entry.Entry.{Entry}
 use Rattle.service_core.specs.History.{History, IsReplayed, events_of, slot_of, state_of, with_entry, with_here}
 use Rattle.service_core.specs.Run.{IsStepOf, step_entry}

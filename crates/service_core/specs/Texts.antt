@@ -2,17 +2,8 @@
 use Rattle.std.specs.Prelude.{ℕ, ◌≡◌, ◌+◌, ◌≤◌, ◌⊎◌, List, [], ◌∷◌, ◌++◌, length, Option, Some, All, Contains, slice_get}
 use Rattle.std.specs.List.{sum_by}
 use Rattle.std.specs.Option.{option_to_list}
-use Rattle.blif.specs.Faults.{net_of}
-use Rattle.tenant_slot.specs.declared.command.Command.{Command}
-use Rattle.tenant_slot.specs.declared.command.Command.TheVariants.{Upload, Change}
-use Rattle.tenant_slot.specs.declared.event.Event.{Event}
-use Rattle.tenant_slot.specs.declared.event.Event.TheVariants.{Command as Asked, Advance as Stepped}
-use Rattle.tenant_slot.specs.declared.reply.Ending.{Ending}
-use Rattle.tenant_slot.specs.declared.reply.Ending.TheVariants.{NoPath}
-use Rattle.tenant_slot.specs.declared.reply.Refusal.{Refusal}
-use Rattle.tenant_slot.specs.declared.reply.Refusal.TheVariants.{BadBlif}
-use Rattle.tenant_slot.specs.declared.reply.Reply.{Reply}
-use Rattle.tenant_slot.specs.declared.reply.Reply.TheVariants.{File, Refused, Status}
+use Rattle.service_core.specs.Prelude.{net_of, Command, Upload, Change, Event, Advance as Stepped, Ending, NoPath, Refusal, BadBlif, Reply, File, Refused, Status}
+use Rattle.tenant_slot.specs.declared.event.Event.TheVariants.{Command as Asked}
 use Rattle.service_core.specs.declared.entry.Entry.{Entry}
 
 -- the text of a command, if it has one

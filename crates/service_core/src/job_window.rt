@@ -1,7 +1,6 @@
 //! What a job's step sees of the device.
 ghost use Rattle.std.specs.Prelude.{◌≡◌, ◌↔◌, IfSome, IsTrue, is_some, true};
-ghost use Rattle.job_state.specs.JobValue.{basis_in};
-ghost use Rattle.strips.specs.Windows.{is_on_device};
+ghost use Rattle.service_core.specs.Prelude.{basis_in, is_on_device};
 
 use job_state::AnyJob;
 use strips::{DeviceGraph, Window};

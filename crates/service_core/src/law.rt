@@ -1,6 +1,5 @@
 ghost use Rattle.std.specs.Prelude.{◌≡◌, ℕ, Bool, List, Ok};
-ghost use Rattle.job_state.specs.declared.step.JobStep.{JobStep};
-ghost use Rattle.tenant_slot.specs.declared.reply.StepReply.{StepReply};
+ghost use Rattle.service_core.specs.Prelude.{JobStep, StepReply};
 ghost use Rattle.service_core.specs.declared.device.Device.{Device};
 ghost use Rattle.service_core.specs.declared.put_reply.PutReply.TheVariants.{Recorded};
 ghost use Rattle.service_core.specs.Service.{ServiceState, empty_service};

@@ -1,5 +1,5 @@
 ghost use Rattle.std.specs.Prelude.{◌≡◌, ◌≤◌, ◌+◌, IfOk, IfSome, None, MatchBool, is_some, length, option_map, option_copied, slice_get};
-ghost use Rattle.strips.specs.Plan.{IsLaidOut};
+ghost use Rattle.service_core.specs.Prelude.{IsLaidOut};
 ghost use Rattle.service_core.specs.History.{state_of};
 ghost use Rattle.service_core.specs.Service.{AreAlone, empty_service, history_of, journal_of, live_of};
 ghost use Rattle.service_core.specs.Texts.{FitInto};

@@ -1,12 +1,6 @@
 ghost use Rattle.std.specs.Prelude.{◌≡◌, ◌<◌, ◌≤◌, [], Ok, Err, Some, true, false, All, IfErr, IfOk, length, map, option_copied, slice_get};
-ghost use Rattle.tenant_slot.specs.declared.slot.TheConstants.{MAX_ENTRIES};
-ghost use Rattle.rr_graph.specs.declared.resource.Resource.{Resource};
-ghost use Rattle.rr_graph.specs.Resources.{has, is_there, moved_resource};
-ghost use Rattle.grid.specs.Sizes.{IsStripSize};
-ghost use Rattle.tenant_slot.specs.Answer.{Answers};
-ghost use Rattle.tenant_slot.specs.Slot.{IsOrigin, is_takeable};
+ghost use Rattle.service_core.specs.Prelude.{MAX_ENTRIES, Resource, has, is_there, moved_resource, IsStripSize, Answers, IsOrigin, is_takeable, routed_set};
 ghost use Rattle.service_core.specs.History.{slot_of, state_of};
-ghost use Rattle.tenant_slot.specs.RoutedSet.{routed_set};
 ghost use Rattle.service_core.specs.Texts.{Adds, CountAs, FitInto};
 ghost use Rattle.service_core.specs.Tenancy.{GivesHistoryBack, GivesUp, GivesUpOrKeeps, PutsHistory, ServesHistory, StandsIn, TakesHistory, closed_history};
 

@@ -1,3 +1,4 @@
+mod Prelude
 pub mod KnownLemmas
 pub mod HeadLemmas
 pub mod LineLemmas

@@ -1,12 +1,6 @@
 -- A line that is read byte by byte.
-use Rattle.std.proofs.Common.{◌≡◌, ℕ, List, [], ◌∷◌, ◌++◌, Bool, true, false, not, ◌&&◌, ◌==◌, Option, Some, None, Ok, Err, refl, arith}
-use Rattle.std.proofs.lemmas.Bool.Decides.{nat_tests}
-use Rattle.std.specs.Io.KnownBytes.{Consumes, Keeps}
-use Rattle.line_text.specs.declared.source.Failed.{Failed}
-use Rattle.session_threads.specs.declared.lines.LineEnd.TheVariants.{LineFeed, Input}
-use Rattle.session_threads.specs.Inputs.{GivesByte, ReadsLine, is_one_line}
-use Rattle.session_threads.specs.Lines.{IsLine, LineSoFar}
-use Rattle.session_threads.proofs.KnownLemmas.{consumes_both, consumes_kept, consumes_none, keeps_consumes}
+use Rattle.session_threads.proofs.Prelude.{◌≡◌, ℕ, List, [], ◌∷◌, ◌++◌, Bool, true, not, ◌&&◌, ◌==◌, Option, Some, None, Ok, Err, arith, nat_tests, Consumes, Keeps, Failed, LineFeed, Input, GivesByte, ReadsLine, is_one_line, IsLine, LineSoFar}
+use Rattle.session_threads.proofs.KnownLemmas.{consumes_both, consumes_kept, keeps_consumes}
 
 -- the bytes of a line so far
 pub record Reading (old now : Option (List ℕ)) (kept : LineSoFar) : Type 0 where
@@ -15,24 +9,15 @@ pub record Reading (old now : Option (List ℕ)) (kept : LineSoFar) : Type 0 whe
   pub line : IsLine kept bytes
   pub read : Consumes old now bytes
 
-pub reading_begins : (old : Option (List ℕ)) (kept : LineSoFar) → IsLine kept [] → Reading old old kept
-reading_begins old kept is = record { bytes = []; one = refl; line = is; read = consumes_none old }
-
 and_more : (p q r : Bool) → (p && q) ≡ true → (q ≡ true → r ≡ true) → (p && r) ≡ true
-and_more true q r both more = more both
-and_more false q r both more = both
+and_more p q r both more = grind arith
 
 one_more : (bytes : List ℕ) (b : ℕ) → is_one_line bytes ≡ true → (b ≡ 10 → ⊥) → is_one_line (bytes ++ b ∷ []) ≡ true
 one_more [] b one apart = grind (arith, nat_tests, apart)
 one_more (c ∷ bytes) b one apart = and_more (not (c == 10)) (is_one_line bytes) (is_one_line (bytes ++ b ∷ [])) one (λ e. one_more bytes b e apart)
 
 pub reads_more : (old now next : Option (List ℕ)) (kept more : LineSoFar) (b : ℕ) → Reading old now kept → (b ≡ 10 → ⊥) → GivesByte now next (Ok (Some b)) → ((line : List ℕ) → IsLine kept line → IsLine more (line ++ b ∷ [])) → Reading old next more
-reads_more old now next kept more b r apart gives takes = record {
-  bytes = r.bytes ++ b ∷ [];
-  one = one_more r.bytes b r.one apart;
-  line = takes r.bytes r.line;
-  read = consumes_both old now next r.bytes (b ∷ []) r.read gives;
-}
+reads_more old now next kept more b r apart gives takes = search (one_more, consumes_both, arith)
 
 pub line_ends : (old now next : Option (List ℕ)) (kept : LineSoFar) → Reading old now kept → GivesByte now next (Ok (Some 10)) → ReadsLine old next kept (Ok LineFeed)
 line_ends old now next kept r gives = (r.bytes, r.one, r.line, consumes_both old now next r.bytes (10 ∷ []) r.read gives)

@@ -1,27 +1,12 @@
 -- The outcome of a line of an input.
-use Rattle.std.proofs.Common.{◌≡◌, ℕ, List, [], ◌∷◌, ◌++◌, true, false, Some, None, refl, ap, ◌∙◌, append-nil}
-use Rattle.std.specs.Prelude.{option_map}
-use Rattle.sessions.specs.declared.line.LineForm.{LineForm}
-use Rattle.sessions.specs.declared.line.LineForm.TheVariants.{Asks}
-use Rattle.sessions.specs.declared.line.SessionLine.{SessionLine}
-use Rattle.sessions.specs.declared.line.SessionLine.TheVariants.{Blank, Command, Wait, Refused}
-use Rattle.sessions.specs.Items.{begins_text, ends_text, items_from, kept_part, text_ahead, text_item, with_form, with_item, without_cr}
-use Rattle.sessions.specs.Reading.{GivesItem, TextSoFar}
-use Rattle.sessions.specs.SessionLines.{line_form}
-use Rattle.sessions.proofs.ReadingLemmas.{continued}
-use Rattle.session_threads.specs.declared.items.LineOutcome.TheVariants.{Nothing, Item, NoMemory}
-use Rattle.session_threads.specs.declared.items.Within.TheVariants.{Session, Text, LostText}
-use Rattle.session_threads.specs.Outcomes.{ComesTo, LineComesTo, is_item}
+use Rattle.session_threads.proofs.Prelude.{◌≡◌, ℕ, List, [], ◌∷◌, ◌++◌, true, false, Some, None, refl, ap, ◌∙◌, append-nil, arith, option_map, LineForm, Asks, SessionLine, begins_text, ends_text, items_from, kept_part, text_ahead, text_item, with_form, with_item, without_cr, GivesItem, TextSoFar, line_form, continued, Nothing, Item, NoMemory, Session, Text, LostText, ComesTo, LineComesTo, is_item}
 
 -- a line outside of texts, by its form
 by_form : (line : List ℕ) (lines : List (List ℕ)) (form : LineForm) → line_form (without_cr line) ≡ form → items_from false (line ∷ lines) ≡ with_form form lines (items_from (begins_text form) lines)
 by_form line lines form is = ap (λ f. with_form f lines (items_from (begins_text f) lines)) is
 
 asked : (item : SessionLine) (items : List SessionLine) → is_item item ≡ true → with_item item items ≡ item ∷ items
-asked Blank items is = cc
-asked (Command command) items is = refl
-asked Wait items is = refl
-asked (Refused refusal) items is = refl
+asked item items is = grind arith
 
 pub item_line : (line : List ℕ) (item : SessionLine) → line_form (without_cr line) ≡ Asks item → is_item item ≡ true → ComesTo Session line (Item item) Session
 item_line line item form asks text within = record {
@@ -65,9 +50,7 @@ pub text_lost : (old : TextSoFar) (line : List ℕ) → ends_text line ≡ false
 text_lost old line on text within = rw within (lost old line on)
 
 pub lost_ends : (line : List ℕ) → ends_text line ≡ true → ComesTo LostText line NoMemory Session
-lost_ends line end None within = cc
-lost_ends line end (Some old) within = unserved old line end
+lost_ends line end = grind (arith, unserved)
 
 pub lost_goes_on : (line : List ℕ) → ends_text line ≡ false → ComesTo LostText line Nothing LostText
-lost_goes_on line on None within = cc
-lost_goes_on line on (Some old) within = lost old line on
+lost_goes_on line on = grind (arith, lost)

@@ -1,23 +1,5 @@
 -- A session, turn by turn.
-use Rattle.std.proofs.Common.{◌≡◌, ℕ, List, [], ◌∷◌, ◌++◌, Bool, true, Option, Some, None, refl, ap, sym, subst, ◌∙◌, append-nil, append_assoc}
-use Rattle.std.specs.Prelude.{IfSome}
-use Rattle.std.specs.Io.KnownBytes.{Consumes, prepend_known}
-use Rattle.line_text.specs.Lines.{physical_lines}
-use Rattle.line_text.specs.Writing.{TakesAll}
-use Rattle.line_text.proofs.WritingLemmas.{all_none}
-use Rattle.sessions.specs.declared.line.SessionLine.{SessionLine}
-use Rattle.sessions.specs.Items.{items_of}
-use Rattle.sessions.specs.Reading.{TextSoFar, item_and, items_to_come}
-use Rattle.transcripts.specs.declared.item.SessionEnd.{SessionEnd}
-use Rattle.transcripts.specs.declared.item.SessionEnd.TheVariants.{Ended, ReaderFailed, WriterFailed}
-use Rattle.transcripts.specs.declared.item.ItemAnswer.{ItemAnswer}
-use Rattle.transcripts.specs.Transcripts.{TranscriptState}
-use Rattle.session_threads.specs.declared.items.Within.{Within}
-use Rattle.session_threads.specs.declared.items.Within.TheVariants.{Session}
-use Rattle.session_threads.specs.Inputs.{is_one_line}
-use Rattle.session_threads.specs.Told.{AreTold, noted_all, told_texts}
-use Rattle.session_threads.specs.Outcomes.{IsWithin}
-use Rattle.session_threads.specs.WholeSession.{GoesOn, HaveEnded, KeepsNoneAhead, LastToldOf, Stops, ToldOf, WholeSession, Wrote}
+use Rattle.session_threads.proofs.Prelude.{◌≡◌, ℕ, List, [], ◌∷◌, ◌++◌, Bool, true, Option, Some, None, refl, ap, sym, subst, ◌∙◌, append-nil, append_assoc, arith, IfSome, Consumes, prepend_known, physical_lines, TakesAll, all_none, SessionLine, items_of, TextSoFar, item_and, items_to_come, SessionEnd, Ended, ReaderFailed, WriterFailed, ItemAnswer, TranscriptState, Within, Session, is_one_line, AreTold, noted_all, told_texts, IsWithin, GoesOn, HaveEnded, KeepsNoneAhead, LastToldOf, Stops, ToldOf, WholeSession, Wrote}
 use Rattle.session_threads.proofs.ItemLemmas.{line_then}
 use Rattle.session_threads.proofs.KnownLemmas.{consumes_both, prepend_none}
 use Rattle.session_threads.proofs.ToldLemmas.{noted_all-append, noted_all-id, told-append}
@@ -37,8 +19,7 @@ pub record Going {W : Type 0} (id : ℕ) (old now : TranscriptState) (input ahea
   pub are : AreTold id items told
 
 prepend_nothing : (known : Option (List ℕ)) → Consumes known (prepend_known [] known) []
-prepend_nothing None = tt
-prepend_nothing (Some xs) = refl
+prepend_nothing known = grind arith
 
 pub going_begins : {W : Type 0} (contents : W → Option (List ℕ)) (has_failed : W → Bool) (w : W) (id : ℕ) (t : TranscriptState) (known : Option (List ℕ)) (none : List ℕ) (within : Within) → none ≡ [] → within ≡ Session → Going id t t known (prepend_known none known) within contents has_failed w w
 going_begins contents has_failed w id t known none within is outside = record {

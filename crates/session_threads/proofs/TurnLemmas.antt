@@ -1,24 +1,5 @@
 -- A turn of a session.
-use Rattle.std.proofs.Common.{◌≡◌, ◌≢◌, ℕ, ◌<◌, List, [], ◌∷◌, ◌++◌, length, Bool, Option, Some, None, Ok, Err, refl, ap, sym, subst, ◌∙◌, append-nil}
-use Rattle.std.specs.Prelude.{IfSome}
-use Rattle.std.specs.Io.KnownBytes.{IsAtEnd}
-use Rattle.line_text.specs.declared.source.Failed.{Failed}
-use Rattle.line_text.specs.Lines.{physical_lines}
-use Rattle.line_text.specs.Writing.{TakesAll, Writes}
-use Rattle.line_text.proofs.WritingLemmas.{all_none, all_then, part_then}
-use Rattle.sessions.specs.declared.line.SessionLine.{SessionLine}
-use Rattle.sessions.specs.Reading.{TextSoFar, item_and, items_to_come}
-use Rattle.transcripts.specs.declared.item.SessionEnd.{SessionEnd}
-use Rattle.transcripts.specs.declared.item.SessionEnd.TheVariants.{Ended, ReaderFailed, WriterFailed}
-use Rattle.transcripts.specs.declared.item.ItemAnswer.{ItemAnswer}
-use Rattle.transcripts.specs.Transcripts.{TranscriptState}
-use Rattle.session_threads.specs.declared.items.Within.{Within}
-use Rattle.session_threads.specs.declared.lines.LineEnd.TheVariants.{LineFeed, Input}
-use Rattle.session_threads.specs.Inputs.{ReadsLine}
-use Rattle.session_threads.specs.Lines.{IsLine, LineSoFar}
-use Rattle.session_threads.specs.Told.{AreTold, noted_all, told_texts}
-use Rattle.session_threads.specs.Outcomes.{LineIsTold}
-use Rattle.session_threads.specs.WholeSession.{EndsInput, EndsReading, Finishes, FirstAreTold, GoesOn, KeepsNoneAhead, LastToldOf, ServesLine, Stops, ToldAtEnd, Wrote}
+use Rattle.session_threads.proofs.Prelude.{◌≡◌, ◌≢◌, ℕ, ◌<◌, List, [], ◌∷◌, ◌++◌, length, Bool, Option, Some, None, Ok, Err, refl, ap, sym, subst, ◌∙◌, append-nil, arith, IfSome, IsAtEnd, Failed, physical_lines, TakesAll, Writes, all_none, all_then, part_then, SessionLine, TextSoFar, item_and, items_to_come, SessionEnd, Ended, ReaderFailed, WriterFailed, ItemAnswer, TranscriptState, Within, LineFeed, Input, ReadsLine, IsLine, LineSoFar, AreTold, noted_all, told_texts, LineIsTold, EndsInput, EndsReading, Finishes, FirstAreTold, GoesOn, KeepsNoneAhead, LastToldOf, ServesLine, Stops, ToldAtEnd, Wrote}
 use Rattle.session_threads.proofs.ItemLemmas.{last_line, line_then}
 use Rattle.session_threads.proofs.ToldLemmas.{noted_all-append, noted_all-id, texts-append, told-append}
 
@@ -29,13 +10,11 @@ wrote_then contents has_failed a b c s t ReaderFailed all last = all_then all la
 wrote_then contents has_failed a b c s t WriterFailed all last = part_then all last
 
 pub wrote_texts : {W : Type 0} (contents : W → Option (List ℕ)) (has_failed : W → Bool) (a b c : W) (xs ys : List (Option ItemAnswer)) (end : SessionEnd) → TakesAll contents has_failed a b (told_texts xs) → Wrote contents has_failed b c (told_texts ys) end → Wrote contents has_failed a c (told_texts (xs ++ ys)) end
-wrote_texts contents has_failed a b c xs ys end all last =
-    let P : List ℕ → Type 0 = λ text. Wrote contents has_failed a c text end in subst P (sym (texts-append xs ys)) (wrote_then contents has_failed a b c (told_texts xs) (told_texts ys) end all last)
+wrote_texts contents has_failed a b c xs ys end all last = grind (arith, texts-append, wrote_then)
 
 -- a line's items are before those that follow
 item_and-append : (item : Option SessionLine) (items : List SessionLine) → item_and item items ≡ item_and item [] ++ items
-item_and-append None items = refl
-item_and-append (Some item) items = refl
+item_and-append item items = grind arith
 
 pub line_items : (id : ℕ) (text : Option TextSoFar) (line : List ℕ) (after : Within) (told : List (Option ItemAnswer)) (t : LineIsTold id text line after told) (lines : List (List ℕ)) → items_to_come text (line ∷ lines) ≡ item_and t.item [] ++ items_to_come t.next lines
 line_items id text line after told t lines = t.gives lines ∙ item_and-append t.item (items_to_come t.next lines)
@@ -53,15 +32,7 @@ reader_fails contents has_failed w id input ahead within kept failed t reads = r
 
 pub line_served : {W : Type 0} (contents : W → Option (List ℕ)) (has_failed : W → Bool) (a b : W) (id : ℕ) (input ahead : Option (List ℕ)) (within after : Within) (kept : LineSoFar) (old new : TranscriptState) (u : Unit {0}) →
     ReadsLine input ahead kept (Ok LineFeed) → ServesLine id within after kept (λ text. Writes contents has_failed a b text (Ok u)) old new → GoesOn id input ahead within after (λ text. Wrote contents has_failed a b text Ended) old new
-line_served contents has_failed a b id input ahead within after kept old new u reads serves = record {
-  told = serves.told;
-  noted = serves.noted_is;
-  written = serves.written;
-  line = reads.0;
-  is_line = reads.1;
-  read = reads.3;
-  asked = serves.asked reads.0 reads.2;
-}
+line_served contents has_failed a b id input ahead within after kept old new u reads serves = grind arith
 
 -- the writer fails at the line
 pub line_unwritten : {W : Type 0} (contents : W → Option (List ℕ)) (has_failed : W → Bool) (a b : W) (id : ℕ) (input ahead : Option (List ℕ)) (within after : Within) (kept : LineSoFar) (old new : TranscriptState) (failed : Failed) →
@@ -100,9 +71,7 @@ input_ended contents has_failed a b id input ahead within kept old new end reads
 
 -- no line is left, only the end
 at_once : (id : ℕ) (items : List SessionLine) (told : List (Option ItemAnswer)) (end : SessionEnd) → end ≢ ReaderFailed → AreTold id items told → ToldAtEnd end id items told
-at_once id items told Ended not told_is = told_is
-at_once id items told ReaderFailed not told_is = absurd (not refl)
-at_once id items told WriterFailed not told_is = (items, [], sym (append-nil items), told_is)
+at_once id items told end not told_is = grind (arith, append-nil)
 
 pub no_last_line : {W : Type 0} (contents : W → Option (List ℕ)) (has_failed : W → Bool) (a b : W) (id : ℕ) (within : Within) (kept : LineSoFar) (old new : TranscriptState) (end : SessionEnd) →
     ((line : List ℕ) → IsLine kept line → line ≡ []) → Finishes id within (Wrote contents has_failed a b) old end new → EndsInput id within kept (Wrote contents has_failed a b) old end new
@@ -148,11 +117,7 @@ last_line_unwritten contents has_failed a b id within after kept old new failed 
 
 -- the reader didn't fail
 pub none_ahead : (end : SessionEnd) (ahead : List ℕ) → end ≢ ReaderFailed → KeepsNoneAhead end ahead
-none_ahead Ended ahead not = tt
-none_ahead ReaderFailed ahead not = absurd (not refl)
-none_ahead WriterFailed ahead not = tt
+none_ahead end ahead not = grind arith
 
 pub ends_reading : (known : Option (List ℕ)) (failed : Bool) (end : SessionEnd) → IsAtEnd known → end ≢ ReaderFailed → EndsReading known failed end
-ends_reading known failed Ended none not = none
-ends_reading known failed ReaderFailed none not = absurd (not refl)
-ends_reading known failed WriterFailed none not = tt
+ends_reading known failed end none not = grind arith

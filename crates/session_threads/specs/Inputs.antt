@@ -1,7 +1,7 @@
 -- Private: an input that is read byte by byte and line by line.
 use Rattle.std.specs.Prelude.{ℕ, ◌≡◌, List, [], ◌∷◌, ◌++◌, Bool, true, not, ◌&&◌, ◌==◌, Option, Some, None, Result, Ok, Err}
 use Rattle.std.specs.Io.KnownBytes.{Consumes, IsAtEnd, Keeps}
-use Rattle.line_text.specs.declared.source.Failed.{Failed}
+use Rattle.session_threads.specs.Prelude.{Failed}
 use Rattle.session_threads.specs.declared.lines.LineEnd.{LineEnd}
 use Rattle.session_threads.specs.declared.lines.LineEnd.TheVariants.{LineFeed, Input}
 use Rattle.session_threads.specs.Lines.{IsLine, LineSoFar}

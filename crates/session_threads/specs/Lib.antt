@@ -1,3 +1,4 @@
+pub mod Prelude
 pub mod Inputs
 pub mod Lines
 pub mod Outcomes

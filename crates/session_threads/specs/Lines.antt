@@ -1,7 +1,7 @@
 -- Private: a line whose bytes may not fit in memory. Its head shows what it asks.
 use Rattle.std.specs.Prelude.{ℕ, ◌≡◌, ◌⊎◌, ◌≤◌, List, length, Bool, false, not}
 use Rattle.std.specs.List.{list_any}
-use Rattle.line_text.specs.Words.{is_blank}
+use Rattle.session_threads.specs.Prelude.{is_blank}
 
 -- what is kept of a line: its head; and its bytes, unless memory ran out for them
 pub record LineSoFar : Type 0 where

@@ -1,13 +1,10 @@
 -- Private: the outcomes of the lines of an input, one by one.
 use Rattle.std.specs.Prelude.{ℕ, ◌≡◌, ⊤, List, [], ◌∷◌, Bool, true, false, Option, Some, None, is_some}
-use Rattle.sessions.specs.declared.line.SessionLine.{SessionLine}
-use Rattle.sessions.specs.declared.line.SessionLine.TheVariants.{Blank, Command, Wait, Refused}
-use Rattle.sessions.specs.Reading.{GivesItem, TextSoFar, item_and, items_to_come}
+use Rattle.session_threads.specs.Prelude.{SessionLine, Blank, Command, Wait, Refused, GivesItem, TextSoFar, item_and, items_to_come, ItemAnswer}
 use Rattle.session_threads.specs.declared.items.LineOutcome.{LineOutcome}
 use Rattle.session_threads.specs.declared.items.LineOutcome.TheVariants.{Nothing, Item, NoMemory}
 use Rattle.session_threads.specs.declared.items.Within.{Within}
 use Rattle.session_threads.specs.declared.items.Within.TheVariants.{Session, Text, LostText}
-use Rattle.transcripts.specs.declared.item.ItemAnswer.{ItemAnswer}
 use Rattle.session_threads.specs.Told.{AreTold, IsTold}
 
 abbrev pub is_item : SessionLine → Bool

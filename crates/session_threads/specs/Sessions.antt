@@ -1,6 +1,5 @@
 -- What a session holds.
-use Rattle.job_queue.specs.Seats.{ReadyId}
-use Rattle.transcripts.specs.Transcripts.{TranscriptState}
+use Rattle.session_threads.specs.Prelude.{ReadyId, TranscriptState}
 use Rattle.session_threads.specs.declared.session.Session.{Session}
 
 -- the ready queue that it pushes to

@@ -1,18 +1,10 @@
 -- A session's answers, and how they are spelled.
 use Rattle.std.specs.Prelude.{ℕ, ◌≡◌, ◌-◌, length, option_map, slice_get, ⊤, List, [], ◌∷◌, Option, Some, None, Bool, true, false}
 use Rattle.std.specs.List.{flat_map}
+use Rattle.session_threads.specs.Prelude.{Status, Reply, kind_that_runs, SessionLine, Blank, Command, Wait, Refused, no_memory_text, note_text, reply_text, session_refusal_text, Item, ItemAnswer, Receipt, Note, TranscriptState, transcript_with, with_no_memory, with_place}
 use Rattle.tenant_slot.specs.declared.command.Command.{Command as TenantCommand}
-use Rattle.tenant_slot.specs.declared.command.Command.TheVariants.{Status}
-use Rattle.tenant_slot.specs.declared.reply.Reply.{Reply}
 use Rattle.tenant_slot.specs.declared.reply.Reply.TheVariants.{Status as InState}
-use Rattle.tenant_slot.specs.SingleUser.{kind_that_runs}
-use Rattle.sessions.specs.declared.line.SessionLine.{SessionLine}
-use Rattle.sessions.specs.declared.line.SessionLine.TheVariants.{Blank, Command, Wait, Refused}
-use Rattle.sessions.specs.SessionText.{no_memory_text, note_text, reply_text, session_refusal_text}
-use Rattle.transcripts.specs.declared.item.Item.{Item}
-use Rattle.transcripts.specs.declared.item.ItemAnswer.{ItemAnswer}
-use Rattle.transcripts.specs.declared.item.ItemAnswer.TheVariants.{Receipt, Note, Refused as RefusedPlace}
-use Rattle.transcripts.specs.Transcripts.{TranscriptState, transcript_with, with_no_memory, with_place}
+use Rattle.transcripts.specs.declared.item.ItemAnswer.TheVariants.{Refused as RefusedPlace}
 
 abbrev pub place_text : ItemAnswer → List ℕ
 place_text (Receipt r) = reply_text r.reply

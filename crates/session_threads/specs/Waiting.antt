@@ -1,9 +1,6 @@
 -- Private: what a session that waits finds under the lock.
 use Rattle.std.specs.Prelude.{ℕ, ◌≡◌, Bool, false, Option, Some, None, is_some, if◌then◌else◌}
-use Rattle.tenant_slot.specs.declared.command.Command.TheVariants.{Status}
-use Rattle.service_core.specs.Service.{live_of}
-use Rattle.shared_core.specs.CoreState.{CoreState, is_idle_in, ready_number}
-use Rattle.transcripts.specs.Transcripts.{Enters, TranscriptState, with_no_memory}
+use Rattle.session_threads.specs.Prelude.{Status, live_of, CoreState, is_idle_in, ready_number, Enters, TranscriptState, with_no_memory}
 use Rattle.session_threads.specs.declared.waiting.Found.{Found}
 use Rattle.session_threads.specs.declared.waiting.Found.TheVariants.{Ended, GivenUp, Goes}
 

@@ -1,15 +1,7 @@
 -- A whole session, from its input to its transcript.
 use Rattle.std.specs.Prelude.{ℕ, ◌≡◌, ◌≢◌, List, [], ◌∷◌, ◌++◌, Bool, true, Option, Some, None, IfSome, ⊤}
 use Rattle.std.specs.Io.KnownBytes.{Consumes, IsAtEnd}
-use Rattle.line_text.specs.Lines.{physical_lines}
-use Rattle.line_text.specs.Writing.{TakesAll, TakesPart}
-use Rattle.sessions.specs.declared.line.SessionLine.{SessionLine}
-use Rattle.sessions.specs.Items.{items_of}
-use Rattle.sessions.specs.Reading.{TextSoFar, items_to_come}
-use Rattle.transcripts.specs.declared.item.SessionEnd.{SessionEnd}
-use Rattle.transcripts.specs.declared.item.SessionEnd.TheVariants.{Ended, ReaderFailed, WriterFailed}
-use Rattle.transcripts.specs.declared.item.ItemAnswer.{ItemAnswer}
-use Rattle.transcripts.specs.Transcripts.{TranscriptState, transcript_with}
+use Rattle.session_threads.specs.Prelude.{physical_lines, TakesAll, TakesPart, SessionLine, items_of, TextSoFar, items_to_come, SessionEnd, Ended, ReaderFailed, WriterFailed, ItemAnswer, TranscriptState, transcript_with}
 use Rattle.session_threads.specs.declared.items.Within.{Within}
 use Rattle.session_threads.specs.declared.items.LineOutcome.{LineOutcome}
 use Rattle.session_threads.specs.Inputs.{is_one_line}

@@ -1,7 +1,6 @@
 //! A line of a session's input.
 ghost use Rattle.std.specs.Prelude.{◌≡◌, ◌<◌, ◌++◌, ◌∷◌, [], ℕ, List, IfSome, MatchBool, length};
-ghost use Rattle.sessions.specs.Items.{ends_text, without_cr};
-ghost use Rattle.sessions.specs.SessionLines.{line_form};
+ghost use Rattle.session_threads.specs.Prelude.{ends_text, without_cr, line_form};
 ghost use Rattle.session_threads.specs.Lines.{IsHead, IsLine};
 
 use arrayvec::ArrayVec;

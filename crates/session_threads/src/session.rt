@@ -1,8 +1,7 @@
 //! A session on a thread of its own.
 ghost use Rattle.std.specs.Prelude.{◌≡◌, IfSome, Some, true};
 ghost use Rattle.std.specs.Io.KnownBytes.{prepend_known};
-ghost use Rattle.line_text.specs.Writing.{Writes};
-ghost use Rattle.sessions.specs.declared.line.SessionLine.TheVariants.{Wait};
+ghost use Rattle.session_threads.specs.Prelude.{Writes, Wait};
 ghost use Rattle.session_threads.specs.Outcomes.{IsItem, is_item};
 ghost use Rattle.session_threads.specs.Told.{AnswersCommand, AnswersItem, NotesBy};
 ghost use Rattle.session_threads.specs.WholeSession.{EndsInput, EndsReading, Finishes, IsSession, KeepsNoneAhead, Serves, ServesLine, TellsItem, Turns, WholeSession, Wrote, new_transcript};

@@ -1,6 +1,6 @@
 //! Writes a session's answers.
 ghost use Rattle.std.specs.Prelude.{◌≡◌, option_copied};
-ghost use Rattle.line_text.specs.Writing.{Writes};
+ghost use Rattle.session_threads.specs.Prelude.{Writes};
 ghost use Rattle.session_threads.specs.Told.{last_place as last_place_of, place_text, told_text};
 
 use line_text::{Failed, Sink};

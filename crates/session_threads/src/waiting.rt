@@ -1,7 +1,6 @@
 //! What a session that waits finds under the lock.
 ghost use Rattle.std.specs.Prelude.{◌≡◌, MatchOption};
-ghost use Rattle.service_core.specs.Service.{AreAlone};
-ghost use Rattle.sessions.specs.declared.line.SessionLine.TheVariants.{Wait};
+ghost use Rattle.session_threads.specs.Prelude.{AreAlone, Wait};
 ghost use Rattle.session_threads.specs.Told.{AnswersItem, NotesBy};
 ghost use Rattle.session_threads.specs.Waiting.{Waits, found_in};
 

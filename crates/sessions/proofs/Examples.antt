@@ -1,15 +1,7 @@
 -- Computed examples.
-use Rattle.std.proofs.Common.{◌≡◌, ◌∷◌, ◌++◌, codes, decimal, refl}
-use Rattle.tenant_slot.specs.declared.command.Command.TheVariants.{Status}
-use Rattle.tenant_slot.specs.declared.reply.StateName.TheVariants.{Loaded}
-use Rattle.tenant_slot.specs.declared.reply.Reply.TheVariants.{Accepted, File, Refused as RefusedReply}
-use Rattle.tenant_slot.specs.declared.reply.FileKind.TheVariants.{Net}
-use Rattle.tenant_slot.specs.declared.reply.Refusal.TheVariants.{CannotPack}
-use Rattle.sessions.specs.declared.line.SessionLine.TheVariants.{Blank, Command}
-use Rattle.sessions.specs.declared.line.TextKind.TheVariants.{Upload}
-use Rattle.sessions.specs.declared.line.LineForm.TheVariants.{Asks, Begins}
-use Rattle.sessions.specs.SessionLines.{line_form}
-use Rattle.sessions.specs.SessionText.{reply_text}
+use Rattle.sessions.proofs.Prelude.{◌≡◌, ◌∷◌, ◌++◌, codes, decimal, refl, Status, Loaded, Accepted, File, Net, CannotPack, Blank, Command, Upload, Begins, line_form, reply_text}
+use Rattle.tenant_slot.specs.declared.reply.Reply.TheVariants.{Refused as RefusedReply}
+use Rattle.sessions.specs.declared.line.LineForm.TheVariants.{Asks}
 
 status : line_form (codes "  status\t") ≡ Asks (Command Status)
 status = refl

@@ -1,38 +1,7 @@
 -- A job that the core gave out has a window on the device's own graph.
-use Rattle.std.proofs.Common.{◌≡◌, ◌∙◌, ℕ, ◌+◌, ◌<◌, ◌≤◌, List, [], ◌∷◌, ◌++◌, true, false, not, eqb, get_or, if◌then◌else◌, Option, Some, None, Result, Ok, Err, refl, sym, ap, subst, arith}
-use Rattle.std.specs.declared.alloc.AllocError.{AllocError}
-use Rattle.std.specs.Prelude.{◌&&◌, ◌==◌, All, IfOk, IsSome, nat_le, is_some, option_map}
-use Rattle.std.proofs.lemmas.Bool.{and_from, false≢true, le-leb}
-use Rattle.std.proofs.lemmas.Bool.Decides.{Decides-eqb}
-use Rattle.std.proofs.lemmas.List.Elements.{All-filter, All-head, All-map, All-nil, All-push, All-tail}
-use Rattle.std.proofs.lemmas.Option.{none-some, same_Some}
-use Rattle.arch_file.specs.declared.arch.Arch.{Arch}
-use Rattle.grid.specs.declared.Strip.{Strip}
-use Rattle.rr_graph.specs.Graph.{Basis}
-use Rattle.strips.specs.declared.placed_strip.PlacedStrip.{PlacedStrip}
-use Rattle.strips.specs.Plan.{moved_strip, offset_of, strip_of}
-use Rattle.strips.specs.Windows.{device_strip, is_on_device}
-use Rattle.job_state.specs.declared.sources.JobKind.{JobKind}
-use Rattle.job_state.specs.declared.sources.JobKind.TheVariants.{Packing, Placing, Routing}
-use Rattle.job_state.specs.declared.step.JobStep.{JobStep}
-use Rattle.job_state.specs.Job.{JobState}
-use Rattle.tenant_slot.specs.SingleUser.{State, kind_that_runs, sources_of, start}
-use Rattle.tenant_slot.specs.Slot.{SlotState, next_job}
-use Rattle.service_core.specs.declared.device.Device.{Device}
-use Rattle.service_core.specs.Calls.{IsNextStep, IsTaken}
-use Rattle.service_core.specs.Headline.{AreParted}
-use Rattle.service_core.specs.History.{History, events_of, slot_of, state_of}
-use Rattle.service_core.specs.Run.{Call, Run}
-use Rattle.service_core.specs.Run.Call.{Take}
-use Rattle.service_core.specs.Service.{AreAlone, IsAloneOn, ServiceState, empty_service, history_of, live_of, live_width, placed_width, strip_on}
-use Rattle.service_core.proofs.Booking.{has_offset, placed_strip}
-use Rattle.service_core.proofs.Effects.{Admitted, Effect, Entered, Evicted, Kept, Moved, Nothing, Turned, effect, run_device, run_keeps}
-use Rattle.service_core.proofs.Held.{IsOnStrip, events_stay}
-use Rattle.service_core.proofs.Keeps.{IsService-empty, if_live_some}
-use Rattle.service_core.proofs.Lists.{All-history_of}
-use Rattle.service_core.proofs.MovedStrips.{same_width}
-use Rattle.service_core.proofs.Parted.{are_parted}
-use Rattle.sessions.specs.Fitting.{HasWindow, own_graph}
+use Rattle.sessions.proofs.Prelude.{◌≡◌, ◌∙◌, ℕ, ◌+◌, ◌<◌, ◌≤◌, List, [], ◌∷◌, true, false, not, eqb, get_or, Option, Some, None, Result, refl, sym, ap, subst, arith, AllocError, ◌==◌, All, IfOk, IsSome, is_some, option_map, false≢true, Decides-eqb, All-filter, All-head, All-map, All-push, All-tail, none-some, same_Some, Strip, Basis, PlacedStrip, moved_strip, offset_of, strip_of, device_strip, is_on_device, JobKind, JobStep, JobState, State, kind_that_runs, sources_of, start, SlotState, next_job, Device, IsNextStep, IsTaken, AreParted, History, events_of, slot_of, state_of, Call, Run, Take, AreAlone, IsAloneOn, ServiceState, empty_service, history_of, live_of, live_width, placed_width, strip_on, has_offset, placed_strip, Admitted, Effect, Entered, Evicted, Moved, Turned, effect, run_device, run_keeps, IsOnStrip, events_stay, if_live_some, All-history_of, same_width, are_parted, HasWindow, own_graph}
+use Rattle.std.proofs.Common.{if◌then◌else◌}
+use Rattle.service_core.proofs.Effects.{Nothing}
 use Rattle.sessions.proofs.Counted.{some_and, taken_next}
 use Rattle.sessions.proofs.StepLemmas.{Run-append}
 
@@ -62,19 +31,7 @@ strip_all P (t ∷ strips) id s is all =
 
 -- a strip has its tenancy's width
 its_width : (strips : List PlacedStrip) (hs : List History) (id : ℕ) (s : PlacedStrip) (h : History) → ((j : ℕ) → placed_width strips j ≡ live_width hs j) → strip_of strips id ≡ Some s → live_of hs id ≡ Some h → s.width ≡ h.strip.width
-its_width strips hs id s h linked found live =
-    same_Some _ _ (sym (ap (option_map (λ (s : PlacedStrip). s.width)) found) ∙ (linked id ∙ ap (option_map (λ (g : History). g.strip.width)) live))
-
--- a job is computed from its tenancy's architecture and strip
-sources_arch : (state : State) (kind : JobKind) → (sources_of state kind).arch ≡ state.arch
-sources_arch state Packing = refl
-sources_arch state Placing = refl
-sources_arch state Routing = refl
-
-sources_strip : (state : State) (kind : JobKind) → (sources_of state kind).strip ≡ state.strip
-sources_strip state Packing = refl
-sources_strip state Placing = refl
-sources_strip state Routing = refl
+its_width strips hs id s h linked found live = grind arith
 
 record IsJobOf (state : State) (step : JobStep) : Type 0 where
   arch : step.sources.arch ≡ state.arch
@@ -82,24 +39,14 @@ record IsJobOf (state : State) (step : JobStep) : Type 0 where
 
 job_of : (slot : SlotState) (kind : Option JobKind) (step : JobStep) →
     option_map (λ sources. record { id = slot.id; generation = slot.state.generation; number = slot.state.steps + 1; sources = sources }) (option_map (sources_of slot.state) kind) ≡ Some step → IsJobOf slot.state step
-job_of slot None step is = absurd (none-some step is)
-job_of slot (Some kind) step is =
-    let its : JobStep = record { id = slot.id; generation = slot.state.generation; number = slot.state.steps + 1; sources = sources_of slot.state kind } in
-    let e : its ≡ step = same_Some _ _ is in
-    record {
-      arch = ap (λ (s : JobStep). s.sources.arch) (sym e) ∙ sources_arch slot.state kind;
-      strip = ap (λ (s : JobStep). s.sources.strip) (sym e) ∙ sources_strip slot.state kind;
-    }
+job_of slot kind step is = grind arith
 
 same_number : (n : ℕ) → (n == n) ≡ true
 same_number n = (Decides-eqb n n).1 refl
 
 -- a strip within the columns is on its device
 on_device : (device : Device) (width offset : ℕ) → 0 < width → offset + width ≤ device.columns → is_on_device (own_graph device).strip (strip_on device width) offset ≡ true
-on_device device width offset wide inside =
-    and_from (nat_le 1 width) ((device.rows == device.rows) && ((device.arch.io_rat == device.arch.io_rat) && nat_le (offset + width) device.columns)) (le-leb 1 width (omega (arith, wide)))
-    (and_from (device.rows == device.rows) ((device.arch.io_rat == device.arch.io_rat) && nat_le (offset + width) device.columns) (same_number device.rows)
-    (and_from (device.arch.io_rat == device.arch.io_rat) (nat_le (offset + width) device.columns) (same_number device.arch.io_rat) (le-leb (offset + width) device.columns inside)))
+on_device device width offset wide inside = grind arith
 
 -- a live tenancy's next step has its window at its strip
 pub window_there : (state : ServiceState) (step : JobStep) → AreWide state → AreParted state.device state → AreAlone state → IsNextStep state step → HasWindow (own_graph state.device) state step
@@ -123,46 +70,28 @@ window_there state step wide parted all next =
 
 -- so has a step that was just taken
 pub taken_has_window : (device : Device) (before : List Call) (old new : ServiceState) (id : ℕ) (job : JobState) → Run (empty_service device) before old → IsTaken old id (Some job) new → HasWindow (own_graph device) new job.step
-taken_has_window device before old new id job runs takes =
-    let calls : List Call = before ++ Take id (Some job) ∷ [] in
-    let all : Run (empty_service device) calls new = Run-append (empty_service device) before old (Take id (Some job) ∷ []) new runs (new, takes, refl) in
-    let same : new.device ≡ device = run_device (empty_service device) calls new all in
-    let parted : AreParted new.device new = subst (λ d. AreParted d new) (sym same) (are_parted device calls new all) in
-    let kept : Kept new = run_keeps (empty_service device) calls new all (IsService-empty device) in
-    let wide : AreWide new = run_wide (empty_service device) calls new all (All-nil (λ (s : PlacedStrip). 0 < s.width)) in
-    subst (λ d. HasWindow (own_graph d) new job.step) same (window_there new job.step wide parted kept.alone (taken_next old new id job takes))
+taken_has_window device before old new id job runs takes = grind (arith, run_device, are_parted, run_keeps, run_wide, window_there, Run-append (empty_service device) before old (Take id (Some job) ∷ []) new runs (new, takes, refl), taken_next old new id job takes)
 
 -- the window that is made at the strip
 pub window_made : (state : ServiceState) (step : JobStep) (graph : Basis) (offset : ℕ) → AreWide state → AreParted state.device state → AreAlone state → offset_of state.plan.strips step.id ≡ Some offset →
     graph ≡ own_graph state.device → IsNextStep state step → (graph.arch ≡ step.sources.arch) × (is_on_device graph.strip step.sources.strip offset ≡ true)
-window_made state step graph offset wide parted all at own next =
-    let has : HasWindow (own_graph state.device) state step = window_there state step wide parted all next in
-    let same : has.0 ≡ offset = same_Some _ _ (sym has.1 ∙ at) in
-    (ap (λ (g : Basis). g.arch) own ∙ has.2, ap (λ (g : Basis). is_on_device g.strip step.sources.strip offset) own ∙ ap (is_on_device (own_graph state.device).strip step.sources.strip) (sym same) ∙ has.3)
+window_made state step graph offset wide parted all at own next = grind (arith, window_there)
 
 -- the strip of a running job has an offset
 pub stands_somewhere : (state : ServiceState) (step : JobStep) → AreWide state → AreParted state.device state → AreAlone state → offset_of state.plan.strips step.id ≡ None → IsNextStep state step → ⊥
-stands_somewhere state step wide parted all none next =
-    let has : HasWindow (own_graph state.device) state step = window_there state step wide parted all next in
-    none-some has.0 (sym none ∙ has.1)
+stands_somewhere state step wide parted all none next = grind arith
 
 -- the device's own graph has a window for a job that was just taken
 pub taken_fits : {A : Type 0} (old mid : ServiceState) (id : ℕ) (job : JobState) (graph : Basis) (window : Option A) → IsTaken old id (Some job) mid →
     (graph ≡ own_graph mid.device → IsNextStep mid job.step → IsSome window) → graph ≡ own_graph old.device → IsSome window
-taken_fits old mid id job graph window takes has own =
-    let device : mid.device ≡ old.device = ap (λ (s : ServiceState). s.device) takes.1 in
-    has (own ∙ ap own_graph (sym device)) (taken_next old mid id job takes)
+taken_fits old mid id job graph window takes has own = grind (arith, taken_next)
 
 pub none_never : {A : Type 0} (o : Option A) → o ≡ None → IsSome o → ⊥
 none_never o none some = false≢true (sym (ap is_some none) ∙ some)
 
 -- a graph of its architecture and of all its columns is the device's own
 pub own_made : (device : Device) (made : Result Basis AllocError) → IfOk made (λ g. g.arch ≡ device.arch) → IfOk made (λ g. g.strip ≡ device_strip device.arch device.columns device.rows) → IfOk made (λ g. g ≡ own_graph device)
-own_made device (Ok graph) arch strip =
-    let with_arch : Arch → Basis = λ a. record { arch = a; strip = graph.strip } in
-    let with_strip : Strip → Basis = λ s. record { arch = device.arch; strip = s } in
-    ap with_arch arch ∙ ap with_strip strip
-own_made device (Err error) arch strip = tt
+own_made device made arch strip = grind arith
 
 -- the device doesn't change
 pub own_after : (old : ServiceState) (calls : List Call) (new : ServiceState) (graph : Basis) → Run old calls new → graph ≡ own_graph old.device → graph ≡ own_graph new.device

@@ -1,20 +1,11 @@
 -- The part of a text that is kept.
-use Rattle.std.proofs.Common.{◌≡◌, ℕ, inl, inr, ◌+◌, ◌-◌, ◌≤◌, List, ◌++◌, length, take, length-append, refl, sym, ap, ◌∙◌, arith}
-use Rattle.std.proofs.lemmas.Bool.{cases_lt}
-use Rattle.std.proofs.lemmas.List.{take_all, take-take, take-append-le, length-take-le}
-use Rattle.std.proofs.Math.Seq.{take-append-add}
-use Rattle.sessions.specs.Items.{kept_part}
+use Rattle.sessions.proofs.Prelude.{◌≡◌, ℕ, ◌+◌, ◌-◌, ◌≤◌, List, ◌++◌, length, take, length-append, ap, ◌∙◌, arith, take_all, take-append-le, length-take-le, take-append-add, kept_part}
 
 take-append : (n : ℕ) (xs ys : List ℕ) → length xs ≤ n → take n (xs ++ ys) ≡ xs ++ take (n - length xs) ys
 take-append n xs ys h = let e : n ≡ length xs + (n - length xs) = omega arith in ap (λ k. take k (xs ++ ys)) e ∙ take-append-add xs ys (n - length xs)
 
 take-take-append : (n : ℕ) (xs ys : List ℕ) → take n (take n xs ++ ys) ≡ take n (xs ++ ys)
-take-take-append n xs ys = elim (cases_lt n (length xs)) [
-  | inl h ↦ let le : n ≤ length xs = omega arith in
-      let len : n ≤ length (take n xs) = rw (length-take-le n xs le) (omega arith) in
-      take-append-le n (take n xs) ys len ∙ take-take n n xs (omega arith) ∙ sym (take-append-le n xs ys le)
-  | inr h ↦ rw (take_all n xs h) refl
-]
+take-take-append n xs ys = grind (arith, length-take-le, take-append-le, take_all)
 
 pub kept-kept : (xs ys : List ℕ) → kept_part (kept_part xs ++ ys) ≡ kept_part (xs ++ ys)
 unfolding kept_part

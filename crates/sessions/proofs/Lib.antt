@@ -1,3 +1,4 @@
+mod Prelude
 mod CommandLemmas
 pub mod Counted
 pub mod EndToEndLemmas

@@ -1,20 +1,11 @@
 -- The items of a session's input that is read line by line.
-use Rattle.std.proofs.Common.{◌≡◌, ℕ, List, [], ◌∷◌, ◌++◌, length, true, false, Option, Some, None, refl, sym, ap, ◌∙◌, arith, append_assoc, append-nil}
-use Rattle.std.specs.Prelude.{option_map}
-use Rattle.line_text.specs.Lines.{physical_lines}
-use Rattle.sessions.specs.declared.line.SessionLine.{SessionLine}
-use Rattle.sessions.specs.Items.{ends_text, items_from, kept_part, text_ahead, text_item, without_cr}
-use Rattle.sessions.specs.Reading.{GivesItem, TextSoFar, item_and, items_to_come, resumed_item}
+use Rattle.sessions.proofs.Prelude.{◌≡◌, ℕ, List, [], ◌∷◌, ◌++◌, length, true, false, Option, Some, None, refl, sym, ap, ◌∙◌, arith, append_assoc, append-nil, option_map, physical_lines, SessionLine, ends_text, items_from, kept_part, text_ahead, text_item, without_cr, GivesItem, TextSoFar, item_and, items_to_come, resumed_item}
 use Rattle.sessions.proofs.KeptLemmas.{kept-kept}
 
 -- a line of a text, with the lines of the text that follow it
 one_more : (old : TextSoFar) (line bytes : List ℕ) (ahead : Option (List ℕ)) → bytes ≡ kept_part (old.bytes ++ line ++ 10 ∷ []) →
     text_item old.kind (option_map (λ more. old.bytes ++ more) (option_map (λ text. line ++ 10 ∷ text) ahead)) ≡ text_item old.kind (option_map (λ more. bytes ++ more) ahead)
-one_more old line bytes None is = refl
-one_more old line bytes (Some more) is =
-    let text : kept_part (bytes ++ more) ≡ kept_part (old.bytes ++ (line ++ 10 ∷ more)) =
-    ap (λ t. kept_part (t ++ more)) is ∙ kept-kept (old.bytes ++ line ++ 10 ∷ []) more ∙ ap kept_part (simp append_assoc) in
-    rw text refl
+one_more old line bytes ahead is = grind (arith, kept-kept, append_assoc)
 
 -- the next line of a text
 pub continued : (old : TextSoFar) (line : List ℕ) (new : TextSoFar) → ends_text line ≡ false → new ≡ record { kind = old.kind; bytes = kept_part (old.bytes ++ without_cr line ++ 10 ∷ []) } →
@@ -33,16 +24,11 @@ pushed items None = items
 pushed items (Some item) = items ++ item ∷ []
 
 pub pushed-and : (items : List SessionLine) (item : Option SessionLine) (rest : List SessionLine) → pushed items item ++ rest ≡ items ++ item_and item rest
-pushed-and items None rest = refl
-pushed-and items (Some item) rest = append_assoc items (item ∷ []) rest
+pushed-and items item rest = grind (arith, append_assoc)
 
 pub read_more : (items more : List SessionLine) (old new : Option TextSoFar) (text line after : List ℕ) (item : Option SessionLine) (all : List SessionLine) → physical_lines text ≡ line ∷ physical_lines after → GivesItem old line item new → more ≡ pushed items item →
     items ++ items_to_come old (physical_lines text) ≡ all → more ++ items_to_come new (physical_lines after) ≡ all
-read_more items more old new text line after item all lines gives is was =
-    ap (λ m. m ++ items_to_come new (physical_lines after)) is
-    ∙ (pushed-and items item (items_to_come new (physical_lines after))
-    ∙ (ap (λ i. items ++ i) (sym (gives (physical_lines after)))
-    ∙ (ap (λ l. items ++ items_to_come old l) (sym lines) ∙ was)))
+read_more items more old new text line after item all lines gives is was = grind (arith, pushed-and)
 
 no_lines : (text : List ℕ) → length text ≡ 0 → physical_lines text ≡ []
 no_lines [] h = refl
@@ -50,8 +36,4 @@ no_lines (b ∷ bytes) h = absurd (omega arith)
 
 pub read_all : (items more : List SessionLine) (old : Option TextSoFar) (text : List ℕ) (item : Option SessionLine) (all : List SessionLine) → length text ≡ 0 → item_and item [] ≡ items_to_come old [] → more ≡ pushed items item →
     items ++ items_to_come old (physical_lines text) ≡ all → more ≡ all
-read_all items more old text item all none ends is was =
-    is ∙ (sym (append-nil (pushed items item))
-    ∙ (pushed-and items item []
-    ∙ (ap (λ i. items ++ i) ends
-    ∙ (ap (λ l. items ++ items_to_come old l) (sym (no_lines text none)) ∙ was))))
+read_all items more old text item all none ends is was = grind (arith, append-nil, no_lines)

@@ -1,30 +1,6 @@
 -- The calls of the core that make a step.
-use Rattle.std.proofs.Common.{◌≡◌, ◌∙◌, ℕ, List, [], ◌∷◌, ◌++◌, Bool, true, Option, Some, Result, Err, refl, sym, ap, subst, append-nil}
-use Rattle.std.specs.Prelude.{All}
-use Rattle.std.specs.declared.alloc.AllocError.{AllocError}
-use Rattle.std.specs.List.{flat_map}
-use Rattle.std.proofs.lemmas.Grind.{flat_map-append}
-use Rattle.std.proofs.lemmas.List.Elements.{All-push}
-use Rattle.tenant_slot.specs.declared.reply.StepReply.{StepReply}
-use Rattle.job_state.specs.declared.step.JobStep.{JobStep}
-use Rattle.job_state.specs.Job.{JobState}
-use Rattle.rr_graph.specs.Graph.{Basis}
-use Rattle.service_core.specs.declared.put_reply.PutReply.{PutReply}
-use Rattle.service_core.specs.Calls.{IsGivenBack, IsPut, IsTaken, Puts}
-use Rattle.service_core.specs.Run.{Call, Run}
-use Rattle.service_core.specs.Run.Call.{Take, Put, GiveBack}
-use Rattle.service_core.specs.Service.{ServiceState}
-use Rattle.sessions.specs.declared.steps.StepOutcome.{StepOutcome}
-use Rattle.sessions.specs.declared.steps.StepOutcome.TheVariants.{Recorded, Full, Gone, NoMemory, Nothing, Unfit}
-use Rattle.tenant_slot.specs.declared.command.Command.TheVariants.{Status}
-use Rattle.sessions.specs.declared.line.SessionLine.{SessionLine}
-use Rattle.sessions.specs.declared.line.SessionLine.TheVariants.{Wait}
-use Rattle.sessions.specs.declared.told.Answer.{Answer}
-use Rattle.sessions.specs.declared.told.Answer.TheVariants.{Served}
-use Rattle.service_core.specs.declared.not_served.NotServed.TheVariants.{NoMemory as NotServedNoMemory}
-use Rattle.sessions.specs.Fitting.{own_graph}
-use Rattle.sessions.specs.SessionAnswer.{AsksCommand, EndsWait, IsAnswer, LeavesNone}
-use Rattle.sessions.specs.Steps.{EndsSteps, MadeStep, MakesStep, StepsAndPuts, Waits}
+use Rattle.sessions.proofs.Prelude.{◌≡◌, ◌∙◌, ℕ, List, [], ◌∷◌, ◌++◌, Bool, true, Option, Some, Result, Err, refl, sym, ap, subst, append-nil, arith, All, AllocError, flat_map, flat_map-append, All-push, StepReply, JobStep, JobState, Basis, PutReply, IsGivenBack, IsPut, IsTaken, Puts, Call, Run, Take, Put, GiveBack, ServiceState, StepOutcome, Recorded, Status, SessionLine, Wait, Answer, Served, NoMemory as NotServedNoMemory, own_graph, AsksCommand, EndsWait, IsAnswer, LeavesNone, EndsSteps, MadeStep, MakesStep, StepsAndPuts, Waits}
+use Rattle.sessions.specs.declared.steps.StepOutcome.TheVariants.{NoMemory}
 
 pub Run-append : (a : ServiceState) (xs : List Call) (b : ServiceState) (ys : List Call) (c : ServiceState) → Run a xs b → Run b ys c → Run a (xs ++ ys) c
 Run-append a [] b ys c first next = let P : ServiceState → Type 0 = λ s. Run s ys c in subst P first next
@@ -39,20 +15,13 @@ answered old new done result answer same puts = (puts.0, (let P : PutAnswer → 
 -- the calls of a put are a run
 pub put_runs : (old new : ServiceState) (job : JobState) (done : JobStep) (result answer : PutAnswer) → done ≡ job.step → result ≡ answer → Puts old done result new →
     (foreign : Bool) × Run old (Put job.step foreign answer ∷ []) new
-put_runs old new job done result answer made same puts =
-    let put = answered old new done result answer same puts in
-    (put.0, (new, (let P : JobStep → Type 0 = λ d. IsPut old d put.0 answer new in subst P made put.1), refl))
+put_runs old new job done result answer made same puts = grind arith
 
 -- a put that ran out of memory
 pub back_runs : (old mid new : ServiceState) (job returned : JobState) (done : JobStep) (result : PutAnswer) (back : JobStep × AllocError) → done ≡ job.step → result ≡ Err back → Puts old done result mid →
     returned ≡ record { step = back.0; made = true } → IsGivenBack mid returned new →
     (foreign : Bool) × Run old (Put job.step foreign (Err back) ∷ GiveBack (record { step = job.step; made = true }) ∷ []) new
-back_runs old mid new job returned done result back made same puts is gives =
-    let put = answered old mid done result (Err back) same puts in
-    let e : returned ≡ record { step = job.step; made = true } = is ∙ ap (λ (s : JobStep). record { step = s; made = true }) (put.1.1 ∙ made) in (
-      put.0,
-      (mid, (let P : JobStep → Type 0 = λ d. IsPut old d put.0 (Err back) mid in subst P made put.1), (new, (let P : JobState → Type 0 = λ b. IsGivenBack mid b new in subst P e gives), refl)),
-    )
+back_runs old mid new job returned done result back made same puts is gives = grind arith
 
 -- a step that ran out of memory
 pub given_runs : (old new : ServiceState) (job back : JobState) → back ≡ job → IsGivenBack old back new → Run old (GiveBack job ∷ []) new
@@ -60,12 +29,7 @@ given_runs old new job back same gives = (new, (let P : JobState → Type 0 = λ
 
 -- the take before it
 pub taken : (id : ℕ) (job : JobState) (more : List Call) (outcome : StepOutcome) → StepsAndPuts job more outcome → MakesStep id (Take id (Some job) ∷ more) outcome
-taken id job more (Recorded reply) s = (job, more, s, refl)
-taken id job more Full s = (job, more, s, refl)
-taken id job more Gone s = (job, more, s, refl)
-taken id job more NoMemory s = (job, more, s, refl)
-taken id job more Nothing s = absurd s
-taken id job more Unfit s = (job, more, s, refl)
+taken id job more outcome s = grind arith
 
 pub take_happens : (old new : ServiceState) (id : ℕ) (result : Option JobState) (job : JobState) → result ≡ Some job → IsTaken old id result new → IsTaken old id (Some job) new
 take_happens old new id result job same is = let P : Option JobState → Type 0 = λ j. IsTaken old id j new in subst P same is
@@ -95,24 +59,14 @@ made_ends id old mid new calls outcome so_far makes ends runs =
 
 -- a step that wasn't recorded
 pub ends_unrecorded : (outcome : StepOutcome) → ((reply : StepReply) → outcome ≡ Recorded reply → ⊥) → EndsSteps outcome
-ends_unrecorded (Recorded reply) not = not reply refl
-ends_unrecorded Full not = tt
-ends_unrecorded Gone not = tt
-ends_unrecorded NoMemory not = tt
-ends_unrecorded Nothing not = tt
-ends_unrecorded Unfit not = tt
+ends_unrecorded outcome not = grind arith
 
 pub wait_asks : (graph : Basis) (old mid new : ServiceState) (id : ℕ) (line : SessionLine) (last : StepOutcome) (steps more : List Call) (answer : Answer) → line ≡ Wait → Waits id steps last → Run old steps mid →
     EndsWait id last more answer → Run mid more new → (graph ≡ own_graph old.device → LeavesNone id Wait (steps ++ more) answer new) → IsAnswer graph old id line answer new
 wait_asks graph old mid new id line last steps more answer is waits first ends next leaves = rw is (steps ++ more, (last, steps, more, waits, ends, refl), Run-append old steps mid more new first next, leaves)
 
 pub ends_as_status : (id : ℕ) (last : StepOutcome) (calls : List Call) (answer : Answer) → (last ≡ NoMemory → ⊥) → AsksCommand id Status calls answer → EndsWait id last calls answer
-ends_as_status id (Recorded reply) calls answer not asks = asks
-ends_as_status id Full calls answer not asks = asks
-ends_as_status id Gone calls answer not asks = asks
-ends_as_status id NoMemory calls answer not asks = absurd (not refl)
-ends_as_status id Nothing calls answer not asks = asks
-ends_as_status id Unfit calls answer not asks = asks
+ends_as_status id last calls answer not asks = grind arith
 
 pub ends_without_memory : (id : ℕ) (last : StepOutcome) → last ≡ NoMemory → EndsWait id last [] (Served (Err NotServedNoMemory))
 ends_without_memory id last is = rw is (refl, refl)

@@ -1,18 +1,5 @@
 -- The calls that make steps change no strip's width.
-use Rattle.std.proofs.Common.{◌≡◌, ◌∙◌, ℕ, List, [], ◌∷◌, ◌++◌, true, false, eqb, Option, Some, None, Ok, Err, inl, inr, suc, refl, sym, ap, arith}
-use Rattle.std.specs.Prelude.{All, ⊤, option_map, if◌then◌else◌}
-use Rattle.std.specs.List.{flat_map}
-use Rattle.job_state.specs.Job.{JobState}
-use Rattle.service_core.specs.declared.put_reply.PutReply.TheVariants.{Recorded as PutRecorded, Full as PutFull, Gone as PutGone}
-use Rattle.service_core.specs.History.{History, with_entry, with_here}
-use Rattle.service_core.specs.Tenancy.{if_live}
-use Rattle.service_core.specs.Run.{Call, Happens, Run, IsGivenBackTo, step_entry}
-use Rattle.service_core.specs.Run.Call.{Admit, Evict, Move, Tenant, Take, Put, GiveBack, Owners}
-use Rattle.service_core.specs.Service.{ServiceState, history_of, live_of, live_width, with_changed}
-use Rattle.service_core.proofs.Lists.{history_of-modified}
-use Rattle.sessions.specs.declared.steps.StepOutcome.{StepOutcome}
-use Rattle.sessions.specs.declared.steps.StepOutcome.TheVariants.{Recorded, Full, Gone, NoMemory as StepNoMemory, Nothing, Unfit}
-use Rattle.sessions.specs.Steps.{MadeStep, MakesStep, StepsAndPuts, Waits}
+use Rattle.sessions.proofs.Prelude.{◌≡◌, ◌∙◌, ℕ, List, [], ◌∷◌, ◌++◌, true, false, Option, Some, None, suc, refl, ap, arith, All, ⊤, option_map, if◌then◌else◌, flat_map, JobState, History, if_live, Call, Happens, Run, IsGivenBackTo, Take, Put, GiveBack, ServiceState, live_width, with_changed, history_of-modified, StepOutcome, Recorded, MadeStep, MakesStep, StepsAndPuts, Waits}
 
 -- a call that makes steps
 abbrev pub IsStepping : Call → Type 0
@@ -34,24 +21,13 @@ AreStepping-append [] ys a b = b
 AreStepping-append (x ∷ xs) ys a b = (a.0, AreStepping-append xs ys a.1 b)
 
 puts_stepping : (job : JobState) (calls : List Call) (outcome : StepOutcome) → StepsAndPuts job calls outcome → AreStepping calls
-puts_stepping job calls (Recorded reply) is = to_stepping calls _ is.1 (tt, tt)
-puts_stepping job calls Full is = to_stepping calls _ is.1 (tt, tt)
-puts_stepping job calls Gone is = to_stepping calls _ is.1 (tt, tt)
-puts_stepping job calls StepNoMemory (inl is) = to_stepping calls _ is (tt, tt)
-puts_stepping job calls StepNoMemory (inr is) = to_stepping calls _ is.2 (tt, (tt, tt))
-puts_stepping job calls Nothing is = absurd is
-puts_stepping job calls Unfit is = to_stepping calls _ is (tt, tt)
+puts_stepping job calls outcome is = grind arith
 
 taking : (id : ℕ) (job : JobState) (calls more : List Call) (outcome : StepOutcome) → StepsAndPuts job more outcome → calls ≡ Take id (Some job) ∷ more → AreStepping calls
 taking id job calls more outcome puts is = to_stepping calls _ is (tt, puts_stepping job more outcome puts)
 
 step_stepping : (id : ℕ) (calls : List Call) (outcome : StepOutcome) → MakesStep id calls outcome → AreStepping calls
-step_stepping id calls (Recorded reply) is = taking id is.0 calls is.1 (Recorded reply) is.2 is.3
-step_stepping id calls Full is = taking id is.0 calls is.1 Full is.2 is.3
-step_stepping id calls Gone is = taking id is.0 calls is.1 Gone is.2 is.3
-step_stepping id calls StepNoMemory is = taking id is.0 calls is.1 StepNoMemory is.2 is.3
-step_stepping id calls Nothing is = to_stepping calls _ is (tt, tt)
-step_stepping id calls Unfit is = taking id is.0 calls is.1 Unfit is.2 is.3
+step_stepping id calls outcome is = grind arith
 
 made_stepping : (id : ℕ) (made : List MadeStep) → All (λ (m : MadeStep). MakesStep id m.0 (Recorded m.1)) made → AreStepping (flat_map (λ (m : MadeStep). m.0) made)
 made_stepping id [] all = tt
@@ -72,13 +48,10 @@ abbrev pub KeepsWidth : (History → History) → Type 0
 KeepsWidth change = (h : History) → ((change h).live ≡ h.live) × ((change h).strip ≡ h.strip)
 
 pub same_width : (change : History → History) → KeepsWidth change → (o : Option History) → width_in (option_map change o) ≡ width_in o
-same_width change keeps None = refl
-same_width change keeps (Some h) = width_some (change h) ∙ ((rw ((keeps h).0, (keeps h).1) refl) ∙ sym (width_some h))
+same_width change keeps o = grind arith
 
 width_kept : (hs : List History) (t id : ℕ) (change : History → History) → KeepsWidth change → live_width (with_changed hs t change) id ≡ live_width hs id
-width_kept hs t id change keeps =
-    ap width_in (history_of-modified hs t id change)
-    ∙ (elim (eqb id t) as (λ b. width_in (if b then option_map change (history_of hs id) else history_of hs id) ≡ width_in (history_of hs id)) [ true ↦ same_width change keeps (history_of hs id) | false ↦ refl ])
+width_kept hs t id change keeps = grind (arith, history_of-modified)
 
 -- they change no width
 abbrev SameWidth : ℕ → ServiceState → ServiceState → Type 0
@@ -91,22 +64,10 @@ changed : (id t : ℕ) (old new : ServiceState) (change : History → History) �
 changed id t old new change keeps is = ap (λ (s : ServiceState). live_width s.histories id) is ∙ width_kept old.histories t id change keeps
 
 given_back : (id : ℕ) (o : Option History) (old new : ServiceState) (job : JobState) → IsGivenBackTo o old job new → SameWidth id old new
-given_back id None old new job is = unchanged id old new is
-given_back id (Some h) old new job is = changed id job.step.id old new (with_here is.0) (λ g. (refl, refl)) is.2
+given_back id o old new job is = grind (arith, changed)
 
 stepping_width : (id : ℕ) (old : ServiceState) (call : Call) (new : ServiceState) → IsStepping call → Happens old call new → SameWidth id old new
-stepping_width id old (Take t (Some job)) new steps is = changed id t old new (with_here None) (λ g. (refl, refl)) is.1
-stepping_width id old (Take t None) new steps is = unchanged id old new is.1
-stepping_width id old (Put done foreign (Ok (PutRecorded reply))) new steps is = changed id done.id old new (with_entry (step_entry done foreign reply)) (λ g. (refl, refl)) is.1
-stepping_width id old (Put done foreign (Ok PutFull)) new steps is = unchanged id old new is.1
-stepping_width id old (Put done foreign (Ok PutGone)) new steps is = unchanged id old new is.1
-stepping_width id old (Put done foreign (Err back)) new steps is = unchanged id old new is.2
-stepping_width id old (GiveBack job) new steps is = given_back id (live_of old.histories job.step.id) old new job is
-stepping_width id old (Admit width answer) new steps is = absurd steps
-stepping_width id old (Evict t answer) new steps is = absurd steps
-stepping_width id old (Move t offset answer) new steps is = absurd steps
-stepping_width id old (Tenant t command served) new steps is = absurd steps
-stepping_width id old (Owners list) new steps is = absurd steps
+stepping_width id old call new steps is = grind (arith, changed)
 
 pub steps_width : (id : ℕ) (old : ServiceState) (calls : List Call) (new : ServiceState) → AreStepping calls → Run old calls new → SameWidth id old new
 steps_width id old [] new are run = unchanged id old new run

@@ -1,16 +1,8 @@
 -- The answers to a session, by the service for a single user.
 use Rattle.std.specs.Prelude.{ℕ, ◌≡◌, ◌-◌, ◌⊎◌, List, [], ◌++◌, length, take, Option, Some, None, Err}
 use Rattle.std.specs.Option.{option_map_or}
-use Rattle.tenant_slot.specs.declared.command.Command.{Command as TenantCommand}
-use Rattle.tenant_slot.specs.declared.command.Command.TheVariants.{Status}
+use Rattle.sessions.specs.Prelude.{Command as TenantCommand, Status, Reply, State, start, state_after, step, Device, NoMemory, own_events, Call, ServiceState, live_width, strip_on}
 use Rattle.tenant_slot.specs.declared.event.Event.TheVariants.{Command as Asked}
-use Rattle.tenant_slot.specs.declared.reply.Reply.{Reply}
-use Rattle.tenant_slot.specs.SingleUser.{State, start, state_after, step}
-use Rattle.service_core.specs.declared.device.Device.{Device}
-use Rattle.service_core.specs.declared.not_served.NotServed.TheVariants.{NoMemory}
-use Rattle.service_core.specs.OwnEvents.{own_events}
-use Rattle.service_core.specs.Run.{Call}
-use Rattle.service_core.specs.Service.{ServiceState, live_width, strip_on}
 use Rattle.sessions.specs.declared.line.SessionLine.{SessionLine}
 use Rattle.sessions.specs.declared.line.SessionLine.TheVariants.{Blank, Command, Wait, Refused}
 use Rattle.sessions.specs.declared.refusal.SessionRefusal.TheVariants.{Evicted}

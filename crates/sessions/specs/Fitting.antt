@@ -1,14 +1,6 @@
 -- The device's own graph, and the window on it for a job.
 use Rattle.std.specs.Prelude.{ℕ, ◌≡◌, List, Some, true}
-use Rattle.job_state.specs.declared.step.JobStep.{JobStep}
-use Rattle.job_state.specs.Job.{JobState}
-use Rattle.rr_graph.specs.Graph.{Basis}
-use Rattle.strips.specs.Plan.{offset_of}
-use Rattle.strips.specs.Windows.{device_strip, is_on_device}
-use Rattle.service_core.specs.declared.device.Device.{Device}
-use Rattle.service_core.specs.Calls.{IsTaken}
-use Rattle.service_core.specs.Run.{Call, Run}
-use Rattle.service_core.specs.Service.{ServiceState, empty_service}
+use Rattle.sessions.specs.Prelude.{JobStep, JobState, Basis, offset_of, device_strip, is_on_device, Device, IsTaken, Call, Run, ServiceState, empty_service}
 
 -- what a device's own graph is of: its architecture, and a strip of all its columns
 abbrev pub own_graph : Device → Basis

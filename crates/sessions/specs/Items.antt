@@ -2,7 +2,7 @@
 -- together with it.
 use Rattle.std.specs.Prelude.{ℕ, ◌-◌, List, [], ◌∷◌, ◌++◌, length, take, Bool, true, false, Option, Some, None, option_map, slice_index, ◌==◌, if◌then◌else◌}
 use Rattle.sessions.specs.declared.pending_text.TheConstants.{MAX_KEPT}
-use Rattle.line_text.specs.Lines.{physical_lines}
+use Rattle.sessions.specs.Prelude.{physical_lines}
 use Rattle.sessions.specs.declared.line.SessionLine.{SessionLine}
 use Rattle.sessions.specs.declared.line.SessionLine.TheVariants.{Blank, Command, Refused}
 use Rattle.sessions.specs.declared.line.TextKind.{TextKind}

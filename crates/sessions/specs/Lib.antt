@@ -1,3 +1,4 @@
+pub mod Prelude
 pub mod EndToEnd
 pub mod Fitting
 pub mod Items

@@ -1,15 +1,6 @@
 -- What a session's line asks of the core, and its answer.
 use Rattle.std.specs.Prelude.{ℕ, ◌≡◌, ◌⊎◌, ⊤, List, [], ◌∷◌, ◌++◌, false, Result, Err}
-use Rattle.rr_graph.specs.Graph.{Basis}
-use Rattle.tenant_slot.specs.declared.command.Command.{Command as TenantCommand}
-use Rattle.tenant_slot.specs.declared.command.Command.TheVariants.{Status}
-use Rattle.service_core.specs.declared.not_served.NotServed.{NotServed}
-use Rattle.service_core.specs.declared.not_served.NotServed.TheVariants.{NoMemory}
-use Rattle.service_core.specs.Calls.{takeable_in}
-use Rattle.service_core.specs.Receipt.{Receipted}
-use Rattle.service_core.specs.Run.{Call, Run}
-use Rattle.service_core.specs.Run.Call.{GiveBack, Tenant}
-use Rattle.service_core.specs.Service.{ServiceState, live_of}
+use Rattle.sessions.specs.Prelude.{Basis, Command as TenantCommand, Status, NotServed, NoMemory, takeable_in, Receipted, Call, Run, GiveBack, Tenant, ServiceState, live_of}
 use Rattle.sessions.specs.declared.line.SessionLine.{SessionLine}
 use Rattle.sessions.specs.declared.line.SessionLine.TheVariants.{Blank, Command, Wait, Refused}
 use Rattle.sessions.specs.declared.steps.StepOutcome.{StepOutcome}

@@ -2,10 +2,7 @@
 use Rattle.std.specs.Prelude.{ℕ, List, [], ◌∷◌, length, codes, nat_lt, Option, Some, if◌then◌else◌}
 use Rattle.std.specs.Str.{bytes_eq}
 use Rattle.sessions.specs.declared.line.TheConstants.{MAX_SESSION_LINE}
-use Rattle.line_text.specs.Decimal.{decimal_of}
-use Rattle.line_text.specs.Words.{words_of}
-use Rattle.tenant_slot.specs.declared.command.Command.{Command as TenantCommand}
-use Rattle.tenant_slot.specs.declared.command.Command.TheVariants.{Upload as UploadText, Change as ChangeText, Pack, Place, Route, Cancel, Withdraw, Status, Net, PlaceFile, RouteFile}
+use Rattle.sessions.specs.Prelude.{decimal_of, words_of, Command as TenantCommand, Upload as UploadText, Change as ChangeText, Pack, Place, Route, Cancel, Withdraw, Status, Net, PlaceFile, RouteFile}
 use Rattle.sessions.specs.declared.refusal.SessionRefusal.TheVariants.{UnknownCommand, BadNumber}
 use Rattle.sessions.specs.declared.line.SessionLine.{SessionLine}
 use Rattle.sessions.specs.declared.line.SessionLine.TheVariants.{Blank, Command, Wait, Refused}

@@ -1,20 +1,8 @@
 -- The texts of a session's answers.
 use Rattle.std.specs.Prelude.{ℕ, List, [], ◌∷◌, ◌++◌, length, codes, decimal, Option, Some, None, Ok, Err}
 use Rattle.std.specs.Option.{option_map_or}
-use Rattle.blif.specs.Faults.{net_of, number_of}
-use Rattle.tenant_slot.specs.declared.reply.Reply.{Reply}
-use Rattle.tenant_slot.specs.declared.reply.Reply.TheVariants.{Accepted, Status as InState, File, Refused, Step}
-use Rattle.tenant_slot.specs.declared.reply.Refusal.{Refusal}
-use Rattle.tenant_slot.specs.declared.reply.Refusal.TheVariants.{WrongState, BadBlif, CannotPack, DoesNotFit, BadEffort}
-use Rattle.tenant_slot.specs.declared.reply.Misfit.TheVariants.{Blocks, Pads}
-use Rattle.tenant_slot.specs.declared.reply.Ending.{Ending}
-use Rattle.tenant_slot.specs.declared.reply.Ending.TheVariants.{GaveUp, NoPath}
-use Rattle.tenant_slot.specs.Names.{file_text, state_text, refusal_number, refusal_text}
-use Rattle.tenant_slot.specs.declared.reply.StepReply.{StepReply}
-use Rattle.tenant_slot.specs.declared.reply.StepReply.TheVariants.{Advanced, Finished, Stale}
-use Rattle.service_core.specs.declared.not_served.NotServed.{NotServed}
-use Rattle.service_core.specs.declared.not_served.NotServed.TheVariants.{NoMemory, JournalFull, NoSuchTenancy}
-use Rattle.service_core.specs.declared.not_served.NoteCause.{NoteCause}
+use Rattle.sessions.specs.Prelude.{net_of, number_of, Reply, Accepted, File, Refused, Step, Refusal, WrongState, BadBlif, CannotPack, DoesNotFit, BadEffort, Blocks, Pads, Ending, GaveUp, NoPath, file_text, state_text, refusal_number, refusal_text, StepReply, Advanced, Finished, Stale, NotServed, NoMemory, JournalFull, NoSuchTenancy, NoteCause}
+use Rattle.tenant_slot.specs.declared.reply.Reply.TheVariants.{Status as InState}
 use Rattle.service_core.specs.declared.not_served.NoteCause.TheVariants.{JournalFull as FullJournal, NoSuchTenancy as NotLive}
 use Rattle.sessions.specs.declared.told.Answer.{Answer}
 use Rattle.sessions.specs.declared.told.Answer.TheVariants.{Nothing, Served, Refused as RefusedAnswer}

@@ -2,13 +2,7 @@
 use Rattle.std.specs.Prelude.{ℕ, ◌≡◌, ◌⊎◌, ⊤, List, [], ◌∷◌, ◌++◌, All, Bool, true, Some, None, Result, Ok, Err}
 use Rattle.std.specs.declared.alloc.AllocError.{AllocError}
 use Rattle.std.specs.List.{flat_map}
-use Rattle.job_state.specs.declared.step.JobStep.{JobStep}
-use Rattle.job_state.specs.Job.{JobState}
-use Rattle.tenant_slot.specs.declared.reply.StepReply.{StepReply}
-use Rattle.service_core.specs.declared.put_reply.PutReply.{PutReply}
-use Rattle.service_core.specs.declared.put_reply.PutReply.TheVariants.{Recorded as PutRecorded, Full as PutFull, Gone as PutGone}
-use Rattle.service_core.specs.Run.{Call}
-use Rattle.service_core.specs.Run.Call.{Take, Put, GiveBack}
+use Rattle.sessions.specs.Prelude.{JobStep, JobState, StepReply, PutReply, Recorded as PutRecorded, Full as PutFull, Gone as PutGone, Call, Take, Put, GiveBack}
 use Rattle.sessions.specs.declared.steps.StepOutcome.{StepOutcome}
 use Rattle.sessions.specs.declared.steps.StepOutcome.TheVariants.{Recorded, Full, Gone, NoMemory, Nothing, Unfit}
 

@@ -1,14 +1,8 @@
 -- A whole session, by the service for a single user.
 use Rattle.std.specs.Prelude.{ℕ, ◌≡◌, ◌≢◌, ⊤, List, [], ◌∷◌, ◌++◌, map, Option, Err}
 use Rattle.std.specs.List.{flat_map}
-use Rattle.tenant_slot.specs.declared.event.Event.{Event}
-use Rattle.tenant_slot.specs.declared.event.Event.TheVariants.{Command as Asked, Advance as Stepped}
-use Rattle.tenant_slot.specs.declared.reply.Reply.{Reply}
-use Rattle.service_core.specs.declared.not_served.NotServed.TheVariants.{NoMemory as NotServedNoMemory}
-use Rattle.service_core.specs.OwnEvents.{own_events}
-use Rattle.service_core.specs.Run.{Call, Happens, Run}
-use Rattle.service_core.specs.Run.Call.{Tenant, Evict}
-use Rattle.service_core.specs.Service.{ServiceState}
+use Rattle.sessions.specs.Prelude.{Event, Advance as Stepped, Reply, NoMemory as NotServedNoMemory, own_events, Call, Happens, Run, Tenant, Evict, ServiceState}
+use Rattle.tenant_slot.specs.declared.event.Event.TheVariants.{Command as Asked}
 use Rattle.sessions.specs.declared.line.SessionLine.{SessionLine}
 use Rattle.sessions.specs.declared.refusal.SessionRefusal.{SessionRefusal}
 use Rattle.sessions.specs.declared.told.Answer.{Answer}

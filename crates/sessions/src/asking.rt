@@ -1,4 +1,4 @@
-ghost use Rattle.line_text.specs.Writing.{Writes};
+ghost use Rattle.sessions.specs.Prelude.{Writes};
 ghost use Rattle.sessions.specs.SessionAnswer.{IsAnswer};
 ghost use Rattle.sessions.specs.SessionText.{answer_text};
 

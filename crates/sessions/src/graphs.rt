@@ -1,5 +1,5 @@
 ghost use Rattle.std.specs.Prelude.{◌≡◌, IfOk};
-ghost use Rattle.service_core.specs.Kept.{IsDevice};
+ghost use Rattle.sessions.specs.Prelude.{IsDevice};
 ghost use Rattle.sessions.specs.Fitting.{own_graph};
 
 use service_core::Device;

@@ -1,10 +1,5 @@
 ghost use Rattle.std.specs.Prelude.{◌≡◌, ◌⊎◌, false, List, [], ◌∷◌, ℕ, Ok, Some};
-ghost use Rattle.tenant_slot.specs.SingleUser.{replies_to, start};
-ghost use Rattle.service_core.specs.declared.device.Device.{Device};
-ghost use Rattle.service_core.specs.Calls.{takeable_in};
-ghost use Rattle.service_core.specs.Run.{Call, Run};
-ghost use Rattle.service_core.specs.Run.Call.{Admit};
-ghost use Rattle.service_core.specs.Service.{ServiceState, empty_service, live_of, live_width, strip_on};
+ghost use Rattle.sessions.specs.Prelude.{replies_to, start, Device, takeable_in, Call, Run, Admit, ServiceState, empty_service, live_of, live_width, strip_on};
 ghost use Rattle.sessions.specs.declared.line.SessionLine.{SessionLine};
 ghost use Rattle.sessions.specs.declared.steps.StepOutcome.{StepOutcome};
 ghost use Rattle.sessions.specs.declared.steps.StepOutcome.TheVariants.{NoMemory, Unfit};

@@ -1,5 +1,5 @@
 ghost use Rattle.std.specs.Prelude.{◌≡◌, ◌≢◌, ◌∷◌, [], length, MatchOption};
-ghost use Rattle.line_text.specs.Words.{words_of};
+ghost use Rattle.sessions.specs.Prelude.{words_of};
 ghost use Rattle.sessions.specs.declared.line.LineForm.TheVariants.{Asks};
 ghost use Rattle.sessions.specs.declared.line.SessionLine.TheVariants.{Refused};
 ghost use Rattle.sessions.specs.declared.refusal.SessionRefusal.TheVariants.{UnknownCommand};

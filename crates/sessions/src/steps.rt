@@ -1,7 +1,5 @@
 ghost use Rattle.std.specs.Prelude.{◌≡◌, ◌≢◌, IfSome, IsSome, List};
-ghost use Rattle.job_state.specs.JobValue.{basis_in};
-ghost use Rattle.service_core.specs.Calls.{IsNextStep, IsOriginIn};
-ghost use Rattle.service_core.specs.Run.{Call, Run};
+ghost use Rattle.sessions.specs.Prelude.{basis_in, IsNextStep, IsOriginIn, Call, Run};
 ghost use Rattle.sessions.specs.declared.steps.StepOutcome.TheVariants.{Unfit};
 ghost use Rattle.sessions.specs.Fitting.{own_graph};
 ghost use Rattle.sessions.specs.Steps.{MakesStep, StepsAndPuts, Waits};

@@ -1,9 +1,7 @@
 ghost use Rattle.std.specs.Prelude.{◌≡◌, ◌++◌, ◌∷◌, [], codes, decimal, length};
-ghost use Rattle.blif.specs.Faults.{number_of};
-ghost use Rattle.line_text.specs.Writing.{Writes};
+ghost use Rattle.sessions.specs.Prelude.{number_of, Writes, Refused, BadBlif, DoesNotFit};
 ghost use Rattle.sessions.specs.SessionText.{blank_word, cause_text, numbered_line, reply_text, session_refusal_text, step_text};
-ghost use Rattle.tenant_slot.specs.declared.reply.Reply.TheVariants.{Status as InState, Refused};
-ghost use Rattle.tenant_slot.specs.declared.reply.Refusal.TheVariants.{BadBlif, DoesNotFit};
+ghost use Rattle.tenant_slot.specs.declared.reply.Reply.TheVariants.{Status as InState};
 
 use crate::refusal::SessionRefusal;
 use blif::BlifFault;

@@ -1,4 +1,4 @@
-ghost use Rattle.line_text.specs.Writing.{Writes};
+ghost use Rattle.sessions.specs.Prelude.{Writes};
 ghost use Rattle.sessions.specs.SessionText.{answer_text, no_memory_text, note_text, unserved_text};
 
 use crate::refusal::SessionRefusal;

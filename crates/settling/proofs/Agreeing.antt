@@ -1,12 +1,5 @@
 -- If all receipts are confirmed, and all leases and shares are there, all is settled.
-use Rattle.std.proofs.Common.{◌≡◌, ◌+◌, List, [], ◌∷◌, ◌++◌, length, Bool, sym}
-use Rattle.std.specs.Prelude.{All}
-use Rattle.std.proofs.lemmas.List.Elements.{All-cons, All-head, All-nil, All-tail}
-use Rattle.service_core.specs.Service.{ServiceState}
-use Rattle.shared_core.specs.CoreState.{CoreState, ShareState, places_of, puts_in}
-use Rattle.shared_core.specs.Accounts.{AreMarks, leases_in, places_sum}
-use Rattle.transcripts.specs.Transcripts.{TranscriptState, receipts_of}
-use Rattle.settling.specs.Settling.{AreAllThere, AreMarkedEntries, Claim, IsBorneOut, IsFullIfTold, IsSettled, claims_from, claims_in, claims_of, has_id, puts_counted, receipts_in}
+use Rattle.settling.proofs.Prelude.{◌≡◌, ◌+◌, List, [], ◌∷◌, ◌++◌, length, Bool, sym, arith, All, All-cons, All-head, All-nil, All-tail, ServiceState, CoreState, ShareState, places_of, puts_in, AreMarks, leases_in, places_sum, TranscriptState, receipts_of, AreAllThere, AreMarkedEntries, Claim, IsBorneOut, IsFullIfTold, IsSettled, claims_from, claims_in, claims_of, has_id, puts_counted, receipts_in}
 use Rattle.settling.proofs.Matching.{Fits, entries_are, fits, ids_are, places_told, rises_in, since}
 use Rattle.settling.proofs.Matching as Matching
 use Rattle.settling.proofs.Totals.{AreFit, Exact, HavePlaces, apart, sums}
@@ -49,10 +42,7 @@ one_marked begun core t marks good are = record {
 
 all_marked : (begun : ServiceState) (core : CoreState) (ts : List TranscriptState) → AreMarks begun.histories core.service.histories core.marks → All (Good core) ts → HavePlaces core.marks ts → All (AreMarkedEntries begun core) ts
 all_marked begun core [] marks good are = All-nil (AreMarkedEntries begun core)
-all_marked begun core (t ∷ ts) marks good are =
-    All-cons (AreMarkedEntries begun core) t ts
-    (one_marked begun core t marks (All-head (Good core) t ts good) (All-head (λ (u : TranscriptState). places_told (receipts_of u.items) ≡ places_of core.marks u.id) t ts are))
-    (all_marked begun core ts marks (All-tail (Good core) t ts good) (All-tail (λ (u : TranscriptState). places_told (receipts_of u.items) ≡ places_of core.marks u.id) t ts are))
+all_marked begun core (t ∷ ts) marks good are = search (one_marked, arith)
 
 pub settled : (begun : ServiceState) (core : CoreState) (ts : List TranscriptState) (shares : List ShareState) → AreMarks begun.histories core.service.histories core.marks → AreAllThere core ts (length shares) → All (IsBorneOut core) (claims_of ts) → length ts ≡ leases_in core.marks → receipts_in ts ≡ places_sum core.marks → All (IsFullIfTold core.service) ts → puts_counted shares + core.own_puts ≡ puts_in core.service.histories → IsSettled begun core ts shares
 settled begun core ts shares marks there good many told full puts =

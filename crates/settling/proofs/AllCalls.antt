@@ -1,29 +1,7 @@
 -- The commands that are served in the calls that led to a settled service are those of the
 -- transcripts.
-use Rattle.std.proofs.Common.{◌≡◌, ℕ, zero, suc, List, [], ◌∷◌, ◌++◌, length, take, Bool, true, false, eqb, Option, Some, None, Ok, Err, refl, sym, ap, ◌∙◌, arith}
-use Rattle.std.specs.Prelude.{All, IsSomeAnd, map, slice_get, if◌then◌else◌}
-use Rattle.std.specs.Option.{option_map_or}
-use Rattle.std.proofs.lemmas.Bool.Decides.{nat_tests, Decides-eqb}
-use Rattle.std.proofs.lemmas.List.Elements.{All-append, All-cons, All-head, All-nil, All-tail}
-use Rattle.tenant_slot.specs.declared.command.Command.{Command}
-use Rattle.tenant_slot.specs.declared.event.Event.{Event}
-use Rattle.tenant_slot.specs.declared.event.Event.TheVariants.{Command as Asked, Advance as Stepped}
-use Rattle.tenant_slot.specs.declared.reply.Reply.{Reply}
-use Rattle.service_core.specs.declared.entry.Entry.{Entry}
-use Rattle.service_core.specs.History.{History, with_entry}
-use Rattle.service_core.specs.Tenancy.{if_live}
-use Rattle.service_core.specs.Receipt.{Receipted}
-use Rattle.service_core.specs.Calls.{IsServed}
-use Rattle.service_core.specs.Run.{Call, Happens, IsReceipt, Run}
-use Rattle.service_core.specs.Run.Call.{Admit, Evict, Move, Tenant, Take, Put, GiveBack, Owners}
-use Rattle.service_core.specs.Service.{ServiceState, entries_in, history_of, journal_of}
-use Rattle.service_core.proofs.Lists.{history_of-modified}
-use Rattle.shared_core.specs.CoreState.{CoreState, ShareState, places_of}
-use Rattle.shared_core.specs.Following.{Follows, GoesOn}
-use Rattle.shared_core.specs.Reaching.{IsReached, is_of_threads, own_receipt, own_receipts}
-use Rattle.shared_core.proofs.Reaching.{IsOfThreads, run_goes_on}
-use Rattle.transcripts.specs.Transcripts.{TranscriptState, receipts_of}
-use Rattle.settling.specs.Settling.{AreAllCalls, AreMarkedEntries, IsSettled, entry_of}
+use Rattle.settling.proofs.Prelude.{◌≡◌, ℕ, zero, suc, List, [], ◌∷◌, ◌++◌, length, take, Bool, true, false, eqb, Option, Some, None, Ok, Err, refl, sym, ap, ◌∙◌, arith, All, IsSomeAnd, map, slice_get, if◌then◌else◌, Decides-eqb, All-append, All-cons, All-head, All-nil, All-tail, Command, Reply, Entry, History, Receipted, IsServed, Call, Happens, Run, Admit, Evict, Move, Tenant, Take, Put, GiveBack, Owners, ServiceState, entries_in, history_of, journal_of, history_of-modified, CoreState, ShareState, places_of, Follows, GoesOn, IsReached, is_of_threads, own_receipt, own_receipts, IsOfThreads, run_goes_on, TranscriptState, receipts_of, AreAllCalls, AreMarkedEntries, IsSettled, entry_of}
+use Rattle.tenant_slot.specs.declared.event.Event.TheVariants.{Command as Asked}
 
 -- a list that is a beginning of another
 abbrev head_or : {A : Type 0} → A → List A → A
@@ -66,24 +44,7 @@ abbrev asked_with : Command → Reply → Entry
 asked_with command reply = record { event = Asked command; reply = reply }
 
 served_stands : (a b : ServiceState) (id : ℕ) (command : Command) (r : Receipted) → IsServed a id command (Ok r) b → Stands b id r
-served_stands a b id command r is = at_option (history_of a.histories id) refl is.0
-  where
-    entry : Entry
-    entry = asked_with command r.reply
-
-    at_option : (o : Option History) → history_of a.histories id ≡ o → IsReceipt (if_live o) id command r → Stands b id r
-    at_option None e none = absurd none
-    at_option (Some h) e said = by_live h.live said
-      where
-        there : history_of b.histories id ≡ Some (with_entry entry h)
-        there = ap (λ hs. history_of hs id) (ap hs_of is.1) ∙ (grind (arith, nat_tests, history_of-modified a.histories id id (with_entry entry)))
-
-        by_live : (b' : Bool) → IsReceipt (if b' then Some h else None) id command r → Stands b id r
-        by_live false none = absurd none
-        by_live true told =
-            let journal : journal_of b id ≡ h.entries ++ entry ∷ [] = ap entries_in there in
-            let same : entry ≡ entry_of r = ap (λ (c : Command). asked_with c r.reply) (sym told.2) in
-            (told.0, ap (λ es. slice_get es r.place) journal ∙ (ap (λ n. slice_get (h.entries ++ entry ∷ []) n) told.1 ∙ (at_end h.entries entry ∙ ap Some same)))
+served_stands a b id command r is = grind (arith, history_of-modified, at_end)
 
 -- the receipts of a run
 one_stands : (a mid b : ServiceState) (id : ℕ) (call : Call) → Happens a call mid → Follows mid b → All (Stands b id) (own_receipt id call)
@@ -117,25 +78,11 @@ receipt_of id place command reply = record { id = id; place = place; command = c
 all_same : (a a' b b' : ℕ) (c c' : Command) (d d' : Reply) → a ≡ a' → b ≡ b' → c ≡ c' → d ≡ d' → receipt_of a b c d ≡ receipt_of a' b' c' d'
 all_same a a' b b' c c' d d' p q r s = rw (p, q, r, s) refl
 
-abbrev command_or : Command → Event → Command
-command_or other (Asked command) = command
-command_or other (Stepped made) = other
-
-same_receipt : (s : ServiceState) (id : ℕ) (r q : Receipted) → Stands s id r → Stands s id q → r.place ≡ q.place → r ≡ q
-same_receipt s id r q one two places =
-    let entries : Some (entry_of r) ≡ Some (entry_of q) = sym one.1 ∙ (ap (slice_get (journal_of s id)) places ∙ two.1) in
-    all_same r.id q.id r.place q.place r.command q.command r.reply q.reply (one.0 ∙ sym two.0) places
-    (ap (λ (o : Option Entry). option_map_or (λ (e : Entry). command_or q.command e.event) o q.command) entries)
-    (ap (λ (o : Option Entry). option_map_or (λ (e : Entry). e.reply) o q.reply) entries)
-
 same_receipts : (s : ServiceState) (id : ℕ) (rs qs : List Receipted) → map (λ r. r.place) rs ≡ map (λ r. r.place) qs → All (Stands s id) rs → All (Stands s id) qs → rs ≡ qs
 same_receipts s id [] [] places one two = refl
 same_receipts s id [] (q ∷ qs) places one two = cc
 same_receipts s id (r ∷ rs) [] places one two = cc
-same_receipts s id (r ∷ rs) (q ∷ qs) places one two =
-    let first : r ≡ q = same_receipt s id r q (All-head (Stands s id) r rs one) (All-head (Stands s id) q qs two) (ap (head_or 0) places) in
-    let rest : rs ≡ qs = same_receipts s id rs qs (ap tail_of places) (All-tail (Stands s id) r rs one) (All-tail (Stands s id) q qs two) in
-    ap (λ x. x ∷ rs) first ∙ ap (λ xs. q ∷ xs) rest
+same_receipts s id (r ∷ rs) (q ∷ qs) places one two = grind (arith, All-head, same_receipts s id rs qs (ap tail_of places) (All-tail (Stands s id) r rs one) (All-tail (Stands s id) q qs two))
 
 none_there : (rs : List Receipted) → map (λ r. r.place) rs ≡ [] → rs ≡ []
 none_there [] none = refl

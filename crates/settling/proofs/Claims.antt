@@ -1,15 +1,5 @@
 -- Receipts that are confirmed, one after another.
-use Rattle.std.proofs.Common.{◌≡◌, ℕ, zero, suc, ◌+◌, ◌<◌, List, [], ◌∷◌, ◌++◌, length, get_or, take, drop, Bool, Some, None, refl, sym, ap, ◌∙◌, arith}
-use Rattle.std.specs.Prelude.{All, slice_get}
-use Rattle.std.proofs.lemmas.List.Elements.{All-append, All-push, filter_map-append}
-use Rattle.std.proofs.lemmas.Option.{slice_get-get_or}
-use Rattle.service_core.specs.Receipt.{Receipted}
-use Rattle.shared_core.specs.CoreState.{CoreState}
-use Rattle.transcripts.specs.declared.item.Item.{Item}
-use Rattle.transcripts.specs.declared.item.ItemAnswer.{ItemAnswer}
-use Rattle.transcripts.specs.declared.item.ItemAnswer.TheVariants.{Receipt, Note, Refused}
-use Rattle.transcripts.specs.Transcripts.{TranscriptState, receipt_in, receipts_of}
-use Rattle.settling.specs.Settling.{Claim, IsBorneOut, IsFirstBad, claims_from, claims_in, claims_of, has_id}
+use Rattle.settling.proofs.Prelude.{◌≡◌, ℕ, zero, suc, ◌+◌, ◌<◌, List, [], ◌∷◌, ◌++◌, length, get_or, take, drop, Bool, Some, None, refl, sym, ap, ◌∙◌, arith, All, slice_get, All-append, All-push, filter_map-append, slice_get-get_or, Receipted, CoreState, Item, ItemAnswer, Receipt, TranscriptState, receipt_in, receipts_of, Claim, IsBorneOut, IsFirstBad, claims_from, claims_in, claims_of, has_id}
 
 -- the place after the last receipt's
 abbrev pub next_place : ℕ → List Receipted → ℕ
@@ -29,9 +19,7 @@ at_index xs i x within is = slice_get-get_or xs i x within ∙ ap Some (sym is)
 
 -- an item that has no receipt
 pub no_receipt_in : (p : ItemAnswer) → ((r : Receipted) → p ≡ Receipt r → ⊥) → receipt_in p ≡ None
-no_receipt_in (Receipt r) not = absurd (not r refl)
-no_receipt_in (Note n) not = refl
-no_receipt_in (Refused r) not = refl
+no_receipt_in p not = grind arith
 
 -- a list around one of its elements
 around : {A : Type 0} (xs : List A) (i : ℕ) (x : A) → slice_get xs i ≡ Some x → xs ≡ take i xs ++ x ∷ drop (i + 1) xs
@@ -77,27 +65,12 @@ good-next core id repeated rs r all good = rw (claims_in-append id repeated 0 rs
 
 -- or it is the first that isn't
 pub bad-next : (core : CoreState) (id : ℕ) (repeated : Bool) (items : List Item) (j : ℕ) (item : Item) (r : Receipted) → slice_get items j ≡ Some item → receipt_in item.place ≡ Some r → All (IsBorneOut core) (claims_in id repeated 0 (receipts_of (take j items))) → (IsBorneOut core (record { id = id; repeated = repeated; least = next_place 0 (receipts_of (take j items)); receipt = r }) → ⊥) → IsFirstBad core (claims_in id repeated 0 (receipts_of items)) r.id r.place
-bad-next core id repeated items j item r at is all bad =
-    let rs : List Receipted = receipts_of (take j items) in
-    record {
-      before = claims_in id repeated 0 rs;
-      bad = record { id = id; repeated = repeated; least = next_place 0 rs; receipt = r };
-      after = claims_in id repeated (r.place + 1) (receipts_of (drop (j + 1) items));
-      are = ap (claims_in id repeated 0) (receipts-around items j item r at is) ∙ claims_in-append id repeated 0 rs (r ∷ receipts_of (drop (j + 1) items));
-      good = all;
-      not = bad;
-      its_id = refl;
-      its_place = refl;
-    }
+bad-next core id repeated items j item r at is all bad = grind (arith, claims_in-append, receipts-around items j item r)
 
 -- over all transcripts
 claims_from-append : (earlier xs ys : List TranscriptState) → claims_from earlier (xs ++ ys) ≡ claims_from earlier xs ++ claims_from (earlier ++ xs) ys
 claims_from-append earlier [] ys = rw (append-nil earlier) refl
-claims_from-append earlier (x ∷ xs) ys =
-    let first : List Claim = claims_in x.id (has_id earlier x.id) 0 (receipts_of x.items) in
-    let rest = claims_from-append (earlier ++ x ∷ []) xs ys in
-    let moved : (earlier ++ x ∷ []) ++ xs ≡ earlier ++ x ∷ xs = assoc earlier (x ∷ []) xs in
-    ap (λ cs. first ++ cs) (rest ∙ ap (λ es. claims_from (earlier ++ x ∷ []) xs ++ claims_from es ys) moved) ∙ sym (assoc first (claims_from (earlier ++ x ∷ []) xs) (claims_from (earlier ++ x ∷ xs) ys))
+claims_from-append earlier (x ∷ xs) ys = grind (arith, assoc, claims_from-append (earlier ++ x ∷ []) xs ys)
 
 pub all-next : (core : CoreState) (ts : List TranscriptState) (i : ℕ) (t : TranscriptState) → slice_get ts i ≡ Some t → All (IsBorneOut core) (claims_of (take i ts)) → All (IsBorneOut core) (claims_in t.id (has_id (take i ts) t.id) 0 (receipts_of t.items)) → All (IsBorneOut core) (claims_of (take (i + 1) ts))
 all-next core ts i t at all more =

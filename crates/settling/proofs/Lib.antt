@@ -1,3 +1,4 @@
+mod Prelude
 pub mod Claims
 pub mod FullJournals
 pub mod Matching

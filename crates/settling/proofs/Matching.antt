@@ -1,15 +1,6 @@
 -- Receipts at rising places among the marked ones are at most as many; if they are as many, they
 -- are all of them.
-use Rattle.std.proofs.Common.{◌≡◌, ℕ, ◌+◌, ◌<◌, ◌≤◌, List, [], ◌∷◌, length, Bool, true, false, eqb, Some, refl, sym, arith}
-use Rattle.std.specs.Prelude.{All, AllPairs, map, slice_get, ◌||◌}
-use Rattle.std.proofs.lemmas.Bool.Decides.{nat_tests, Decides-eqb}
-use Rattle.std.proofs.lemmas.List.Elements.{All-cons, All-head, All-nil, All-tail}
-use Rattle.std.proofs.lemmas.List.Kept.{AllPairs-cons}
-use Rattle.service_core.specs.Receipt.{Receipted}
-use Rattle.service_core.specs.Service.{journal_of}
-use Rattle.shared_core.specs.CoreState.{CoreState, has_place, places_of}
-use Rattle.shared_core.specs.Accounts.{IsRising}
-use Rattle.settling.specs.Settling.{Claim, IsBorneOut, claims_in, entry_of}
+use Rattle.settling.proofs.Prelude.{◌≡◌, ℕ, ◌+◌, ◌<◌, ◌≤◌, List, [], ◌∷◌, length, Bool, true, false, eqb, Some, refl, sym, arith, All, AllPairs, map, slice_get, ◌||◌, Decides-eqb, All-cons, All-head, All-nil, All-tail, AllPairs-cons, Receipted, journal_of, CoreState, has_place, places_of, IsRising, Claim, IsBorneOut, claims_in, entry_of}
 
 -- the receipts' places rise, from k on, and are among those
 abbrev pub RisesIn : ℕ → List Receipted → List ℕ → Type 0
@@ -24,16 +15,12 @@ pub record Fits (rs : List Receipted) (ps : List ℕ) : Type 0 where
   pub all : length rs ≡ length ps → places_told rs ≡ ps
 
 or_right : (a b : Bool) → a ≡ false → (a || b) ≡ true → b ≡ true
-or_right true b not is = cc
-or_right false b not is = is
+or_right a b not is = grind arith
 
 -- past the first place
 shift : (k p : ℕ) (rs : List Receipted) (ps : List ℕ) → p + 1 ≤ k → RisesIn k rs (p ∷ ps) → RisesIn k rs ps
 shift k p [] ps past is = is
-shift k p (r ∷ rs) ps past is =
-    let from = is.0 in
-    let e : eqb p r.place ≡ false = grind (arith, nat_tests) in
-    (is.0, or_right (eqb p r.place) (has_place ps r.place) e is.1, shift (r.place + 1) p rs ps (omega arith) is.2)
+shift k p (r ∷ rs) ps past is = grind (arith, shift (r.place + 1) p rs ps (omega arith) is.2)
 
 -- what is among places that rise from k is at least k
 has_least : (k n place : ℕ) (ps : List ℕ) → IsRising k ps n → has_place ps place ≡ true → k ≤ place

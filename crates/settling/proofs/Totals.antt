@@ -1,15 +1,6 @@
 -- As many receipts as marked entries, and as many transcripts as leases: each transcript has all of
 -- its journal's.
-use Rattle.std.proofs.Common.{◌≡◌, ◌≢◌, ℕ, zero, suc, ◌+◌, ◌-◌, ◌≤◌, List, [], ◌∷◌, ◌++◌, length, Bool, true, false, eqb, Option, Some, None, refl, sym, ap, ◌∙◌, arith}
-use Rattle.std.specs.Prelude.{All, AllPairs, slice_get, if◌then◌else◌, ◌||◌, ◌&&◌, not, option_map}
-use Rattle.std.proofs.lemmas.Bool.Decides.{nat_tests, Decides-eqb}
-use Rattle.std.proofs.lemmas.List.Elements.{All-cons, All-head, All-nil, All-tail}
-use Rattle.std.proofs.lemmas.List.Kept.{AllPairs-cons}
-use Rattle.shared_core.specs.CoreState.{Marked, ShareState, given_in, is_leased, marked_of, places_in, places_of, with_changed_marks}
-use Rattle.shared_core.specs.Accounts.{leases_in, places_sum}
-use Rattle.shared_core.proofs.Marks.{marked_of-remarked, marked_of-zero}
-use Rattle.transcripts.specs.Transcripts.{TranscriptState, receipts_of}
-use Rattle.settling.specs.Settling.{has_id, puts_counted, receipts_in}
+use Rattle.settling.proofs.Prelude.{◌≡◌, ◌≢◌, ℕ, zero, suc, ◌+◌, ◌-◌, ◌≤◌, List, [], ◌∷◌, ◌++◌, length, Bool, true, false, eqb, Option, Some, refl, sym, ap, ◌∙◌, arith, All, AllPairs, slice_get, if◌then◌else◌, ◌||◌, ◌&&◌, not, option_map, nat_tests, Decides-eqb, All-cons, All-head, All-nil, All-tail, AllPairs-cons, Marked, ShareState, given_in, is_leased, marked_of, places_of, with_changed_marks, leases_in, places_sum, marked_of-remarked, marked_of-zero, TranscriptState, receipts_of, has_id, puts_counted, receipts_in}
 use Rattle.settling.proofs.Matching.{Fits, places_told}
 
 -- no two are of one tenancy
@@ -30,8 +21,7 @@ abbrev cleared : Marked → Marked
 cleared m = record { given = false; places = [] }
 
 in_given : (o : Option Marked) → given_in (option_map cleared o) ≡ false
-in_given None = refl
-in_given (Some m) = refl
+in_given o = grind arith
 
 leased-cleared : (ms : List Marked) (id other : ℕ) → is_leased (with_changed_marks ms id cleared) other ≡ (if eqb other id then false else is_leased ms other)
 leased-cleared ms id other = grind (arith, nat_tests, marked_of-remarked ms id other cleared, in_given (marked_of ms other))
@@ -40,24 +30,15 @@ places-cleared : (ms : List Marked) (id other : ℕ) → eqb other id ≡ false 
 places-cleared ms id other e = grind (arith, nat_tests, marked_of-remarked ms id other cleared)
 
 flag_few : (b : Bool) → (if b then 1 else 0) ≤ 1
-flag_few true = omega arith
-flag_few false = omega arith
+flag_few b = grind arith
 
 leases-cleared : (ms : List Marked) (id : ℕ) → leases_in ms ≤ leases_in (with_changed_marks ms id cleared) + 1
 leases-cleared [] id = omega arith
-leases-cleared (m ∷ ms) id =
-    elim (eqb id 1) as (λ b. leases_in (m ∷ ms) ≤ leases_in (if b then cleared m ∷ ms else m ∷ with_changed_marks ms (id - 1) cleared) + 1) [
-      | true ↦ omega (arith, flag_few m.given)
-      | false ↦ omega (arith, leases-cleared ms (id - 1))
-    ]
+leases-cleared (m ∷ ms) id = grind (arith, leases-cleared ms (id - 1))
 
 places_sum-cleared : (ms : List Marked) (id : ℕ) → places_sum ms ≡ length (places_of ms id) + places_sum (with_changed_marks ms id cleared)
 places_sum-cleared [] id = omega arith
-places_sum-cleared (m ∷ ms) id =
-    elim (eqb id 1) as (λ b. places_sum (m ∷ ms) ≡ length (places_in (if b then Some m else marked_of ms (id - 1))) + places_sum (if b then cleared m ∷ ms else m ∷ with_changed_marks ms (id - 1) cleared)) [
-      | true ↦ omega arith
-      | false ↦ omega (arith, places_sum-cleared ms (id - 1))
-    ]
+places_sum-cleared (m ∷ ms) id = grind (arith, places_sum-cleared ms (id - 1))
 
 -- no lease was given
 no_leases : (ms : List Marked) → ((id : ℕ) → is_leased ms id ≡ true → ⊥) → leases_in ms ≡ 0
@@ -78,26 +59,15 @@ no_leases (m ∷ ms) none =
     by_flag false e rest = rw e (omega (arith, rest))
 
 or_left : (a b : Bool) → a ≡ false → (a || b) ≡ true → b ≡ true
-or_left true b not is = cc
-or_left false b not is = is
+or_left a b h1 is = grind arith
 
 rest_has : (t : TranscriptState) (ts : List TranscriptState) (ms : List Marked) → ((id : ℕ) → is_leased ms id ≡ true → has_id (t ∷ ts) id ≡ true) → (id : ℕ) → is_leased (with_changed_marks ms t.id cleared) id ≡ true → has_id ts id ≡ true
-rest_has t ts ms there id is = by_test (eqb id t.id) refl
-  where
-    by_test : (b : Bool) → eqb id t.id ≡ b → has_id ts id ≡ true
-    by_test true e = let no : is_leased (with_changed_marks ms t.id cleared) id ≡ false = leased-cleared ms t.id id ∙ (rw e refl) in cc
-    by_test false e =
-        let mine : is_leased ms id ≡ true = sym (leased-cleared ms t.id id ∙ (rw e refl)) ∙ is in
-        let turned : eqb t.id id ≡ false = grind (arith, nat_tests) in
-        or_left (eqb t.id id) (has_id ts id) turned (there id mine)
+rest_has t ts ms there id is = grind (arith, leased-cleared)
 
 -- at least as many transcripts as leases
 pub enough : (ts : List TranscriptState) (ms : List Marked) → ((id : ℕ) → is_leased ms id ≡ true → has_id ts id ≡ true) → leases_in ms ≤ length ts
 enough [] ms there = let none = no_leases ms (λ id is. let never = there id is in cc) in omega arith
-enough (t ∷ ts) ms there =
-    let rest = enough ts (with_changed_marks ms t.id cleared) (rest_has t ts ms there) in
-    let one = leases-cleared ms t.id in
-    omega arith
+enough (t ∷ ts) ms there = grind (arith, leases-cleared, enough ts (with_changed_marks ms t.id cleared) (rest_has t ts ms there))
 
 -- and if they are as many, no two are of one tenancy
 pub apart : (ts : List TranscriptState) (ms : List Marked) → ((id : ℕ) → is_leased ms id ≡ true → has_id ts id ≡ true) → leases_in ms ≡ length ts → are_apart ts ≡ true
@@ -116,21 +86,11 @@ apart (t ∷ ts) ms there many = by_test (λ same. apart ts (with_changed_marks 
     by_test ih false e = rw e (ih others)
 
 apart-cons : (t : TranscriptState) (ts : List TranscriptState) → are_apart (t ∷ ts) ≡ true → (has_id ts t.id ≡ false) × (are_apart ts ≡ true)
-apart-cons t ts is = by_test (has_id ts t.id) refl (are_apart ts) refl is
-  where
-    by_test : (b : Bool) → has_id ts t.id ≡ b → (c : Bool) → are_apart ts ≡ c → (not (has_id ts t.id) && are_apart ts) ≡ true → (has_id ts t.id ≡ false) × (are_apart ts ≡ true)
-    by_test true e c f never = cc
-    by_test false e false f never = cc
-    by_test false e true f all = (e, f)
+apart-cons t ts is = grind arith
 
 -- a transcript of another tenancy
 differs : (t : TranscriptState) (ts : List TranscriptState) (id : ℕ) → has_id (t ∷ ts) id ≡ false → (eqb t.id id ≡ false) × (has_id ts id ≡ false)
-differs t ts id none = by_test (eqb t.id id) refl (has_id ts id) refl none
-  where
-    by_test : (b : Bool) → eqb t.id id ≡ b → (c : Bool) → has_id ts id ≡ c → (eqb t.id id || has_id ts id) ≡ false → (eqb t.id id ≡ false) × (has_id ts id ≡ false)
-    by_test true e c f never = cc
-    by_test false e true f never = cc
-    by_test false e false f never = (e, f)
+differs t ts id none = grind arith
 
 all_differ : (id : ℕ) (ts : List TranscriptState) → has_id ts id ≡ false → All (λ u. id ≢ u.id) ts
 all_differ id [] none = All-nil (λ (u : TranscriptState). id ≢ u.id)

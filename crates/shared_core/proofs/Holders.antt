@@ -1,26 +1,11 @@
 -- Slot numbers: a tenancy keeps its number, and with fewer than 64 strips there is a number that is
 -- nobody's.
-use Rattle.std.proofs.Common.{◌≡◌, ◌≢◌, ℕ, zero, suc, ◌+◌, ◌<◌, ◌≤◌, List, [], ◌∷◌, length, set, get_or, Bool, true, false, eqb, Option, Some, None, refl, sym, ap, ◌∙◌, arith}
-use Rattle.std.specs.Prelude.{if◌then◌else◌, is_some, slice_get, replicate, ◌==◌}
-use Rattle.std.specs.List.{position_or_len}
-use Rattle.std.proofs.lemmas.Bool.Decides.{nat_tests, Decides-eqb}
-use Rattle.std.proofs.lemmas.List.{length-set}
-use Rattle.std.proofs.lemmas.List.Quantifiers.{position-Some}
-use Rattle.std.proofs.lemmas.List.Sums.{fails_before_first}
-use Rattle.std.proofs.lemmas.Option.{slice_get-get_or, slice_get_within, get_or_from_slice_get}
-use Rattle.strips.specs.declared.placed_strip.PlacedStrip.{PlacedStrip}
-use Rattle.strips.specs.Plan.{strip_of, strips_without}
-use Rattle.strips.proofs.Laid.{strip_of-without}
-use Rattle.shared_core.specs.CoreState.{AreSlotted, numbers_after, holder_of, if_somebody, number_of}
+use Rattle.shared_core.proofs.Prelude.{◌≡◌, ◌≢◌, ℕ, zero, suc, ◌+◌, ◌<◌, ◌≤◌, List, [], ◌∷◌, length, set, get_or, Bool, true, false, eqb, Option, Some, None, refl, sym, ap, ◌∙◌, arith, if◌then◌else◌, is_some, slice_get, ◌==◌, position_or_len, nat_tests, Decides-eqb, length-set, position-Some, fails_before_first, slice_get-get_or, slice_get_within, get_or_from_slice_get, PlacedStrip, strip_of, strips_without, strip_of-without, AreSlotted, numbers_after, holder_of, if_somebody, number_of}
+use Rattle.std.specs.Prelude.{replicate}
 
 -- the numbers belong to the same tenancies
 pub AreSlotted-same : (live live' : ℕ → Bool) (holders : List ℕ) → ((id : ℕ) → live' id ≡ live id) → AreSlotted live holders → AreSlotted live' holders
-AreSlotted-same live live' holders same was = record {
-  count = was.count;
-  each = λ id is. was.each id (sym (same id) ∙ is);
-  only = λ number id at. same id ∙ was.only number id at;
-  once = was.once;
-}
+AreSlotted-same live live' holders same was = grind arith
 
 -- a write at one index
 slice_get-set : (xs : List ℕ) (n m v : ℕ) → n < length xs → slice_get (set xs n v) m ≡ (if eqb m n then Some v else slice_get xs m)
@@ -32,10 +17,7 @@ slice_get-set (x ∷ xs) (suc n) (suc m) v lt = grind (arith, nat_tests, slice_g
 
 -- the number of a tenancy is its index in the list
 number_there : (holders : List ℕ) (id n : ℕ) → number_of holders id ≡ Some n → (n < length holders) × (slice_get holders n ≡ Some id)
-number_there holders id n is =
-    let p = position-Some (λ holder. holder == id) holders n 0 is in
-    let same : get_or holders n 0 ≡ id = (Decides-eqb (get_or holders n 0) id).0 p.1 in
-    (p.0, slice_get-get_or holders n 0 p.0 ∙ ap Some same)
+number_there holders id n is = grind (arith, position-Some, slice_get-get_or, Decides-eqb (get_or holders n 0) id)
 
 no_number : (holders : List ℕ) (id : ℕ) → number_of holders id ≡ None → length holders ≤ position_or_len (λ holder. holder == id) holders
 no_number holders id none = grind (arith, nat_tests)
@@ -55,23 +37,14 @@ numbered holders id n at = by_option (number_of holders id) refl
 
 -- and a tenancy that has a number holds it
 number_is : (holders : List ℕ) (id : ℕ) → is_some (number_of holders id) ≡ true → (n : ℕ) × (number_of holders id ≡ Some n)
-number_is holders id some = by_option (number_of holders id) refl some
-  where
-    by_option : (o : Option ℕ) → number_of holders id ≡ o → is_some o ≡ true → (n : ℕ) × (number_of holders id ≡ Some n)
-    by_option None e never = cc
-    by_option (Some n) e is = (n, e)
+number_is holders id some = grind arith
 
 -- whose a number is
 pub held : (holders : List ℕ) (n id : ℕ) → slice_get holders n ≡ Some id → id ≢ 0 → holder_of holders n ≡ Some id
 held holders n id at some = rw at (grind (arith, nat_tests))
 
 holds_in : (o : Option ℕ) (id : ℕ) → if_somebody o ≡ Some id → (o ≡ Some id) × (id ≢ 0)
-holds_in None id is = cc
-holds_in (Some h) id is = by_test (eqb h 0) refl is
-  where
-    by_test : (b : Bool) → eqb h 0 ≡ b → (if b then None else Some h) ≡ Some id → (Some h ≡ Some id) × (id ≢ 0)
-    by_test true e never = cc
-    by_test false e same = (same, (let is_h : h ≡ id = cc in λ z. grind (arith, nat_tests)))
+holds_in o id is = grind arith
 
 holds : (holders : List ℕ) (n id : ℕ) → holder_of holders n ≡ Some id → (slice_get holders n ≡ Some id) × (id ≢ 0)
 holds holders n id is = holds_in (slice_get holders n) id is
@@ -86,18 +59,10 @@ record Written (holders new : List ℕ) (n v : ℕ) : Type 0 where
   there : (m : ℕ) → m ≢ n → slice_get new m ≡ slice_get holders m
 
 written : (holders : List ℕ) (n v : ℕ) → n < length holders → Written holders (set holders n v) n v
-written holders n v lt = record {
-  count = length-set holders n v;
-  here = slice_get-set holders n n v lt ∙ (let e : eqb n n ≡ true = grind (arith, nat_tests) in rw e refl);
-  there = λ m differ. slice_get-set holders n m v lt ∙ (let e : eqb m n ≡ false = grind (arith, nat_tests) in rw e refl);
-}
+written holders n v lt = grind (arith, length-set, slice_get-set)
 
 by_place : (Q : Type 0) (m n : ℕ) → (m ≡ n → Q) → (m ≢ n → Q) → Q
-by_place Q m n same differ = by_test (eqb m n) refl
-  where
-    by_test : (b : Bool) → eqb m n ≡ b → Q
-    by_test true e = same ((Decides-eqb m n).0 e)
-    by_test false e = differ (λ is. grind (arith, nat_tests))
+by_place Q m n same differ = grind arith
 
 -- a number that was nobody's is a new tenancy's
 given_number : (live : ℕ → Bool) (holders new : List ℕ) (n id : ℕ) → AreSlotted live holders → live 0 ≡ false → live id ≡ false → id ≢ 0 → slice_get holders n ≡ Some 0 → Written holders new n id → AreSlotted (λ other. if eqb other id then true else live other) new

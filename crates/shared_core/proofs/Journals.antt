@@ -1,29 +1,6 @@
 -- The journals after calls of a service.
-use Rattle.std.proofs.Common.{◌≡◌, ℕ, ◌+◌, ◌-◌, ◌≤◌, List, [], ◌∷◌, ◌++◌, length, Bool, true, false, eqb, Option, Some, None, Ok, Err, refl, ap, ◌∙◌, arith, length-append}
-use Rattle.std.specs.Prelude.{if◌then◌else◌, IsSomeAnd, Result, option_map}
-use Rattle.std.specs.declared.alloc.AllocError.{AllocError}
-use Rattle.std.proofs.lemmas.Bool.Decides.{nat_tests}
-use Rattle.job_state.specs.declared.step.JobStep.{JobStep}
-use Rattle.job_state.specs.Job.{JobState}
-use Rattle.tenant_slot.specs.declared.command.Command.{Command}
+use Rattle.shared_core.proofs.Prelude.{◌≡◌, ℕ, ◌+◌, ◌-◌, ◌≤◌, List, [], ◌∷◌, ◌++◌, length, Bool, true, false, eqb, Option, Some, None, Ok, Err, refl, arith, length-append, if◌then◌else◌, IsSomeAnd, Result, AllocError, JobStep, JobState, Command, Entry, NotServed, NoMemory, JournalFull, NoSuchTenancy, PutReply, Recorded, Full, Gone, History, with_entry, with_here, if_live, Receipted, ServiceState, history_of, live_of, with_changed, with_entry_of, with_here_of, IsGivenBack, IsPut, IsServed, IsTaken, Puts, IsGivenBackTo, IsReceipt, step_entry, history_of-modified, is_put, puts_among, puts_in, puts_of, entries_of, Follows, GoesOn, Stays}
 use Rattle.tenant_slot.specs.declared.event.Event.TheVariants.{Command as Asked}
-use Rattle.service_core.specs.declared.entry.Entry.{Entry}
-use Rattle.service_core.specs.declared.not_served.NotServed.{NotServed}
-use Rattle.service_core.specs.declared.not_served.NotServed.TheVariants.{NoMemory, JournalFull, NoSuchTenancy}
-use Rattle.service_core.specs.declared.put_reply.PutReply.{PutReply}
-use Rattle.service_core.specs.declared.put_reply.PutReply.TheVariants.{Recorded, Full, Gone}
-use Rattle.service_core.specs.History.{History, with_entry, with_here}
-use Rattle.service_core.specs.Tenancy.{if_live}
-use Rattle.service_core.specs.Receipt.{Receipted}
-use Rattle.service_core.specs.Service.{ServiceState, entries_in, history_of, live_of, with_changed}
-use Rattle.service_core.specs.Kept.{with_entry_of, with_here_of}
-use Rattle.service_core.specs.Calls.{IsGivenBack, IsPut, IsServed, IsTaken, Puts}
-use Rattle.service_core.specs.Run.{IsGivenBackTo, IsReceipt, step_entry}
-use Rattle.service_core.proofs.Lists.{history_of-modified}
-use Rattle.shared_core.specs.CoreState.{is_put, puts_among, puts_in}
-use Rattle.shared_core.specs.CoreCalls.{puts_of}
-use Rattle.shared_core.specs.Accounts.{entries_of}
-use Rattle.shared_core.specs.Following.{Follows, GoesOn, Stays}
 use Rattle.shared_core.proofs.Following.{Follows-changed, Follows-same, GoesOn-entry, GoesOn-here, Stays-changed, Stays-same, changed_at}
 
 abbrev put_mark : Entry → ℕ
@@ -45,11 +22,7 @@ puts_in-entry (g ∷ hs) id e h at =
 -- a change that keeps the journals
 pub puts_in-kept : (hs : List History) (id : ℕ) (change : History → History) → ((h : History) → (change h).entries ≡ h.entries) → puts_in (with_changed hs id change) ≡ puts_in hs
 puts_in-kept [] id change keeps = refl
-puts_in-kept (g ∷ hs) id change keeps =
-    elim (eqb id 1) as (λ b. puts_in (if b then change g ∷ hs else g ∷ with_changed hs (id - 1) change) ≡ puts_in (g ∷ hs)) [
-      | true ↦ ap (λ es. puts_among es + puts_in hs) (keeps g)
-      | false ↦ ap (λ n. puts_among g.entries + n) (puts_in-kept hs (id - 1) change keeps)
-    ]
+puts_in-kept (g ∷ hs) id change keeps = grind (arith, puts_in-kept hs (id - 1) change keeps)
 
 pub puts_in-push : (hs : List History) (h : History) → puts_in (hs ++ h ∷ []) ≡ puts_in hs + puts_among h.entries
 puts_in-push [] h = omega arith
@@ -65,18 +38,9 @@ pub record Grows (old new : ServiceState) (puts : ℕ) : Type 0 where
 pub Grows-none : (old new : ServiceState) → new ≡ old → Grows old new 0
 Grows-none old new same = rw same (record { follows = Follows-same old; stays = Stays-same old; longer = λ id. omega arith; put = omega arith })
 
-longer_in : (change : History → History) → ((h : History) → length h.entries ≤ length (change h).entries) → (o : Option History) → length (entries_in o) ≤ length (entries_in (option_map change o))
-longer_in change grows None = omega arith
-longer_in change grows (Some h) = grows h
-
 Grows-changed : (s : ServiceState) (id : ℕ) (change : History → History) (puts : ℕ) → ((h : History) → GoesOn h (change h)) → ((h : History) → (change h).live ≡ h.live) → ((h : History) → length h.entries ≤ length (change h).entries) →
     puts_in (with_changed s.histories id change) ≡ puts_in s.histories + puts → Grows s (changed_at s id change) puts
-Grows-changed s id change puts goes live longer put = record {
-  follows = Follows-changed s id change goes;
-  stays = Stays-changed s id change live;
-  longer = λ other. grind (arith, nat_tests, history_of-modified s.histories id other change, longer_in change longer (history_of s.histories other));
-  put = put;
-}
+Grows-changed s id change puts goes live longer put = grind (arith, history_of-modified, Follows-changed s id change goes, Stays-changed s id change live)
 
 Grows-here : (s : ServiceState) (id : ℕ) (here : Option Bool) → Grows s (with_here_of s id here) 0
 Grows-here s id here = Grows-changed s id (with_here here) 0 (GoesOn-here here) (λ h. refl) (λ h. omega arith) (omega (arith, puts_in-kept s.histories id (with_here here) (λ h. refl)))
@@ -86,12 +50,10 @@ Grows-entry s id e h at = Grows-changed s id (with_entry e) (put_mark e) (GoesOn
 
 -- a live tenancy is one of them
 live_there : (P : History → Type 0) (o : Option History) → IsSomeAnd (if_live o) P → (h : History) × (o ≡ Some h)
-live_there P None some = absurd some
-live_there P (Some h) some = (h, refl)
+live_there P o some = grind arith
 
 received : (o : Option History) (id : ℕ) (command : Command) (r : Receipted) → IsReceipt (if_live o) id command r → (h : History) × (o ≡ Some h)
-received None id command r is = absurd is
-received (Some h) id command r is = (h, refl)
+received o id command r is = grind arith
 
 abbrev hs_of : ServiceState → List History
 hs_of s = s.histories
@@ -128,18 +90,4 @@ put old new done r is = put_so old new done is.0 r is.1
 
 -- a receipt is the entry at the end of its journal
 pub received_at : (old new : ServiceState) (id : ℕ) (command : Command) (r : Receipted) → IsServed old id command (Ok r) new → (r.place ≡ entries_of old.histories id) × (entries_of new.histories id ≡ entries_of old.histories id + 1)
-received_at old new id command r is = at_option (history_of old.histories id) refl is.0
-  where
-    at_option : (o : Option History) → history_of old.histories id ≡ o → IsReceipt (if_live o) id command r → (r.place ≡ entries_of old.histories id) × (entries_of new.histories id ≡ entries_of old.histories id + 1)
-    at_option None e none = absurd none
-    at_option (Some h) e said = by_live h.live said
-      where
-        entry : Entry
-        entry = record { event = Asked command; reply = r.reply }
-
-        there : history_of new.histories id ≡ Some (with_entry entry h)
-        there = ap (λ hs. history_of hs id) (ap hs_of is.1) ∙ (grind (arith, nat_tests, history_of-modified old.histories id id (with_entry entry)))
-
-        by_live : (b : Bool) → IsReceipt (if b then Some h else None) id command r → (r.place ≡ entries_of old.histories id) × (entries_of new.histories id ≡ entries_of old.histories id + 1)
-        by_live false none = absurd none
-        by_live true told = (rw e told.1, rw (e, there) (length-append h.entries (entry ∷ [])))
+received_at old new id command r is = grind (arith, history_of-modified, length-append)

@@ -1,28 +1,7 @@
 -- The account stays right.
-use Rattle.std.proofs.Common.{◌≡◌, ◌≢◌, ℕ, ◌+◌, ◌-◌, ◌<◌, ◌≤◌, List, [], ◌∷◌, ◌++◌, length, get_or, Bool, true, false, not, eqb, Option, Some, None, Ok, Err, refl, sym, ap, ◌∙◌, arith, length-append}
-use Rattle.std.specs.Prelude.{if◌then◌else◌, IsSome, is_some, nat_lt, option_map, ◌&&◌, Result}
-use Rattle.std.proofs.lemmas.Bool.Decides.{nat_tests, Decides-eqb}
-use Rattle.strips.specs.Plan.{strip_of}
-use Rattle.tenant_slot.specs.declared.command.Command.{Command}
+use Rattle.shared_core.proofs.Prelude.{◌≡◌, ◌≢◌, ℕ, ◌+◌, ◌-◌, ◌<◌, ◌≤◌, List, [], ◌∷◌, ◌++◌, length, get_or, Bool, true, false, not, eqb, Option, Some, None, Ok, Err, refl, sym, ap, ◌∙◌, arith, length-append, if◌then◌else◌, IsSome, is_some, option_map, ◌&&◌, Result, nat_tests, Decides-eqb, strip_of, Command, step-served, History, state_of, closed_history, if_live, NotServed, NoMemory, JournalFull, NoSuchTenancy, OpRefusal, BadWidth, IdsSpent, NoRoom, TooManyStrips, Receipted, AreAlone, IsAloneOn, ServiceState, admitted_history, entries_in, history_of, live_of, with_changed, placed_width, live_width, with_tenancy, without_tenancy, IsAdmitted, IsEvicted, IsMoved, IsServed, IsReceipt, AreParted, All-history_of, history_of-modified, history_of-past, history_of-push, history_of-zero, length-modified, AreSlotted, CoreState, LeaseState, Marked, SlotTable, can_lease, with_lease, numbers_after, has_room_in, is_leased, is_live, marked_of, number_of, places_of, with_changed_marks, no_marks, with_place, AreMarks, IsAccount, IsRising, entries_of, Follows, IsReached}
 use Rattle.tenant_slot.specs.declared.event.Event.TheVariants.{Command as Asked}
-use Rattle.tenant_slot.proofs.Runs.{step-served}
-use Rattle.service_core.specs.History.{History, state_of}
-use Rattle.service_core.specs.Tenancy.{closed_history, if_live}
-use Rattle.service_core.specs.declared.not_served.NotServed.{NotServed}
-use Rattle.service_core.specs.declared.not_served.NotServed.TheVariants.{NoMemory, JournalFull, NoSuchTenancy}
-use Rattle.service_core.specs.declared.op_refusal.OpRefusal.{OpRefusal}
-use Rattle.service_core.specs.declared.op_refusal.OpRefusal.TheVariants.{BadWidth, IdsSpent, NoMemory as OpNoMemory, NoRoom, NoSuchTenancy as OpNoSuchTenancy, TooManyStrips}
-use Rattle.service_core.specs.Receipt.{Receipted}
-use Rattle.service_core.specs.Service.{AreAlone, IsAloneOn, ServiceState, admitted_history, entries_in, history_of, live_of, with_changed, placed_width, live_width, with_tenancy, without_tenancy}
-use Rattle.service_core.specs.Calls.{IsAdmitted, IsEvicted, IsMoved, IsServed}
-use Rattle.service_core.specs.Run.{IsReceipt}
-use Rattle.service_core.specs.Headline.{AreParted}
-use Rattle.service_core.proofs.MovedStrips.{same_histories}
-use Rattle.service_core.proofs.Lists.{All-history_of, history_of-modified, history_of-past, history_of-push, history_of-zero, length-modified}
-use Rattle.shared_core.specs.CoreState.{AreSlotted, CoreState, LeaseState, Marked, SlotTable, can_lease, with_lease, numbers_after, has_room_in, is_leased, is_live, marked_of, number_of, places_of, with_changed_marks, no_marks, with_place}
-use Rattle.shared_core.specs.Accounts.{AreMarks, IsAccount, IsRising, entries_of}
-use Rattle.shared_core.specs.Following.{Follows}
-use Rattle.shared_core.specs.Reaching.{IsReached}
+use Rattle.service_core.specs.declared.op_refusal.OpRefusal.TheVariants.{NoMemory as OpNoMemory, NoSuchTenancy as OpNoSuchTenancy}
 use Rattle.shared_core.proofs.Following.{Follows-moved, Follows-push, Follows-same, Follows-trans, Follows-without, Stays-trans}
 use Rattle.shared_core.proofs.Holders.{AreSlotted-freed, AreSlotted-given, AreSlotted-same}
 use Rattle.shared_core.proofs.Journals.{Grows, puts_in-kept, puts_in-push, received_at, served}
@@ -31,28 +10,15 @@ use Rattle.shared_core.proofs.Reaching.{reached_leased, reached_marked}
 use Rattle.shared_core.proofs.Sums.{leases_in-few, leases_in-given, leases_in-place, leases_in-push, places_of-given, places_of-other, places_of-place, places_of-push, places_sum-given, places_sum-place, places_sum-push, rising-longer, rising-push}
 
 AreMarks-grown : (begun : List History) (old new : ServiceState) (marks : List Marked) (puts : ℕ) → Grows old new puts → AreMarks begun old.histories marks → AreMarks begun new.histories marks
-AreMarks-grown begun old new marks puts grows was = record {
-  count = was.count ∙ sym grows.stays.count;
-  few = was.few;
-  rising = λ id. rising-longer (entries_of begun id) (places_of marks id) _ _ (grows.longer id) (was.rising id);
-}
+AreMarks-grown begun old new marks puts grows was = grind (arith, rising-longer)
 
 -- a call that keeps the marks and the numbers
 pub IsAccount-grown : (begun : ServiceState) (stay : Bool) (old new : ServiceState) (marks : List Marked) (holders : List ℕ) (commands : ℕ × ℕ × ℕ × ℕ) (puts : ℕ × ℕ × ℕ) (shares more total' : ℕ) → Grows old new more → total' ≡ puts.0 + more → (stay ≡ true → IsReached begun old marks → IsReached begun new marks) → IsAccount begun stay old marks holders commands puts shares → IsAccount begun stay new marks holders commands (total', puts.1, puts.2) shares
-IsAccount-grown begun stay old new marks holders commands puts shares more total' grows is reaches was = record {
-  follows = Follows-trans begun old new was.follows grows.follows;
-  stays = λ e. Stays-trans begun old new (was.stays e) grows.stays;
-  reached = λ e. reaches e (was.reached e);
-  placed = AreMarks-grown begun.histories old new marks more grows was.placed;
-  slotted = AreSlotted-same (is_live old.histories) (is_live new.histories) holders grows.stays.live was.slotted;
-  commanded = was.commanded;
-  put = record { all = omega (arith, is, was.put.all, grows.put); cut = was.put.cut; own = was.put.own; few = was.put.few };
-}
+IsAccount-grown begun stay old new marks holders commands puts shares more total' grows is reaches was = grind (arith, Follows-trans begun old new was.follows grows.follows, AreMarks-grown begun.histories old new marks more grows was.placed)
 
 -- who is live
 in_closed : (o : Option History) → is_some (if_live (option_map closed_history o)) ≡ false
-in_closed None = refl
-in_closed (Some h) = refl
+in_closed o = grind arith
 
 live-closed : (hs : List History) (id other : ℕ) → is_live (with_changed hs id closed_history) other ≡ (if eqb other id then false else is_live hs other)
 live-closed hs id other = grind (arith, nat_tests, history_of-modified hs id other closed_history, in_closed (history_of hs other))
@@ -68,18 +34,13 @@ no_next hs = ap (λ o. is_some (if_live o)) (history_of-past hs (length hs + 1) 
 
 -- a tenancy that ends keeps its journal
 in_entries : (o : Option History) → length (entries_in (option_map closed_history o)) ≡ length (entries_in o)
-in_entries None = refl
-in_entries (Some h) = refl
+in_entries o = grind arith
 
 entries-closed : (hs : List History) (id other : ℕ) → entries_of (with_changed hs id closed_history) other ≡ entries_of hs other
 entries-closed hs id other = grind (arith, nat_tests, history_of-modified hs id other closed_history, in_entries (history_of hs other))
 
 entries-push : (hs : List History) (h : History) (other : ℕ) → h.entries ≡ [] → entries_of (hs ++ h ∷ []) other ≡ entries_of hs other
-entries-push hs h other none =
-    elim (eqb other (length hs + 1)) as (λ b. eqb other (length hs + 1) ≡ b → entries_of (hs ++ h ∷ []) other ≡ entries_of hs other) [
-      | true ↦ λ e. let is : other ≡ length hs + 1 = (Decides-eqb other (length hs + 1)).0 e in let past : history_of hs other ≡ None = history_of-past hs other (omega arith) in rw (history_of-push hs h other, e, past) (ap length none)
-      | false ↦ λ e. rw (history_of-push hs h other, e) refl
-    ] refl
+entries-push hs h other none = grind (arith, history_of-past, history_of-push)
 
 some_live : (hs : List History) (id : ℕ) → IsSome (live_of hs id) → is_live hs id ≡ true
 some_live hs id some = grind (arith, nat_tests)
@@ -111,22 +72,11 @@ moved old new id offset (Err IdsSpent) never = absurd never
 
 pub IsAccount-moved : (begun : ServiceState) (stay : Bool) (old new : ServiceState) (id offset : ℕ) (answer : Result (Unit {0}) OpRefusal) (marks : List Marked) (holders : List ℕ) (commands : ℕ × ℕ × ℕ × ℕ) (puts : ℕ × ℕ × ℕ) (shares : ℕ) →
     stay ≡ false → IsMoved old id offset answer new → IsAccount begun stay old marks holders commands puts shares → IsAccount begun stay new marks holders commands puts shares
-IsAccount-moved begun stay old new id offset answer marks holders commands puts shares may is was =
-    let same : new.histories ≡ old.histories = same_histories old id offset answer new is in
-    record {
-      follows = Follows-trans begun old new was.follows (moved old new id offset answer is);
-      stays = λ e. absurd (cc);
-      reached = λ e. absurd (cc);
-      placed = rw same was.placed;
-      slotted = rw same was.slotted;
-      commanded = was.commanded;
-      put = rw same was.put;
-    }
+IsAccount-moved begun stay old new id offset answer marks holders commands puts shares may is was = grind arith
 
 -- exactly the live tenancies have strips
 pub is_some-map : {A B : Type 0} (f : A → B) (o : Option A) → is_some (option_map f o) ≡ is_some o
-is_some-map f None = refl
-is_some-map f (Some x) = refl
+is_some-map f o = grind arith
 
 pub has_strip : (s : ServiceState) (id : ℕ) → placed_width s.plan.strips id ≡ live_width s.histories id → is_live s.histories id ≡ true → is_some (strip_of s.plan.strips id) ≡ true
 has_strip s id same live = sym (is_some-map (λ p. p.width) (strip_of s.plan.strips id)) ∙ (ap is_some same ∙ (is_some-map (λ h. h.strip.width) (live_of s.histories id) ∙ live))
@@ -153,26 +103,10 @@ IsAccount-admitted begun stay old new width told marks holders commands puts sha
 
 -- the marks of a tenancy that exists
 within : (hs : List History) (id : ℕ) (h : History) → history_of hs id ≡ Some h → (0 < id) × (id ≤ length hs)
-within hs id h at = (by_zero, by_past)
-  where
-    by_zero : 0 < id
-    by_zero = elim (eqb id 0) as (λ b. eqb id 0 ≡ b → 0 < id) [
-      | true ↦ λ e. let z : id ≡ 0 = (Decides-eqb id 0).0 e in let none : history_of hs id ≡ None = rw z (history_of-zero hs) in absurd (cc)
-      | false ↦ λ e. grind (arith, nat_tests)
-    ] refl
-
-    by_past : id ≤ length hs
-    by_past = elim (nat_lt (length hs) id) as (λ b. nat_lt (length hs) id ≡ b → id ≤ length hs) [
-      | true ↦ λ e. let past : length hs < id = grind (arith, nat_tests) in let none : history_of hs id ≡ None = history_of-past hs id past in absurd (cc)
-      | false ↦ λ e. grind (arith, nat_tests)
-    ] refl
+within hs id h at = grind (arith, history_of-past, history_of-zero hs)
 
 live_is_there : (hs : List History) (id : ℕ) → is_live hs id ≡ true → (h : History) × (history_of hs id ≡ Some h)
-live_is_there hs id live = at_option (history_of hs id) refl live
-  where
-    at_option : (o : Option History) → history_of hs id ≡ o → is_some (if_live o) ≡ true → (h : History) × (history_of hs id ≡ Some h)
-    at_option None e never = cc
-    at_option (Some h) e is = (h, e)
+live_is_there hs id live = grind arith
 
 pub live_within : (hs : List History) (id : ℕ) → is_live hs id ≡ true → (0 < id) × (id ≤ length hs)
 live_within hs id live = let got = live_is_there hs id live in within hs id got.0 got.1
@@ -181,11 +115,7 @@ has_marks : (ms : List Marked) (id : ℕ) → 0 < id → id ≤ length ms → (m
 has_marks ms id pos le = (get_or ms (id - 1) no_marks, marked_of-at ms id no_marks pos le)
 
 pub room_live : (hs : List History) (id : ℕ) → has_room_in (live_of hs id) ≡ true → is_live hs id ≡ true
-room_live hs id room = at_option (live_of hs id) room
-  where
-    at_option : (o : Option History) → has_room_in o ≡ true → is_some o ≡ true
-    at_option None never = cc
-    at_option (Some h) is = refl
+room_live hs id room = grind arith
 
 -- a lease is given
 pub IsAccount-leased : (begun : ServiceState) (stay : Bool) (s : ServiceState) (ms : List Marked) (holders : List ℕ) (total parts amount whole : ℕ) (puts : ℕ × ℕ × ℕ) (shares id parts' amount' : ℕ) → is_live s.histories id ≡ true → is_leased ms id ≡ false → parts' + 1 ≡ parts → amount' + 0 ≡ amount → IsAccount begun stay s ms holders (total, parts, amount, whole) puts shares → IsAccount begun stay s (with_changed_marks ms id with_lease) holders (total, parts', amount', whole) puts shares
@@ -236,18 +166,6 @@ IsAccount-marked begun stay old new id command r ms holders commands puts shares
         rw (same, places_of-place ms id r.place m here, at.0, at.1) (rising-push (entries_of begun.histories id) (places_of ms id) (entries_of old.histories id) (was.placed.rising id))
     by_id at m here grows other false e = rw (places_of-other ms id other r.place e) (rising-longer (entries_of begun.histories other) (places_of ms other) _ _ (grows.longer other) (was.placed.rising other))
 
--- a share is given
-pub IsAccount-shared : (begun : ServiceState) (stay : Bool) (s : ServiceState) (ms : List Marked) (holders : List ℕ) (commands : ℕ × ℕ × ℕ × ℕ) (puts : ℕ × ℕ × ℕ) (shares parts' : ℕ) → shares < 16 → parts' + 1 ≡ puts.1 → IsAccount begun stay s ms holders commands puts shares → IsAccount begun stay s ms holders commands (puts.0, parts', puts.2) (shares + 1)
-IsAccount-shared begun stay s ms holders commands puts shares parts' few is was = record {
-  follows = was.follows;
-  stays = was.stays;
-  reached = was.reached;
-  placed = was.placed;
-  slotted = was.slotted;
-  commanded = was.commanded;
-  put = record { all = was.put.all; cut = was.put.cut; own = omega (arith, is, was.put.own); few = omega arith };
-}
-
 -- without room in its journal a command isn't served
 pub served_room : (old new : ServiceState) (id : ℕ) (command : Command) (r : Receipted) → AreAlone old → IsServed old id command (Ok r) new → has_room_in (live_of old.histories id) ≡ true
 served_room old new id command r alone is = at_option (history_of old.histories id) refl is.0
@@ -278,9 +196,7 @@ unserved old new id command (Err NoMemory) alone full is = record { refusal = No
 
 -- who can be leased
 and_both : (a b : Bool) → (a && not b) ≡ true → (a ≡ true) × (b ≡ false)
-and_both true true never = cc
-and_both true false is = (refl, refl)
-and_both false b never = cc
+and_both a b never = grind arith
 
 pub leasable : (core : CoreState) (id : ℕ) → can_lease core id ≡ true → (is_live core.service.histories id ≡ true) × (is_leased core.marks id ≡ false)
 leasable core id can = and_both (is_live core.service.histories id) (is_leased core.marks id) can

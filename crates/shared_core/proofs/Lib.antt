@@ -1,3 +1,4 @@
+mod Prelude
 pub mod Marks
 pub mod Following
 pub mod Journals

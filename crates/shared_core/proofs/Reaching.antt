@@ -1,27 +1,9 @@
 -- A service that was reached is reached by one more call.
-use Rattle.std.proofs.Common.{◌≡◌, ℕ, List, [], ◌∷◌, ◌++◌, Bool, true, false, eqb, Option, Some, Result, Ok, Err, refl, sym, ap, ◌∙◌, subst, arith, append-nil}
-use Rattle.std.specs.Prelude.{All, map, if◌then◌else◌, replicate}
-use Rattle.std.specs.declared.alloc.AllocError.{AllocError}
-use Rattle.std.proofs.lemmas.Bool.Decides.{nat_tests, Decides-eqb}
-use Rattle.std.proofs.lemmas.Grind.{flat_map-append}
-use Rattle.std.proofs.lemmas.List.{map-append}
-use Rattle.std.proofs.lemmas.List.Elements.{All-head, All-nil, All-push, All-tail}
-use Rattle.job_state.specs.declared.step.JobStep.{JobStep}
-use Rattle.job_state.specs.Job.{JobState}
-use Rattle.tenant_slot.specs.declared.command.Command.{Command}
-use Rattle.service_core.specs.declared.put_reply.PutReply.{PutReply}
-use Rattle.service_core.specs.Receipt.{Receipted}
-use Rattle.service_core.specs.Calls.{IsGivenBack, IsServed, IsTaken, Puts}
-use Rattle.service_core.specs.Run.{Call, Happens, Run}
-use Rattle.service_core.specs.Run.Call.{Admit, Evict, Move, Tenant, Take, Put, GiveBack, Owners}
-use Rattle.service_core.specs.Service.{ServiceState}
-use Rattle.shared_core.specs.CoreState.{Marked, with_lease, marked_of, places_of, with_changed_marks, no_marks, with_place}
-use Rattle.shared_core.specs.CoreCalls.{puts_of}
-use Rattle.shared_core.specs.Following.{Follows, Stays}
-use Rattle.shared_core.specs.Reaching.{IsReached, is_of_threads, own_receipt, own_receipts}
+use Rattle.shared_core.proofs.Prelude.{◌≡◌, ℕ, List, [], ◌∷◌, ◌++◌, Bool, true, false, eqb, Option, Some, Ok, Err, refl, sym, ap, ◌∙◌, subst, arith, append-nil, All, map, if◌then◌else◌, AllocError, nat_tests, Decides-eqb, flat_map-append, map-append, All-head, All-push, All-tail, JobStep, JobState, Command, PutReply, Receipted, IsGivenBack, IsServed, IsTaken, Puts, Call, Happens, Run, Admit, Evict, Move, Tenant, Take, Put, GiveBack, Owners, ServiceState, Marked, with_lease, marked_of, places_of, with_changed_marks, with_place, puts_of, Follows, Stays, IsReached, is_of_threads, own_receipt, own_receipts}
+use Rattle.std.proofs.Common.{Result}
 use Rattle.shared_core.proofs.Following.{Follows-same, Follows-trans, Stays-same, Stays-trans}
 use Rattle.shared_core.proofs.Journals.{Grows, given_back, put, served, taken}
-use Rattle.shared_core.proofs.Sums.{places_of-given, places_of-none, places_of-other, places_of-place}
+use Rattle.shared_core.proofs.Sums.{places_of-given, places_of-other, places_of-place}
 
 Run-push : (a : ServiceState) (calls : List Call) (b : ServiceState) (call : Call) (c : ServiceState) → Run a calls b → Happens b call c → Run a (calls ++ call ∷ []) c
 Run-push a [] b call c first next = let P : ServiceState → Type 0 = λ s. Happens s call c in (c, subst P first next, refl)
@@ -43,9 +25,6 @@ reached_by begun old new marks call kind none happens was = record {
       let more : own_receipts id (was.calls ++ call ∷ []) ≡ own_receipts id was.calls = own_receipts-push id was.calls call ∙ (ap (λ rs. own_receipts id was.calls ++ rs) (none id) ∙ append-nil (own_receipts id was.calls)) in
       ap (λ rs. map (λ (r : Receipted). r.place) rs) more ∙ was.commands id;
 }
-
-pub reached_same : (begun old new : ServiceState) (marks : List Marked) → new ≡ old → IsReached begun old marks → IsReached begun new marks
-reached_same begun old new marks same was = rw same was
 
 pub reached_taken : (begun old new : ServiceState) (marks : List Marked) (id : ℕ) (answer : Option JobState) → IsTaken old id answer new → IsReached begun old marks → IsReached begun new marks
 reached_taken begun old new marks id answer is was = reached_by begun old new marks (Take id answer) refl (λ other. refl) is was
@@ -86,21 +65,7 @@ reached_marked begun old new marks id command r m at is was = record {
 
 -- a lease that is given has entered no command
 pub reached_leased : (begun service : ServiceState) (marks : List Marked) (id : ℕ) → IsReached begun service marks → IsReached begun service (with_changed_marks marks id with_lease)
-reached_leased begun service marks id was = record {
-  calls = was.calls;
-  run = was.run;
-  kinds = was.kinds;
-  commands = λ other. was.commands other ∙ sym (places_of-given marks id other);
-}
-
--- a core at its beginning
-pub reached_none : (begun : ServiceState) (n : ℕ) → IsReached begun begun (replicate n no_marks)
-reached_none begun n = record {
-  calls = [];
-  run = refl;
-  kinds = All-nil (λ c. is_of_threads c ≡ true);
-  commands = λ id. sym (places_of-none n id);
-}
+reached_leased begun service marks id was = grind (arith, places_of-given)
 
 -- calls of threads let a service go on, and its tenancies stay
 abbrev pub IsOfThreads : Call → Type 0

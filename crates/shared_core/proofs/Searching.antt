@@ -1,12 +1,5 @@
 -- A search for a place in a rising list of places.
-use Rattle.std.proofs.Common.{◌≡◌, ◌≢◌, ℕ, zero, suc, ◌+◌, ◌<◌, ◌≤◌, List, [], ◌∷◌, length, get_or, true, false, eqb, Ok, Err, refl, sym, arith}
-use Rattle.std.specs.Prelude.{◌||◌, Result, is_ok, nat_lt}
-use Rattle.std.specs.List.Sorted.{IsBinarySearchResult}
-use Rattle.std.specs.Ordering.{nat_cmp}
-use Rattle.std.proofs.lemmas.Bool.Decides.{nat_tests}
-use Rattle.std.proofs.lemmas.List.Sorted.{searched}
-use Rattle.shared_core.specs.CoreState.{has_place}
-use Rattle.shared_core.specs.Accounts.{AreRising, IsRising}
+use Rattle.shared_core.proofs.Prelude.{◌≡◌, ◌≢◌, ℕ, zero, suc, ◌+◌, ◌<◌, ◌≤◌, List, [], ◌∷◌, length, get_or, true, false, eqb, Ok, Err, refl, sym, arith, ◌||◌, Result, is_ok, nat_lt, IsBinarySearchResult, nat_cmp, nat_tests, searched, has_place, AreRising, IsRising}
 
 least_there : (least : ℕ) (ps : List ℕ) (n j : ℕ) → IsRising least ps n → j < length ps → least ≤ get_or ps j 0
 least_there least [] n j is lt = absurd (omega arith)

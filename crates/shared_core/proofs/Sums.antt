@@ -1,9 +1,6 @@
 -- The sums over the marks after a change of the marks.
-use Rattle.std.proofs.Common.{◌≡◌, ℕ, zero, suc, ◌+◌, ◌-◌, ◌≤◌, List, [], ◌∷◌, ◌++◌, length, Bool, true, false, eqb, Option, Some, None, refl, ap, ◌∙◌, arith, length-append}
-use Rattle.std.specs.Prelude.{if◌then◌else◌, option_map, replicate}
-use Rattle.std.proofs.lemmas.Bool.Decides.{nat_tests, Decides-eqb}
-use Rattle.shared_core.specs.CoreState.{Marked, with_lease, marked_of, places_in, places_of, with_changed_marks, no_marks, with_place}
-use Rattle.shared_core.specs.Accounts.{IsRising, leases_in, places_sum}
+use Rattle.shared_core.proofs.Prelude.{◌≡◌, ℕ, zero, suc, ◌+◌, ◌-◌, ◌≤◌, List, [], ◌∷◌, ◌++◌, length, Bool, true, false, eqb, Option, Some, refl, ap, ◌∙◌, arith, length-append, if◌then◌else◌, option_map, nat_tests, Marked, with_lease, marked_of, places_in, places_of, with_changed_marks, no_marks, with_place, IsRising, leases_in, places_sum}
+use Rattle.std.specs.Prelude.{replicate}
 use Rattle.shared_core.proofs.Marks.{marked_of-past, marked_of-push, marked_of-remarked}
 
 pub places_sum-place : (ms : List Marked) (id place : ℕ) (m : Marked) → marked_of ms id ≡ Some m → places_sum (with_changed_marks ms id (with_place place)) ≡ places_sum ms + 1
@@ -16,11 +13,7 @@ places_sum-place (g ∷ ms) id place m at =
 
 pub places_sum-given : (ms : List Marked) (id : ℕ) → places_sum (with_changed_marks ms id with_lease) ≡ places_sum ms
 places_sum-given [] id = refl
-places_sum-given (g ∷ ms) id =
-    elim (eqb id 1) as (λ b. places_sum (if b then with_lease g ∷ ms else g ∷ with_changed_marks ms (id - 1) with_lease) ≡ places_sum (g ∷ ms)) [
-      | true ↦ refl
-      | false ↦ ap (λ n. length g.places + n) (places_sum-given ms (id - 1))
-    ]
+places_sum-given (g ∷ ms) id = grind (arith, places_sum-given ms (id - 1))
 
 pub places_sum-push : (ms : List Marked) → places_sum (ms ++ no_marks ∷ []) ≡ places_sum ms
 places_sum-push [] = refl
@@ -28,11 +21,7 @@ places_sum-push (g ∷ ms) = omega (arith, places_sum-push ms)
 
 pub leases_in-place : (ms : List Marked) (id place : ℕ) → leases_in (with_changed_marks ms id (with_place place)) ≡ leases_in ms
 leases_in-place [] id place = refl
-leases_in-place (g ∷ ms) id place =
-    elim (eqb id 1) as (λ b. leases_in (if b then with_place place g ∷ ms else g ∷ with_changed_marks ms (id - 1) (with_place place)) ≡ leases_in (g ∷ ms)) [
-      | true ↦ refl
-      | false ↦ ap (λ n. (if g.given then 1 else 0) + n) (leases_in-place ms (id - 1) place)
-    ]
+leases_in-place (g ∷ ms) id place = grind (arith, leases_in-place ms (id - 1) place)
 
 pub leases_in-given : (ms : List Marked) (id : ℕ) (m : Marked) → marked_of ms id ≡ Some m → m.given ≡ false → leases_in (with_changed_marks ms id with_lease) ≡ leases_in ms + 1
 leases_in-given [] id m at free = cc
@@ -47,8 +36,7 @@ leases_in-push [] = refl
 leases_in-push (g ∷ ms) = omega (arith, leases_in-push ms)
 
 flag_few : (b : Bool) → (if b then 1 else 0) ≤ 1
-flag_few true = omega arith
-flag_few false = omega arith
+flag_few b = grind arith
 
 pub leases_in-few : (ms : List Marked) → leases_in ms ≤ length ms
 leases_in-few [] = omega arith
@@ -69,22 +57,16 @@ places_of-none (suc n) id = elim (eqb id 1) as (λ b. places_in (if b then Some 
 
 -- the places of an id after a change
 in_given : (o : Option Marked) → places_in (option_map with_lease o) ≡ places_in o
-in_given None = refl
-in_given (Some m) = refl
+in_given o = grind arith
 
 pub places_of-given : (ms : List Marked) (id other : ℕ) → places_of (with_changed_marks ms id with_lease) other ≡ places_of ms other
 places_of-given ms id other = grind (arith, nat_tests, marked_of-remarked ms id other with_lease, in_given (marked_of ms other))
 
 pub places_of-push : (ms : List Marked) (id : ℕ) → places_of (ms ++ no_marks ∷ []) id ≡ places_of ms id
-places_of-push ms id =
-    elim (eqb id (length ms + 1)) as (λ b. eqb id (length ms + 1) ≡ b → places_of (ms ++ no_marks ∷ []) id ≡ places_of ms id) [
-      | true ↦ λ e. let is : id ≡ length ms + 1 = (Decides-eqb id (length ms + 1)).0 e in let none : marked_of ms id ≡ None = marked_of-past ms id (omega arith) in rw (marked_of-push ms no_marks id, e, none) refl
-      | false ↦ λ e. rw (marked_of-push ms no_marks id, e) refl
-    ] refl
+places_of-push ms id = grind (arith, marked_of-past, marked_of-push)
 
 in_placed : (place : ℕ) (o : Option Marked) (m : Marked) → o ≡ Some m → places_in (option_map (with_place place) o) ≡ places_in o ++ place ∷ []
-in_placed place None m is = cc
-in_placed place (Some g) m is = refl
+in_placed place o m is = grind arith
 
 pub places_of-place : (ms : List Marked) (id place : ℕ) (m : Marked) → marked_of ms id ≡ Some m → places_of (with_changed_marks ms id (with_place place)) id ≡ places_of ms id ++ place ∷ []
 places_of-place ms id place m at = grind (arith, nat_tests, marked_of-remarked ms id id (with_place place), in_placed place (marked_of ms id) m at)

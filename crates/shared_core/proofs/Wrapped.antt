@@ -1,22 +1,8 @@
 -- A service that a core is made with.
-use Rattle.std.proofs.Common.{◌≡◌, ℕ, zero, suc, ◌+◌, ◌-◌, ◌<◌, ◌≤◌, List, [], ◌∷◌, ◌++◌, length, take, Bool, true, false, eqb, Option, Some, None, refl, sym, ap, ◌∙◌, arith}
-use Rattle.std.specs.Prelude.{if◌then◌else◌, is_some, nat_lt, replicate, slice_get, ◌&&◌}
-use Rattle.std.proofs.lemmas.Bool.Decides.{nat_tests, Decides-eqb}
-use Rattle.std.proofs.lemmas.List.{length-replicate}
-use Rattle.std.proofs.lemmas.Option.{slice_get_past}
-use Rattle.strips.specs.declared.placed_strip.PlacedStrip.{PlacedStrip}
-use Rattle.strips.specs.Plan.{strip_of, strips_without}
-use Rattle.strips.proofs.Laid.{strip_of-without}
-use Rattle.service_core.specs.declared.entry.Entry.{Entry}
-use Rattle.service_core.specs.History.{History}
-use Rattle.service_core.specs.Tenancy.{if_live}
-use Rattle.service_core.specs.Service.{AreAlone, IsAloneOn, ServiceState, entries_in, history_of, journal_of}
-use Rattle.service_core.proofs.Lists.{All-history_of, history_of-past}
-use Rattle.shared_core.specs.CoreState.{AreSlotted, Marked, numbers_after, is_live, number_of, puts_among, puts_in, no_marks}
-use Rattle.shared_core.specs.Accounts.{IsAccount}
+use Rattle.shared_core.proofs.Prelude.{◌≡◌, ℕ, zero, suc, ◌+◌, ◌-◌, ◌≤◌, List, [], ◌∷◌, ◌++◌, length, take, Bool, true, false, eqb, Option, Some, None, refl, ap, arith, if◌then◌else◌, is_some, nat_lt, slice_get, ◌&&◌, nat_tests, length-replicate, slice_get_past, PlacedStrip, strip_of, strips_without, strip_of-without, Entry, History, AreAlone, IsAloneOn, ServiceState, entries_in, history_of, journal_of, All-history_of, history_of-past, AreSlotted, Marked, numbers_after, is_live, number_of, puts_among, puts_in, no_marks, IsAccount}
+use Rattle.std.specs.Prelude.{replicate}
 use Rattle.shared_core.proofs.Sums.{leases_in-none, places_of-none, places_sum-none}
-use Rattle.shared_core.proofs.Following.{Follows-same, Stays-same}
-use Rattle.shared_core.proofs.Reaching.{reached_none}
+use Rattle.shared_core.proofs.Following.{Follows-same}
 use Rattle.shared_core.proofs.Holders.{AreSlotted-given, AreSlotted-same, shrinks}
 
 pub replicate-push : {A : Type 0} (n : ℕ) (x : A) → replicate (n + 1) x ≡ replicate n x ++ x ∷ []
@@ -62,40 +48,23 @@ abbrev pub live_upto : List History → ℕ → ℕ → Bool
 live_upto hs i id = nat_lt id (i + 1) && is_live hs id
 
 pub upto_none : (hs : List History) (id : ℕ) → is_live hs 0 ≡ false → live_upto hs 0 id ≡ false
-upto_none hs id nobody =
-    elim (nat_lt id 1) as (λ b. nat_lt id 1 ≡ b → (b && is_live hs id) ≡ false) [
-      | true ↦ λ e. let z : id ≡ 0 = grind (arith, nat_tests) in rw z nobody
-      | false ↦ λ e. refl
-    ] refl
+upto_none hs id nobody = grind arith
 
 pub upto_all : (hs : List History) (id : ℕ) → is_live hs id ≡ live_upto hs (length hs) id
-upto_all hs id =
-    elim (nat_lt id (length hs + 1)) as (λ b. nat_lt id (length hs + 1) ≡ b → is_live hs id ≡ (b && is_live hs id)) [
-      | true ↦ λ e. refl
-      | false ↦ λ e. let past : length hs < id = grind (arith, nat_tests) in ap (λ o. is_some (if_live o)) (history_of-past hs id past)
-    ] refl
+upto_all hs id = grind (arith, history_of-past)
 
 upto_dead : (hs : List History) (i id : ℕ) → is_live hs (i + 1) ≡ false → live_upto hs (i + 1) id ≡ live_upto hs i id
-upto_dead hs i id dead =
-    elim (eqb id (i + 1)) as (λ b. eqb id (i + 1) ≡ b → live_upto hs (i + 1) id ≡ live_upto hs i id) [
-      | true ↦ λ e. let is : id ≡ i + 1 = (Decides-eqb id (i + 1)).0 e in let not_live : is_live hs id ≡ false = ap (is_live hs) is ∙ dead in grind (arith, nat_tests)
-      | false ↦ λ e. let same : nat_lt id (i + 1 + 1) ≡ nat_lt id (i + 1) = grind (arith, nat_tests) in rw same refl
-    ] refl
+upto_dead hs i id dead = grind arith
 
 upto_live : (hs : List History) (i id : ℕ) → is_live hs (i + 1) ≡ true → live_upto hs (i + 1) id ≡ (if eqb id (i + 1) then true else live_upto hs i id)
-upto_live hs i id live =
-    elim (eqb id (i + 1)) as (λ b. eqb id (i + 1) ≡ b → live_upto hs (i + 1) id ≡ (if b then true else live_upto hs i id)) [
-      | true ↦ λ e. let is : id ≡ i + 1 = (Decides-eqb id (i + 1)).0 e in let its : is_live hs id ≡ true = ap (is_live hs) is ∙ live in let below : nat_lt id (i + 1 + 1) ≡ true = grind (arith, nat_tests) in rw (below, its) refl
-      | false ↦ λ e. let same : nat_lt id (i + 1 + 1) ≡ nat_lt id (i + 1) = grind (arith, nat_tests) in rw same refl
-    ] refl
+upto_live hs i id live = grind arith
 
 -- the number of the next id
 pub slotted_dead : (hs : List History) (holders : List ℕ) (i : ℕ) → is_live hs (i + 1) ≡ false → AreSlotted (live_upto hs i) holders → AreSlotted (live_upto hs (i + 1)) holders
 slotted_dead hs holders i dead was = AreSlotted-same (live_upto hs i) (live_upto hs (i + 1)) holders (λ id. upto_dead hs i id dead) was
 
 and_both : (a b : Bool) → (a && b) ≡ true → (a ≡ true) × (b ≡ true)
-and_both true b is = (refl, is)
-and_both false b never = cc
+and_both a b is = grind arith
 
 pub slotted_live : (hs : List History) (holders : List ℕ) (strips : List PlacedStrip) (i : ℕ) → ((id : ℕ) → is_live hs id ≡ true → is_some (strip_of strips id) ≡ true) → length strips ≤ 64 → is_live hs 0 ≡ false → is_live hs (i + 1) ≡ true → AreSlotted (live_upto hs i) holders → AreSlotted (live_upto hs (i + 1)) (numbers_after holders (number_of holders 0) (i + 1))
 slotted_live hs holders strips i placed few nobody live was =
@@ -119,18 +88,4 @@ none_past s id alone = slice_get_past (journal_of s id) 65536 (few_entries s id 
 -- the account at its beginning
 pub IsAccount-wrapped : (begun : ServiceState) (stay : Bool) (s : ServiceState) (marks : List Marked) (holders : List ℕ) (total parts amount whole put_total put_parts put_whole : ℕ) → begun ≡ s → length s.histories ≤ 65535 → marks ≡ replicate (length s.histories) no_marks → AreSlotted (is_live s.histories) holders →
     total ≡ 0 → parts ≡ 65536 → amount ≡ 0 → whole ≡ 65536 → put_total ≡ puts_in s.histories → put_parts ≡ 17 → put_whole ≡ 17 → IsAccount begun stay s marks holders (total, parts, amount, whole) (put_total, put_parts, put_whole) 0
-IsAccount-wrapped begun stay s marks holders total parts amount whole put_total put_parts put_whole same few are slotted t p a w pt pp pw =
-    let hs : List History = s.histories in
-    rw same (record {
-      follows = Follows-same s;
-      stays = λ e. Stays-same s;
-      reached = λ e. rw are (reached_none s (length hs));
-      placed = record {
-        count = rw are (length-replicate (length hs) no_marks);
-        few = rw are (omega (arith, few, length-replicate (length hs) no_marks));
-        rising = λ id. rw (are, places_of-none (length hs) id) (omega arith);
-      };
-      slotted = slotted;
-      commanded = record { all = rw are (t ∙ sym (places_sum-none (length hs))); cut = w; spare = rw are (omega (arith, p, leases_in-none (length hs))); none_spare = a };
-      put = record { all = pt; cut = pw; own = omega (arith, pp); few = omega arith };
-    })
+IsAccount-wrapped begun stay s marks holders total parts amount whole put_total put_parts put_whole same few are slotted t p a w pt pp pw = grind (arith, length-replicate, places_of-none, places_sum-none, leases_in-none, Follows-same s)

@@ -1,9 +1,7 @@
 -- Private: the account that the core keeps.
 use Rattle.std.specs.Prelude.{ℕ, Bool, true, ◌≡◌, ◌+◌, ◌≤◌, List, [], ◌∷◌, length, if◌then◌else◌}
 use Rattle.shared_core.specs.declared.shared.TheConstants.{MAX_WORKERS}
-use Rattle.service_core.specs.declared.service.TheConstants.{MAX_ADMISSIONS}
-use Rattle.service_core.specs.History.{History}
-use Rattle.service_core.specs.Service.{ServiceState, history_of, entries_in}
+use Rattle.shared_core.specs.Prelude.{MAX_ADMISSIONS, History, ServiceState, history_of, entries_in}
 use Rattle.shared_core.specs.CoreState.{AreSlotted, Marked, is_live, places_of, puts_in}
 use Rattle.shared_core.specs.Following.{Follows, Stays}
 use Rattle.shared_core.specs.Reaching.{IsReached}

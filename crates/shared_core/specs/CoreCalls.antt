@@ -3,14 +3,7 @@
 use Rattle.std.specs.Prelude.{ℕ, ◌≡◌, ◌+◌, ◌<◌, [], ◌∷◌, ◌++◌, true, false, Option, Some, None, Result, Ok, Err, length, replicate}
 use Rattle.std.specs.declared.alloc.AllocError.{AllocError}
 use Rattle.shared_core.specs.declared.shared.TheConstants.{MAX_WORKERS}
-use Rattle.strips.specs.declared.layout.TheConstants.{MAX_STRIPS}
-use Rattle.job_state.specs.declared.step.JobStep.{JobStep}
-use Rattle.service_core.specs.declared.op_refusal.OpRefusal.{OpRefusal}
-use Rattle.service_core.specs.declared.not_served.NotServed.{NotServed}
-use Rattle.service_core.specs.declared.put_reply.PutReply.{PutReply}
-use Rattle.service_core.specs.declared.put_reply.PutReply.TheVariants.{Recorded, Full, Gone}
-use Rattle.service_core.specs.Receipt.{Receipted}
-use Rattle.service_core.specs.Service.{ServiceState}
+use Rattle.shared_core.specs.Prelude.{MAX_STRIPS, JobStep, OpRefusal, NotServed, PutReply, Recorded, Full, Gone, Receipted, ServiceState}
 use Rattle.shared_core.specs.CoreState.{AreSlotted, CoreState, LeaseState, Marked, ShareState, can_lease, with_lease, is_live, puts_in, with_changed_marks, no_marks, with_holder, with_place}
 
 -- only the service changes

@@ -1,14 +1,6 @@
 -- All tenancies, and the account of what sessions and workers entered.
 use Rattle.std.specs.Prelude.{ℕ, ◌≡◌, ◌+◌, ◌-◌, List, [], ◌∷◌, ◌++◌, Bool, true, false, not, ◌&&◌, ◌||◌, Option, Some, None, is_some, length, set, position, slice_get, slice_index_or, nat_lt, ◌==◌, if◌then◌else◌}
-use Rattle.tenant_slot.specs.declared.slot.TheConstants.{MAX_ENTRIES}
-use Rattle.strips.specs.declared.layout.TheConstants.{MAX_STRIPS}
-use Rattle.tenant_slot.specs.declared.event.Event.{Event}
-use Rattle.tenant_slot.specs.declared.event.Event.TheVariants.{Command as Asked, Advance as Stepped}
-use Rattle.tenant_slot.specs.SingleUser.{kind_that_runs}
-use Rattle.service_core.specs.declared.entry.Entry.{Entry}
-use Rattle.service_core.specs.History.{History, state_of}
-use Rattle.service_core.specs.Service.{ServiceState, live_of}
-use Rattle.service_core.specs.Calls.{takeable_in}
+use Rattle.shared_core.specs.Prelude.{MAX_ENTRIES, MAX_STRIPS, Event, Command as Asked, Advance as Stepped, kind_that_runs, Entry, History, state_of, ServiceState, live_of, takeable_in}
 
 -- the marks of a tenancy: whether its lease was given, and the places in the journal of the entries
 -- that the lease made

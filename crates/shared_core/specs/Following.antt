@@ -1,8 +1,6 @@
 -- How a service goes on from the one that a core was made with.
 use Rattle.std.specs.Prelude.{ℕ, ◌≡◌, false, [], Some, length, take, IsSomeAnd}
-use Rattle.arch_file.specs.declared.arch.Arch.{Arch}
-use Rattle.service_core.specs.History.{History}
-use Rattle.service_core.specs.Service.{ServiceState, empty_service, history_of}
+use Rattle.shared_core.specs.Prelude.{Arch, History, ServiceState, empty_service, history_of}
 use Rattle.shared_core.specs.CoreState.{is_live}
 
 -- a history goes on: it is of the same tenancy and architecture, in a strip of the same size; its

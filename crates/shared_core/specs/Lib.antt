@@ -1,3 +1,4 @@
+pub mod Prelude
 pub mod CoreState
 pub mod CoreCalls
 pub mod Following

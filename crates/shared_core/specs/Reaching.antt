@@ -1,10 +1,7 @@
 -- How the calls of threads reach the service of a core.
 use Rattle.std.specs.Prelude.{ℕ, ◌≡◌, Bool, true, false, List, [], ◌∷◌, map, All, Ok, ◌==◌, if◌then◌else◌}
 use Rattle.std.specs.List.{flat_map}
-use Rattle.service_core.specs.Receipt.{Receipted}
-use Rattle.service_core.specs.Run.{Call, Run}
-use Rattle.service_core.specs.Run.Call.{Tenant, Take, Put, GiveBack}
-use Rattle.service_core.specs.Service.{ServiceState}
+use Rattle.shared_core.specs.Prelude.{Receipted, Call, Run, Tenant, Take, Put, GiveBack, ServiceState}
 use Rattle.shared_core.specs.CoreState.{Marked, places_of}
 
 -- the calls that threads make: commands that are served, and what workers do with jobs. None

@@ -1,7 +1,6 @@
 //! The entries that one tenancy's lease made.
 ghost use Rattle.std.specs.Prelude.{◌≡◌, option_copied, true};
-ghost use Rattle.service_core.specs.Calls.{IsServed};
-ghost use Rattle.service_core.specs.Service.{live_of};
+ghost use Rattle.shared_core.specs.Prelude.{IsServed, live_of};
 ghost use Rattle.shared_core.specs.CoreState.{with_lease, has_place, has_room_in, marked_of, no_marks};
 ghost use Rattle.shared_core.specs.Accounts.{AreRising};
 ghost use Rattle.shared_core.specs.CoreCalls.{MarksPlace};

@@ -1,12 +1,6 @@
 //! The service with its account.
 ghost use Rattle.std.specs.Prelude.{◌+◌, ◌≡◌, ◌≤◌, IfErr, IfOk, length, option_copied, option_map, slice_get, true, false};
-ghost use Rattle.service_core.specs.declared.service.TheConstants.{MAX_ADMISSIONS};
-ghost use Rattle.strips.specs.Plan.{offset_of};
-ghost use Rattle.service_core.specs.Calls.{IsAdmitted, IsEvicted, IsGivenBack, IsMoved, IsServed, IsTaken, Puts};
-ghost use Rattle.service_core.specs.Headline.{AreParted};
-ghost use Rattle.service_core.specs.History.{state_of};
-ghost use Rattle.service_core.specs.Kept.{IsDevice};
-ghost use Rattle.service_core.specs.Service.{AreAlone, empty_service, journal_of, live_of};
+ghost use Rattle.shared_core.specs.Prelude.{MAX_ADMISSIONS, offset_of, IsAdmitted, IsEvicted, IsGivenBack, IsMoved, IsServed, IsTaken, Puts, AreParted, state_of, IsDevice, AreAlone, empty_service, journal_of, live_of};
 ghost use Rattle.shared_core.specs.CoreCalls.{Admits, ChangesService, CountsCommand, CountsOwnPut, CountsPut, Evicts, GivesLease, GivesShare, IsWrapped, MarksEntry};
 ghost use Rattle.shared_core.specs.CoreState.{can_lease, has_room_in, is_idle_in, is_leased, is_live, is_marked};
 

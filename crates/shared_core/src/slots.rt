@@ -1,6 +1,6 @@
 //! The 64 slot numbers.
 ghost use Rattle.std.specs.Prelude.{◌≡◌, ◌<◌, Some, false, true, replicate, IfSome};
-ghost use Rattle.strips.specs.declared.layout.TheConstants.{MAX_STRIPS};
+ghost use Rattle.shared_core.specs.Prelude.{MAX_STRIPS};
 ghost use Rattle.shared_core.specs.CoreState.{holder_of, number_of, unmarked_number, with_holder, with_mark};
 
 use std::marker::Model;

@@ -1,9 +1,6 @@
 //! What a core makes for a service that it begins with.
 ghost use Rattle.std.specs.Prelude.{◌≡◌, ◌+◌, ◌<◌, ◌≤◌, [], ◌∷◌, false, replicate, length, IfOk};
-ghost use Rattle.service_core.specs.declared.service.TheConstants.{MAX_ADMISSIONS};
-ghost use Rattle.strips.specs.declared.layout.TheConstants.{MAX_STRIPS};
-ghost use Rattle.service_core.specs.Headline.{AreParted};
-ghost use Rattle.service_core.specs.Service.{AreAlone, journal_of};
+ghost use Rattle.shared_core.specs.Prelude.{MAX_ADMISSIONS, MAX_STRIPS, AreParted, AreAlone, journal_of};
 ghost use Rattle.shared_core.specs.CoreState.{AreSlotted, is_live, puts_among, puts_in, no_marks};
 
 use crate::lease_marks::LeaseMarks;

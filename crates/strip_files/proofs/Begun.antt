@@ -1,11 +1,5 @@
 -- Heads and items that are read line by line.
-use Rattle.std.proofs.Common.{ℕ, zero, suc, ◌≡◌, Bool, true, false, List, [], ◌∷◌, ◌++◌, ◌<◌, length, take, get_or, ap, sym, refl, append_assoc, arith, ◌∙◌}
-use Rattle.std.proofs.lemmas.List.{length_push, map_push}
-use Rattle.strip_files.specs.BlockLines.{AreFirstNamed, listed_names, named_blocks}
-use Rattle.strip_files.specs.declared.block.BlockKind.{BlockKind}
-use Rattle.strip_files.specs.declared.block.ListedBlock.{ListedBlock}
-use Rattle.strip_files.specs.declared.block.PlacedBlock.{PlacedBlock}
-use Rattle.strip_files.specs.Starts.{AddsTo, ArePlaced, first_elements, listed_elements, starts_as, starts_of}
+use Rattle.strip_files.proofs.Prelude.{ℕ, zero, suc, ◌≡◌, Bool, true, false, List, [], ◌∷◌, ◌++◌, ◌<◌, length, take, get_or, ap, sym, refl, append_assoc, arith, ◌∙◌, length_push, map_push, AreFirstNamed, listed_names, named_blocks, BlockKind, ListedBlock, PlacedBlock, AddsTo, ArePlaced, first_elements, listed_elements, starts_as, starts_of}
 
 module _ (is_item is_head : List ℕ → Bool) (lines : List (List ℕ)) (old new : ℕ) (starts starts' : List ℕ) where
   step_as : (item head : Bool) → AddsTo item head old new starts starts'

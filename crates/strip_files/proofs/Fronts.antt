@@ -1,16 +1,5 @@
 -- The front of a text: what is printed there is read back.
-use Rattle.std.proofs.Common.{◌≡◌, ℕ, ◌+◌, ◌-◌, ◌*◌, ◌/◌, ◌%◌, ◌^◌, ◌<◌, ◌≤◌, Bool, true, false, IsTrue, not, cond, ◌&&◌, eqb, List, [], ◌∷◌, ◌++◌, length, take, drop, decimal, Option, Some, None, refl, ap, sym, ◌∙◌, arith}
-use Rattle.std.specs.Prelude.{nat_le, nat_lt}
-use Rattle.std.specs.List.{before_first, list_all, position_or_len, starts_with}
-use Rattle.std.proofs.lemmas.Bool.{and_from, and_parts, eq-eqb}
-use Rattle.std.proofs.lemmas.Bool.Decides.{nat_tests}
-use Rattle.std.proofs.lemmas.Fmt.{decimal_by_steps, decimal_nonempty}
-use Rattle.std.proofs.lemmas.List.{append_cancel_left}
-use Rattle.std.proofs.lemmas.List.Folds.{list_all-append}
-use Rattle.std.proofs.lemmas.List.Sums.{fold-append}
-use Rattle.line_text.specs.Decimal.{decimal_of, is_digit, value_of, with_digit}
-use Rattle.text_parts.specs.PartEnds.{is_no_digit}
-use Rattle.strip_files.specs.Fronts.{Stops}
+use Rattle.strip_files.proofs.Prelude.{◌≡◌, ℕ, ◌+◌, ◌-◌, ◌*◌, ◌/◌, ◌%◌, ◌^◌, ◌<◌, ◌≤◌, Bool, true, false, IsTrue, not, cond, ◌&&◌, eqb, List, [], ◌∷◌, ◌++◌, length, take, drop, decimal, Option, Some, None, refl, ap, sym, ◌∙◌, arith, nat_le, nat_lt, before_first, list_all, position_or_len, starts_with, and_from, and_parts, eq-eqb, nat_tests, decimal_by_steps, decimal_nonempty, append_cancel_left, list_all-append, fold-append, decimal_of, is_digit, value_of, with_digit, is_no_digit, Stops}
 
 -- the digits of a number, and their value
 digit_one : (n : ℕ) → n < 10 → (list_all is_digit ((48 + n) ∷ []) ≡ true) × (value_of ((48 + n) ∷ []) ≡ n)

@@ -1,3 +1,4 @@
+mod Prelude
 mod Begun
 pub mod Fronts
 pub mod Nets

@@ -1,10 +1,5 @@
 -- Nets that are read line by line.
-use Rattle.std.proofs.Common.{ℕ, ◌≡◌, ◌∙◌, ◌+◌, Bool, true, false, IsTrue, cond, List, [], ◌∷◌, ◌++◌, filter, length, ap, sym, subst, refl, append_assoc, append-nil, codes, Option, Some, None, MatchOption, arith}
-use Rattle.std.proofs.lemmas.Bool.{true≢false}
-use Rattle.std.proofs.lemmas.List.{length_push}
-use Rattle.line_text.specs.Decimal.{decimal_of}
-use Rattle.strip_files.specs.EachLine.{AddsNext, AreEachFrom}
-use Rattle.strip_files.specs.NetLines.{IsNetLine, word_end}
+use Rattle.strip_files.proofs.Prelude.{ℕ, ◌≡◌, ◌∙◌, ◌+◌, Bool, true, false, IsTrue, cond, List, [], ◌∷◌, ◌++◌, filter, length, ap, sym, subst, refl, append_assoc, append-nil, codes, Option, Some, None, MatchOption, arith, true≢false, length_push, decimal_of, AddsNext, AreEachFrom, IsNetLine, word_end}
 
 pub some_at : {X : Type 0} (N : Type 0) (P : X → Type 0) (found : Option X) (x : X) → found ≡ Some x → MatchOption found N P → P x
 some_at N P None x e h = absurd cc

@@ -1,10 +1,5 @@
 -- Places that are read line by line.
-use Rattle.std.proofs.Common.{ℕ, zero, suc, ◌≡◌, ◌+◌, ◌-◌, Bool, false, List, [], ◌∷◌, ◌++◌, drop, filter, length, ap, sym, subst, refl, arith}
-use Rattle.std.specs.Prelude.{nat_lt}
-use Rattle.std.proofs.lemmas.Bool.Decides.{nat_tests}
-use Rattle.grid.specs.declared.place.Place.{Place}
-use Rattle.strip_files.specs.EachLine.{AddsNext, AreEachFrom}
-use Rattle.strip_files.specs.PlaceLines.{IsLineOfPlace, has_place, is_place_line}
+use Rattle.strip_files.proofs.Prelude.{ℕ, zero, suc, ◌≡◌, ◌+◌, ◌-◌, Bool, false, List, [], ◌∷◌, ◌++◌, drop, filter, length, ap, sym, subst, refl, arith, nat_lt, nat_tests, Place, AddsNext, AreEachFrom, IsLineOfPlace, has_place, is_place_line}
 use Rattle.strip_files.proofs.Nets.{each_step}
 
 -- a line with this number of lines before it, and the places of the lines after it

@@ -1,8 +1,5 @@
 -- Nodes that are read line by line.
-use Rattle.std.proofs.Common.{ℕ, ◌≡◌, ◌∙◌, Bool, true, false, cond, List, [], ◌∷◌, ◌++◌, filter, ap, sym, subst, append_assoc, Result, Ok, Err, OnOk, length, refl, arith}
-use Rattle.rr_graph.specs.declared.node.NodeKind.{NodeKind}
-use Rattle.strip_files.specs.declared.route_node.RouteNode.{RouteNode}
-use Rattle.strip_files.specs.NodeLines.{AreTold, IsReadOn, IsReadOnAs, IsTailOf, is_node_line, kind_start}
+use Rattle.strip_files.proofs.Prelude.{ℕ, ◌≡◌, ◌∙◌, Bool, true, false, cond, List, [], ◌∷◌, ◌++◌, filter, ap, sym, subst, append_assoc, Result, Ok, Err, OnOk, length, refl, arith, NodeKind, RouteNode, AreTold, IsReadOn, IsReadOnAs, IsTailOf, is_node_line, kind_start}
 
 step_as : (b : Bool) (line : List ℕ) (kept : List (List ℕ)) (old new more : List RouteNode) → IsReadOnAs b line old new → AreTold kept more
     → (rest : List RouteNode) × AreTold (cond b (line ∷ kept) kept) rest × (new ++ more ≡ old ++ rest)

@@ -2,9 +2,7 @@
 use Rattle.std.specs.Prelude.{ℕ, ◌≡◌, ◌++◌, List, filter, length, map, take, codes}
 use Rattle.std.specs.Borrow.{Bor}
 use Rattle.std.specs.List.{before_first}
-use Rattle.line_text.specs.Lines.{physical_lines}
-use Rattle.line_text.specs.Words.{texts}
-use Rattle.text_parts.specs.PartEnds.{is_space}
+use Rattle.strip_files.specs.Prelude.{physical_lines, texts, is_space}
 use Rattle.strip_files.specs.EachLine.{AddsNext, AreEachFrom}
 use Rattle.strip_files.specs.Starts.{is_block_line, is_element_line}
 use Rattle.strip_files.specs.declared.block.BlockKind.{BlockKind}

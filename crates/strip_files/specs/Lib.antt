@@ -1,3 +1,4 @@
+pub mod Prelude
 pub mod BlockLines
 pub mod EachLine
 pub mod Fronts

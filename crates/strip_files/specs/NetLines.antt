@@ -1,7 +1,6 @@
 -- The first lines of the nets in a `.route` file.
 use Rattle.std.specs.Prelude.{ℕ, ◌≡◌, ◌++◌, Bool, true, false, List, length, filter, codes, Some}
-use Rattle.line_text.specs.Decimal.{decimal_of}
-use Rattle.line_text.specs.Lines.{physical_lines}
+use Rattle.strip_files.specs.Prelude.{decimal_of, physical_lines}
 use Rattle.strip_files.specs.EachLine.{AddsNext, AreEachFrom}
 use Rattle.strip_files.specs.Starts.{is_net_line}
 use Rattle.strip_files.specs.declared.route_text.Net.{Net}

@@ -1,11 +1,7 @@
 -- The lines of nodes in a `.route` file, and their nodes.
 use Rattle.std.specs.Prelude.{ℕ, ◌≡◌, Bool, true, false, List, [], ◌∷◌, ◌++◌, filter, codes, eqb, Some, ⊤}
 use Rattle.std.specs.List.{list_any, starts_with}
-use Rattle.line_text.specs.Decimal.{decimal_of}
-use Rattle.line_text.specs.Lines.{physical_lines}
-use Rattle.rr_graph.specs.declared.node.Node.{Node}
-use Rattle.rr_graph.specs.declared.node.NodeKind.{NodeKind}
-use Rattle.rr_graph.specs.declared.node.NodeKind.TheVariants.{Source, Sink, Opin, Ipin, ChanX, ChanY}
+use Rattle.strip_files.specs.Prelude.{decimal_of, physical_lines, Node, NodeKind, Source, Sink, Opin, Ipin, ChanX, ChanY}
 use Rattle.strip_files.specs.declared.node_line.Counted.{Counted}
 use Rattle.strip_files.specs.declared.node_line.Counted.TheVariants.{Tracks, Pins, Pads, Classes}
 use Rattle.strip_files.specs.declared.route_node.RouteNode.{RouteNode}

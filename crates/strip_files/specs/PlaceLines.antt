@@ -1,8 +1,6 @@
 -- The lines of the blocks in a `.place` file.
 use Rattle.std.specs.Prelude.{ℕ, ◌≡◌, ◌++◌, Bool, false, not, nat_lt, ◌==◌, List, [], ◌∷◌, drop, filter, length, map, codes, Some, if◌then◌else◌}
-use Rattle.line_text.specs.Decimal.{decimal_of}
-use Rattle.line_text.specs.Lines.{physical_lines}
-use Rattle.grid.specs.declared.place.Place.{Place}
+use Rattle.strip_files.specs.Prelude.{decimal_of, physical_lines, Place}
 use Rattle.strip_files.specs.EachLine.{AddsNext, AreEachFrom}
 use Rattle.strip_files.specs.declared.block.PlacedBlock.{PlacedBlock}
 

@@ -1,7 +1,6 @@
 -- Lines with the size of a strip.
 use Rattle.std.specs.Prelude.{ℕ, ◌≡◌, ◌≤◌, List, ◌++◌, Option, Some, None, codes, decimal}
-use Rattle.grid.specs.declared.TheConstants.{MAX_COLUMNS, MAX_ROWS}
-use Rattle.text_parts.specs.PartEnds.{is_no_digit}
+use Rattle.strip_files.specs.Prelude.{MAX_COLUMNS, MAX_ROWS, is_no_digit}
 use Rattle.strip_files.specs.Fronts.{Stops}
 use Rattle.strip_files.specs.declared.size.StripSize.{StripSize}
 

@@ -1,7 +1,6 @@
 -- Where a strip has wires.
 use Rattle.std.specs.Prelude.{ℕ, ◌≤◌}
-use Rattle.rr_graph.specs.declared.node.NodeKind.{NodeKind}
-use Rattle.rr_graph.specs.declared.node.NodeKind.TheVariants.{Source, Sink, Opin, Ipin, ChanX, ChanY}
+use Rattle.strip_files.specs.Prelude.{NodeKind, Source, Sink, Opin, Ipin, ChanX, ChanY}
 
 -- channels across begin in column 1, and channels up in row 1; the other kinds have no channel
 abbrev pub BeginsAt : NodeKind → ℕ → ℕ → Type 0

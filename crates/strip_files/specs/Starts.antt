@@ -2,7 +2,7 @@
 -- `.net` file.
 use Rattle.std.specs.Prelude.{ℕ, ◌≡◌, ◌+◌, ◌++◌, Bool, true, false, List, [], ◌∷◌, map, length, take, codes, eqb}
 use Rattle.std.specs.List.{list_any, starts_with}
-use Rattle.line_text.specs.Lines.{physical_lines}
+use Rattle.strip_files.specs.Prelude.{physical_lines}
 use Rattle.strip_files.specs.NodeLines.{is_node_line}
 use Rattle.strip_files.specs.declared.block.ListedBlock.{ListedBlock}
 use Rattle.strip_files.specs.declared.block.PlacedBlock.{PlacedBlock}

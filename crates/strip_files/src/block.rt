@@ -1,6 +1,6 @@
 //! The blocks of a strip.
 ghost use Rattle.std.specs.Prelude.{◌+◌, ◌≤◌};
-ghost use Rattle.grid.specs.declared.TheConstants.{MAX_COLUMNS, MAX_ROWS};
+ghost use Rattle.strip_files.specs.Prelude.{MAX_COLUMNS, MAX_ROWS};
 
 use grid::Place;
 

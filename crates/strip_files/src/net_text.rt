@@ -1,7 +1,7 @@
 //! The `.net` file: the blocks, and the BLEs of each.
 ghost use Rattle.std.specs.Prelude.{◌≡◌, ◌+◌, ◌++◌, ◌∷◌, [], length, true, false, MatchOption, OnOk};
 ghost use Rattle.strip_files.specs.BlockLines.{AreElementsNamed, IsBlockReadOn, IsElementReadOn, IsLineOfBlock, block_lines, block_start, listed_names};
-ghost use Rattle.line_text.specs.Words.{texts};
+ghost use Rattle.strip_files.specs.Prelude.{texts};
 ghost use Rattle.strip_files.specs.EachLine.{AreEachFrom};
 ghost use Rattle.strip_files.specs.Starts.{AddsTo, block_starts, is_block_line, is_element_line, listed_elements};
 

@@ -1,7 +1,6 @@
 //! The lines of nodes.
 ghost use Rattle.std.specs.Prelude.{◌+◌, ◌-◌, ◌≡◌, ◌≤◌, ◌++◌, true, false, IfSome, IfOk, MatchOption};
-ghost use Rattle.arch_file.specs.declared.arch.TheConstants.{MAX_PINS};
-ghost use Rattle.grid.specs.declared.TheConstants.{MAX_COLUMNS, MAX_ROWS};
+ghost use Rattle.strip_files.specs.Prelude.{MAX_PINS, MAX_COLUMNS, MAX_ROWS};
 ghost use Rattle.strip_files.specs.NodeLines.{IsTailOf, counted_word, is_node_line, kind_start};
 
 use crate::fault::Fault;

@@ -1,13 +1,11 @@
 //! The `.place` file: the size of the strip, and the places of its blocks.
 ghost use Rattle.std.specs.Prelude.{◌+◌, ◌-◌, ◌≡◌, ◌≤◌, ◌++◌, ◌∷◌, ℕ, List, [], length, take, true, None, is_some, nat_lt, IfOk, IfSome, OnOk};
-ghost use Rattle.grid.specs.declared.TheConstants.{MAX_COLUMNS, MAX_ROWS};
+ghost use Rattle.strip_files.specs.Prelude.{MAX_COLUMNS, MAX_ROWS, Place, is_no_digit};
 ghost use Rattle.strip_files.specs.BlockLines.{AreFirstNamed, listed_names, named_blocks};
 ghost use Rattle.strip_files.specs.Fronts.{Stops};
-ghost use Rattle.grid.specs.declared.place.Place.{Place};
 ghost use Rattle.strip_files.specs.PlaceLines.{HavePlaces, IsLineOfPlace, IsPlaceLine, IsPlaceReadOn, is_place_line, places_of};
 ghost use Rattle.strip_files.specs.SizeLines.{IsSizeRead, IsWithin, size_line};
 ghost use Rattle.strip_files.specs.Starts.{ArePlaced, first_elements, listed_elements};
-ghost use Rattle.text_parts.specs.PartEnds.{is_no_digit};
 
 use crate::block::{ListedBlock, PlacedBlock};
 use crate::fault::{Fault, File, FileFault, in_file};

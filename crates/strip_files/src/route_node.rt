@@ -1,7 +1,6 @@
 //! The nodes of routes.
 ghost use Rattle.std.specs.Prelude.{◌+◌, ◌-◌, ◌≤◌};
-ghost use Rattle.arch_file.specs.declared.arch.TheConstants.{MAX_PINS};
-ghost use Rattle.grid.specs.declared.TheConstants.{MAX_COLUMNS, MAX_ROWS};
+ghost use Rattle.strip_files.specs.Prelude.{MAX_PINS, MAX_COLUMNS, MAX_ROWS};
 
 use rr_graph::Node;
 

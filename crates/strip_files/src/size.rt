@@ -1,6 +1,6 @@
 //! The size of a strip.
 ghost use Rattle.std.specs.Prelude.{◌≡◌, ◌↔◌, ◌≤◌, ◌+◌, ◌⊎◌, IfNone, IfSome, IsTrue, true};
-ghost use Rattle.grid.specs.declared.TheConstants.{MAX_COLUMNS, MAX_ROWS};
+ghost use Rattle.strip_files.specs.Prelude.{MAX_COLUMNS, MAX_ROWS};
 ghost use Rattle.strip_files.specs.Sizes.{BeginsAt};
 
 use grid::{MAX_COLUMNS, MAX_ROWS};

@@ -1,8 +1,5 @@
 -- Moves that are accepted one after another.
-use Rattle.std.proofs.Common.{◌≡◌, ◌∙◌, List, [], ◌∷◌, ◌++◌, sym, ap, subst}
-use Rattle.strips.specs.Plan.{IsParted, Plan, with_moved}
-use Rattle.strip_moves.specs.declared.joining.StripMove.{StripMove}
-use Rattle.strip_moves.specs.Moves.{AreAccepted, IsMoved}
+use Rattle.strip_moves.proofs.Prelude.{◌≡◌, ◌∙◌, List, [], ◌∷◌, ◌++◌, sym, ap, subst, IsParted, Plan, with_moved, StripMove, AreAccepted, IsMoved}
 
 -- one more move
 pub accepted_push : (old plan new : Plan) (moves : List StripMove) (move : StripMove) → AreAccepted old moves plan → IsMoved plan new move → AreAccepted old (moves ++ move ∷ []) new

@@ -1,3 +1,4 @@
+mod Prelude
 mod AcceptedMoves
 mod Rooms
 mod Settling

@@ -1,13 +1,5 @@
 -- A strip of a layout can be added to the strips before it.
-use Rattle.std.proofs.Common.{◌≡◌, ◌≢◌, ◌∙◌, ℕ, suc, ◌+◌, ◌<◌, ◌≤◌, eqb, Bool, false, List, [], ◌∷◌, Some, None, All, length, get_or, take, if◌then◌else◌, refl, sym, ap, subst, arith}
-use Rattle.std.specs.List.{AllPairs}
-use Rattle.std.specs.Prelude.{option_map}
-use Rattle.std.proofs.lemmas.Bool.Decides.{nat_tests}
-use Rattle.std.proofs.lemmas.List.{get_or-take, get_or_default, length-take-le, take_more}
-use Rattle.std.proofs.lemmas.List.Elements.{All-take}
-use Rattle.strips.proofs.Laid.{IsParted-with, IsParted-with-apart}
-use Rattle.strips.specs.Plan.{AreApart, HasRoomFor, IsLaidOut, IsParted, Plan, offset_of, strip_of, with_strip}
-use Rattle.strips.specs.declared.placed_strip.PlacedStrip.{PlacedStrip}
+use Rattle.strip_moves.proofs.Prelude.{◌≡◌, ◌≢◌, ◌∙◌, ℕ, suc, ◌+◌, ◌<◌, ◌≤◌, eqb, Bool, false, List, [], ◌∷◌, Some, None, All, length, get_or, take, if◌then◌else◌, refl, sym, ap, subst, arith, AllPairs, option_map, nat_tests, get_or-take, get_or_default, length-take-le, take_more, All-take, IsParted-with, IsParted-with-apart, AreApart, HasRoomFor, IsLaidOut, IsParted, Plan, offset_of, strip_of, with_strip, PlacedStrip}
 
 -- no strip has the id
 new_id : (xs : List PlacedStrip) (id : ℕ) → ((k : ℕ) (d : PlacedStrip) → k < length xs → (get_or xs k d).id ≢ id) → offset_of xs id ≡ None

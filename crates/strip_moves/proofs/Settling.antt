@@ -1,16 +1,5 @@
 -- Strips that are moved to the left one after another.
-use Rattle.std.proofs.Common.{◌≡◌, ◌≢◌, ◌∙◌, ℕ, zero, suc, ◌+◌, ◌<◌, ◌≤◌, eqb, Bool, false, List, [], ◌∷◌, Some, IsSome, Result, Ok, Err, All, length, get_or, if◌then◌else◌, refl, sym, ap, subst, arith, inl, inr}
-use Rattle.std.specs.List.{AllPairs}
-use Rattle.std.specs.Result.{is_ok}
-use Rattle.std.proofs.lemmas.Bool.{cases_lt, cases_order}
-use Rattle.std.proofs.lemmas.Bool.Decides.{Decides-eqb, nat_tests}
-use Rattle.std.proofs.lemmas.List.{ext_get_or, get_or-map, get_or_default, length-map}
-use Rattle.strips.proofs.Laid.{laid_moved, moved_apart, parted_moved}
-use Rattle.strips.specs.Plan.{AreApart, IsLaidOut, IsParted, Moves, Plan, moved_strip, strip_of, with_moved}
-use Rattle.strips.specs.declared.layout.NoRoom.{NoRoom}
-use Rattle.strips.specs.declared.placed_strip.PlacedStrip.{PlacedStrip}
-use Rattle.strip_moves.specs.Moves.{AreLeftmost, CannotMove}
-use Rattle.strip_moves.specs.Settled.{Blocks, IsFull, IsSettled, Sits}
+use Rattle.strip_moves.proofs.Prelude.{◌≡◌, ◌≢◌, ◌∙◌, ℕ, zero, suc, ◌+◌, ◌<◌, ◌≤◌, eqb, Bool, false, List, [], ◌∷◌, Some, IsSome, Result, Ok, Err, All, length, get_or, if◌then◌else◌, refl, sym, ap, subst, arith, inl, inr, AllPairs, is_ok, cases_lt, cases_order, Decides-eqb, nat_tests, ext_get_or, get_or-map, get_or_default, length-map, laid_moved, moved_apart, parted_moved, AreApart, IsLaidOut, IsParted, Moves, Plan, moved_strip, strip_of, with_moved, NoRoom, PlacedStrip, AreLeftmost, CannotMove, Blocks, IsFull, IsSettled, Sits}
 
 -- each strip is found by its id
 found_here : (xs : List PlacedStrip) → AllPairs (λ s t. s.id ≢ t.id) xs → (i : ℕ) (d : PlacedStrip) → i < length xs → strip_of xs (get_or xs i d).id ≡ Some (get_or xs i d)
@@ -283,34 +272,6 @@ module _ (old : List PlacedStrip) (plan : Plan) (next : ℕ) (apart : AllPairs A
   settled_after after offset parted is cannot =
       let e = least offset (same_id (λ n. IsParted (with_moved plan n offset)) parted) (same_id (λ n. CannotMove plan n offset) cannot) in
       subst (λ (p : Plan). IsSettled old p (next + 1)) (ap (λ n. with_moved plan n front) id_is ∙ ap (λ o. with_moved plan s.id o) (sym e) ∙ sym is) settled_moved
-
--- no strip is at the next offset
-pub settled_none : (old : List PlacedStrip) (plan : Plan) (next : ℕ) → All (λ s. s.offset ≢ next) old → IsSettled old plan next → IsSettled old plan (next + 1)
-settled_none old plan next none settled = record {
-  laid = settled.laid;
-  count = settled.count;
-  front = settled.front;
-  full = settled.full;
-  sits = λ i d lt.
-      (let was = settled.sits i d lt in
-      let other : (get_or old i d).offset ≢ next = none i d lt in
-      record {
-        id = was.id;
-        width = was.width;
-        later = λ l. was.later (omega (arith, l));
-        done = λ l. was.done (elim (cases_lt (get_or old i d).offset next) [ inl less ↦ less | inr more ↦ absurd (other (omega (arith, l, more))) ]);
-      });
-}
-
--- nothing is moved
-pub settled_start : (columns : ℕ) (old : List PlacedStrip) → IsLaidOut (record { columns = columns; strips = old }) → IsSettled old (record { columns = columns; strips = old }) 0
-settled_start columns old laid = record {
-  laid = laid;
-  count = refl;
-  front = 0;
-  full = λ offset width less. absurd (omega (arith, less));
-  sits = λ i d lt. record { id = refl; width = refl; later = λ l. (refl, omega arith); done = λ l. absurd (omega (arith, l)) };
-}
 
 -- all strips are moved
 pub all_leftmost : (old : List PlacedStrip) (plan : Plan) (next : ℕ) → All (λ s. s.offset < next) old → IsSettled old plan next → AreLeftmost plan

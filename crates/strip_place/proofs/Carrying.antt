@@ -1,19 +1,5 @@
 -- Operations on sites correspond to operations on their places.
-use Rattle.std.proofs.Common.{◌≡◌, ℕ, ◌+◌, ◌-◌, ◌%◌, ◌<◌, All, Bool, true, false, cond, eqb, List, [], ◌∷◌, length, get_or, map, refl, sym, ap, ◌∙◌, ◌⊎◌, arith, inl, inr, eq-eqb}
-use Rattle.std.proofs.lemmas.List.{get_or-map}
-use Rattle.std.proofs.lemmas.List.Elements.{All-head, All-tail}
-use Rattle.std.proofs.lemmas.Bool.{cases_eq, ne_eqb}
-use Rattle.grid.specs.declared.Strip.{Strip}
-use Rattle.grid.specs.declared.place.Kind.{Kind}
-use Rattle.grid.specs.declared.place.Kind.TheVariants.{Logic}
-use Rattle.grid.specs.declared.place.Place.{Place}
-use Rattle.grid.specs.Places.{place_at, places_of}
-use Rattle.strip_place.specs.Task.{Task}
-use Rattle.strip_place.specs.Boards.{places_on, drawn_block}
-use Rattle.block_places.specs.Placed.{is_same_place, place_of}
-use Rattle.strip_place.specs.Seating.{exchanged_site}
-use Rattle.strip_place.specs.Sites.{AreDistinct, AreOneToOne, IsSiteFor, drawn_for, first_site, site_count, site_place, sites_of}
-use Rattle.strip_place.specs.Pass.{Draw, place_after, drawn_place, after_draw, after_move, is_kept, cost_of}
+use Rattle.strip_place.proofs.Prelude.{◌≡◌, ℕ, ◌+◌, ◌-◌, ◌%◌, ◌<◌, All, Bool, true, false, cond, eqb, List, [], ◌∷◌, length, get_or, map, refl, sym, ap, ◌∙◌, ◌⊎◌, arith, inl, inr, eq-eqb, get_or-map, All-head, All-tail, cases_eq, ne_eqb, Strip, Kind, Logic, Place, place_at, Task, places_on, drawn_block, is_same_place, place_of, exchanged_site, AreDistinct, AreOneToOne, IsSiteFor, drawn_for, first_site, site_count, site_place, sites_of, Draw, place_after, drawn_place, after_draw, after_move, is_kept, cost_of}
 use Rattle.strip_place.proofs.Boarding.{map_itself}
 use Rattle.strip_place.proofs.KeptSites.{is_itself, told_apart}
 use Rattle.strip_place.proofs.Standing.{place_is}
@@ -24,9 +10,7 @@ past_first : (target first number : ℕ) → target ≡ first + number → targe
 past_first target first number is = omega (arith, is)
 
 drawn_here : (strip : Strip) (kind : Kind) (target word : ℕ) → IsSiteFor strip kind target → target ≡ drawn_for strip kind word → site_place strip target ≡ drawn_place strip kind word
-drawn_here strip kind target word inside goes =
-    place_is strip kind target inside
-    ∙ ap (λ n. get_or (places_of strip kind) n (place_at 0 0 0)) (past_first target (first_site strip kind) (word % site_count strip kind) goes)
+drawn_here strip kind target word inside goes = grind (arith, past_first, place_is strip kind target inside, past_first target (first_site strip kind) (word % site_count strip kind) goes)
 
 module _ (strip : Strip) (distinct : AreDistinct strip) where
   abbrev pub Inside : ℕ → Type 0
@@ -68,11 +52,7 @@ draw_undone strip task temperature draw places undone = ap (λ (b : Bool). cond 
 
 draw_own : (strip : Strip) (task : Task) (temperature : ℕ) (draw : Draw) (places : List Place) → after_move strip task draw places ≡ places → after_draw strip task temperature draw places ≡ places
 unfolding after_draw
-draw_own strip task temperature draw places same = by (is_kept temperature (cost_of task.nets places) (cost_of task.nets (after_move strip task draw places)) draw.a)
-  where
-    by : (b : Bool) → cond b (after_move strip task draw places) places ≡ places
-    by true = same
-    by false = refl
+draw_own strip task temperature draw places same = grind arith
 
 -- a block is drawn, and a site of its kind
 module _ (strip : Strip) (distinct : AreDistinct strip) (task : Task) (temperature : ℕ) (draw : Draw) (sites : List ℕ) (block target : ℕ) (standing : AreOneToOne strip task.kinds sites) (within : block < length task.kinds)

@@ -1,8 +1,5 @@
 -- Passes become colder, and cold ones are followed by cold ones.
-use Rattle.std.proofs.Common.{◌≡◌, ◌≢◌, ℕ, zero, suc, ◌+◌, ◌-◌, ◌*◌, ◌/◌, ◌≤◌, true, false, sym, ap, ◌∙◌, arith, eq-eqb}
-use Rattle.std.proofs.lemmas.Bool.{eqb-false, eqb-true}
-use Rattle.grid.specs.declared.Strip.{Strip}
-use Rattle.strip_place.specs.Anneal.{temperature_at, is_past_last}
+use Rattle.strip_place.proofs.Prelude.{◌≡◌, ◌≢◌, ℕ, zero, suc, ◌+◌, ◌-◌, ◌*◌, ◌/◌, ◌≤◌, true, false, ap, ◌∙◌, arith, eqb-true, Strip, temperature_at, is_past_last}
 
 -- the number of warm passes is bounded
 cooled : (strip : Strip) (passes : ℕ) → temperature_at strip passes ≢ 0 → temperature_at strip passes + passes ≤ strip.width + strip.rows
@@ -13,10 +10,7 @@ cooled strip (suc passes) warm =
     omega (arith, cooled strip passes before, before)
 
 pub few_passes : (strip : Strip) (passes : ℕ) → is_past_last strip passes ≡ false → passes ≤ strip.width + strip.rows
-few_passes strip zero warm = omega arith
-few_passes strip (suc passes) warm =
-    let before : temperature_at strip passes ≢ 0 = eqb-false (temperature_at strip passes) 0 warm in
-    omega (arith, cooled strip passes before, before)
+few_passes strip passes warm = grind (arith, cooled)
 
 -- a pass after a cold one is cold
 cold_stays : (strip : Strip) (passes more : ℕ) → temperature_at strip passes ≡ 0 → temperature_at strip (passes + more) ≡ 0
@@ -29,6 +23,4 @@ cold_stays strip passes (suc more) cold =
 pub stays_past : (strip : Strip) (few more : ℕ) → few ≤ more → is_past_last strip few ≡ true → is_past_last strip more ≡ true
 stays_past strip zero more le past = absurd cc
 stays_past strip (suc few) zero le past = absurd (omega arith)
-stays_past strip (suc few) (suc more) le past =
-    let e : few + (more - few) ≡ more = omega arith in
-    eq-eqb (temperature_at strip more) 0 (ap (temperature_at strip) (sym e) ∙ cold_stays strip few (more - few) (eqb-true (temperature_at strip few) 0 past))
+stays_past strip (suc few) (suc more) le past = grind (arith, cold_stays strip few (more - few) (eqb-true (temperature_at strip few) 0 past))

@@ -1,13 +1,5 @@
 -- Small placings, computed from the definitions.
-use Rattle.std.proofs.Common.{◌≡◌, ℕ, zero, suc, true, false, List, [], ◌∷◌, Some, None, refl}
-use Rattle.grid.specs.declared.Strip.{Strip}
-use Rattle.grid.specs.declared.place.Kind.TheVariants.{Logic, Pad}
-use Rattle.grid.specs.declared.place.Place.{Place}
-use Rattle.grid.specs.Places.{place_at, places_of}
-use Rattle.strip_place.specs.Task.{Task}
-use Rattle.strip_place.specs.Pass.{Draw, after_draw, cost_of, drawn_place, is_kept, pass_of, spread}
-use Rattle.strip_place.specs.Anneal.{is_past_last, temperature_at}
-use Rattle.strip_place.specs.Start.{placed_first}
+use Rattle.strip_place.proofs.Prelude.{◌≡◌, ℕ, zero, suc, true, false, List, [], ◌∷◌, Some, None, refl, Strip, Logic, Pad, Place, place_at, places_of, Task, Draw, after_draw, cost_of, drawn_place, is_kept, pass_of, spread, is_past_last, temperature_at, placed_first}
 
 abbrev strip : Strip
 strip = record { width = 3; rows = 1; io_rat = 1 }

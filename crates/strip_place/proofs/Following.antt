@@ -1,80 +1,20 @@
 -- Bounding boxes of nets one of whose blocks moves.
-use Rattle.std.proofs.Common.{◌≡◌, ◌≢◌, ℕ, ◌+◌, ◌-◌, ◌<◌, ◌≤◌, cond, eqb, List, length, map, get_or, refl, sym, subst, ◌∙◌, ◌⊎◌, inl, inr, arith}
-use Rattle.std.specs.Prelude.{max, min}
-use Rattle.std.proofs.lemmas.Bool.{cases_eq, cases_lt}
-use Rattle.std.proofs.lemmas.Bool.Decides.{nat_tests}
-use Rattle.strip_place.specs.declared.net_box.NetBox.{NetBox}
-use Rattle.strip_place.specs.Points.{Point}
-use Rattle.strip_place.specs.Boxes.{AreBoxes, AreRenewed, CanRenew, IsAmong, IsBoxBy, IsDeep, IsFollowed, at_column, at_row, box_at, with_block}
-use Rattle.strip_place.specs.Extents.{HasMoved, IsNear, count_at, mirrored_counts}
-use Rattle.strip_place.specs.Nets.{AreTouched, net_at, times_on}
-use Rattle.strip_place.specs.declared.sides.Sides.{Sides}
-use Rattle.strip_place.specs.Sides.{sides_of}
-use Rattle.strip_place.specs.Wiring.{no_point, point_at}
+use Rattle.strip_place.proofs.Prelude.{◌≡◌, ◌≢◌, ℕ, ◌+◌, ◌-◌, ◌<◌, ◌≤◌, cond, eqb, List, length, map, get_or, refl, sym, ◌∙◌, ◌⊎◌, inl, inr, arith, max, min, nat_tests, NetBox, Point, AreBoxes, AreRenewed, CanRenew, IsAmong, IsBoxBy, IsDeep, IsFollowed, at_column, at_row, box_at, with_block, HasMoved, IsNear, count_at, mirrored_counts, AreTouched, net_at, times_on, Sides, sides_of, no_point, point_at}
 use Rattle.strip_place.proofs.Ends.{swapped_once}
 use Rattle.strip_place.proofs.Lengths.{is_in}
-use Rattle.strip_place.proofs.Nearness.{IsNearSoFar, near_all, near_more}
 use Rattle.strip_place.proofs.Swaps.{AreExchanged, box_counts, none_on, same_each, swapped, x_of, y_of}
-
--- the nearest distances are unchanged if the numbers of blocks up to them are
-near_up_to : (old new : ℕ → ℕ) (near next : ℕ) → ((c : ℕ) → c ≤ next → new c ≡ old c) → IsNear old near next → IsNear new near next
-near_up_to old new near next same is = record {
-  near_inside = is.near_inside;
-  next_inside = is.next_inside;
-  some = omega (arith, same near ordered, is.some);
-  below = λ c lt. same c (omega (arith, ordered)) ∙ is.below c lt;
-  again = by is.again;
-}
-  where
-    ordered : near ≤ next
-    ordered = from is.again (cases_lt next near)
-      where
-        from : (next ≡ 65535) ⊎ (cond {A = ℕ} (eqb near next) 1 0 < old next) → (next < near) ⊎ (near ≤ next) → near ≤ next
-        from (inl far) (inl lt) = absurd (let inside = is.near_inside in omega arith)
-        from (inr more) (inl lt) = absurd (omega (arith, is.below next lt))
-        from any (inr le) = le
-
-    by : (next ≡ 65535) ⊎ (cond {A = ℕ} (eqb near next) 1 0 < old next) → (next ≡ 65535) ⊎ (cond {A = ℕ} (eqb near next) 1 0 < new next)
-    by (inl far) = inl far
-    by (inr more) = inr (omega (arith, same next (omega arith), more))
 
 -- a block that was farther than the two nearest moves
 near_moved : (old new : ℕ → ℕ) (near next from to : ℕ) → next < from → to ≤ 65535 → 0 < old from → ((c : ℕ) → c ≤ 65535 → new c + cond {A = ℕ} (eqb from c) 1 0 ≡ old c + cond (eqb to c) 1 0) → IsNear old near next → IsNear new (min to near) (min next (max near to))
-near_moved old new near next from to deep small stood each is = near_all new 2 (min to near) (min next (max near to)) (omega arith) (near_more mid new 1 near next to small more so_far)
-  where
-    mid : ℕ → ℕ
-    mid c = old c - cond {A = ℕ} (eqb from c) 1 0
-
-    rest : IsNear mid near next
-    rest = near_up_to old mid near next (λ c le. (let off : from ≢ c = λ e. absurd (omega arith) in grind (arith, nat_tests, off))) is
-
-    so_far : IsNearSoFar mid 1 near next
-    so_far = record { near_inside = rest.near_inside; next_inside = rest.next_inside; some = λ some. rest.some; below = rest.below; again = rest.again; start = λ z. absurd (omega arith) }
-
-    more : (c : ℕ) → c ≤ 65535 → new c ≡ mid c + cond {A = ℕ} (eqb to c) 1 0
-    more c inside = by (cases_eq from c) (each c inside)
-      where
-        by : (from ≡ c) ⊎ (from ≡ c → ⊥) → new c + cond {A = ℕ} (eqb from c) 1 0 ≡ old c + cond (eqb to c) 1 0 → new c ≡ old c - cond {A = ℕ} (eqb from c) 1 0 + cond (eqb to c) 1 0
-        by (inl e) at = (let some : 0 < old c = subst (λ n. 0 < old n) e stood in grind (arith, nat_tests, at))
-        by (inr off) at = grind (arith, nat_tests, at)
+near_moved old new near next from to deep small stood each is = search (nat_tests, arith)
 
 -- a block that was farther than the two nearest moves, as seen from the other side
 near_moved_mirrored : (old new : ℕ → ℕ) (near next from to : ℕ) → next < 65535 - from → from ≤ 65535 → to ≤ 65535 → HasMoved old new from to → IsNear (mirrored_counts old) near next → IsNear (mirrored_counts new) (min (65535 - to) near) (min next (max near (65535 - to)))
-near_moved_mirrored old new near next from to deep from_inside to_inside moved is =
-    near_moved (mirrored_counts old) (mirrored_counts new) near next (65535 - from) (65535 - to) deep (omega arith)
-    (let e : from ≡ 65535 - (65535 - from) = omega arith in subst (λ n. 0 < old n) e moved.stood)
-    (λ c inside. (let each = moved.each (65535 - c) in grind (arith, nat_tests, each))) is
+near_moved_mirrored old new near next from to deep from_inside to_inside moved is = search (nat_tests, arith)
 
 -- a move can be undone
 moved_back : (old new : ℕ → ℕ) (from to : ℕ) → HasMoved old new from to → HasMoved new old to from
-moved_back old new from to moved = record {
-  stood = by (cases_eq from to);
-  each = λ c. sym (moved.each c);
-}
-  where
-    by : (from ≡ to) ⊎ (from ≡ to → ⊥) → 0 < new to
-    by (inl e) = (let some : 0 < old to = subst (λ n. 0 < old n) e moved.stood in let each = moved.each to in grind (arith, nat_tests, each, some))
-    by (inr ne) = (let each = moved.each to in grind (arith, nat_tests, each))
+moved_back old new from to moved = grind arith
 
 -- a box that is extended to the block's new point
 box_moved : (columns new_columns rows new_rows : ℕ → ℕ) (box : NetBox) (from to : Point) → from.x ≤ 65535 → from.y ≤ 65535 → to.x ≤ 65535 → to.y ≤ 65535 → HasMoved columns new_columns from.x to.x → HasMoved rows new_rows from.y to.y → IsDeep box (sides_of from) → IsBoxBy columns rows box

@@ -1,29 +1,7 @@
 -- Kept places.
-use Rattle.std.proofs.Common.{ℕ, zero, suc, ◌≡◌, ◌≢◌, ◌+◌, ◌<◌, ◌≤◌, Bool, true, false, cond, List, [], ◌∷◌, ◌++◌, Some, Result, Ok, Err, IfOk, length, take, get_or, slice_get, refl, sym, ap, subst, ◌∙◌, arith}
-use Rattle.std.specs.Prelude.{AllPairs, Contains}
-use Rattle.std.specs.List.{IsDistinct, zip}
+use Rattle.strip_place.proofs.Prelude.{ℕ, zero, suc, ◌≡◌, ◌≢◌, ◌+◌, ◌<◌, ◌≤◌, Bool, true, false, cond, List, [], ◌∷◌, ◌++◌, Some, Result, Ok, Err, IfOk, length, take, get_or, slice_get, refl, sym, ap, subst, ◌∙◌, arith, AllPairs, Contains, IsDistinct, zip, eq_by_cmp, get_or-map, length-map, map_push, take_all, take_more, IsDistinct-from_apart, get_or_from_slice_get, slice_get_within, get_or-zip, PackedCircuit, blocks_of, BlockKey, key_of, key_order, keys_of, Block, Cluster, Strip, Place, kind_of, place_at, places_of, KeptPlace, KeptPlaces, in_order, entries_of, entry_of, find-in_order, tied, AreKeptOn, kind_for, ArePlaced, block_at}
 use Rattle.std.specs.Map as entries
 use Rattle.std.specs.FinMap.{find}
-use Rattle.std.specs.Ordering.{eq_by_cmp}
-use Rattle.std.proofs.lemmas.List.{get_or-map, length-map, map_push, take_all, take_more}
-use Rattle.std.proofs.lemmas.Map.Keys.{IsDistinct-from_apart}
-use Rattle.std.proofs.lemmas.Option.{get_or_from_slice_get, slice_get_within}
-use Rattle.std.proofs.lemmas.Slice.Zip.{get_or-zip}
-use Rattle.cluster.specs.Clusters.{PackedCircuit}
-use Rattle.cluster.specs.Blocks.{blocks_of}
-use Rattle.cluster.specs.Keys.{BlockKey, key_of, key_order, keys_of}
-use Rattle.cluster.specs.declared.block.Block.{Block}
-use Rattle.cluster.specs.declared.block.Block.TheVariants.{InputPad, OutputPad, Cluster}
-use Rattle.grid.specs.declared.Strip.{Strip}
-use Rattle.grid.specs.declared.place.Place.{Place}
-use Rattle.block_places.specs.Fits.{kind_of}
-use Rattle.grid.specs.Places.{place_at, places_of}
-use Rattle.kept_places.specs.declared.table.KeptPlace.{KeptPlace}
-use Rattle.kept_places.specs.Kept.{KeptPlaces, in_order}
-use Rattle.kept_places.specs.Table.{entries_of, entry_of}
-use Rattle.kept_places.proofs.Entries.{find-in_order, tied}
-use Rattle.strip_place.specs.Keeping.{AreKeptOn, kind_for}
-use Rattle.block_places.specs.Placed.{ArePlaced, block_at}
 
 -- the place that is found for a key
 zip_found : (keys : List BlockKey) (places : List Place) (key : BlockKey) (place : Place) → find key_order key (zip keys places) ≡ Some place →
@@ -42,9 +20,7 @@ zip_found (first ∷ keys) (head ∷ places) key place is = by (eq_by_cmp key_or
         (suc r.0, omega (arith, r.1), omega (arith, r.2), r.3, r.4)
 
 key_kind : (packed : PackedCircuit) (block : Block) → kind_for (key_of packed block).kind ≡ kind_of block
-key_kind packed (InputPad net) = refl
-key_kind packed (OutputPad net) = refl
-key_kind packed (Cluster cluster) = refl
+key_kind packed block = grind arith
 
 -- the places of placed blocks may be kept
 pub placed_kept : (strip : Strip) (packed : PackedCircuit) (places : List Place) → ArePlaced strip packed places → AreKeptOn strip (in_order (zip (keys_of packed) places))
@@ -99,22 +75,15 @@ zip_keys (key ∷ keys) [] long = absurd (omega (arith, long))
 zip_keys (key ∷ keys) (place ∷ places) long = ap (λ rest. key ∷ rest) (zip_keys keys places (omega (arith, long)))
 
 other_key : (key other : BlockKey) → key ≢ other → eq_by_cmp key_order key other ≡ false
-other_key key other differs = by (eq_by_cmp key_order key other) refl
-  where
-    by : (b : Bool) → eq_by_cmp key_order key other ≡ b → b ≡ false
-    by false is = refl
-    by true is = absurd (differs (tied key other is))
+other_key key other differs = grind (arith, tied)
 
 -- the keys of the entries are different
 pub keys_distinct : (strip : Strip) (packed : PackedCircuit) (places : List Place) (rows : List KeptPlace) → ArePlaced strip packed places → AllPairs (λ key other. key ≢ other) (keys_of packed) → entries_of rows ≡ zip (keys_of packed) places → IsDistinct (eq_by_cmp key_order) (entries.keys_of (entries_of rows))
-keys_distinct strip packed places rows placed apart are =
-    let keys : entries.keys_of (entries_of rows) ≡ keys_of packed = ap entries.keys_of are ∙ zip_keys (keys_of packed) places (placed.long ∙ sym (length-map (blocks_of packed) (key_of packed))) in
-    subst (IsDistinct (eq_by_cmp key_order)) (sym keys) (IsDistinct-from_apart (eq_by_cmp key_order) (keys_of packed) (λ i j d before lt. other_key _ _ (apart i j d before lt)))
+keys_distinct strip packed places rows placed apart are = grind (arith, zip_keys, length-map, IsDistinct-from_apart, other_key)
 
 -- the map that is built from the entries
 pub kept_exact : {E : Type 0} (packed : PackedCircuit) (places : List Place) (rows : List KeptPlace) (made : Result KeptPlaces E) → entries_of rows ≡ zip (keys_of packed) places → IfOk made (λ kept. kept ≡ in_order (entries_of rows)) → IfOk made (λ kept. kept ≡ in_order (zip (keys_of packed) places))
-kept_exact packed places rows (Ok kept) are is = is ∙ ap in_order are
-kept_exact packed places rows (Err error) are is = tt
+kept_exact packed places rows made are is = grind arith
 
 pub kept_lawfully : {E : Type 0} (strip : Strip) (packed : PackedCircuit) (places : List Place) (made : Result KeptPlaces E) → ArePlaced strip packed places → IfOk made (λ kept. kept ≡ in_order (zip (keys_of packed) places)) → IfOk made (λ kept. AreKeptOn strip kept)
 kept_lawfully strip packed places (Ok kept) placed is = subst (AreKeptOn strip) (sym is) (placed_kept strip packed places placed)

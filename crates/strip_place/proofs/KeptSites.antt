@@ -1,29 +1,5 @@
 -- The sites of kept places.
-use Rattle.std.proofs.Common.{ℕ, zero, suc, ◌≡◌, ◌≢◌, ◌+◌, ◌-◌, ◌<◌, inl, inr, Bool, true, false, not, cond, List, [], ◌∷◌, Option, Some, None, length, map, get_or, slice_get, refl, sym, ap, subst, ◌∙◌, arith}
-use Rattle.std.specs.Prelude.{AllPairs, Contains, option_map}
-use Rattle.std.specs.List.{position_or_len}
-use Rattle.std.proofs.lemmas.Bool.{cases_order}
-use Rattle.std.proofs.lemmas.Bool.Decides.{nat_tests}
-use Rattle.std.proofs.lemmas.List.{get_or-map, length-map}
-use Rattle.std.proofs.lemmas.Option.{get_or_from_slice_get, slice_get-get_or, slice_get_within}
-use Rattle.cluster.specs.Clusters.{PackedCircuit}
-use Rattle.cluster.specs.Blocks.{blocks_of}
-use Rattle.cluster.specs.Keys.{BlockKey, key_of, keys_of}
-use Rattle.cluster.specs.declared.block.Block.{Block}
-use Rattle.cluster.specs.declared.block.Block.TheVariants.{InputPad, OutputPad, Cluster}
-use Rattle.cluster.specs.declared.block.BlockKind.{BlockKind}
-use Rattle.grid.specs.declared.Strip.{Strip}
-use Rattle.grid.specs.declared.place.Kind.{Kind}
-use Rattle.grid.specs.declared.place.Kind.TheVariants.{Logic}
-use Rattle.grid.specs.declared.place.Place.{Place}
-use Rattle.block_places.specs.Fits.{kind_of}
-use Rattle.grid.specs.Places.{place_at, places_of}
-use Rattle.kept_places.specs.Kept.{KeptPlaces, kept_place}
-use Rattle.strip_place.specs.Keeping.{AreKeptOn, kind_for}
-use Rattle.block_places.specs.Placed.{is_same_place}
-use Rattle.strip_place.specs.KeptSites.{kept_sites_of, site_of}
-use Rattle.strip_place.specs.Sites.{IsSiteFor, first_site, site_place}
-use Rattle.strip_place.specs.Starting.{AreKeptSites}
+use Rattle.strip_place.proofs.Prelude.{ℕ, zero, suc, ◌≡◌, ◌≢◌, ◌+◌, ◌-◌, ◌<◌, inl, inr, Bool, true, false, not, cond, List, [], ◌∷◌, Option, Some, None, length, map, get_or, slice_get, refl, sym, ap, subst, ◌∙◌, arith, AllPairs, Contains, option_map, position_or_len, cases_order, nat_tests, get_or-map, length-map, get_or_from_slice_get, slice_get-get_or, slice_get_within, PackedCircuit, blocks_of, BlockKey, key_of, keys_of, Block, InputPad, OutputPad, Cluster, BlockKind, Strip, Kind, Logic, Place, kind_of, place_at, places_of, KeptPlaces, kept_place, AreKeptOn, kind_for, is_same_place, kept_sites_of, site_of, IsSiteFor, first_site, site_place, AreKeptSites}
 use Rattle.strip_place.proofs.Standing.{place_is}
 
 pub same_parts : (a b : Place) → a.x ≡ b.x → a.y ≡ b.y → a.subblock ≡ b.subblock → a ≡ b
@@ -33,18 +9,12 @@ pub is_itself : (a : Place) → is_same_place a a ≡ true
 is_itself a = grind (arith, nat_tests)
 
 pub told_apart : (a b : Place) → b ≢ a → is_same_place a b ≡ false
-told_apart a b differs = by (is_same_place a b) refl
-  where
-    by : (t : Bool) → is_same_place a b ≡ t → t ≡ false
-    by false is = refl
-    by true is = absurd (differs (sym (same_parts a b (grind (arith, nat_tests, is)) (grind (arith, nat_tests, is)) (grind (arith, nat_tests, is)))))
+told_apart a b differs = grind arith
 
 -- a place is found at its index
 pub position_at : (places : List Place) (number : ℕ) (place : Place) → AllPairs (λ place next. place ≢ next) places → slice_get places number ≡ Some place → position_or_len (is_same_place place) places ≡ number
 position_at [] number place apart is = absurd (let lt = slice_get_within [] number place is in omega (arith, lt))
-position_at (first ∷ places) zero place apart is =
-    let same : first ≡ place = cc in
-    ap (λ (t : Bool). cond {A = ℕ} (not t) (1 + position_or_len (is_same_place place) places) 0) (ap (is_same_place place) same ∙ is_itself place)
+position_at (first ∷ places) zero place apart is = grind arith
 position_at (first ∷ places) (suc number) place apart is =
     let lt = slice_get_within places number place is in
     let other : first ≢ place = λ e. apart 0 (suc number) place (omega arith) (omega (arith, lt)) (e ∙ sym (get_or_from_slice_get places number place place is)) in

@@ -1,17 +1,10 @@
 -- Rows in one list, by their bounds.
-use Rattle.std.proofs.Common.{◌≡◌, ℕ, ◌+◌, ◌-◌, ◌<◌, ◌≤◌, ◌^◌, List, [], ◌∷◌, ◌++◌, length, take, drop, get_or, refl, sym, ap, ◌∙◌, ◌⊎◌, inl, inr, arith, length-append, Some, slice_get}
-use Rattle.std.proofs.lemmas.List.{drop_at, drop-append-le, ext_get_or, get_or_append_left, get_or_push, length-drop, length_push, take-append-le, take_all}
-use Rattle.std.proofs.lemmas.Option.{slice_get-get_or}
-use Rattle.std.proofs.lemmas.List.FromFn.{get_or-map-range_with_len, length-map-range_with_len}
-use Rattle.std.proofs.lemmas.Bool.{cases_eq}
-use Rattle.strip_place.specs.Lists.{AreCopied, AreSmall, row_at, rows_of}
-use Rattle.strip_place.specs.Nets.{AreNets, net_at, touching_of}
+use Rattle.strip_place.proofs.Prelude.{◌≡◌, ℕ, ◌+◌, ◌-◌, ◌<◌, ◌≤◌, ◌^◌, List, [], ◌∷◌, ◌++◌, length, take, drop, get_or, refl, sym, ap, ◌∙◌, ◌⊎◌, inl, inr, arith, length-append, Some, slice_get, drop_at, drop-append-le, ext_get_or, get_or_append_left, get_or_push, length-drop, length_push, take-append-le, take_all, slice_get-get_or, get_or-map-range_with_len, length-map-range_with_len, cases_eq, AreCopied, AreSmall, row_at, rows_of, AreNets, net_at, touching_of}
 use Rattle.strip_place.proofs.Touches.{length-touching_of, touched_few, touching_at}
 
 -- a part of a list is unchanged if more numbers follow the list
 part_kept : (numbers more : List ℕ) (start end : ℕ) → start ≤ end → end ≤ length numbers → take (end - start) (drop start (numbers ++ more)) ≡ take (end - start) (drop start numbers)
-part_kept numbers more start end rises within =
-    ap (take (end - start)) (drop-append-le start numbers more (omega arith)) ∙ take-append-le (end - start) (drop start numbers) more (omega (arith, length-drop start numbers))
+part_kept numbers more start end rises within = grind (arith, drop-append-le, take-append-le, length-drop)
 
 -- one row more is copied
 module _ (rows : List (List ℕ)) (count : ℕ) (numbers bounds row : List ℕ) (are : AreCopied rows count numbers bounds) (here : net_at rows count ≡ row) (short : length row ≤ 65536) where
@@ -56,13 +49,7 @@ module _ (rows : List (List ℕ)) (count : ℕ) (numbers bounds row : List ℕ) 
       each k lt (inr ne) = row_kept k (omega arith) ∙ are.each k (omega arith)
 
 pub copied_none : (rows : List (List ℕ)) (numbers bounds : List ℕ) → numbers ≡ [] → bounds ≡ 0 ∷ [] → AreCopied rows 0 numbers bounds
-copied_none rows numbers bounds none first = rw (none, first) (record {
-  long = refl;
-  end = refl;
-  small = omega arith;
-  within = λ k lt. absurd (omega arith);
-  each = λ k lt. absurd (omega arith);
-})
+copied_none rows numbers bounds none first = grind arith
 
 -- a row lies between two bounds
 rows_long : (numbers bounds : List ℕ) → length (rows_of numbers bounds) ≡ length bounds - 1

@@ -1,8 +1,5 @@
 -- Marks on sites.
-use Rattle.std.proofs.Common.{ℕ, ◌≡◌, ◌+◌, ◌<◌, ◌≤◌, Bool, true, false, List, Option, drop, length, get_or, refl, ap, ◌∙◌, arith}
-use Rattle.std.proofs.lemmas.List.{drop_all, drop_more}
-use Rattle.std.proofs.lemmas.List.Sums.{prefix_len-drop_all, prefix_len-drop_no, prefix_len-drop_yes}
-use Rattle.strip_place.specs.Vacancies.{first_from, mark_at, marks_with}
+use Rattle.strip_place.proofs.Prelude.{ℕ, ◌≡◌, ◌+◌, ◌<◌, ◌≤◌, Bool, true, false, List, Option, drop, length, get_or, refl, ap, arith, drop_all, drop_more, prefix_len-drop_all, prefix_len-drop_no, prefix_len-drop_yes, first_from, mark_at, marks_with}
 
 -- all sites from the first one up to this one are marked
 pub record IsSearching (marks : List Bool) (from site : ℕ) : Type 0 where
@@ -13,10 +10,7 @@ pub searching_none : (marks : List Bool) (from : ℕ) → from ≤ length marks 
 searching_none marks from within = record { within = within; first = refl }
 
 pub searching_more : (marks : List Bool) (from site : ℕ) (d : Bool) → site < length marks → get_or marks site d ≡ true → IsSearching marks from site → IsSearching marks from (site + 1)
-searching_more marks from site d lt is so_far = record {
-  within = omega (arith, lt);
-  first = (let more = prefix_len-drop_yes (λ (mark : Bool). mark) marks site d lt is in omega (arith, more)) ∙ so_far.first;
-}
+searching_more marks from site d lt is so_far = grind (arith, prefix_len-drop_yes)
 
 pub searching_free : (marks : List Bool) (from site : ℕ) (d : Bool) → site < length marks → get_or marks site d ≡ false → IsSearching marks from site → site ≡ first_from marks from
 searching_free marks from site d lt is so_far = (let none = prefix_len-drop_no (λ (mark : Bool). mark) marks site d lt is in omega (arith, none, so_far.first))

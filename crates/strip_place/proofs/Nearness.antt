@@ -1,13 +1,5 @@
 -- The distances nearest to a side, as blocks are added and as they move.
-use Rattle.std.proofs.Common.{◌≡◌, ℕ, ◌+◌, ◌-◌, ◌<◌, ◌≤◌, Bool, true, false, cond, eqb, refl, ap, subst, ◌∙◌, ◌⊎◌, inl, inr, arith}
-use Rattle.std.specs.Prelude.{max, min}
-use Rattle.std.proofs.lemmas.Bool.{cases_eq, cases_lt}
-use Rattle.std.proofs.lemmas.Bool.Decides.{nat_tests}
-use Rattle.strip_place.specs.declared.net_box.NetBox.{NetBox}
-use Rattle.strip_place.specs.Points.{Point}
-use Rattle.strip_place.specs.Extents.{HasCome, IsNear, IsReach, mirrored_counts}
-use Rattle.strip_place.specs.Boxes.{IsBoxBy, with_block}
-use Rattle.strip_place.specs.Sides.{sides_of}
+use Rattle.strip_place.proofs.Prelude.{◌≡◌, ℕ, ◌+◌, ◌-◌, ◌<◌, ◌≤◌, cond, eqb, ap, ◌∙◌, ◌⊎◌, inl, inr, arith, max, min, cases_lt, nat_tests, NetBox, Point, HasCome, IsNear, IsReach, mirrored_counts, IsBoxBy, with_block, sides_of}
 
 -- the nearest distances of the first blocks
 pub record IsNearSoFar (at_each : ℕ → ℕ) (with_block near next : ℕ) : Type 0 where
@@ -19,72 +11,11 @@ pub record IsNearSoFar (at_each : ℕ → ℕ) (with_block near next : ℕ) : Ty
   pub start : with_block ≡ 0 → near ≡ 65535
 
 pub near_more : (old new : ℕ → ℕ) (with_block near next value : ℕ) → value ≤ 65535 → ((c : ℕ) → c ≤ 65535 → new c ≡ old c + cond (eqb value c) 1 0) → IsNearSoFar old with_block near next → IsNearSoFar new (with_block + 1) (min value near) (min next (max near value))
-near_more old new with_block near next value small more so_far = record {
-  near_inside = omega (arith, small);
-  next_inside = (let inside = so_far.next_inside in omega arith);
-  some = λ some. some_by (cases_lt near value) (cases_eq with_block 0);
-  below = λ c lt. (let off = so_far.below c (omega arith) in let each = more c (let inside = so_far.near_inside in omega arith) in grind (arith, nat_tests, off, each));
-  again = again_by (cases_lt value near) (cases_lt near next) (cases_lt value next) (cases_eq with_block 0) so_far.again;
-  start = λ z. absurd (omega arith);
-}
-  where
-    some_by : (near < value) ⊎ (value ≤ near) → (with_block ≡ 0) ⊎ (with_block ≡ 0 → ⊥) → 0 < new (min value near)
-    some_by (inr le) any = (let least : min value near ≡ value = omega arith in let each = more value small in rw least (grind (arith, nat_tests, each)))
-    some_by (inl lt) (inl z) = absurd (let first = so_far.start z in omega arith)
-    some_by (inl lt) (inr ne) = (let least : min value near ≡ near = omega arith in let some = so_far.some (omega arith) in let each = more near so_far.near_inside in rw least (omega (arith, each, some)))
-
-    again_by : (value < near) ⊎ (near ≤ value) → (near < next) ⊎ (next ≤ near) → (value < next) ⊎ (next ≤ value) → (with_block ≡ 0) ⊎ (with_block ≡ 0 → ⊥) → (next ≡ 65535) ⊎ (cond {A = ℕ} (eqb near next) 1 0 < old next)
-        → (min next (max near value) ≡ 65535) ⊎ (cond {A = ℕ} (eqb (min value near) (min next (max near value))) 1 0 < new (min next (max near value)))
-    again_by (inl lt) (inr le) any met_by (inl none) = inl (omega arith)
-    again_by (inl lt) (inr le) any met_by (inr g) =
-        let first : min value near ≡ value = omega arith in
-        let second : min next (max near value) ≡ next = omega arith in
-        let each = more next so_far.next_inside in
-        rw (first, second) (inr (grind (arith, nat_tests, each, g)))
-    again_by (inl lt) (inl up) any (inl z) again = absurd (let first = so_far.start z in let inside = so_far.next_inside in omega arith)
-    again_by (inl lt) (inl up) any (inr ne) again =
-        let first : min value near ≡ value = omega arith in
-        let second : min next (max near value) ≡ near = omega arith in
-        let each = more near so_far.near_inside in
-        let some = so_far.some (omega arith) in
-        rw (first, second) (inr (grind (arith, nat_tests, each, some)))
-    again_by (inr le) any (inr past) met_by (inl none) = inl (omega arith)
-    again_by (inr le) any (inr past) met_by (inr g) =
-        let first : min value near ≡ near = omega arith in
-        let second : min next (max near value) ≡ next = omega arith in
-        let each = more next so_far.next_inside in
-        rw (first, second) (inr (grind (arith, nat_tests, each, g)))
-    again_by (inr le) any (inl under) (inl z) again = absurd (let first = so_far.start z in let inside = so_far.next_inside in omega arith)
-    again_by (inr le) any (inl under) (inr ne) again =
-        let first : min value near ≡ near = omega arith in
-        let second : min next (max near value) ≡ value = omega arith in
-        let each = more value small in
-        rw (first, second) (inr (two (cases_eq near value)))
-      where
-        two : (near ≡ value) ⊎ (near ≡ value → ⊥) → cond {A = ℕ} (eqb near value) 1 0 < new value
-        two (inl e) = (let some : 0 < old value = subst (λ n. 0 < old n) e (so_far.some (omega arith)) in let each = more value small in grind (arith, nat_tests, each, some))
-        two (inr other) = (let each = more value small in grind (arith, nat_tests, each))
-
-pub near_all : (at_each : ℕ → ℕ) (with_block near next : ℕ) → 0 < with_block → IsNearSoFar at_each with_block near next → IsNear at_each near next
-near_all at_each with_block near next some so_far = record { near_inside = so_far.near_inside; next_inside = so_far.next_inside; some = so_far.some some; below = so_far.below; again = so_far.again }
+near_more old new with_block near next value small more so_far = grind (arith, nat_tests)
 
 -- one more block, as seen from the other side
 pub more_mirrored : (old new : ℕ → ℕ) (value : ℕ) → value ≤ 65535 → ((c : ℕ) → new c ≡ old c + cond (eqb value c) 1 0) → (c : ℕ) → c ≤ 65535 → mirrored_counts new c ≡ mirrored_counts old c + cond (eqb (65535 - value) c) 1 0
 more_mirrored old new value small more c inside = (let each = more (65535 - c) in grind (arith, nat_tests, each))
-
--- the nearest distances are unchanged if all numbers of blocks are
-pub near_same : (old new : ℕ → ℕ) (near next : ℕ) → ((c : ℕ) → new c ≡ old c) → IsNear old near next → IsNear new near next
-near_same old new near next same is = record {
-  near_inside = is.near_inside;
-  next_inside = is.next_inside;
-  some = omega (arith, same near, is.some);
-  below = λ c lt. same c ∙ is.below c lt;
-  again = by is.again;
-}
-  where
-    by : (next ≡ 65535) ⊎ (cond {A = ℕ} (eqb near next) 1 0 < old next) → (next ≡ 65535) ⊎ (cond {A = ℕ} (eqb near next) 1 0 < new next)
-    by (inl none) = inl none
-    by (inr g) = inr (omega (arith, same next, g))
 
 -- the extent between the nearest distances of two sides
 pub reach_between : (at_each : ℕ → ℕ) (left left_next right right_next : ℕ) → IsNear at_each left left_next → IsNear (mirrored_counts at_each) right right_next → ((c : ℕ) → 65535 < c → at_each c ≡ 0) → IsReach at_each left (65535 - right)
@@ -104,35 +35,15 @@ reach_between at_each left left_next right right_next low high inside = record {
 
 -- the ends of the extent are in order
 pub reach_ordered : (at_each : ℕ → ℕ) (low high : ℕ) → IsReach at_each low high → low ≤ high
-reach_ordered at_each low high is = by (cases_lt high low)
-  where
-    by : (high < low) ⊎ (low ≤ high) → low ≤ high
-    by (inl lt) = absurd (omega (arith, is.above low lt, is.low_some))
-    by (inr le) = le
+reach_ordered at_each low high is = grind arith
 
 -- a block arrived and the others are unchanged, as seen from the other side
 pub come_mirrored : (old new : ℕ → ℕ) (from to : ℕ) → from ≤ 65535 → to ≤ 65535 → HasCome old new from to → HasCome (mirrored_counts old) (mirrored_counts new) (65535 - from) (65535 - to)
-come_mirrored old new from to from_inside to_inside come = record {
-  arrived = (let e : to ≡ 65535 - (65535 - to) = omega arith in subst (λ n. 0 < new n) e come.arrived);
-  kept = λ c inside some. come.kept (65535 - c) (omega arith) (grind (arith, nat_tests, some));
-}
+come_mirrored old new from to from_inside to_inside come = grind arith
 
 -- the nearest distance after a block left is still occupied
 pub still_there : (old new : ℕ → ℕ) (from to near next : ℕ) → to ≤ 65535 → IsNear old near next → HasCome old new from to → 0 < new (min (cond {A = ℕ} (eqb near from) next near) to)
-still_there old new from to near next small is come = by (eqb near from) refl
-  where
-    near_by : eqb near from ≡ false → (near < to) ⊎ (to ≤ near) → 0 < new (min near to)
-    near_by e (inl lt) = (let least : min near to ≡ near = omega arith in let some = is.some in rw least (come.kept near is.near_inside (grind (arith, nat_tests, some))))
-    near_by e (inr le) = (let least : min near to ≡ to = omega arith in rw least come.arrived)
-
-    next_by : near ≡ from → (next < to) ⊎ (to ≤ next) → (next ≡ 65535) ⊎ (cond {A = ℕ} (eqb near next) 1 0 < old next) → 0 < new (min next to)
-    next_by e (inr le) any = (let least : min next to ≡ to = omega arith in rw least come.arrived)
-    next_by e (inl lt) (inl none) = absurd (omega arith)
-    next_by e (inl lt) (inr g) = (let least : min next to ≡ next = omega arith in rw least (come.kept next is.next_inside (rw e at g)))
-
-    by : (t : Bool) → eqb near from ≡ t → 0 < new (min (cond {A = ℕ} t next near) to)
-    by true e = next_by (grind (arith, nat_tests)) (cases_lt next to) is.again
-    by false e = near_by e (cases_lt near to)
+still_there old new from to near next small is come = grind (arith, nat_tests)
 
 -- the box of the first blocks
 pub record IsBoxSoFar (columns rows : ℕ → ℕ) (count : ℕ) (box : NetBox) : Type 0 where
@@ -154,11 +65,4 @@ box_more columns new_columns rows new_rows count box block x_small y_small acros
 }
 
 pub box_all : (columns rows : ℕ → ℕ) (count : ℕ) (box : NetBox) → 0 < count → IsBoxSoFar columns rows count box → IsBoxBy columns rows box
-box_all columns rows count box some so_far = record {
-  left = near_all columns count box.left box.next_left some so_far.left;
-  right = near_all (mirrored_counts columns) count box.right box.next_right some so_far.right;
-  bottom = near_all rows count box.bottom box.next_bottom some so_far.bottom;
-  top = near_all (mirrored_counts rows) count box.top box.next_top some so_far.top;
-  columns_inside = so_far.columns_inside;
-  rows_inside = so_far.rows_inside;
-}
+box_all columns rows count box some so_far = search arith

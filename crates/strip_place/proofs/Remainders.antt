@@ -1,7 +1,5 @@
 -- Remainders by a product.
-use Rattle.std.proofs.Common.{◌≡◌, ◌+◌, ◌-◌, ◌*◌, ◌/◌, ◌%◌, ◌<◌, ◌≤◌, ℕ, arith, ap, sym, ◌∙◌}
-use Rattle.std.proofs.Math.Nat.{div-mul-le_self, lt-div-mul-add, mul-le-mul_right, le_of_mul-le-mul_right, lt_of_mul-lt-mul_right}
-use Rattle.std.proofs.lemmas.Nat.{mod-mul-add}
+use Rattle.strip_place.proofs.Prelude.{◌≡◌, ◌+◌, ◌-◌, ◌*◌, ◌/◌, ◌%◌, ◌<◌, ◌≤◌, ℕ, arith, div-mul-le_self, lt-div-mul-add, mul-le-mul_right, le_of_mul-le-mul_right, lt_of_mul-lt-mul_right}
 
 -- the upper half of the product is at most the quotient
 pub not_above : (base word by inverse : ℕ) → 0 < base → inverse * by ≤ base → word * inverse / base * by ≤ word
@@ -27,12 +25,7 @@ not_far_below base word by inverse some small near =
 
 -- what is left is the remainder, or the divisor more
 pub is_rest : (word by quotient : ℕ) → quotient * by ≤ word → word - quotient * by < by → word - quotient * by ≡ word % by
-is_rest word by quotient within small =
-    let whole : quotient * by + (word - quotient * by) ≡ word = omega (arith, within) in
-    sym (mod-mul-add quotient by (word - quotient * by) small) ∙ ap (λ n. n % by) whole
+is_rest word by quotient within small = grind arith
 
 pub is_rest_past : (word by quotient : ℕ) → 0 < by → by ≤ word - quotient * by → word < quotient * by + by + by → word - quotient * by - by ≡ word % by
-is_rest_past word by quotient some past near =
-    let small : word - quotient * by - by < by = omega (arith, some, past, near) in
-    let whole : (quotient + 1) * by + (word - quotient * by - by) ≡ word = omega (arith, some, past) in
-    sym (mod-mul-add (quotient + 1) by (word - quotient * by - by) small) ∙ ap (λ n. n % by) whole
+is_rest_past word by quotient some past near = grind arith

@@ -1,17 +1,7 @@
 -- Nets two of whose blocks change places.
-use Rattle.std.proofs.Common.{◌≡◌, ◌≢◌, ℕ, ◌+◌, ◌<◌, ◌≤◌, true, false, List, [], ◌∷◌, ◌++◌, length, take, drop, set, get_or, refl, sym, ap, ◌∙◌, ◌⊎◌, inl, inr, arith, get_or-set_same, get_or-set_other, length-set}
-use Rattle.std.specs.Prelude.{nat_le, sum_by}
-use Rattle.std.proofs.lemmas.Bool.Decides.{nat_tests}
-use Rattle.std.proofs.lemmas.Bool.{cases_eq}
-use Rattle.std.proofs.lemmas.List.{ext_get_or, take-append-le, take_all}
-use Rattle.strip_place.specs.declared.net_box.NetBox.{NetBox}
-use Rattle.strip_place.specs.Points.{Point}
-use Rattle.strip_place.specs.Nets.{AreTouched, net_at, times_on}
-use Rattle.strip_place.specs.Boxes.{AreBothRenewed, AreFewOf, AreTouchedBy, IsFollowed, box_at, boxed_length, length_after, near_of, reach_of, reached_length}
-use Rattle.strip_place.specs.Sides.{sides_of, sum_of}
+use Rattle.strip_place.proofs.Prelude.{◌≡◌, ◌≢◌, ℕ, ◌+◌, ◌<◌, ◌≤◌, true, false, List, [], ◌∷◌, ◌++◌, length, take, drop, set, get_or, refl, sym, ap, ◌∙◌, ◌⊎◌, inl, inr, arith, get_or-set_same, get_or-set_other, length-set, nat_le, sum_by, nat_tests, cases_eq, ext_get_or, take-append-le, take_all, NetBox, Point, AreTouched, net_at, times_on, AreBothRenewed, AreFewOf, AreTouchedBy, IsFollowed, box_at, boxed_length, length_after, near_of, reach_of, reached_length, sides_of, sum_of, IsOnNone, IsWired, Wiring, no_point, point_at, points_after}
 use Rattle.strip_place.proofs.Following.{followed_back, followed_there}
 use Rattle.strip_place.proofs.Lengths.{box_sum}
-use Rattle.strip_place.specs.Wiring.{IsOnNone, IsWired, Wiring, no_point, point_at, points_after}
 use Rattle.strip_place.proofs.Swaps.{exchanged_back, exchanged_points, grows, least_after, renewed_again, renewed_boxes}
 use Rattle.strip_place.proofs.Touches.{touched_few}
 
@@ -20,10 +10,7 @@ wiring_of nets points = record { nets = nets; points = points }
 
 -- a list that is lent and written as a whole
 pub whole_back : (count : ℕ) (new old : List NetBox) → length new ≡ count → take count (new ++ drop (length new) old) ≡ new
-whole_back count new old long =
-    let fits : count ≤ length new = omega arith in
-    let all : length new ≤ count = omega arith in
-    take-append-le count new (drop (length new) old) fits ∙ take_all count new all
+whole_back count new old long = grind (arith, take-append-le, take_all)
 
 -- the nets of a board on which two blocks change places
 module _ (nets touching : List (List ℕ)) (points : List Point) (boxes : List NetBox) (block other : ℕ) (there : Point) (first second : List ℕ)

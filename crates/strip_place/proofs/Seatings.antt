@@ -1,17 +1,5 @@
 -- Blocks at the start.
-use Rattle.std.proofs.Common.{ℕ, zero, suc, ◌≡◌, ◌≢◌, ◌+◌, ◌<◌, ◌≤◌, ◌⊎◌, inl, inr, Bool, true, false, not, cond, ◌&&◌, List, [], ◌∷◌, ◌++◌, Option, Some, None, length, get_or, refl, sym, ap, subst, ◌∙◌, arith}
-use Rattle.std.specs.List.{zip}
-use Rattle.std.specs.Option.{is_none, unwrap_or}
-use Rattle.std.proofs.lemmas.Bool.{cases_order}
-use Rattle.std.proofs.lemmas.Bool.Decides.{nat_tests}
-use Rattle.std.proofs.lemmas.List.{append-nil, append_assoc}
-use Rattle.std.proofs.lemmas.Slice.Zip.{get_or-zip}
-use Rattle.grid.specs.declared.Strip.{Strip}
-use Rattle.grid.specs.declared.place.Kind.{Kind}
-use Rattle.grid.specs.declared.place.Kind.TheVariants.{Logic, Pad}
-use Rattle.block_places.specs.Fits.{is_same_kind}
-use Rattle.strip_place.specs.Sites.{AreOneToOne, IsSiteFor, first_site, is_among, kept_sites, least_free, seated_behind, site_count, site_for, start_of}
-use Rattle.strip_place.specs.Starting.{AreKeptSites, HaveRoom, logic_in, pads_in}
+use Rattle.strip_place.proofs.Prelude.{ℕ, zero, suc, ◌≡◌, ◌≢◌, ◌+◌, ◌<◌, ◌≤◌, ◌⊎◌, inl, inr, Bool, true, false, not, cond, ◌&&◌, List, [], ◌∷◌, ◌++◌, Option, Some, None, length, get_or, refl, sym, ap, subst, ◌∙◌, arith, zip, is_none, cases_order, nat_tests, append-nil, append_assoc, get_or-zip, Strip, Kind, Logic, Pad, is_same_kind, AreOneToOne, IsSiteFor, first_site, is_among, kept_sites, least_free, seated_behind, site_count, site_for, start_of, AreKeptSites, HaveRoom, logic_in, pads_in}
 use Rattle.strip_place.proofs.Vacant.{IsLeast, all_free, among_before, among_last, free_count, free_less, free_past, free_same, least_found}
 
 -- a block at the start: its kind, and the site that is kept for it
@@ -36,14 +24,10 @@ pub record HasRoom (strip : Strip) (taken : List ℕ) (blocks : List Comer) : Ty
 
 -- the least free site of a kind, when one is needed
 least_site : (strip : Strip) (kind : Kind) (taken : List ℕ) → 1 ≤ free strip kind taken → IsLeast taken (first_site strip kind) (site_count strip kind) (least_free strip kind taken)
-least_site strip kind taken some =
-    let least = least_found taken (first_site strip kind) (site_count strip kind) some in
-    let is : least.0 ≡ least_free strip kind taken = sym (ap (λ (o : Option ℕ). unwrap_or o 0) least.1.found) in
-    subst (λ site. IsLeast taken (first_site strip kind) (site_count strip kind) site) is least.1
+least_site strip kind taken some = grind (arith, least_found)
 
 pub least_seat : (strip : Strip) (kind : Kind) (taken : List ℕ) (blocks : List Comer) → HasRoom strip taken ((kind, None) ∷ blocks) → IsLeast taken (first_site strip kind) (site_count strip kind) (least_free strip kind taken)
-least_seat strip Logic taken blocks room = least_site strip Logic taken (omega (arith, room.room Logic))
-least_seat strip Pad taken blocks room = least_site strip Pad taken (omega (arith, room.room Pad))
+least_seat strip kind taken blocks room = grind (arith, least_site)
 
 -- there are still enough sites for the remaining blocks
 pub room_more : (strip : Strip) (taken : List ℕ) (block : Comer) (blocks : List Comer) → HasRoom strip taken (block ∷ blocks) → HasRoom strip (taken ++ site_for strip taken block ∷ []) blocks
@@ -75,11 +59,7 @@ abbrev pub Sits : Strip → List ℕ → Comer → ℕ → Type 0
 Sits strip taken block site = (block.1 ≡ Some site) ⊎ ((block.1 ≡ None) × (is_among taken site ≡ false) × IsSiteFor strip block.0 site)
 
 not_before : (taken : List ℕ) (site other : ℕ) → is_among (taken ++ site ∷ []) other ≡ false → is_among taken other ≡ false
-not_before taken site other isnt = by (is_among taken other) refl
-  where
-    by : (b : Bool) → is_among taken other ≡ b → b ≡ false
-    by false is = refl
-    by true is = absurd (let wrong = sym isnt ∙ among_before taken site other is in cc)
+not_before taken site other isnt = grind (arith, among_before)
 
 pub sits : (strip : Strip) (taken : List ℕ) (blocks : List Comer) (block : ℕ) → HasRoom strip taken blocks → block < length blocks → Sits strip taken (get_or blocks block nobody) (get_or (seated_behind strip taken blocks) block 0)
 sits strip taken [] block room lt = absurd (omega (arith, lt))
@@ -140,37 +120,26 @@ all_of Logic kinds = logic_in kinds
 all_of Pad kinds = pads_in kinds
 
 all_more : (k kind : Kind) (kinds : List Kind) → all_of k (kind ∷ kinds) ≡ cond {A = ℕ} (is_same_kind k kind) 1 0 + all_of k kinds
-all_more Logic Logic kinds = omega arith
-all_more Logic Pad kinds = omega arith
-all_more Pad Logic kinds = omega arith
-all_more Pad Pad kinds = omega arith
+all_more k kind kinds = grind arith
 
 split : (b : Bool) (kept : Option ℕ) → cond {A = ℕ} (b && is_none kept) 1 0 + cond {A = ℕ} (b && not (is_none kept)) 1 0 ≡ cond {A = ℕ} b 1 0
-split true None = refl
-split true (Some site) = refl
-split false None = refl
-split false (Some site) = refl
+split b kept = grind arith
 
 needs_and_keeps : (k : Kind) (kinds : List Kind) (kept : List (Option ℕ)) → length kept ≡ length kinds → needs k (zip kinds kept) + keeps k (zip kinds kept) ≡ all_of k kinds
 needs_and_keeps Logic [] kept long = refl
 needs_and_keeps Pad [] kept long = refl
 needs_and_keeps k (kind ∷ kinds) [] long = absurd (omega (arith, long))
-needs_and_keeps k (kind ∷ kinds) (site ∷ kept) long =
-    omega (arith, needs_and_keeps k kinds kept (omega (arith, long)), split (is_same_kind k kind) site, all_more k kind kinds)
+needs_and_keeps k (kind ∷ kinds) (site ∷ kept) long = grind (arith, needs_and_keeps k kinds kept (omega (arith, long)))
 
 -- each kept site is of its block's kind
 abbrev KeepTheirs : Strip → List Comer → Type 0
 KeepTheirs strip blocks = (block site : ℕ) → block < length blocks → (get_or blocks block nobody).1 ≡ Some site → IsSiteFor strip (get_or blocks block nobody).0 site
 
 free_kept : (strip : Strip) (k kind : Kind) (taken : List ℕ) (site : ℕ) → IsSiteFor strip kind site → free strip k taken ≤ free strip k (taken ++ site ∷ []) + cond {A = ℕ} (is_same_kind k kind && true) 1 0
-free_kept strip Logic Logic taken site is = free_less taken site (first_site strip Logic) (site_count strip Logic)
-free_kept strip Logic Pad taken site is = omega (arith, free_past taken site (first_site strip Logic) (site_count strip Logic) (inr (omega (arith, is.from))))
-free_kept strip Pad Logic taken site is = omega (arith, free_past taken site (first_site strip Pad) (site_count strip Pad) (inl (omega (arith, is.below))))
-free_kept strip Pad Pad taken site is = free_less taken site (first_site strip Pad) (site_count strip Pad)
+free_kept strip k kind taken site is = grind (arith, free_less, free_past)
 
 nothing_kept : (b : Bool) → cond {A = ℕ} (b && false) 1 0 ≡ 0
-nothing_kept true = refl
-nothing_kept false = refl
+nothing_kept b = grind arith
 
 room_left : (strip : Strip) (k : Kind) (taken : List ℕ) (kinds : List Kind) (kept : List (Option ℕ)) → length kept ≡ length kinds → KeepTheirs strip (zip kinds kept) → free strip k taken ≤ free strip k (taken ++ kept_sites kept) + keeps k (zip kinds kept)
 room_left strip k taken [] [] long theirs = omega (arith, ap (free strip k) (append-nil taken))

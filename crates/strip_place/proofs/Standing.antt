@@ -1,34 +1,14 @@
 -- If blocks are on different sites of their kinds, they have different places of their kinds.
-use Rattle.std.proofs.Common.{◌≡◌, ◌≢◌, ℕ, ◌-◌, ◌⊎◌, inl, inr, ◌<◌, ◌≤◌, List, length, map, get_or, refl, sym, ap, ◌∙◌, subst, arith}
-use Rattle.std.specs.Prelude.{Contains, AllPairs}
-use Rattle.std.proofs.lemmas.List.{get_or-map, get_or-append_right, get_or_append_left, length-map}
-use Rattle.std.proofs.lemmas.List.Elements.{Contains-get_or}
-use Rattle.std.proofs.lemmas.Bool.{cases_lt, cases_order}
-use Rattle.cluster.specs.declared.block.Block.TheVariants.{Cluster}
-use Rattle.cluster.specs.Clusters.{PackedCircuit}
-use Rattle.cluster.specs.Blocks.{blocks_of}
-use Rattle.grid.specs.declared.Strip.{Strip}
-use Rattle.grid.specs.declared.place.Kind.{Kind}
-use Rattle.grid.specs.declared.place.Kind.TheVariants.{Logic, Pad}
-use Rattle.grid.specs.declared.place.Place.{Place}
-use Rattle.grid.specs.Places.{place_at, places_of}
-use Rattle.block_places.specs.Fits.{kind_of}
-use Rattle.strip_place.specs.Task.{task_of}
-use Rattle.strip_place.specs.Sites.{sites_of, first_site, site_place, IsSiteFor, AreDistinct, AreOneToOne}
-use Rattle.block_places.specs.Placed.{ArePlaced, block_at}
+use Rattle.strip_place.proofs.Prelude.{◌≡◌, ◌≢◌, ℕ, ◌-◌, ◌⊎◌, inl, inr, ◌<◌, ◌≤◌, List, length, map, get_or, sym, ◌∙◌, subst, arith, Contains, AllPairs, get_or-map, get_or-append_right, get_or_append_left, length-map, Contains-get_or, cases_lt, cases_order, Cluster, PackedCircuit, blocks_of, Strip, Kind, Logic, Pad, Place, place_at, places_of, kind_of, task_of, sites_of, first_site, site_place, IsSiteFor, AreDistinct, AreOneToOne, ArePlaced, block_at}
 use Rattle.strip_place.proofs.Starts.{length-sites_of}
 
 -- a site's place is the one of its kind with the site's number in that kind
 pub place_is : (strip : Strip) (kind : Kind) (site : ℕ) → IsSiteFor strip kind site → site_place strip site ≡ get_or (places_of strip kind) (site - first_site strip kind) (place_at 0 0 0)
 unfolding sites_of
-place_is strip Logic site is =
-    get_or_append_left (places_of strip Logic) (places_of strip Pad) (place_at 0 0 0) site (omega (arith, is.below))
-    ∙ (let e : site ≡ site - 0 = omega arith in ap (λ n. get_or (places_of strip Logic) n (place_at 0 0 0)) e)
-place_is strip Pad site is = get_or-append_right (places_of strip Logic) (places_of strip Pad) (length (places_of strip Logic)) site (place_at 0 0 0) refl is.from
+place_is strip kind site is = grind (arith, get_or_append_left, get_or-append_right)
 
 among : (strip : Strip) (kind : Kind) (site : ℕ) → IsSiteFor strip kind site → Contains (places_of strip kind) (site_place strip site)
-among strip kind site is =
-    subst (Contains (places_of strip kind)) (sym (place_is strip kind site is)) (Contains-get_or (places_of strip kind) (site - first_site strip kind) (place_at 0 0 0) (omega (arith, is.from, is.below)))
+among strip kind site is = grind (arith, place_is strip kind site is, Contains-get_or (places_of strip kind) (site - first_site strip kind) (place_at 0 0 0) (omega (arith, is.from, is.below)))
 
 -- two sites of one kind have different places
 pub same_site : (strip : Strip) (kind : Kind) (site other : ℕ) → AllPairs (λ place next. place ≢ next) (places_of strip kind) → IsSiteFor strip kind site → IsSiteFor strip kind other → site_place strip site ≡ site_place strip other → site ≡ other

@@ -1,29 +1,7 @@
 -- The places at the start are the places of the sites at the start.
-use Rattle.std.proofs.Common.{◌≡◌, ◌≢◌, ℕ, zero, suc, ◌+◌, ◌-◌, ◌<◌, ◌≤◌, All, Bool, true, false, not, cond, ◌||◌, List, [], ◌∷◌, ◌++◌, Option, Some, None, nat_eq, find, length, get_or, map, slice_get, refl, sym, ap, ◌∙◌, arith}
-use Rattle.std.specs.Prelude.{AllPairs, option_and_then, option_map, unwrap_or}
-use Rattle.std.specs.List.{flat_map, range_with_len, zip}
-use Rattle.std.specs.Option.{option_to_list}
-use Rattle.std.proofs.lemmas.List.{append-nil, append_assoc, get_or-append_right, length_push, map_push}
-use Rattle.std.proofs.lemmas.List.Elements.{All-append, All-cons, All-head, All-nil, All-tail}
-use Rattle.std.proofs.lemmas.Bool.Decides.{nat_tests}
-use Rattle.std.proofs.lemmas.Option.{slice_get_within}
-use Rattle.cluster.specs.Clusters.{PackedCircuit}
-use Rattle.cluster.specs.Keys.{BlockKey, keys_of}
-use Rattle.grid.specs.declared.Strip.{Strip}
-use Rattle.grid.specs.declared.place.Kind.{Kind}
-use Rattle.grid.specs.declared.place.Kind.TheVariants.{Logic, Pad}
-use Rattle.grid.specs.declared.place.Place.{Place}
-use Rattle.grid.specs.Places.{place_at, places_of}
-use Rattle.kept_places.specs.Kept.{KeptPlaces, kept_place}
-use Rattle.strip_place.specs.Boards.{places_on, has_place}
-use Rattle.strip_place.specs.Keeping.{AreKeptOn, kind_for}
-use Rattle.strip_place.specs.KeptSites.{kept_sites_of, site_of}
-use Rattle.block_places.specs.Placed.{is_same_place}
-use Rattle.strip_place.specs.Sites.{AreDistinct, first_site, is_among, kept_sites, least_free, seated_behind, site_count, site_place, sites_of, start_of}
-use Rattle.strip_place.specs.Start.{kept_by_block, placed_behind, placed_first}
-use Rattle.strip_place.specs.Starting.{AreKeptSites, HaveRoom}
+use Rattle.strip_place.proofs.Prelude.{◌≡◌, ◌≢◌, ℕ, zero, suc, ◌+◌, ◌<◌, ◌≤◌, All, Bool, true, false, not, cond, ◌||◌, List, [], ◌∷◌, ◌++◌, Option, Some, None, nat_eq, find, length, get_or, map, slice_get, refl, sym, ap, ◌∙◌, arith, AllPairs, option_and_then, option_map, unwrap_or, flat_map, range_with_len, zip, option_to_list, append-nil, append_assoc, get_or-append_right, length_push, map_push, All-append, All-cons, All-head, All-nil, All-tail, nat_tests, slice_get_within, PackedCircuit, BlockKey, keys_of, Strip, Kind, Logic, Pad, Place, place_at, places_of, KeptPlaces, kept_place, places_on, has_place, AreKeptOn, kind_for, kept_sites_of, site_of, is_same_place, AreDistinct, first_site, is_among, kept_sites, least_free, seated_behind, site_count, site_place, sites_of, start_of, kept_by_block, placed_behind, placed_first, AreKeptSites, HaveRoom}
 use Rattle.strip_place.proofs.Carrying.{Inside, test_carried}
-use Rattle.strip_place.proofs.KeptSites.{is_itself, number_of, place_back, same_parts}
+use Rattle.strip_place.proofs.KeptSites.{number_of, place_back, same_parts}
 use Rattle.strip_place.proofs.Seatings.{Comer, HasRoom, least_seat, long, nobody, room_first, room_more, zipped}
 use Rattle.strip_place.proofs.Starting.{kept_inside}
 use Rattle.strip_place.proofs.Starts.{length-sites_of}
@@ -35,26 +13,12 @@ at_number places n = get_or places n (place_at 0 0 0)
 
 numbered : (before places after : List Place) → map (at_number (before ++ (places ++ after))) (range_with_len (length before) (length places)) ≡ places
 numbered before [] after = refl
-numbered before (place ∷ places) after =
-    let whole = before ++ (place ∷ (places ++ after)) in
-    let none : length before - length before ≡ 0 = omega arith in
-    let first : at_number (place ∷ (places ++ after)) (length before - length before) ≡ at_number (place ∷ (places ++ after)) 0 = ap (at_number (place ∷ (places ++ after))) none in
-    let head : at_number whole (length before) ≡ place = get_or-append_right before (place ∷ (places ++ after)) (length before) (length before) (place_at 0 0 0) refl (omega arith) ∙ first in
-    let joined : (before ++ place ∷ []) ++ (places ++ after) ≡ whole = append_assoc before (place ∷ []) (places ++ after) in
-    let one : map (at_number whole) (range_with_len (length before + 1) (length places)) ≡ map (at_number ((before ++ place ∷ []) ++ (places ++ after))) (range_with_len (length before + 1) (length places)) =
-    ap (λ (all : List Place). map (at_number all) (range_with_len (length before + 1) (length places))) (sym joined) in
-    let two : map (at_number ((before ++ place ∷ []) ++ (places ++ after))) (range_with_len (length before + 1) (length places)) ≡ map (at_number ((before ++ place ∷ []) ++ (places ++ after))) (range_with_len (length (before ++ place ∷ [])) (length places)) =
-    ap (λ n. map (at_number ((before ++ place ∷ []) ++ (places ++ after))) (range_with_len n (length places))) (sym (length_push before place)) in
-    let rest : map (at_number whole) (range_with_len (length before + 1) (length places)) ≡ places = one ∙ two ∙ numbered (before ++ place ∷ []) places after in
-    ap (λ (p : Place). p ∷ map (at_number whole) (range_with_len (length before + 1) (length places))) head
-    ∙ ap (λ (all : List Place). place ∷ all) rest
+numbered before (place ∷ places) after = grind (arith, get_or-append_right, append_assoc, length_push, numbered (before ++ place ∷ []) places after)
 
 places_are : (strip : Strip) (kind : Kind) → places_of strip kind ≡ map (site_place strip) (range_with_len (first_site strip kind) (site_count strip kind))
 unfolding sites_of
 places_are strip Logic = sym (numbered [] (places_of strip Logic) (places_of strip Pad))
-places_are strip Pad =
-    sym (ap (λ (all : List Place). map (at_number (places_of strip Logic ++ all)) (range_with_len (length (places_of strip Logic)) (length (places_of strip Pad)))) (sym (append-nil (places_of strip Pad)))
-    ∙ numbered (places_of strip Logic) (places_of strip Pad) [])
+places_are strip Pad = grind (arith, append-nil (places_of strip Pad), numbered (places_of strip Logic) (places_of strip Pad) [])
 
 module _ (strip : Strip) (distinct : AreDistinct strip) where
   among_carried : (taken : List ℕ) (site : ℕ) → All (Inside strip distinct) taken → Inside strip distinct site → has_place (places_on strip taken) (site_place strip site) ≡ is_among taken site
@@ -143,14 +107,8 @@ found a b same = sym (same_parts a b (grind (arith, nat_tests, same)) (grind (ar
 
 find_kept : (places : List Place) (number : ℕ) (place : Place) → slice_get places number ≡ Some place → find (is_same_place place) places ≡ Some place
 find_kept [] number place is = absurd (let lt = slice_get_within [] number place is in omega (arith, lt))
-find_kept (first ∷ places) zero place is =
-    let same : first ≡ place = cc in
-    ap (λ (b : Bool). cond b (Some first) (find (is_same_place place) places)) (ap (is_same_place place) same ∙ is_itself place) ∙ ap (λ (p : Place). let o : Option Place = Some p in o) same
-find_kept (first ∷ places) (suc number) place is = by (is_same_place place first) refl (find_kept places number place is)
-  where
-    by : (b : Bool) → is_same_place place first ≡ b → find (is_same_place place) places ≡ Some place → cond (is_same_place place first) (Some first) (find (is_same_place place) places) ≡ Some place
-    by true same rest = ap (λ (b : Bool). cond b (Some first) (find (is_same_place place) places)) same ∙ ap (λ (p : Place). let o : Option Place = Some p in o) (found place first same)
-    by false differs rest = ap (λ (b : Bool). cond b (Some first) (find (is_same_place place) places)) differs ∙ rest
+find_kept (first ∷ places) zero place is = grind arith
+find_kept (first ∷ places) (suc number) place is = grind (arith, find_kept places number place is)
 
 module _ (strip : Strip) (apart : (kind : Kind) → AllPairs (λ place next. place ≢ next) (places_of strip kind)) (kept : KeptPlaces) (lawful : AreKeptOn strip kept) where
   one_kept : (key : BlockKey) (o : Option Place) → kept_place kept key ≡ o → option_map (site_place strip) (option_map (site_of strip key.kind) o) ≡ option_and_then (λ place. find (is_same_place place) (places_of strip (kind_for key.kind))) o

@@ -1,14 +1,6 @@
 -- The start, block by block, with marks on the taken sites.
-use Rattle.std.proofs.Common.{ℕ, zero, suc, ◌≡◌, ◌+◌, ◌-◌, ◌<◌, ◌≤◌, inl, inr, Bool, true, false, List, [], ◌∷◌, ◌++◌, Option, Some, None, drop, length, get_or, set, refl, sym, ap, subst, ◌∙◌, arith}
-use Rattle.std.proofs.lemmas.Bool.{cases_eq, cases_lt}
-use Rattle.std.proofs.lemmas.List.{append-nil, append_assoc, drop_all, drop_more, get_or-set_same, get_or-set_other, length-set}
-use Rattle.std.proofs.lemmas.List.Sums.{prefix_len-drop_no, prefix_len-drop_yes}
-use Rattle.grid.specs.declared.Strip.{Strip}
-use Rattle.grid.specs.declared.place.Kind.{Kind}
-use Rattle.grid.specs.declared.place.Kind.TheVariants.{Logic, Pad}
-use Rattle.strip_place.specs.Sites.{IsSiteFor, first_site, is_among, kept_sites, least_free, seated_behind, site_count, site_for}
-use Rattle.strip_place.specs.Starting.{AreKeptSites}
-use Rattle.strip_place.specs.Vacancies.{Vacancies, all_free, first_from, lowest_vacant, marks_with, without_lowest}
+use Rattle.strip_place.proofs.Prelude.{ℕ, zero, suc, ◌≡◌, ◌+◌, ◌-◌, ◌<◌, ◌≤◌, inl, inr, Bool, true, false, List, [], ◌∷◌, ◌++◌, Option, Some, None, drop, length, get_or, set, refl, sym, ap, subst, ◌∙◌, arith, cases_eq, cases_lt, append-nil, append_assoc, drop_all, drop_more, prefix_len-drop_no, prefix_len-drop_yes, Strip, Kind, Logic, Pad, first_site, is_among, kept_sites, least_free, seated_behind, site_count, site_for, AreKeptSites, Vacancies, all_free, first_from, lowest_vacant, marks_with, without_lowest}
+use Rattle.std.proofs.lemmas.List.{get_or-set_same, get_or-set_other, length-set}
 use Rattle.strip_place.proofs.Vacant.{IsLeast, among_before, among_last, among_other}
 use Rattle.strip_place.proofs.Seatings.{Comer, HasRoom, least_seat, nobody, room_more}
 
@@ -17,10 +9,7 @@ abbrev pub AreMarks : List ℕ → List Bool → Type 0
 AreMarks taken marks = (site : ℕ) → site < length marks → get_or marks site false ≡ is_among taken site
 
 marks_more : (taken : List ℕ) (marks : List Bool) (site : ℕ) → site < length marks → AreMarks taken marks → AreMarks (taken ++ site ∷ []) (set marks site true)
-marks_more taken marks site lt are other inside = elim (cases_eq other site) [
-  | inl same ↦ rw same (get_or-set_same marks site true false lt ∙ sym (among_last taken site))
-  | inr differs ↦ get_or-set_other marks site other true false differs ∙ (are other (omega (arith, inside, length-set marks site true)) ∙ sym (among_other taken site other differs))
-]
+marks_more taken marks site lt are other inside = grind (arith, get_or-set_same, among_last, get_or-set_other, length-set, among_other)
 
 pub length-marked : (marks : List Bool) (kept : List (Option ℕ)) → length (marks_with marks kept) ≡ length marks
 length-marked marks [] = refl
@@ -191,8 +180,4 @@ starting_none strip blocks kept total room whole inside =
 
 -- the kept sites are in the strip
 pub kept_inside : (strip : Strip) (kinds : List Kind) (kept : List (Option ℕ)) → AreKeptSites strip kinds kept → (block site : ℕ) → block < length kept → get_or kept block None ≡ Some site → site < site_count strip Logic + site_count strip Pad
-kept_inside strip kinds kept lawful block site lt is = by (get_or kinds block Logic) (lawful.by_kind block site (omega (arith, lt, lawful.long)) is)
-  where
-    by : (kind : Kind) → IsSiteFor strip kind site → site < site_count strip Logic + site_count strip Pad
-    by Logic here = omega (arith, here.below)
-    by Pad here = omega (arith, here.below)
+kept_inside strip kinds kept lawful block site lt is = grind arith

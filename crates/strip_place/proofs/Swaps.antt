@@ -1,19 +1,6 @@
 -- Two blocks that change places, and the bounding boxes of their nets.
-use Rattle.std.proofs.Common.{◌≡◌, ◌≢◌, ℕ, ◌+◌, ◌-◌, ◌<◌, ◌≤◌, cond, eqb, List, [], ◌∷◌, ◌++◌, length, set, get_or, map, refl, sym, ap, subst, ◌∙◌, ◌⊎◌, inl, inr, arith, get_or-set_same, get_or-set_other, length-set}
-use Rattle.std.specs.Prelude.{nat_le, sum_by}
-use Rattle.std.proofs.lemmas.List.{get_or_append_left, get_or_push, length_push, take_all}
-use Rattle.std.proofs.lemmas.List.Sums.{sum_by_more}
-use Rattle.std.proofs.lemmas.Bool.{cases_eq, cases_lt}
-use Rattle.std.proofs.lemmas.Bool.Decides.{nat_tests}
-use Rattle.strip_place.specs.declared.net_box.NetBox.{NetBox}
-use Rattle.strip_place.specs.Points.{Point}
-use Rattle.strip_place.specs.Extents.{HasCome, count_at, mirrored_counts}
-use Rattle.strip_place.specs.Sides.{sides_of}
-use Rattle.strip_place.specs.Nets.{AreNets, AreTouched, net_at, times_on}
-use Rattle.strip_place.specs.Boxes.{AreBothRenewed, AreBoxes, AreRenewed, IsBox, IsBoxBy, IsRenewed, at_column, at_row, boxed_length, box_at, half_after, half_of, length_after, no_box, reach_of, reached_length}
-use Rattle.strip_place.specs.Wiring.{no_point, point_at, points_after}
+use Rattle.strip_place.proofs.Prelude.{◌≡◌, ◌≢◌, ℕ, ◌+◌, ◌<◌, ◌≤◌, cond, eqb, List, [], ◌∷◌, ◌++◌, length, get_or, map, refl, sym, ap, subst, ◌∙◌, ◌⊎◌, inl, inr, arith, get_or-set_same, get_or-set_other, length-set, nat_le, sum_by, get_or_append_left, get_or_push, length_push, take_all, sum_by_more, cases_eq, nat_tests, NetBox, Point, HasCome, count_at, sides_of, AreNets, AreTouched, net_at, times_on, AreBothRenewed, AreBoxes, AreRenewed, IsBox, IsBoxBy, IsRenewed, boxed_length, box_at, half_after, half_of, length_after, no_box, reach_of, reached_length, no_point, point_at, points_after}
 use Rattle.strip_place.proofs.Ends.{HaveSwapped, coordinate_at, counted, swapped_once, swapped_same}
-use Rattle.strip_place.proofs.Nearness.{near_same}
 use Rattle.strip_place.proofs.Lengths.{box_reach, boxed_is, is_in, lengths_grow, reach_least, sum_le}
 
 -- the first `count` nets have their boxes
@@ -36,21 +23,7 @@ boxes_more points nets count boxes box so_far here =
     }
 
 pub boxes_all : (points : List Point) (nets : List (List ℕ)) (count : ℕ) (boxes : List NetBox) → count ≡ length nets → AreBoxesSoFar points nets count boxes → AreBoxes points nets boxes
-boxes_all points nets count boxes all so_far = record {
-  long = so_far.long ∙ all;
-  exact = λ number lt. so_far.exact number (omega arith);
-}
-
--- boxes are updated, one after another
-pub renewed_none : (points : List Point) (nets : List (List ℕ)) (touched : List ℕ) (boxes : List NetBox) → AreRenewed points nets touched 0 boxes boxes 0
-renewed_none points nets touched boxes = record {
-  long = refl;
-  done = λ k lt. absurd (omega arith);
-  kept = λ number is. is;
-  others = λ number off. refl;
-  total_is = refl;
-  small = omega arith;
-}
+boxes_all points nets count boxes all so_far = grind arith
 
 pub renewed_more : (points : List Point) (nets : List (List ℕ)) (touched : List ℕ) (count number : ℕ) (old new last : List NetBox) (found : NetBox) (total more : ℕ) → count < length touched → number ≡ get_or touched count 0 → 0 < length (net_at nets number)
     → IsRenewed points (net_at nets number) number new last found → more ≡ total + half_of found → AreRenewed points nets touched count old new total → AreRenewed points nets touched (count + 1) old last more
@@ -102,31 +75,13 @@ pub record AreExchanged (old new : List Point) (block other : ℕ) (from to : Po
   pub kept : (k : ℕ) → k ≢ block → k ≢ other → point_at new k ≡ point_at old k
 
 pub exchanged_points : (points : List Point) (block other : ℕ) (there : Point) → block < length points → other < length points → block ≢ other → AreExchanged points (points_after points block other there) block other (point_at points block) there
-exchanged_points points block other there within inside differs = record {
-  differs = differs;
-  stood = refl;
-  gone = get_or-set_other (set points block there) other block (point_at points block) no_point differs ∙ get_or-set_same points block there no_point within;
-  back = get_or-set_same (set points block there) other (point_at points block) no_point (omega (arith, length-set points block there));
-  kept = λ k ne nor. get_or-set_other (set points block there) other k (point_at points block) no_point nor ∙ get_or-set_other points block k there no_point ne;
-}
+exchanged_points points block other there within inside differs = grind (arith, get_or-set_other, get_or-set_same, length-set)
 
 pub exchanged_back : (old new : List Point) (block other : ℕ) (from to : Point) → point_at old other ≡ to → AreExchanged old new block other from to → AreExchanged old new other block to from
-exchanged_back old new block other from to there are = record {
-  differs = λ e. are.differs (sym e);
-  stood = there;
-  gone = are.back;
-  back = are.gone;
-  kept = λ k ne nor. are.kept k nor ne;
-}
+exchanged_back old new block other from to there are = grind arith
 
 pub swapped : (f : Point → ℕ) → f no_point ≡ 0 → (old new : List Point) (block other : ℕ) (from to : Point) → AreExchanged old new block other from to → HaveSwapped (map f old) (map f new) block other (f from) (f to)
-swapped f none old new block other from to are = record {
-  differs = are.differs;
-  stood = coordinate_at f old block none ∙ ap f are.stood;
-  gone = coordinate_at f new block none ∙ ap f are.gone;
-  back = coordinate_at f new other none ∙ ap f are.back;
-  kept = λ k ne nor. coordinate_at f new k none ∙ ap f (are.kept k ne nor) ∙ sym (coordinate_at f old k none);
-}
+swapped f none old new block other from to are = grind (arith, coordinate_at)
 
 abbrev pub x_of : Point → ℕ
 x_of point = point.x
@@ -141,18 +96,10 @@ same_each f none old new block other from to net are there alike =
 
 -- a box is unchanged if the numbers of blocks are
 pub box_counts : (columns new_columns rows new_rows : ℕ → ℕ) (box : NetBox) → ((c : ℕ) → new_columns c ≡ columns c) → ((c : ℕ) → new_rows c ≡ rows c) → IsBoxBy columns rows box → IsBoxBy new_columns new_rows box
-box_counts columns new_columns rows new_rows box across along is = record {
-  left = near_same columns new_columns box.left box.next_left across is.left;
-  right = near_same (mirrored_counts columns) (mirrored_counts new_columns) box.right box.next_right (λ c. across (65535 - c)) is.right;
-  bottom = near_same rows new_rows box.bottom box.next_bottom along is.bottom;
-  top = near_same (mirrored_counts rows) (mirrored_counts new_rows) box.top box.next_top (λ c. along (65535 - c)) is.top;
-  columns_inside = λ c past. across c ∙ is.columns_inside c past;
-  rows_inside = λ c past. along c ∙ is.rows_inside c past;
-}
+box_counts columns new_columns rows new_rows box across along is = search arith
 
 box_same : (old new : List Point) (block other : ℕ) (from to : Point) (net : List ℕ) (box : NetBox) → AreExchanged old new block other from to → (0 < times_on other net → point_at old other ≡ to) → times_on block net ≡ times_on other net → IsBox old net box → IsBox new net box
-box_same old new block other from to net box are there alike is =
-    box_counts (at_column old net) (at_column new net) (at_row old net) (at_row new net) box (same_each x_of refl old new block other from to net are there alike) (same_each y_of refl old new block other from to net are there alike) is
+box_same old new block other from to net box are there alike is = search (box_counts, same_each, arith)
 
 -- a block arrived on a net that doesn't have the other
 come_at : (f : Point → ℕ) → f no_point ≡ 0 → (old new : List Point) (block other : ℕ) (from to : Point) (net : List ℕ) → AreExchanged old new block other from to → (0 < times_on other net → point_at old other ≡ to) → times_on block net ≡ 1 → times_on other net ≤ 1 → HasCome (count_at (map f old) net) (count_at (map f new) net) (f from) (f to)
@@ -179,11 +126,7 @@ least_after old new nets touched block other from to boxes are lawful mine exact
 
 -- a block is not on a net that isn't among the nets that it touches
 pub none_on : (nets : List (List ℕ)) (who : ℕ) (touched : List ℕ) (number : ℕ) → AreTouched nets who touched → number < length nets → ((k : ℕ) → k < length touched → get_or touched k 0 ≢ number) → times_on who (net_at nets number) ≡ 0
-none_on nets who touched number is lt off = by (cases_lt 0 (times_on who (net_at nets number)))
-  where
-    by : (0 < times_on who (net_at nets number)) ⊎ (times_on who (net_at nets number) ≤ 0) → times_on who (net_at nets number) ≡ 0
-    by (inl some) = (let found = is.found number lt some in absurd (off found.0 found.1 found.2))
-    by (inr less) = omega arith
+none_on nets who touched number is lt off = grind arith
 
 -- all boxes are exact once those of the two blocks' nets are updated
 pub renewed_boxes : (old new : List Point) (nets : List (List ℕ)) (first second : List ℕ) (block other : ℕ) (from to : Point) (boxes told : List NetBox) (total : ℕ) → AreExchanged old new block other from to → AreTouched nets block first → AreTouched nets other second → AreBoxes old nets boxes

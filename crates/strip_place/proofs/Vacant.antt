@@ -1,10 +1,5 @@
 -- The free sites among those of a kind.
-use Rattle.std.proofs.Common.{ℕ, zero, suc, ◌≡◌, ◌≢◌, ◌+◌, ◌<◌, ◌≤◌, ◌⊎◌, inl, inr, Bool, true, false, not, cond, ◌||◌, List, [], ◌∷◌, ◌++◌, Some, nat_eq, find, refl, sym, ap, subst, ◌∙◌, arith}
-use Rattle.std.specs.List.{range_with_len}
-use Rattle.std.proofs.lemmas.Bool.{cases_eq}
-use Rattle.std.proofs.lemmas.Bool.Decides.{nat_tests}
-use Rattle.std.proofs.lemmas.List.Folds.{list_any-append}
-use Rattle.strip_place.specs.Sites.{is_among}
+use Rattle.strip_place.proofs.Prelude.{ℕ, zero, suc, ◌≡◌, ◌≢◌, ◌+◌, ◌<◌, ◌≤◌, ◌⊎◌, inl, inr, Bool, true, false, not, cond, ◌||◌, List, [], ◌∷◌, ◌++◌, Some, nat_eq, find, refl, ap, arith, range_with_len, nat_tests, list_any-append, is_among}
 
 -- the number of free ones among `count` sites from the first one on
 abbrev pub free_count : List ℕ → ℕ → ℕ → ℕ
@@ -35,31 +30,12 @@ free_past taken site start (suc count) outside =
 -- taking one more site takes at most one
 pub free_less : (taken : List ℕ) (site start count : ℕ) → free_count taken start count ≤ free_count (taken ++ site ∷ []) start count + 1
 free_less taken site start zero = omega arith
-free_less taken site start (suc count) = elim (cases_eq start site) [
-  | inl same ↦
-      let rest = free_past taken site (start + 1) count (inl (omega (arith, same))) in
-      let here : cond {A = ℕ} (is_among taken start) 0 1 ≤ 1 = at_most (is_among taken start) in
-      omega (arith, rest, here)
-  | inr other ↦
-      let rest = free_less taken site (start + 1) count in
-      let here = ap (λ (b : Bool). cond {A = ℕ} b 0 1) (among_other taken site start other) in
-      omega (arith, here, rest)
-]
-  where
-    at_most : (b : Bool) → cond {A = ℕ} b 0 1 ≤ 1
-    at_most true = omega arith
-    at_most false = omega arith
+free_less taken site start (suc count) = grind (arith, free_past, among_other, free_less taken site (start + 1) count)
 
 -- taking a site that is already taken takes none
 pub free_same : (taken : List ℕ) (site start count : ℕ) → is_among taken site ≡ true → free_count (taken ++ site ∷ []) start count ≡ free_count taken start count
 free_same taken site start zero is = refl
-free_same taken site start (suc count) is =
-    let same : is_among (taken ++ site ∷ []) start ≡ is_among taken start = elim (cases_eq start site) [
-      | inl e ↦ subst (λ s. is_among (taken ++ site ∷ []) s ≡ is_among taken s) (sym e) (among_last taken site ∙ sym is)
-      | inr other ↦ among_other taken site start other
-    ] in
-    let here = ap (λ (b : Bool). cond {A = ℕ} b 0 1) same in
-    omega (arith, here, free_same taken site (start + 1) count is)
+free_same taken site start (suc count) is = grind (arith, among_last, among_other, free_same taken site (start + 1) count is)
 
 -- if some are free, the least of them is found
 pub record IsLeast (taken : List ℕ) (start count site : ℕ) : Type 0 where
@@ -71,34 +47,7 @@ pub record IsLeast (taken : List ℕ) (start count site : ℕ) : Type 0 where
 
 pub least_found : (taken : List ℕ) (start count : ℕ) → 1 ≤ free_count taken start count → (site : ℕ) × IsLeast taken start count site
 least_found taken start zero some = absurd (omega (arith, some))
-least_found taken start (suc count) some = by (is_among taken start) refl (least_found taken (start + 1) count)
-  where
-    by : (b : Bool) → is_among taken start ≡ b → (1 ≤ free_count taken (start + 1) count → (site : ℕ) × IsLeast taken (start + 1) count site) → (site : ℕ) × IsLeast taken start (suc count) site
-    by false is more = (
-      start,
-      record {
-        found = ap (λ (b : Bool). cond (not b) (Some start) (find (λ s. not (is_among taken s)) (range_with_len (start + 1) count))) is;
-        free = is;
-        from = omega arith;
-        below = omega arith;
-        least = λ other past lt. absurd (omega (arith, past, lt));
-      },
-    )
-    by true is more =
-        let here = ap (λ (b : Bool). cond {A = ℕ} b 0 1) is in
-        let rest = more (omega (arith, some, here)) in (
-          rest.0,
-          record {
-            found = ap (λ (b : Bool). cond (not b) (Some start) (find (λ s. not (is_among taken s)) (range_with_len (start + 1) count))) is ∙ rest.1.found;
-            free = rest.1.free;
-            from = omega (arith, rest.1.from);
-            below = omega (arith, rest.1.below);
-            least = λ other past lt. elim (cases_eq other start) [
-              | inl same ↦ subst (λ s. is_among taken s ≡ true) (sym same) is
-              | inr differs ↦ rest.1.least other (omega (arith, past, differs)) lt
-            ];
-          },
-        )
+least_found taken start (suc count) some = grind (arith, least_found taken (start + 1) count)
 
 -- if nothing is taken, all are free
 pub all_free : (start count : ℕ) → free_count [] start count ≡ count

@@ -1,14 +1,6 @@
 -- Places that are kept for blocks.
 use Rattle.std.specs.Prelude.{◌≡◌, Some, Contains}
-use Rattle.cluster.specs.Keys.{BlockKey}
-use Rattle.cluster.specs.declared.block.BlockKind.{BlockKind}
-use Rattle.cluster.specs.declared.block.BlockKind.TheVariants.{Cluster}
-use Rattle.grid.specs.declared.Strip.{Strip}
-use Rattle.grid.specs.declared.place.Kind.{Kind}
-use Rattle.grid.specs.declared.place.Kind.TheVariants.{Logic, Pad}
-use Rattle.grid.specs.declared.place.Place.{Place}
-use Rattle.grid.specs.Places.{places_of}
-use Rattle.kept_places.specs.Kept.{KeptPlaces, kept_place}
+use Rattle.strip_place.specs.Prelude.{BlockKey, BlockKind, Cluster, Strip, Kind, Logic, Pad, Place, places_of, KeptPlaces, kept_place}
 
 -- the kind of place that blocks of a kind need
 abbrev pub kind_for : BlockKind → Kind

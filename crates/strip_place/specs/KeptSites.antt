@@ -1,17 +1,8 @@
 -- Private: the sites of kept places.
 use Rattle.std.specs.Prelude.{ℕ, ◌+◌, List, map, Option, option_map, Contains}
 use Rattle.std.specs.List.{position_or_len}
-use Rattle.cluster.specs.Clusters.{PackedCircuit}
-use Rattle.cluster.specs.Keys.{keys_of}
-use Rattle.cluster.specs.declared.block.BlockKind.{BlockKind}
-use Rattle.grid.specs.declared.Strip.{Strip}
-use Rattle.grid.specs.declared.place.Kind.{Kind}
-use Rattle.grid.specs.declared.place.Place.{Place}
-use Rattle.grid.specs.Places.{places_of}
-use Rattle.grid.specs.Sizes.{IsStripSize}
-use Rattle.kept_places.specs.Kept.{KeptPlaces, kept_place}
+use Rattle.strip_place.specs.Prelude.{PackedCircuit, keys_of, BlockKind, Strip, Kind, Place, places_of, IsStripSize, KeptPlaces, kept_place, is_same_place}
 use Rattle.strip_place.specs.Keeping.{kind_for}
-use Rattle.block_places.specs.Placed.{is_same_place}
 use Rattle.strip_place.specs.Sites.{first_site}
 
 -- it is a place of this kind in the strip

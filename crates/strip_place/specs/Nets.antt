@@ -1,9 +1,7 @@
 -- Private: nets of blocks, and the nets that a block is on.
 use Rattle.std.specs.Prelude.{ℕ, ◌≡◌, ◌+◌, ◌<◌, ◌≤◌, ◌^◌, ◌==◌, List, [], ◌∷◌, ◌++◌, length, count_by, filter, map, not, slice_index, All}
 use Rattle.std.specs.List.{slice_index_or}
-use Rattle.cluster.specs.Blocks.{BlockNet}
-use Rattle.rows.specs.declared.by_key.Keyed.{Keyed}
-use Rattle.rows.specs.ByKey.{items_by_key, pairs_with}
+use Rattle.strip_place.specs.Prelude.{BlockNet, Keyed, items_by_key, pairs_with}
 
 -- the net with this number
 abbrev pub net_at : List (List ℕ) → ℕ → List ℕ

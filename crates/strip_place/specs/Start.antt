@@ -2,15 +2,8 @@
 use Rattle.std.specs.Prelude.{not, List, [], ◌∷◌, ◌++◌, map, find, Option, option_and_then, unwrap_or}
 use Rattle.std.specs.List.{flat_map, list_any, zip}
 use Rattle.std.specs.Option.{option_to_list}
-use Rattle.cluster.specs.Clusters.{PackedCircuit}
-use Rattle.cluster.specs.Keys.{keys_of}
-use Rattle.grid.specs.declared.Strip.{Strip}
-use Rattle.grid.specs.declared.place.Kind.{Kind}
-use Rattle.grid.specs.declared.place.Place.{Place}
-use Rattle.grid.specs.Places.{place_at, places_of}
-use Rattle.kept_places.specs.Kept.{KeptPlaces, kept_place}
+use Rattle.strip_place.specs.Prelude.{PackedCircuit, keys_of, Strip, Kind, Place, place_at, places_of, KeptPlaces, kept_place, is_same_place}
 use Rattle.strip_place.specs.Keeping.{kind_for}
-use Rattle.block_places.specs.Placed.{is_same_place}
 use Rattle.strip_place.specs.Task.{task_of}
 
 -- the place of a block: the one that is kept for it, or the first of its kind, in the strip's

@@ -1,13 +1,6 @@
 -- Private: conditions for the start.
 use Rattle.std.specs.Prelude.{ℕ, ◌≡◌, ◌+◌, ◌<◌, ◌≤◌, List, [], ◌∷◌, Option, Some, length, slice_index_or, None}
-use Rattle.grid.specs.declared.Strip.{Strip}
-use Rattle.grid.specs.declared.place.Kind.{Kind}
-use Rattle.grid.specs.declared.place.Kind.TheVariants.{Logic, Pad}
-use Rattle.block_places.specs.declared.fit.Fit.TheVariants.{Fits}
-use Rattle.block_places.specs.Fits.{fit_of}
-use Rattle.grid.specs.Sizes.{IsStripSize}
-use Rattle.cluster.specs.Clusters.{PackedCircuit}
-use Rattle.kept_places.specs.Kept.{KeptPlaces}
+use Rattle.strip_place.specs.Prelude.{Strip, Kind, Logic, Pad, Fits, fit_of, IsStripSize, PackedCircuit, KeptPlaces}
 use Rattle.strip_place.specs.Keeping.{AreKeptOn}
 use Rattle.strip_place.specs.Sites.{IsSiteFor, site_count}
 

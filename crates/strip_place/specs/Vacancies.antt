@@ -2,8 +2,7 @@
 use Rattle.std.specs.Prelude.{ℕ, ◌+◌, ◌<◌, ◌≤◌, ◌^◌, Bool, true, false, List, [], ◌∷◌, Option, Some, None, drop, length, replicate, slice_set, All}
 use Rattle.std.specs.List.{prefix_len}
 use Rattle.std.specs.Option.{ForSome}
-use Rattle.grid.specs.declared.place.Kind.{Kind}
-use Rattle.grid.specs.declared.place.Kind.TheVariants.{Logic, Pad}
+use Rattle.strip_place.specs.Prelude.{Kind, Logic, Pad}
 
 -- a mark for each site, and for each kind a site from which the free ones begin
 pub record Vacancies : Type 0 where

@@ -1,6 +1,6 @@
 //! What may be assumed of passes and of kept places.
 ghost use Rattle.std.specs.Prelude.{◌≡◌, ◌+◌, ◌≤◌, ℕ, true, false, []};
-ghost use Rattle.grid.specs.declared.Strip.{Strip};
+ghost use Rattle.strip_place.specs.Prelude.{Strip};
 ghost use Rattle.strip_place.specs.Anneal.{is_past_last};
 ghost use Rattle.strip_place.specs.Keeping.{AreKeptOn};
 

@@ -1,14 +1,8 @@
 //! Placing, pass by pass.
 ghost use Rattle.std.specs.Prelude.{◌≡◌, ◌*◌, ◌<◌, ◌≤◌, length, IfOk, slice_get, Some};
 ghost use Rattle.std.specs.List.{zip};
-ghost use Rattle.cluster.specs.Blocks.{blocks_of};
-ghost use Rattle.cluster.specs.Keys.{keys_of};
-ghost use Rattle.block_places.specs.declared.fit.Fit.TheVariants.{Fits};
-ghost use Rattle.block_places.specs.Fits.{fit_of};
-ghost use Rattle.grid.specs.Sizes.{IsStripSize};
-ghost use Rattle.kept_places.specs.Kept.{in_order};
+ghost use Rattle.strip_place.specs.Prelude.{blocks_of, keys_of, Fits, fit_of, IsStripSize, in_order, ArePlaced};
 ghost use Rattle.strip_place.specs.Anneal.{one_more, end_of, after_words, draw_of, places_by_block};
-ghost use Rattle.block_places.specs.Placed.{ArePlaced};
 ghost use Rattle.strip_place.specs.Keeping.{AreKeptOn};
 ghost use Rattle.strip_place.specs.Pass.{cost_of, pass_of};
 ghost use Rattle.strip_place.specs.Task.{task_of};

@@ -2,7 +2,7 @@
 ghost use Rattle.std.specs.Prelude.{◌≡◌, ◌+◌, ◌<◌, ◌≤◌, All, Bool, drop, length, IfOk};
 ghost use Rattle.std.specs.List.{prefix_len};
 ghost use Rattle.std.specs.Option.{ForSome};
-ghost use Rattle.grid.specs.declared.place.Kind.TheVariants.{Logic, Pad};
+ghost use Rattle.strip_place.specs.Prelude.{Logic, Pad};
 ghost use Rattle.strip_place.specs.Vacancies.{AreSitesOf, all_free, lowest_vacant, marks_with, without_lowest};
 
 use grid::Kind;

@@ -1,7 +1,5 @@
 -- The definitions at small values.
-use Rattle.std.proofs.Common.{◌≡◌, [], ◌∷◌, Some, None, true, false, refl, arith, inl}
-use Rattle.strips.specs.declared.placed_strip.PlacedStrip.{PlacedStrip}
-use Rattle.strips.specs.Plan.{Plan, AreApart, is_bad_width, offset_of, with_strip, strips_without}
+use Rattle.strips.proofs.Prelude.{◌≡◌, [], ◌∷◌, Some, None, true, false, refl, arith, inl, PlacedStrip, Plan, AreApart, is_bad_width, offset_of, with_strip, strips_without}
 
 -- columns 0 to 3
 abbrev left : PlacedStrip

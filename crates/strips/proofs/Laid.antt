@@ -1,17 +1,5 @@
 -- A layout stays laid out when a strip is removed, added or moved.
-use Rattle.std.proofs.Common.{◌≡◌, ◌≢◌, ℕ, ◌+◌, ◌<◌, ◌≤◌, List, [], ◌∷◌, ◌++◌, length, get_or, filter, Bool, true, false, not, eqb, Option, Some, None, arith, length-append, zero, suc, refl, ap, sym, subst, ◌∙◌, ◌⊎◌, inl, inr}
-use Rattle.std.specs.Prelude.{if◌then◌else◌, option_map, All}
-use Rattle.std.proofs.Math.ListN.{get_or-append}
-use Rattle.std.proofs.Math.Seq.{get_or-append_seam}
-use Rattle.std.proofs.lemmas.Bool.Decides.{nat_tests, Decides-eqb}
-use Rattle.std.proofs.lemmas.List.{get_or-map, length-map}
-use Rattle.std.proofs.lemmas.Bool.{cases_lt, cases_order}
-use Rattle.std.proofs.lemmas.List.Elements.{All-filter, All-push}
-use Rattle.std.proofs.lemmas.List.Quantifiers.{all_pairs_push}
-use Rattle.std.proofs.lemmas.List.Kept.{AllPairs-filter}
-use Rattle.strips.specs.declared.placed_strip.PlacedStrip.{PlacedStrip}
-use Rattle.strips.specs.declared.layout.TheConstants.{MAX_STRIPS}
-use Rattle.strips.specs.Plan.{Plan, IsParted, IsLaidOut, AreApart, FitsAt, strip_of, moved_strip, offset_of, with_moved, strips_without, with_strip}
+use Rattle.strips.proofs.Prelude.{◌≡◌, ◌≢◌, ℕ, ◌+◌, ◌<◌, ◌≤◌, List, [], ◌∷◌, ◌++◌, length, get_or, filter, Bool, true, false, not, eqb, Option, Some, None, arith, length-append, zero, suc, refl, ap, sym, subst, ◌∙◌, ◌⊎◌, inl, inr, if◌then◌else◌, option_map, All, get_or-append, get_or-append_seam, nat_tests, Decides-eqb, get_or-map, length-map, cases_lt, cases_order, All-filter, All-push, all_pairs_push, AllPairs-filter, PlacedStrip, MAX_STRIPS, Plan, IsParted, IsLaidOut, AreApart, FitsAt, strip_of, moved_strip, offset_of, with_moved, strips_without, with_strip}
 
 length_filter_le : (p : PlacedStrip → Bool) (xs : List PlacedStrip) → length (filter p xs) ≤ length xs
 length_filter_le p [] = omega arith
@@ -39,16 +27,11 @@ absent (s ∷ strips) id none (suc k) d lt = let rest : offset_of strips id ≡ 
 
 -- with a strip that is apart from all others, the strips are still separated
 pub IsParted-with : (plan : Plan) (strip : PlacedStrip) → IsParted plan → strip.offset + strip.width ≤ plan.columns → All (λ s. AreApart s strip) plan.strips → IsParted (with_strip plan strip)
-IsParted-with plan strip parted inside apart = record {
-  inside = All-push (λ s. s.offset + s.width ≤ plan.columns) plan.strips strip parted.inside inside;
-  apart = all_pairs_push AreApart plan.strips strip parted.apart apart;
-}
+IsParted-with plan strip parted inside apart = search (All-push, all_pairs_push, arith)
 
 -- with a strip that is too near to another, they are not
 pub IsParted-with-inside : (plan : Plan) (strip : PlacedStrip) → IsParted (with_strip plan strip) → strip.offset + strip.width ≤ plan.columns
-IsParted-with-inside plan strip parted =
-    let here = parted.inside (length plan.strips) strip (omega (arith, length-append plan.strips (strip ∷ []))) in
-    rw (get_or-append_seam plan.strips strip [] strip) at here
+IsParted-with-inside plan strip parted = grind (arith, length-append plan.strips (strip ∷ []), get_or-append_seam plan.strips strip [] strip)
 
 pub IsParted-with-apart : (plan : Plan) (strip : PlacedStrip) → IsParted (with_strip plan strip) → All (λ s. AreApart s strip) plan.strips
 IsParted-with-apart plan strip parted = λ k d lt.
@@ -91,8 +74,7 @@ found_at (x ∷ strips) id s is =
     ] refl is
 
 AreApart-turned : (s t : PlacedStrip) → AreApart s t → AreApart t s
-AreApart-turned s t (inl before) = inr before
-AreApart-turned s t (inr after) = inl after
+AreApart-turned s t h1 = grind arith
 
 -- the strips of two different ids are apart
 pub apart_of : (plan : Plan) (j k : ℕ) (s t : PlacedStrip) → IsParted plan → strip_of plan.strips j ≡ Some s → strip_of plan.strips k ≡ Some t → j ≢ k → AreApart s t
@@ -111,14 +93,7 @@ apart_of plan j k s t parted is_s is_t differ =
 
 -- every strip with the id is the one that is found
 only_one : (plan : Plan) (id : ℕ) (s : PlacedStrip) → IsLaidOut plan → strip_of plan.strips id ≡ Some s → (k : ℕ) (d : PlacedStrip) → k < length plan.strips → (get_or plan.strips k d).id ≡ id → get_or plan.strips k d ≡ s
-only_one plan id s laid is k d lt same =
-    let a : (i : ℕ) × FoundAt plan.strips id s i = found_at plan.strips id s is in
-    by a.0 a.1 (cases_order k a.0)
-  where
-    by : (i : ℕ) → FoundAt plan.strips id s i → (k ≡ i) ⊎ ((k < i) ⊎ (i < k)) → get_or plan.strips k d ≡ s
-    by i at (inl e) = ap (λ n. get_or plan.strips n d) e ∙ at.at d
-    by i at (inr (inl less)) = absurd (laid.distinct k i d less at.within (same ∙ sym (ap (λ (y : PlacedStrip). y.id) (at.at d) ∙ at.its_id)))
-    by i at (inr (inr more)) = absurd (laid.distinct i k d more lt (ap (λ (y : PlacedStrip). y.id) (at.at d) ∙ (at.its_id ∙ sym same)))
+only_one plan id s laid is k d lt same = search (found_at, arith)
 
 abbrev at_offset : PlacedStrip → ℕ → PlacedStrip
 at_offset s offset = record s { offset = offset }
@@ -225,5 +200,4 @@ others_by strips id other strip same apart = subst (λ n. AreOthersApart strips 
 
 -- an equal option in its unfolded form
 pub found_is : (found : Option PlacedStrip) (s : PlacedStrip) → Some s ≡ option_map (λ (strip : PlacedStrip). strip) found → found ≡ Some s
-found_is None s is = absurd cc
-found_is (Some t) s is = sym is
+found_is found s is = grind arith

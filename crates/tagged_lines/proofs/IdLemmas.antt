@@ -1,14 +1,5 @@
 -- Tags with an id and without one.
-use Rattle.std.proofs.Common.{◌≡◌, ℕ, suc, ◌+◌, ◌<◌, ◌≤◌, Bool, true, false, not, ◌&&◌, cond, List, [], ◌∷◌, length, take, drop, eqb, get_or, nat_lt, nat_le, Some, None, refl, sym, ap, ◌∙◌, arith}
-use Rattle.std.specs.Prelude.{option_map, position}
-use Rattle.std.specs.List.{after_first, before_first, list_all, position_or_len}
-use Rattle.std.proofs.lemmas.Bool.{eqb-true, false≢true}
-use Rattle.std.proofs.lemmas.Bool.Decides.{nat_tests}
-use Rattle.std.proofs.lemmas.List.{take_all}
-use Rattle.std.proofs.lemmas.List.Folds.{list_all-append}
-use Rattle.std.proofs.lemmas.List.Quantifiers.{position-Some}
-use Rattle.std.proofs.lemmas.List.Sums.{split_at_first}
-use Rattle.tagged_lines.specs.Tags.{id_of, is_good_id, is_id_byte, is_tag, owner_of}
+use Rattle.tagged_lines.proofs.Prelude.{◌≡◌, ℕ, suc, ◌+◌, ◌<◌, ◌≤◌, Bool, true, false, not, ◌&&◌, cond, List, [], ◌∷◌, length, take, drop, eqb, get_or, nat_lt, nat_le, Some, None, refl, sym, ap, ◌∙◌, arith, option_map, position, after_first, before_first, list_all, position_or_len, eqb-true, nat_tests, take_all, list_all-append, position-Some, split_at_first, id_of, is_good_id, is_id_byte, is_tag, owner_of}
 use Rattle.tagged_lines.proofs.TagLemmas.{both}
 
 abbrev is_slash : ℕ → Bool
@@ -33,17 +24,11 @@ pub own_owner : (tag : List ℕ) → has_none tag ≡ true → owner_of tag ≡ 
 own_owner tag ok = ap (λ n. take n tag) (no_place tag ok) ∙ take_all (length tag) tag (omega arith)
 
 pub own_id : (tag : List ℕ) → has_none tag ≡ true → id_of tag ≡ None
-own_id tag ok =
-    let none : nat_lt (slash_at tag) (length tag) ≡ false = grind (arith, nat_tests, no_place tag ok) in
-    ap (λ b. option_map (λ place. drop (place + 1) tag) (cond b (Some (slash_at tag)) None)) none
+own_id tag ok = grind (arith, no_place tag ok)
 
 -- the bytes of an id can be in a tag
 not_byte : (at byte : ℕ) → is_id_byte at ≡ false → is_id_byte byte ≡ true → eqb byte at ≡ false
-not_byte at byte none ok =
-    elim (eqb byte at) as (λ v. eqb byte at ≡ v → v ≡ false) [
-      | true ↦ λ e. absurd (false≢true (sym none ∙ (sym (ap is_id_byte (eqb-true byte at e)) ∙ ok)))
-      | false ↦ λ e. refl
-    ] refl
+not_byte at byte none ok = grind (arith, eqb-true)
 
 id_bytes : (id : List ℕ) → list_all is_id_byte id ≡ true → is_tag id ≡ true
 id_bytes [] ok = refl
@@ -77,13 +62,4 @@ is_lawful tag own good =
 
 -- the first byte of a tag is that of its owner
 pub first_of_owner : (tag owner : List ℕ) (byte : ℕ) → owner_of tag ≡ byte ∷ owner → (rest : List ℕ) × (tag ≡ byte ∷ rest)
-first_of_owner [] owner byte is = absurd (cc)
-first_of_owner (x ∷ tag) owner byte is =
-    let one : 1 + slash_at tag ≡ suc (slash_at tag) = omega arith in
-    elim (is_slash x) as (λ b. take (cond (not b) (1 + slash_at tag) 0) (x ∷ tag) ≡ byte ∷ owner → (rest : List ℕ) × (x ∷ tag ≡ byte ∷ rest)) [
-      | true ↦ λ e. absurd (cc)
-      | false ↦ λ e.
-          let f : x ∷ take (slash_at tag) tag ≡ byte ∷ owner = sym (ap (λ n. take n (x ∷ tag)) one) ∙ e in
-          let same : x ≡ byte = cc in
-          (tag, ap (λ y. y ∷ tag) same)
-    ] is
+first_of_owner tag owner byte is = grind arith

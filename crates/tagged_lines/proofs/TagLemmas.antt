@@ -1,13 +1,5 @@
 -- Lines with a tag in front, told apart.
-use Rattle.std.proofs.Common.{◌≡◌, ℕ, suc, ◌+◌, ◌<◌, Bool, true, false, not, ◌&&◌, ◌||◌, cond, List, [], ◌∷◌, ◌++◌, length, take, drop, map, eqb, refl, sym, ap, ◌∙◌, arith, append-nil, append_assoc}
-use Rattle.std.specs.List.{onto_first, list_all, list_any, position_or_len, flat_map}
-use Rattle.std.specs.Str.{bytes_eq}
-use Rattle.std.proofs.lemmas.Bool.{eqb-true}
-use Rattle.std.proofs.lemmas.Grind.{flat_map-append}
-use Rattle.std.proofs.lemmas.Slice.Eq.{bytes_eq-Decides}
-use Rattle.std.proofs.Math.Seq.{take-append_seam}
-use Rattle.line_text.specs.Lines.{physical_lines}
-use Rattle.tagged_lines.specs.Tags.{Tagged, are_of, with_last_feed, with_feed, have_tags, is_of, is_tag, is_whole, output_of, rest_of, tag_of, tagged_text, told_in, told_to}
+use Rattle.tagged_lines.proofs.Prelude.{◌≡◌, ℕ, suc, ◌+◌, ◌<◌, Bool, true, false, not, ◌&&◌, ◌||◌, cond, List, [], ◌∷◌, ◌++◌, length, take, drop, map, eqb, refl, sym, ap, ◌∙◌, arith, append-nil, append_assoc, onto_first, list_all, list_any, position_or_len, flat_map, bytes_eq, flat_map-append, bytes_eq-Decides, take-append_seam, physical_lines, Tagged, are_of, with_last_feed, with_feed, have_tags, is_of, is_tag, is_whole, output_of, rest_of, tag_of, tagged_text, told_in, told_to}
 
 abbrev is_blank : ℕ → Bool
 is_blank byte = eqb byte 32
@@ -17,17 +9,13 @@ abbrev pub is_line : List ℕ → Bool
 is_line line = list_all (λ byte. not (eqb byte 10)) line
 
 pub both : (a b : Bool) → a && b ≡ true → (a ≡ true) × (b ≡ true)
-both true b e = (refl, e)
-both false b e = absurd (cc)
+both a b e = grind arith
 
 neither : (a b c : Bool) → (not a && not b) && c ≡ true → (a ≡ false) × (b ≡ false) × (c ≡ true)
-neither false false c e = (refl, refl, e)
-neither false true c e = absurd (cc)
-neither true b c e = absurd (cc)
+neither a b c e = grind arith
 
 not_false : (a : Bool) → not a ≡ true → a ≡ false
-not_false false e = refl
-not_false true e = absurd (cc)
+not_false a e = grind arith
 
 -- the blank after a tag is the first one
 first_blank : (tag line : List ℕ) → is_tag tag ≡ true → position_or_len is_blank (tag ++ 32 ∷ line) ≡ length tag
@@ -40,9 +28,7 @@ first_blank (x ∷ tag) line ok =
 
 past_seam : (tag line : List ℕ) → drop (length tag + 1) (tag ++ 32 ∷ line) ≡ line
 past_seam [] line = refl
-past_seam (x ∷ tag) line =
-    let next : suc (length tag) + 1 ≡ suc (length tag + 1) = omega arith in
-    ap (λ n. drop n (x ∷ (tag ++ 32 ∷ line))) next ∙ past_seam tag line
+past_seam (x ∷ tag) line = grind (arith, past_seam tag line)
 
 pub tag_is : (tag line : List ℕ) → is_tag tag ≡ true → tag_of (tag ++ 32 ∷ line) ≡ tag
 tag_is tag line ok = ap (λ n. take n (tag ++ 32 ∷ line)) (first_blank tag line ok) ∙ take-append_seam tag (32 ∷ line)
@@ -60,16 +46,11 @@ line_then (x ∷ line) rest ok =
 
 -- the lines of a text are lines
 onto_lines : (x : ℕ) (lines : List (List ℕ)) → eqb x 10 ≡ false → list_all is_line lines ≡ true → list_all is_line (onto_first x lines) ≡ true
-onto_lines x [] other ok = ap (λ b. (not b && true) && true) other
-onto_lines x (line ∷ lines) other ok = ap (λ b. (not b && is_line line) && list_all is_line lines) other ∙ ok
+onto_lines x lines other ok = grind arith
 
 pub are_lines : (text : List ℕ) → list_all is_line (physical_lines text) ≡ true
 are_lines [] = refl
-are_lines (x ∷ rest) =
-    elim (eqb x 10) as (λ b. eqb x 10 ≡ b → list_all is_line (cond b ([] ∷ physical_lines rest) (onto_first x (physical_lines rest))) ≡ true) [
-      | true ↦ λ e. are_lines rest
-      | false ↦ λ e. onto_lines x (physical_lines rest) e (are_lines rest)
-    ] refl
+are_lines (x ∷ rest) = grind (arith, are_lines rest)
 
 -- a line with a tag is a line
 tagged_is_line : (tag line : List ℕ) → is_tag tag ≡ true → is_line line ≡ true → is_line (tag ++ 32 ∷ line) ≡ true
@@ -83,8 +64,7 @@ with_tag tag line = tag ++ 32 ∷ line
 
 -- a tagged line ahead of others
 line_ahead : (tag line more : List ℕ) → (tag ++ 32 ∷ (line ++ 10 ∷ [])) ++ more ≡ with_tag tag line ++ 10 ∷ more
-line_ahead tag line more =
-    append_assoc tag (32 ∷ (line ++ 10 ∷ [])) more ∙ (ap (λ l. tag ++ 32 ∷ l) (append_assoc line (10 ∷ []) more) ∙ sym (append_assoc tag (32 ∷ line) (10 ∷ more)))
+line_ahead tag line more = grind (arith, append_assoc)
 
 -- the lines of tagged lines and of what follows them
 lines_with : (tag : List ℕ) (lines : List (List ℕ)) (more : List ℕ) → is_tag tag ≡ true → list_all is_line lines ≡ true →
@@ -113,21 +93,15 @@ abbrev tells : List ℕ → List ℕ → List ℕ
 tells owner line = cond (is_of owner (tag_of line)) (with_feed (rest_of line)) []
 
 tells_one : (owner own line : List ℕ) → is_tag own ≡ true → tells owner (with_tag own line) ≡ cond (is_of owner own) (with_feed line) []
-tells_one owner own line ok =
-    ap (λ o. cond (is_of owner o) (with_feed (rest_of (with_tag own line))) []) (tag_is own line ok)
-    ∙ ap (λ r. cond (is_of owner own) (with_feed r) []) (rest_is own line ok)
+tells_one owner own line ok = grind (arith, tag_is, rest_is)
 
 no_text : (b : Bool) → ◌≡◌ {A = List ℕ} [] (cond b [] [])
-no_text true = refl
-no_text false = refl
+no_text b = grind arith
 
 tells_lines : (owner own : List ℕ) (lines : List (List ℕ)) → is_tag own ≡ true →
     flat_map (tells owner) (map (with_tag own) lines) ≡ cond (is_of owner own) (flat_map with_feed lines) []
 tells_lines owner own [] ok = no_text (is_of owner own)
-tells_lines owner own (line ∷ lines) ok =
-    ap (λ l. l ++ flat_map (tells owner) (map (with_tag own) lines)) (tells_one owner own line ok)
-    ∙ (ap (λ ls. cond (is_of owner own) (with_feed line) [] ++ ls) (tells_lines owner own lines ok)
-    ∙ elim (is_of owner own) as (λ b. cond b (with_feed line) [] ++ cond b (flat_map with_feed lines) [] ≡ cond b (with_feed line ++ flat_map with_feed lines) []) [ true ↦ refl | false ↦ refl ])
+tells_lines owner own (line ∷ lines) ok = grind (arith, tells_one, tells_lines owner own lines ok)
 
 tells_all : (owner : List ℕ) (all : List Tagged) → have_tags all ≡ true → flat_map (tells owner) (lines_in all) ≡ told_in owner all
 tells_all owner [] ok = refl
@@ -152,45 +126,22 @@ back owner tag text ok own =
 
 -- a text of whole lines is as it was
 some_lines : (x : ℕ) (text : List ℕ) → 0 < length (physical_lines (x ∷ text))
-some_lines x text =
-    elim (eqb x 10) as (λ b. 0 < length (cond b ([] ∷ physical_lines text) (onto_first x (physical_lines text)))) [
-      | true ↦ omega arith
-      | false ↦ onto_some x (physical_lines text)
-    ]
-  where
-    onto_some : (x : ℕ) (lines : List (List ℕ)) → 0 < length (onto_first x lines)
-    onto_some x [] = omega arith
-    onto_some x (line ∷ lines) = omega arith
+some_lines x text = grind arith
 
 onto_closed : (x : ℕ) (lines : List (List ℕ)) → 0 < length lines → flat_map with_feed (onto_first x lines) ≡ x ∷ flat_map with_feed lines
-onto_closed x [] some = absurd (omega arith)
-onto_closed x (line ∷ lines) some = refl
+onto_closed x lines some = grind arith
 
 pub same : (text : List ℕ) → is_whole text ≡ true → with_last_feed text ≡ text
 same [] ok = refl
-same (x ∷ []) ok =
-    ap (λ b. flat_map with_feed (cond b ([] ∷ []) (onto_first x []))) ok ∙ ap (λ byte. byte ∷ []) (sym (eqb-true x 10 ok))
-same (x ∷ y ∷ text) ok =
-    elim (eqb x 10) as (λ b. eqb x 10 ≡ b → flat_map with_feed (cond b ([] ∷ physical_lines (y ∷ text)) (onto_first x (physical_lines (y ∷ text)))) ≡ x ∷ y ∷ text) [
-      | true ↦ λ e. ap (λ ls. 10 ∷ ls) (same (y ∷ text) ok) ∙ ap (λ byte. byte ∷ y ∷ text) (sym (eqb-true x 10 e))
-      | false ↦ λ e. onto_closed x (physical_lines (y ∷ text)) (some_lines y text) ∙ ap (λ ls. x ∷ ls) (same (y ∷ text) ok)
-    ] refl
-
--- whose the lines are
-any_or : (a b : Bool) → a ≡ true → a || b ≡ true
-any_or true b e = refl
-any_or false b e = absurd (cc)
+same (x ∷ []) ok = grind arith
+same (x ∷ y ∷ text) ok = grind (arith, onto_closed, some_lines, same (y ∷ text) ok)
 
 or_any : (a b : Bool) → b ≡ true → a || b ≡ true
-or_any true b e = refl
-or_any false b e = e
+or_any a b e = grind arith
 
 of_first : (t : Tagged) (all : List Tagged) (lines more : List (List ℕ)) → is_tag t.tag ≡ true → are_of (t ∷ all) more ≡ true → are_of (t ∷ all) (map (with_tag t.tag) lines ++ more) ≡ true
 of_first t all [] more ok others = others
-of_first t all (line ∷ lines) more ok others =
-    let own : bytes_eq (tag_of (with_tag t.tag line)) t.tag ≡ true = ap (λ o. bytes_eq o t.tag) (tag_is t.tag line ok) ∙ same_tag t.tag in
-    let first = any_or (bytes_eq (tag_of (with_tag t.tag line)) t.tag) (list_any (λ u. bytes_eq (tag_of (with_tag t.tag line)) u.tag) all) own in
-    ap (λ b. b && are_of (t ∷ all) (map (with_tag t.tag) lines ++ more)) first ∙ of_first t all lines more ok others
+of_first t all (line ∷ lines) more ok others = grind (arith, tag_is, same_tag, of_first t all lines more ok others)
 
 of_more : (t : Tagged) (all : List Tagged) (lines : List (List ℕ)) → are_of all lines ≡ true → are_of (t ∷ all) lines ≡ true
 of_more t all [] are = refl
@@ -216,10 +167,7 @@ whole_then (x ∷ y ∷ line) more ok = whole_then (y ∷ line) more ok
 
 whole_lines : (tag : List ℕ) (lines : List (List ℕ)) (more : List ℕ) → is_whole more ≡ true → is_whole (flat_map (λ line. tag ++ 32 ∷ with_feed line) lines ++ more) ≡ true
 whole_lines tag [] more ok = ok
-whole_lines tag (line ∷ lines) more ok =
-    let others = flat_map (λ line. tag ++ 32 ∷ with_feed line) lines in
-    ap is_whole (append_assoc (tag ++ 32 ∷ with_feed line) others more ∙ line_ahead tag line (others ++ more))
-    ∙ whole_then (with_tag tag line) (others ++ more) (whole_lines tag lines more ok)
+whole_lines tag (line ∷ lines) more ok = grind (arith, append_assoc, line_ahead, whole_then, whole_lines tag lines more ok)
 
 pub whole : (all : List Tagged) → is_whole (output_of all) ≡ true
 whole [] = refl

@@ -1,10 +1,5 @@
 -- A text that is written line by line, each with its tag.
-use Rattle.std.proofs.Common.{◌≡◌, ℕ, Bool, List, [], ◌∷◌, ◌++◌, length, Option, refl, sym, ap, ◌∙◌, arith, append-nil, append_assoc}
-use Rattle.std.specs.List.{flat_map}
-use Rattle.line_text.specs.Lines.{physical_lines}
-use Rattle.line_text.specs.Writing.{TakesAll, TakesPart}
-use Rattle.line_text.proofs.WritingLemmas.{all_none, all_same, all_then, part_first, part_same, part_then}
-use Rattle.tagged_lines.specs.Tags.{with_feed, tagged_text}
+use Rattle.tagged_lines.proofs.Prelude.{◌≡◌, ℕ, Bool, List, [], ◌∷◌, ◌++◌, length, Option, refl, sym, ap, ◌∙◌, arith, append-nil, append_assoc, flat_map, physical_lines, TakesAll, TakesPart, all_none, all_same, all_then, part_first, part_then, with_feed, tagged_text}
 
 -- all but the lines that are left is written
 pub record Written {S : Type 0} (contents : S → Option (List ℕ)) (has_failed : S → Bool) (old now : S) (tag text rest : List ℕ) : Type 0 where
@@ -23,16 +18,11 @@ tagged_first tag rest line after lines = ap (λ ls. flat_map (line_of tag) ls) l
 
 pub written_more : {S : Type 0} {contents : S → Option (List ℕ)} {has_failed : S → Bool} {old now next : S} (tag text rest line after : List ℕ) → Written contents has_failed old now tag text rest →
     physical_lines rest ≡ line ∷ physical_lines after → TakesAll contents has_failed now next (line_of tag line) → Written contents has_failed old next tag text after
-written_more tag text rest line after w lines takes = record {
-  done = w.done ++ line_of tag line;
-  all = all_then w.all takes;
-  left = append_assoc w.done (line_of tag line) (tagged_text tag after) ∙ (ap (λ t. w.done ++ t) (sym (tagged_first tag rest line after lines)) ∙ w.left);
-}
+written_more tag text rest line after w lines takes = grind (arith, append_assoc, tagged_first, all_then w.all takes, append_assoc w.done (line_of tag line) (tagged_text tag after), tagged_first tag rest line after lines)
 
 pub written_part : {S : Type 0} {contents : S → Option (List ℕ)} {has_failed : S → Bool} {old now next : S} (tag text rest line after : List ℕ) → Written contents has_failed old now tag text rest →
     physical_lines rest ≡ line ∷ physical_lines after → TakesPart contents has_failed now next (line_of tag line) → TakesPart contents has_failed old next (tagged_text tag text)
-written_part tag text rest line after w lines takes =
-    part_same (part_then w.all (part_same (part_first (tagged_text tag after) takes) (sym (tagged_first tag rest line after lines)))) w.left
+written_part tag text rest line after w lines takes = search (part_then, part_first, arith)
 
 pub written_all : {S : Type 0} {contents : S → Option (List ℕ)} {has_failed : S → Bool} {old now : S} (tag text rest : List ℕ) → Written contents has_failed old now tag text rest → length rest ≡ 0 → TakesAll contents has_failed old now (tagged_text tag text)
 written_all tag text [] w none = all_same w.all (sym (append-nil w.done) ∙ w.left)

@@ -1,11 +1,5 @@
 -- The first line that can't be uploaded, line by line.
-use Rattle.std.proofs.Common.{◌≡◌, ℕ, ◌+◌, ◌-◌, ◌<◌, ◌≤◌, List, [], ◌∷◌, ◌++◌, true, false, cond, length, Some, None, refl, arith, length-append}
-use Rattle.std.specs.Prelude.{⊤, nat_le}
-use Rattle.std.specs.List.{flat_map}
-use Rattle.std.proofs.lemmas.Bool.Decides.{nat_tests}
-use Rattle.sessions.specs.Items.{without_cr, ends_text}
-use Rattle.tenancy_script.specs.declared.fault.ScriptFault.TheVariants.{PointAlone, TextTooLong}
-use Rattle.tenancy_script.specs.Faults.{fault_from}
+use Rattle.tenancy_script.proofs.Prelude.{◌≡◌, ℕ, ◌+◌, ◌-◌, ◌≤◌, List, [], ◌∷◌, ◌++◌, true, false, cond, length, Some, None, refl, arith, length-append, ⊤, nat_le, flat_map, without_cr, ends_text, PointAlone, TextTooLong, fault_from}
 
 -- a line as it is uploaded
 abbrev pub ended_line : List ℕ → List ℕ
@@ -21,12 +15,7 @@ abbrev pub AreTold : ℕ → List (List ℕ) → Type 0
 AreTold room lines = HaveNoPoint lines × (length (flat_map ended_line lines) ≤ room)
 
 told_line : (room : ℕ) (line : List ℕ) (lines : List (List ℕ)) → ends_text line ≡ false → nat_le room (length (without_cr line)) ≡ false → AreTold (room - (length (without_cr line) + 1)) lines → AreTold room (line ∷ lines)
-told_line room line lines point short h =
-    let less : length (without_cr line) < room = grind (arith, nat_tests, short) in
-    let one = length-append (without_cr line) (10 ∷ []) in
-    let all = length-append (ended_line line) (flat_map ended_line lines) in
-    let rest = h.1 in
-    ((point, h.0), omega (arith, less, one, all, rest))
+told_line room line lines point short h = grind (arith, length-append)
 
 pub told_from : (number room : ℕ) (lines : List (List ℕ)) → fault_from number room lines ≡ None → AreTold room lines
 told_from number room [] none = (tt, omega arith)

@@ -1,31 +1,10 @@
 -- The forms of the lines of a tenancy's script.
-use Rattle.std.proofs.Common.{◌≡◌, ℕ, ◌+◌, ◌-◌, ◌*◌, ◌/◌, ◌%◌, ◌^◌, ◌<◌, ◌≤◌, List, [], ◌∷◌, ◌++◌, Bool, true, false, not, cond, eqb, length, take, drop, codes, decimal, Some, None, refl, sym, ap, ◌∙◌, arith, length-append}
-use Rattle.std.specs.Prelude.{◌||◌, ◌&&◌, nat_lt, nat_le, filter, option_map}
-use Rattle.std.specs.List.{All, list_all, position_or_len, before_first, after_first}
-use Rattle.std.proofs.lemmas.Bool.{and_from, and_parts, true≢false, eqb-true}
-use Rattle.std.proofs.lemmas.Bool.Decides.{nat_tests}
-use Rattle.std.proofs.lemmas.List.Folds.{list_all-append}
-use Rattle.std.proofs.lemmas.List.Sums.{AllPass-from_list_all, fold-append}
-use Rattle.std.proofs.lemmas.List.Splits.{slice_split_none, slice_split_at}
-use Rattle.std.proofs.lemmas.Fmt.{decimal_by_steps, decimal_nonempty, length-decimal-le}
-use Rattle.line_text.specs.Words.{is_blank, is_filled, words_of}
-use Rattle.line_text.specs.Decimal.{decimal_of, is_digit, value_of, with_digit}
-use Rattle.tenant_slot.specs.declared.command.Command.TheVariants.{Place}
-use Rattle.sessions.specs.declared.line.SessionLine.TheVariants.{Command, Refused}
-use Rattle.sessions.specs.declared.refusal.SessionRefusal.TheVariants.{UnknownCommand}
-use Rattle.sessions.specs.declared.line.LineForm.TheVariants.{Asks as LineAsks}
-use Rattle.sessions.specs.SessionLines.{filled_form, line_form, placing, words_form}
-use Rattle.script_text.specs.declared.operator_line.OperatorLine.TheVariants.{Admit}
-use Rattle.script_text.specs.Script.{form_by, form_in, form_of, is_name, is_name_byte, operator_form, operator_line, session_form}
+use Rattle.tenancy_script.proofs.Prelude.{◌≡◌, ℕ, ◌+◌, ◌/◌, ◌%◌, ◌^◌, ◌<◌, ◌≤◌, List, [], ◌∷◌, ◌++◌, Bool, true, false, not, cond, eqb, length, take, drop, codes, decimal, Some, None, refl, ap, ◌∙◌, arith, length-append, ◌&&◌, nat_lt, nat_le, filter, option_map, All, list_all, position_or_len, before_first, after_first, and_from, and_parts, nat_tests, list_all-append, AllPass-from_list_all, fold-append, slice_split_none, slice_split_at, decimal_by_steps, decimal_nonempty, length-decimal-le, is_blank, is_filled, words_of, decimal_of, is_digit, value_of, Place, Command, Refused, UnknownCommand, Asks as LineAsks, filled_form, line_form, placing, words_form, Admit, form_by, form_in, form_of, is_name, is_name_byte, operator_form, operator_line, session_form}
 use Rattle.tenancy_script.proofs.TextLemmas.{is_plain, is_not, take-front, drop-front, without_cr-plain}
 
 -- a byte that passes a test differs from one that fails it
 differs : (p : ℕ → Bool) (b x : ℕ) → p b ≡ true → p x ≡ false → eqb b x ≡ false
-differs p b x passes fails =
-    elim (eqb b x) as (λ v. eqb b x ≡ v → v ≡ false) [
-      | true ↦ λ e. absurd (true≢false (sym passes ∙ ap p (eqb-true b x e) ∙ fails))
-      | false ↦ λ e. refl
-    ] refl
+differs p b x passes fails = grind arith
 
 -- bytes that pass a test, if LF and CR fail it
 plain_from : (p : ℕ → Bool) → p 10 ≡ false → p 13 ≡ false → (bytes : List ℕ) → list_all p bytes ≡ true → list_all is_plain bytes ≡ true
@@ -39,8 +18,7 @@ abbrev pub is_solid : ℕ → Bool
 is_solid b = not (is_blank b)
 
 no_blank : (b : ℕ) → eqb b 32 ≡ false → eqb b 9 ≡ false → eqb b 13 ≡ false → is_solid b ≡ true
-no_blank b space tab cr =
-    ap (λ v. not (v || eqb b 9 || eqb b 13)) space ∙ ap (λ v. not (v || eqb b 13)) tab ∙ ap not cr
+no_blank b space tab cr = grind arith
 
 solid_from : (p : ℕ → Bool) → p 32 ≡ false → p 9 ≡ false → p 13 ≡ false → (bytes : List ℕ) → list_all p bytes ≡ true → list_all is_solid bytes ≡ true
 solid_from p space tab cr [] all = refl
@@ -53,9 +31,7 @@ name_bytes : (name : List ℕ) → is_name name ≡ true → list_all is_name_by
 name_bytes name is = (and_parts (nat_lt 0 (length name) && nat_le (length name) 32) (list_all is_name_byte name) is).1
 
 name_some : (name : List ℕ) → is_name name ≡ true → 0 < length name
-name_some name is =
-    let first = (and_parts (nat_lt 0 (length name)) (nat_le (length name) 32) (and_parts (nat_lt 0 (length name) && nat_le (length name) 32) (list_all is_name_byte name) is).0).0 in
-    grind (arith, nat_tests, first)
+name_some name is = grind arith
 
 name_plain : (name : List ℕ) → is_name name ≡ true → list_all is_plain name ≡ true
 name_plain name is = plain_from is_name_byte refl refl name (name_bytes name is)
@@ -65,27 +41,16 @@ name_solid name is = solid_from is_name_byte refl refl refl name (name_bytes nam
 
 -- the digits of a number, and their value
 digit_one : (n : ℕ) → n < 10 → (list_all is_digit ((48 + n) ∷ []) ≡ true) × (value_of ((48 + n) ∷ []) ≡ n)
-digit_one n small =
-    let low : nat_le 48 (48 + n) ≡ true = grind (arith, nat_tests) in
-    let high : nat_le (48 + n) 57 ≡ true = grind (arith, nat_tests, small) in
-    (and_from _ _ (and_from _ _ low high) refl, omega arith)
+digit_one n small = grind arith
 
 digit_more : (n : ℕ) (ds : List ℕ) → 10 ≤ n → (list_all is_digit ds ≡ true) × (value_of ds ≡ n / 10) → (list_all is_digit (ds ++ (48 + n % 10) ∷ []) ≡ true) × (value_of (ds ++ (48 + n % 10) ∷ []) ≡ n)
-digit_more n ds big h =
-    let last = digit_one (n % 10) (omega arith) in
-    let value : value_of (ds ++ (48 + n % 10) ∷ []) ≡ value_of ds * 10 + (48 + n % 10 - 48) = fold-append with_digit 0 ds ((48 + n % 10) ∷ []) in
-    (list_all-append is_digit ds ((48 + n % 10) ∷ []) ∙ and_from _ _ h.0 last.0, value ∙ omega (arith, h.1))
+digit_more n ds big h = grind (arith, fold-append, list_all-append)
 
 digits_told : (n : ℕ) → n < 2 ^ 64 → (list_all is_digit (decimal n) ≡ true) × (value_of (decimal n) ≡ n)
 digits_told n small = decimal_by_steps (λ m ds. (list_all is_digit ds ≡ true) × (value_of ds ≡ m)) digit_one digit_more n small
 
 pub decimal_of-decimal : (bits n : ℕ) → n < 2 ^ 64 → n < 2 ^ bits → decimal_of bits (decimal n) ≡ Some n
-decimal_of-decimal bits n small fits =
-    let told = digits_told n small in
-    let ds : List ℕ = decimal n in
-    let some : nat_le 1 (length ds) ≡ true = grind (arith, nat_tests, decimal_nonempty n small) in
-    let less : nat_lt (value_of ds) (2 ^ bits) ≡ true = ap (λ v. nat_lt v (2 ^ bits)) told.1 ∙ grind (arith, nat_tests, fits) in
-    ap (λ v. cond v (Some (value_of ds)) None) (and_from _ _ (and_from _ _ told.0 some) less) ∙ ap Some told.1
+decimal_of-decimal bits n small fits = grind (arith, digits_told, decimal_nonempty)
 
 decimal_plain : (n : ℕ) → n < 2 ^ 64 → list_all is_plain (decimal n) ≡ true
 decimal_plain n small = plain_from is_digit refl refl (decimal n) (digits_told n small).0
@@ -98,14 +63,10 @@ all_solid : (bytes : List ℕ) → list_all is_solid bytes ≡ true → All (λ 
 all_solid bytes all = λ k d within. is_not _ (AllPass-from_list_all is_solid bytes all k d within)
 
 filled : (x y : List ℕ) → 0 < length x → 0 < length y → filter is_filled (x ∷ y ∷ []) ≡ x ∷ y ∷ []
-filled [] y some more = absurd (omega arith)
-filled (b ∷ x) [] some more = absurd (omega arith)
-filled (b ∷ x) (c ∷ y) some more = refl
+filled x y some more = grind arith
 
 two_words : (x y : List ℕ) → list_all is_solid x ≡ true → list_all is_solid y ≡ true → 0 < length x → 0 < length y → words_of (x ++ 32 ∷ y) ≡ x ∷ y ∷ []
-two_words x y first second some more =
-    ap (filter is_filled) (slice_split_at is_blank x 32 y (all_solid x first) refl ∙ ap (λ parts. x ∷ parts) (slice_split_none is_blank y (all_solid y second)))
-    ∙ filled x y some more
+two_words x y first second some more = search (slice_split_at, all_solid, slice_split_none, filled, arith)
 
 -- the first word of a line, and the rest after it
 first_blank : (word rest : List ℕ) → list_all is_solid word ≡ true → position_or_len is_blank (word ++ 32 ∷ rest) ≡ length word

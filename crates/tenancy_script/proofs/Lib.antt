@@ -1,3 +1,4 @@
+mod Prelude
 mod FaultLemmas
 mod FormLemmas
 mod SaysLemmas

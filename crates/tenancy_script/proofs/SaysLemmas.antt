@@ -1,29 +1,6 @@
 -- The acts of a tenancy's script, line by line.
-use Rattle.std.proofs.Common.{◌≡◌, ℕ, ◌+◌, ◌<◌, ◌≤◌, ◌^◌, List, [], ◌∷◌, ◌++◌, Bool, true, false, not, cond, eqb, length, codes, decimal, Option, Some, None, Ok, Err, refl, sym, ap, subst, ◌∙◌, arith, append_assoc, length-append}
-use Rattle.std.specs.Prelude.{map, option_map, IfSome}
-use Rattle.std.specs.List.{after_first, before_first, flat_map, list_all}
-use Rattle.std.specs.Str.{bytes_eq}
-use Rattle.std.proofs.lemmas.Bool.{true≢false}
-use Rattle.line_text.specs.Lines.{physical_lines}
-use Rattle.line_text.specs.Words.{is_blank, words_of}
-use Rattle.tenant_slot.specs.declared.command.Command.TheVariants.{Upload as UploadText, Pack, Place, Route, Net, PlaceFile, RouteFile}
-use Rattle.sessions.specs.declared.line.SessionLine.{SessionLine}
-use Rattle.sessions.specs.declared.line.SessionLine.TheVariants.{Command, Wait}
-use Rattle.sessions.specs.declared.line.TextKind.TheVariants.{Upload}
-use Rattle.sessions.specs.declared.line.LineForm.{LineForm}
-use Rattle.sessions.specs.declared.line.LineForm.TheVariants.{Asks, Begins}
-use Rattle.sessions.specs.Items.{without_cr, ends_text, text_ahead, text_item}
-use Rattle.sessions.specs.SessionLines.{line_form}
-use Rattle.sessions.proofs.KeptLemmas.{kept-all}
-use Rattle.script_text.specs.declared.act.Act.{Act}
-use Rattle.script_text.specs.declared.act.Act.TheVariants.{Operator, Session}
-use Rattle.script_text.specs.declared.operator_line.OperatorLine.TheVariants.{Admit}
-use Rattle.script_text.specs.declared.operator_line.OperatorLine.{OperatorLine}
-use Rattle.script_text.specs.Script.{Acts, acts_from, begins_text, form_by, form_in, form_of, is_name, operator_form, operator_line, script_of, session_form, with_act, with_line, without_blanks}
-use Rattle.tenancy_script.specs.declared.script.TenancyScript.{TenancyScript}
-use Rattle.tenancy_script.specs.Printed.{last_feed, is_ended, place_line, printed_script, printed_admission, printed_commands, printed_end, printed_upload, session_line}
-use Rattle.tenancy_script.specs.Faults.{text_fault, uploaded_text}
-use Rattle.tenancy_script.specs.Says.{IsWhole, acts_of, with_admission, session_lines, followed_by, is_within}
+use Rattle.tenancy_script.proofs.Prelude.{◌≡◌, ℕ, ◌+◌, ◌<◌, ◌≤◌, ◌^◌, List, [], ◌∷◌, ◌++◌, Bool, true, false, not, cond, length, codes, decimal, Option, Some, None, Ok, refl, sym, ap, subst, ◌∙◌, arith, append_assoc, map, option_map, IfSome, flat_map, list_all, true≢false, physical_lines, Pack, Place, Route, Net, PlaceFile, RouteFile, SessionLine, Command, Wait, Upload, LineForm, Asks, Begins, without_cr, ends_text, text_ahead, text_item, line_form, kept-all, Act, Operator, Session, Admit, acts_from, begins_text, form_by, form_in, form_of, is_name, script_of, session_form, with_act, with_line, TenancyScript, last_feed, is_ended, place_line, printed_script, printed_admission, printed_commands, printed_end, printed_upload, session_line, text_fault, uploaded_text, IsWhole, acts_of, with_admission, session_lines, followed_by, is_within}
+use Rattle.tenant_slot.specs.declared.command.Command.TheVariants.{Upload as UploadText}
 use Rattle.tenancy_script.proofs.FaultLemmas.{AreTold, HaveNoPoint, ended_line, told_from}
 use Rattle.tenancy_script.proofs.FormLemmas.{admission_is, admission_line, admission_plain, placing_is, placing_plain, placing_words, session_is, session_plain}
 use Rattle.tenancy_script.proofs.TextLemmas.{ended-append, is_plain, line_first, lines-append, lines-closing}
@@ -50,28 +27,20 @@ line_says line more act acts plain session_lines h =
 
 -- a line of the name's session
 session_asked : (name words : List ℕ) (item : SessionLine) → is_name name ≡ true → list_all is_plain words ≡ true → line_form words ≡ Asks item → IsAsked (64 ∷ name ++ 32 ∷ words) (Session name item)
-session_asked name words item is plain form number lines =
-    let formed = session_is name words is plain ∙ ap (session_form name) form in
-    (ap (λ f. with_line number f lines (acts_from (number + 1) (begins_text f) lines)) formed, ap (λ f. is_within (begins_text f) lines) formed)
+session_asked name words item is plain form number lines = grind (arith, session_is)
 
 session_says : (name words more : List ℕ) (item : SessionLine) (acts : List (Act (List ℕ))) → is_name name ≡ true → list_all is_plain words ≡ true → line_form words ≡ Asks item → Says more acts →
     Says (session_line name words more) (Session name item ∷ acts)
-session_says name words more item acts is plain form h =
-    subst (λ text. Says text (Session name item ∷ acts)) (ap (λ text. 64 ∷ text) (append_assoc name (32 ∷ words) (10 ∷ more)))
-    (line_says (64 ∷ name ++ 32 ∷ words) more (Session name item) acts (session_plain name words is plain) (session_asked name words item is plain form) h)
+session_says name words more item acts is plain form h = grind (arith, append_assoc, line_says (64 ∷ name ++ 32 ∷ words) more (Session name item) acts (session_plain name words is plain) (session_asked name words item is plain form) h)
 
 -- the lines of an upload, up to the one that ends it
 ahead_told : (lines more : List (List ℕ)) → HaveNoPoint lines → text_ahead (lines ++ (46 ∷ []) ∷ more) ≡ Some (flat_map ended_line lines)
 ahead_told [] more none = refl
-ahead_told (line ∷ lines) more none =
-    ap (λ v. cond v (Some []) (option_map (λ text. without_cr line ++ 10 ∷ text) (text_ahead (lines ++ (46 ∷ []) ∷ more)))) none.0
-    ∙ ap (option_map (λ text. without_cr line ++ 10 ∷ text)) (ahead_told lines more none.1)
-    ∙ ap Some (sym (append_assoc (without_cr line) (10 ∷ []) (flat_map ended_line lines)))
+ahead_told (line ∷ lines) more none = grind (arith, append_assoc, ahead_told lines more none.1)
 
 acts_told : (lines more : List (List ℕ)) (acts : List (Act (List ℕ))) → HaveNoPoint lines → ((number : ℕ) → acts_from number false more ≡ Ok acts) → (number : ℕ) → acts_from number true (lines ++ (46 ∷ []) ∷ more) ≡ Ok acts
 acts_told [] more acts none said number = said (number + 1)
-acts_told (line ∷ lines) more acts none said number =
-    ap (λ v. acts_from (number + 1) (not v) (lines ++ (46 ∷ []) ∷ more)) none.0 ∙ acts_told lines more acts none.1 said (number + 1)
+acts_told (line ∷ lines) more acts none said number = grind (arith, acts_told lines more acts none.1 said (number + 1))
 
 within_told : (lines more : List (List ℕ)) → HaveNoPoint lines → is_within true (lines ++ (46 ∷ []) ∷ more) ≡ is_within false more
 within_told [] more none = refl
@@ -110,9 +79,7 @@ end_says name is =
     (session_says name (codes "routefile") _ (Command RouteFile) _ is refl refl nothing_says)))))
 
 place_says : (name more : List ℕ) (seed effort : ℕ) (acts : List (Act (List ℕ))) → is_name name ≡ true → seed < 2 ^ 64 → effort < 2 ^ 32 → Says more acts → Says (place_line name seed effort more) (Session name (Command (Place seed effort)) ∷ acts)
-place_says name more seed effort acts is s e h =
-    subst (λ text. Says (64 ∷ (name ++ (codes " place " ++ text))) (Session name (Command (Place seed effort)) ∷ acts)) (append_assoc (decimal seed) (32 ∷ decimal effort) (10 ∷ more))
-    (session_says name (placing_words seed effort) more (Command (Place seed effort)) acts is (placing_plain seed effort s e) (placing_is seed effort s e) h)
+place_says name more seed effort acts is s e h = grind (arith, append_assoc, session_says name (placing_words seed effort) more (Command (Place seed effort)) acts is (placing_plain seed effort s e) (placing_is seed effort s e) h)
 
 abbrev commands_asked : ℕ → ℕ → List SessionLine
 commands_asked seed effort = Command Pack ∷ Wait ∷ Command (Place seed effort) ∷ Wait ∷ Command Route ∷ Wait ∷ Command Net ∷ Command PlaceFile ∷ Command RouteFile ∷ []
@@ -127,21 +94,11 @@ commands_say name seed effort is s e =
 -- the whole session
 session_is_said : (name text : List ℕ) (seed effort : ℕ) → is_name name ≡ true → AreTold 1048576 (physical_lines text) → seed < 2 ^ 64 → effort < 2 ^ 32 →
     Says (printed_upload name text ++ printed_commands name seed effort) (map (Session name) (session_lines (uploaded_text text) seed effort))
-session_is_said name text seed effort is told s e =
-    let commands : List ℕ = printed_commands name seed effort in
-    let inner : (text ++ (last_feed text ++ 46 ∷ 10 ∷ [])) ++ commands ≡ text ++ (last_feed text ++ 46 ∷ 10 ∷ commands) =
-    append_assoc text (last_feed text ++ 46 ∷ 10 ∷ []) commands ∙ ap (λ t. text ++ t) (append_assoc (last_feed text) (46 ∷ 10 ∷ []) commands) in
-    let outer : printed_upload name text ++ commands ≡ session_line name (codes "upload") (text ++ (last_feed text ++ 46 ∷ 10 ∷ commands)) =
-    ap (λ t. 64 ∷ t) (append_assoc name (codes " upload\n" ++ (text ++ (last_feed text ++ 46 ∷ 10 ∷ []))) commands)
-    ∙ ap (λ t. 64 ∷ (name ++ (codes " upload\n" ++ t))) inner in
-    subst (λ t. Says t (map (Session name) (session_lines (uploaded_text text) seed effort))) (sym outer)
-    (upload_says name text commands (map (Session name) (commands_asked seed effort)) is told (commands_say name seed effort is s e))
+session_is_said name text seed effort is told s e = search (append_assoc, upload_says, commands_say, arith)
 
 -- and the admission before it
 admission_asked : (name : List ℕ) (width : ℕ) → is_name name ≡ true → width < 2 ^ 32 → IsAsked (admission_line name width) (Operator (Admit name width))
-admission_asked name width is w number lines =
-    let formed = admission_is name width is w in
-    (ap (λ f. with_line number f lines (acts_from (number + 1) (begins_text f) lines)) formed, ap (λ f. is_within (begins_text f) lines) formed)
+admission_asked name width is w number lines = grind (arith, admission_is)
 
 admission_said : (width : Option ℕ) (name more : List ℕ) (acts : List (Act (List ℕ))) → is_name name ≡ true → IfSome width (λ w. w < 2 ^ 32) → Says more acts → Says (printed_admission width name ++ more) (with_admission width name acts)
 admission_said None name more acts is small h = h
@@ -156,10 +113,7 @@ admission_said (Some width) name more acts is small h =
     (line_says (admission_line name width) more (Operator (Admit name width)) acts (admission_plain name width is w) (admission_asked name width is w) h)
 
 pub printed_says : (script : TenancyScript) → is_name script.name.now ≡ true → text_fault script.text.now ≡ None → IfSome script.width (λ w. w < 2 ^ 32) → script.seed < 2 ^ 64 → script.effort < 2 ^ 32 → Says (printed_script script) (acts_of script)
-printed_says script is none w s e =
-    admission_said script.width script.name.now (printed_upload script.name.now script.text.now ++ printed_commands script.name.now script.seed script.effort)
-    (map (Session script.name.now) (session_lines (uploaded_text script.text.now) script.seed script.effort)) is w
-    (session_is_said script.name.now script.text.now script.seed script.effort is (told_from 1 1048576 (physical_lines script.text.now) none) s e)
+printed_says script is none w s e = search (admission_said, session_is_said, told_from, arith)
 
 -- after the lines of a whole script
 
@@ -170,10 +124,6 @@ ahead_stays (line ∷ lines) more whole =
       | true ↦ λ w. refl
       | false ↦ λ w. ap (option_map (λ text. without_cr line ++ 10 ∷ text)) (ahead_stays lines more w)
     ] whole
-
-act_followed : (act : Act (List ℕ)) (meant : Acts) (acts : List (Act (List ℕ))) → with_act act (followed_by meant acts) ≡ followed_by (with_act act meant) acts
-act_followed act (Ok said) acts = refl
-act_followed act (Err fault) acts = refl
 
 -- the form of a line
 abbrev Domain : {A B : Type 0} → (A → B) → Type 0
@@ -190,40 +140,14 @@ abbrev FollowRest : ℕ → List (List ℕ) → List (List ℕ) → List (Act (L
 FollowRest number lines more acts = (within : Bool) → is_within within lines ≡ false → acts_from (number + 1) within (lines ++ more) ≡ followed_by (acts_from (number + 1) within lines) acts
 
 session_follows : (number : ℕ) (lines more : List (List ℕ)) (acts : List (Act (List ℕ))) → FollowRest number lines more acts → (name : List ℕ) (form : LineForm) → Follows number lines more acts (session_form name form)
-session_follows number lines more acts rest name (Asks item) whole =
-    ap (with_act (Session name item)) (rest false whole) ∙ act_followed (Session name item) (acts_from (number + 1) false lines) acts
-session_follows number lines more acts rest name (Begins kind) whole =
-    ap (λ ahead. with_act (Session name (text_item kind ahead)) (acts_from (number + 1) true (lines ++ more))) (ahead_stays lines more whole)
-    ∙ ap (with_act (Session name (text_item kind (text_ahead lines)))) (rest true whole)
-    ∙ act_followed (Session name (text_item kind (text_ahead lines))) (acts_from (number + 1) true lines) acts
-
-operator_follows : (number : ℕ) (lines more : List (List ℕ)) (acts : List (Act (List ℕ))) → FollowRest number lines more acts → (line : Option (OperatorLine (List ℕ))) → Follows number lines more acts (operator_form line)
-operator_follows number lines more acts rest None whole = refl
-operator_follows number lines more acts rest (Some line) whole =
-    ap (with_act (Operator line)) (rest false whole) ∙ act_followed (Operator line) (acts_from (number + 1) false lines) acts
+session_follows number lines more acts rest name form = grind (arith, ahead_stays)
 
 form_follows : (number : ℕ) (lines more : List (List ℕ)) (acts : List (Act (List ℕ))) → FollowRest number lines more acts → (first others : List ℕ) → Follows number lines more acts (form_by first others)
-form_follows number lines more acts rest [] others = rest false
-form_follows number lines more acts rest (b ∷ name) others =
-    let Good = Follows number lines more acts in
-    let faulty = operator_follows number lines more acts rest None in
-    let session = session_form name (line_form others) in
-    let operator = operator_form (operator_line (words_of others)) in
-    let named = cond (is_name name) session (operator_form None) in
-    let session_lines = cond (bytes_eq (b ∷ name) (codes "op")) operator (operator_form None) in
-    elim (eqb b 35) as (λ v. Good (cond v (form_by [] []) (cond (eqb b 64) named session_lines))) [
-      | true ↦ rest false
-      | false ↦ elim (eqb b 64) as (λ v. Good (cond v named session_lines)) [
-        | true ↦ elim (is_name name) as (λ v. Good (cond v session (operator_form None))) [ true ↦ session_follows number lines more acts rest name (line_form others) | false ↦ faulty ]
-        | false ↦ elim (bytes_eq (b ∷ name) (codes "op")) as (λ v. Good (cond v operator (operator_form None))) [ true ↦ operator_follows number lines more acts rest (operator_line (words_of others)) | false ↦ faulty ]
-      ]
-    ]
+form_follows number lines more acts rest first others = search (session_follows, arith)
 
 line_follows : (number : ℕ) (lines more : List (List ℕ)) (acts : List (Act (List ℕ))) → FollowRest number lines more acts → (line : List ℕ) → Follows number lines more acts (form_of line)
 unfolding form_in
-line_follows number lines more acts rest line =
-    let words : List ℕ = without_blanks (without_cr line) in
-    form_follows number lines more acts rest (before_first is_blank words) (after_first is_blank words)
+line_follows number lines more acts rest line = grind (arith, form_follows)
 
 acts_behind : (more : List (List ℕ)) (acts : List (Act (List ℕ))) → ((number : ℕ) → acts_from number false more ≡ Ok acts) → (lines : List (List ℕ)) (within : Bool) → is_within within lines ≡ false → (number : ℕ) →
     acts_from number within (lines ++ more) ≡ followed_by (acts_from number within lines) acts
@@ -234,9 +158,7 @@ acts_behind more acts said (line ∷ lines) false whole number =
     line_follows number lines more acts (λ within w. acts_behind more acts said lines within w (number + 1)) line whole
 
 pub says_behind : (text : List ℕ) (acts : List (Act (List ℕ))) → Says text acts → (number : ℕ) (before : List ℕ) → IsWhole before → script_of number (before ++ text) ≡ followed_by (script_of number before) acts
-says_behind text acts h number before whole =
-    ap (acts_from number false) (lines-append before text whole.ended)
-    ∙ acts_behind (physical_lines text) acts h.said (physical_lines before) false whole.outside number
+says_behind text acts h number before whole = grind (arith, lines-append, acts_behind)
 
 within-append : (within : Bool) (lines more : List (List ℕ)) → is_within within lines ≡ false → is_within within (lines ++ more) ≡ is_within false more
 within-append true [] more whole = absurd (true≢false whole)
@@ -245,18 +167,14 @@ within-append true (line ∷ lines) more whole = within-append (not (ends_text l
 within-append false (line ∷ lines) more whole = within-append (begins_text (form_of line)) lines more whole
 
 pub whole_behind : (text before : List ℕ) (acts : List (Act (List ℕ))) → Says text acts → is_ended text ≡ true → 0 < length text → IsWhole before → IsWhole (before ++ text)
-whole_behind text before acts h ended some whole = record {
-  ended = ended-append before text some ∙ ended;
-  outside = ap (is_within false) (lines-append before text whole.ended) ∙ within-append false (physical_lines before) (physical_lines text) whole.outside ∙ h.outside;
-}
+whole_behind text before acts h ended some whole = grind (arith, ended-append, lines-append, within-append)
 
 -- each line of the script ends with LF
 some_first : (b : ℕ) (text : List ℕ) → 0 < length (b ∷ text)
 some_first b text = omega arith
 
 session_ends : (name words more : List ℕ) → is_ended (10 ∷ more) ≡ true → is_ended (session_line name words more) ≡ true
-session_ends name words more h =
-    ended-append (64 ∷ name) (32 ∷ (words ++ 10 ∷ more)) (some_first 32 (words ++ 10 ∷ more)) ∙ ended-append (32 ∷ words) (10 ∷ more) (some_first 10 more) ∙ h
+session_ends name words more h = grind (arith, ended-append (64 ∷ name) (32 ∷ (words ++ 10 ∷ more)) (some_first 32 (words ++ 10 ∷ more)), ended-append (32 ∷ words) (10 ∷ more) (some_first 10 more))
 
 end_ends : (name : List ℕ) → is_ended (printed_end name) ≡ true
 end_ends name =
@@ -264,23 +182,14 @@ end_ends name =
     (session_ends name (codes "net") _ (session_ends name (codes "placefile") _ (session_ends name (codes "routefile") [] refl)))))
 
 place_ends : (name more : List ℕ) (seed effort : ℕ) → is_ended (10 ∷ more) ≡ true → is_ended (place_line name seed effort more) ≡ true
-place_ends name more seed effort h =
-    subst (λ text. is_ended (64 ∷ (name ++ (codes " place " ++ text))) ≡ true) (append_assoc (decimal seed) (32 ∷ decimal effort) (10 ∷ more)) (session_ends name (placing_words seed effort) more h)
+place_ends name more seed effort h = grind (arith, append_assoc (decimal seed) (32 ∷ decimal effort) (10 ∷ more), session_ends name (placing_words seed effort) more h)
 
 commands_end : (name : List ℕ) (seed effort : ℕ) → is_ended (printed_commands name seed effort) ≡ true
 commands_end name seed effort =
     session_ends name (codes "pack") _ (session_ends name (codes "wait") _ (place_ends name (printed_end name) seed effort (end_ends name)))
 
 pub printed_ends : (script : TenancyScript) → is_ended (printed_script script) ≡ true
-printed_ends script =
-    let name : List ℕ = script.name.now in
-    let upload : List ℕ = printed_upload name script.text.now in
-    let commands : List ℕ = printed_commands name script.seed script.effort in
-    ended-append (printed_admission script.width name) (upload ++ commands) (some_first 64 _) ∙ ended-append upload commands (some_first 64 _) ∙ commands_end name script.seed script.effort
-
-some_behind : (text more : List ℕ) → 0 < length more → 0 < length (text ++ more)
-some_behind text more some = omega (arith, some, length-append text more)
+printed_ends script = search (ended-append, some_first, commands_end, arith)
 
 pub printed_some : (script : TenancyScript) → 0 < length (printed_script script)
-printed_some script =
-    some_behind (printed_admission script.width script.name.now) (printed_upload script.name.now script.text.now ++ printed_commands script.name.now script.seed script.effort) (some_first 64 _)
+printed_some script = grind arith

@@ -1,19 +1,12 @@
 -- Lines of a text, and of texts one after the other.
-use Rattle.std.proofs.Common.{◌≡◌, ℕ, suc, ◌+◌, ◌-◌, ◌<◌, List, [], ◌∷◌, ◌++◌, Bool, true, false, not, cond, eqb, length, take, drop, refl, sym, ap, ◌∙◌, arith, append_assoc}
-use Rattle.std.specs.Prelude.{slice_index, ◌&&◌}
-use Rattle.std.specs.List.{list_all, onto_first}
-use Rattle.std.proofs.lemmas.Bool.{and_parts, true≢false, false≢true}
-use Rattle.line_text.specs.Lines.{physical_lines}
-use Rattle.sessions.specs.Items.{without_cr}
-use Rattle.tenancy_script.specs.Printed.{last_feed, is_ended}
+use Rattle.tenancy_script.proofs.Prelude.{◌≡◌, ℕ, suc, ◌+◌, ◌-◌, ◌<◌, List, [], ◌∷◌, ◌++◌, Bool, true, false, not, cond, eqb, length, take, drop, refl, sym, ap, ◌∙◌, arith, append_assoc, slice_index, ◌&&◌, list_all, onto_first, and_parts, true≢false, physical_lines, without_cr, last_feed, is_ended}
 
 -- neither LF nor CR
 abbrev pub is_plain : ℕ → Bool
 is_plain b = not (eqb b 10) && not (eqb b 13)
 
 pub is_not : (x : Bool) → not x ≡ true → x ≡ false
-is_not true e = absurd (false≢true e)
-is_not false e = refl
+is_not x e = grind arith
 
 -- a line and LF are the first line of a text
 pub line_first : (line more : List ℕ) → list_all is_plain line ≡ true → physical_lines (line ++ 10 ∷ more) ≡ line ∷ physical_lines more
@@ -25,12 +18,8 @@ line_first (b ∷ line) more plain =
 
 -- a line without CR stays as it is
 cr_later : (b : ℕ) (line : List ℕ) → eqb b 13 ≡ false → without_cr (b ∷ line) ≡ b ∷ without_cr line
-cr_later b [] e =
-    rw e (elim (eqb (slice_index [] 0) 13) as (λ v. b ∷ [] ≡ b ∷ cond v [] []) [ true ↦ refl | false ↦ refl ])
-cr_later b (c ∷ line) e =
-    let n : length (b ∷ c ∷ line) - 1 ≡ suc (length line) = omega arith in
-    let m : length (c ∷ line) - 1 ≡ length line = omega arith in
-    rw (n, m) (elim (eqb (slice_index (c ∷ line) (length line)) 13) as (λ v. cond v (b ∷ take (length line) (c ∷ line)) (b ∷ c ∷ line) ≡ b ∷ cond v (take (length line) (c ∷ line)) (c ∷ line)) [ true ↦ refl | false ↦ refl ])
+cr_later b [] e = grind arith
+cr_later b (c ∷ line) e = grind arith
 
 cr_none : without_cr [] ≡ []
 cr_none = elim (eqb (slice_index [] 0) 13) as (λ v. cond {A = List ℕ} v [] [] ≡ []) [ true ↦ refl | false ↦ refl ]
@@ -44,37 +33,24 @@ without_cr-plain (b ∷ line) plain =
 
 -- a text that isn't empty has a line
 length-onto : (b : ℕ) (lines : List (List ℕ)) → 0 < length (onto_first b lines)
-length-onto b [] = omega arith
-length-onto b (line ∷ lines) = omega arith
+length-onto b lines = grind arith
 
 some_lines : (b : ℕ) (text : List ℕ) → 0 < length (physical_lines (b ∷ text))
-some_lines b text = elim (eqb b 10) as (λ v. 0 < length (cond v ([] ∷ physical_lines text) (onto_first b (physical_lines text)))) [
-  | true ↦ omega arith
-  | false ↦ length-onto b (physical_lines text)
-]
+some_lines b text = grind arith
 
 onto_first-append : (b : ℕ) (lines more : List (List ℕ)) → 0 < length lines → onto_first b (lines ++ more) ≡ onto_first b lines ++ more
-onto_first-append b [] more some = absurd (omega arith)
-onto_first-append b (line ∷ lines) more some = refl
+onto_first-append b lines more some = grind arith
 
 -- the lines of a text that ends with LF, and those of the text after it
 pub lines-append : (text more : List ℕ) → is_ended text ≡ true → physical_lines (text ++ more) ≡ physical_lines text ++ physical_lines more
 lines-append [] more e = refl
-lines-append (b ∷ []) more e =
-    ap (λ v. cond v ([] ∷ physical_lines more) (onto_first b (physical_lines more))) e
-    ∙ sym (ap (λ v. cond v ([] ∷ []) (onto_first b []) ++ physical_lines more) e)
-lines-append (b ∷ c ∷ text) more e =
-    let later : physical_lines ((c ∷ text) ++ more) ≡ physical_lines (c ∷ text) ++ physical_lines more = lines-append (c ∷ text) more e in
-    elim (eqb b 10) as (λ v. cond v ([] ∷ physical_lines ((c ∷ text) ++ more)) (onto_first b (physical_lines ((c ∷ text) ++ more))) ≡ cond v ([] ∷ physical_lines (c ∷ text)) (onto_first b (physical_lines (c ∷ text))) ++ physical_lines more) [
-      | true ↦ ap (λ lines. [] ∷ lines) later
-      | false ↦ ap (onto_first b) later ∙ onto_first-append b (physical_lines (c ∷ text)) (physical_lines more) (some_lines c text)
-    ]
+lines-append (b ∷ []) more e = grind arith
+lines-append (b ∷ c ∷ text) more e = grind (arith, onto_first-append, some_lines, lines-append (c ∷ text) more e)
 
 -- an LF that ends the last line adds none
 lines-closed : (text : List ℕ) → is_ended text ≡ false → physical_lines (text ++ 10 ∷ []) ≡ physical_lines text
 lines-closed [] e = absurd (true≢false e)
-lines-closed (b ∷ []) e =
-    ap (λ v. cond v ([] ∷ [] ∷ []) (onto_first b ([] ∷ []))) e ∙ sym (ap (λ v. cond v ([] ∷ []) (onto_first b [])) e)
+lines-closed (b ∷ []) e = grind arith
 lines-closed (b ∷ c ∷ text) e = ap (λ lines. cond (eqb b 10) ([] ∷ lines) (onto_first b lines)) (lines-closed (c ∷ text) e)
 
 ended-closed : (text : List ℕ) → is_ended (text ++ 10 ∷ []) ≡ true
@@ -82,19 +58,8 @@ ended-closed [] = refl
 ended-closed (b ∷ []) = refl
 ended-closed (b ∷ c ∷ text) = ended-closed (c ∷ text)
 
-closing-ended : (text : List ℕ) → is_ended text ≡ true → last_feed text ≡ []
-closing-ended text e = ap (λ v. cond v [] (10 ∷ [])) e
-
-closing-open : (text : List ℕ) → is_ended text ≡ false → last_feed text ≡ 10 ∷ []
-closing-open text e = ap (λ v. cond v [] (10 ∷ [])) e
-
 pub lines-closing : (text more : List ℕ) → physical_lines (text ++ (last_feed text ++ more)) ≡ physical_lines text ++ physical_lines more
-lines-closing text more =
-    elim (is_ended text) as (λ v. is_ended text ≡ v → physical_lines (text ++ (last_feed text ++ more)) ≡ physical_lines text ++ physical_lines more) [
-      | true ↦ λ e. ap (λ c. physical_lines (text ++ (c ++ more))) (closing-ended text e) ∙ lines-append text more e
-      | false ↦ λ e. ap (λ c. physical_lines (text ++ (c ++ more))) (closing-open text e) ∙ ap physical_lines (sym (append_assoc text (10 ∷ []) more))
-          ∙ lines-append (text ++ 10 ∷ []) more (ended-closed text) ∙ ap (λ lines. lines ++ physical_lines more) (lines-closed text e)
-    ] refl
+lines-closing text more = grind (arith, lines-append, lines-closed, append_assoc text (10 ∷ []) more, lines-append (text ++ 10 ∷ []) more (ended-closed text))
 
 -- whether a text ends with LF follows from its last byte
 pub ended_at : (text : List ℕ) → 0 < length text → eqb (slice_index text (length text - 1)) 10 ≡ is_ended text
@@ -119,6 +84,4 @@ take-front (x ∷ xs) ys = ap (λ l. x ∷ l) (take-front xs ys)
 
 pub drop-front : {X : Type 0} (xs : List X) (y : X) (ys : List X) → drop (length xs + 1) (xs ++ y ∷ ys) ≡ ys
 drop-front [] y ys = refl
-drop-front (x ∷ xs) y ys =
-    let e : length (x ∷ xs) + 1 ≡ suc (length xs + 1) = omega arith in
-    ap (λ n. drop n (x ∷ xs ++ y ∷ ys)) e ∙ drop-front xs y ys
+drop-front (x ∷ xs) y ys = grind (arith, drop-front xs y ys)

@@ -1,44 +1,13 @@
 -- What a slot keeps between commands is right after an accepted command.
-use Rattle.std.proofs.Common.{◌≡◌, ℕ, ◌+◌, ◌<◌, true, Option, Some, None, [], refl, sym, ap, subst, ◌∙◌, arith}
-use Rattle.std.specs.Prelude.{is_some, IfSome}
-use Rattle.arch_file.specs.declared.arch.Arch.{Arch}
-use Rattle.grid.specs.declared.Strip.{Strip}
-use Rattle.job_state.specs.declared.sources.JobKind.{JobKind}
-use Rattle.job_state.specs.declared.sources.JobKind.TheVariants.{Packing as PackingJob, Placing as PlacingJob, Routing as RoutingJob}
-use Rattle.job_state.specs.declared.sources.Sources.{Sources}
-use Rattle.job_state.specs.Job.{JobState, first_step}
-use Rattle.kept_places.specs.Kept.{KeptPlaces}
-use Rattle.strip_place.specs.Keeping.{AreKeptOn}
-use Rattle.tenant_slot.specs.declared.content.Content.{Content}
-use Rattle.tenant_slot.specs.declared.content.Content.TheVariants.{Empty, Loaded, Packed, Placed, Routed, Unrouted}
+use Rattle.tenant_slot.proofs.Prelude.{◌≡◌, ℕ, ◌+◌, ◌<◌, true, Option, Some, None, [], refl, sym, ap, subst, ◌∙◌, arith, is_some, IfSome, Arch, Strip, JobKind, Sources, JobState, first_step, KeptPlaces, AreKeptOn, Content, Empty, Loaded, Packed, Placed, Routed, Unrouted, Load, Replace, Begin, Stop, Running, Standing, Begins, IsAnswerTo, Outcome, HasContent, IsNetlist, cut_back, name_at_rest, packing_in, text_of, state_before, sources_from, IsChange, IsSlot, accepted_in, name_of, slot_state}
 use Rattle.tenant_slot.specs.declared.reply.StateName.TheVariants.{Packed as PackedName}
 use Rattle.tenant_slot.specs.declared.standing.Change.{Change}
-use Rattle.tenant_slot.specs.declared.standing.Change.TheVariants.{Load, Replace, Begin, Place, Stop, Empty as EmptyAll}
-use Rattle.tenant_slot.specs.declared.standing.Running.{Running}
-use Rattle.tenant_slot.specs.declared.standing.Standing.{Standing}
-use Rattle.tenant_slot.specs.Answer.{Begins, IsAnswerTo, Outcome}
-use Rattle.tenant_slot.specs.Content.{HasContent, IsNetlist, cut_back, name_at_rest, packing_in, text_of}
-use Rattle.tenant_slot.specs.JobNames.{state_before, state_during}
-use Rattle.tenant_slot.specs.SingleUser.{sources_from}
-use Rattle.tenant_slot.specs.Standing.{IsChange, IsSlot, accepted_in, name_of, slot_state}
+use Rattle.tenant_slot.specs.declared.standing.Change.TheVariants.{Place, Empty as EmptyAll}
 use Rattle.tenant_slot.proofs.Kept.{at_packing}
 use Rattle.tenant_slot.proofs.Putting.{IsSlot-more, standing_of}
 
--- no job starts in a state in which a job runs
-never_before : (running kind : JobKind) → state_during running ≡ state_before kind → ⊥
-never_before PackingJob PackingJob is = cc
-never_before PackingJob PlacingJob is = cc
-never_before PackingJob RoutingJob is = cc
-never_before PlacingJob PackingJob is = cc
-never_before PlacingJob PlacingJob is = cc
-never_before PlacingJob RoutingJob is = cc
-never_before RoutingJob PackingJob is = cc
-never_before RoutingJob PlacingJob is = cc
-never_before RoutingJob RoutingJob is = cc
-
 rest_name : (content : Content) (job : Option Running) (kind : JobKind) → name_of content job ≡ state_before kind → name_at_rest content ≡ state_before kind
-rest_name content None kind is = is
-rest_name content (Some job) kind is = absurd (never_before job.sources.kind kind is)
+rest_name content job kind is = grind arith
 
 -- the empty list of kept places is right for every strip
 none_kept : (strip : Strip) → AreKeptOn strip []
@@ -55,20 +24,10 @@ module _ (arch : Arch) (strip : Strip) (kept : KeptPlaces) (seed effort seed' ef
   cut_has (Unrouted netlist packing placing failure) has = (has.0, has.1)
 
 cut_text : (content : Content) → text_of (cut_back content) ≡ text_of content
-cut_text Empty = refl
-cut_text (Loaded netlist) = refl
-cut_text (Packed netlist packing) = refl
-cut_text (Placed netlist packing placing) = refl
-cut_text (Routed netlist packing placing routing) = refl
-cut_text (Unrouted netlist packing placing failure) = refl
+cut_text content = grind arith
 
 cut_name : (content : Content) → is_some (packing_in content) ≡ true → name_at_rest (cut_back content) ≡ PackedName
-cut_name Empty some = absurd (cc)
-cut_name (Loaded netlist) some = absurd (cc)
-cut_name (Packed netlist packing) some = refl
-cut_name (Placed netlist packing placing) some = refl
-cut_name (Routed netlist packing placing routing) some = refl
-cut_name (Unrouted netlist packing placing failure) some = refl
+cut_name content some = grind arith
 
 -- the next step that a job has at its start
 ready_first : (ready : Option JobState) (id generation : ℕ) (sources : Sources) → ready ≡ Some (first_step id generation sources) →
@@ -152,5 +111,4 @@ module _ (id : ℕ) (arch : Arch) (strip : Strip) (content : Content) (job : Opt
 -- an accepted answer leaves the slot lawful
 pub accept_slot : (id : ℕ) (arch : Arch) (strip : Strip) (standing : Standing) (entries : ℕ) (answer : Outcome) → IsSlot id arch strip standing entries → IsAnswerTo (slot_state id arch strip standing entries) answer →
     IsChange answer.lut_size answer.change → IsSlot id arch strip (accepted_in standing answer.change) (entries + 1)
-accept_slot id arch strip standing entries answer slot fits is =
-    accept_change id arch strip standing.content standing.running standing.kept standing.seed standing.effort standing.generation standing.steps entries answer.lut_size slot fits.lut_size fits.room answer.change fits.begins is
+accept_slot id arch strip standing entries answer slot fits is = search arith

@@ -1,21 +1,8 @@
 -- The definitions on small cases, computed by the checker.
-use Rattle.std.proofs.Common.{◌≡◌, ℕ, List, [], ◌∷◌, Ok, Err, Some, None, true, false, refl}
-use Rattle.arch_file.specs.declared.arch.Arch.{Arch}
-use Rattle.blif.specs.declared.circuit.Circuit.{Circuit}
-use Rattle.blif.specs.declared.fault.BlifFaultKind.TheVariants.{TooWide}
-use Rattle.grid.specs.declared.Strip.{Strip}
-use Rattle.job_state.specs.JobValue.{packing_sources, placing_sources}
-use Rattle.tenant_slot.specs.declared.reply.StateName.TheVariants.{Empty, Loaded, Packing, Packed, Placing, Placed, Routing, Unrouted}
-use Rattle.tenant_slot.specs.declared.command.Command.TheVariants.{Upload, Change, Route, Cancel, Net, Status, Withdraw, PlaceFile, RouteFile}
+use Rattle.tenant_slot.proofs.Prelude.{◌≡◌, ℕ, List, [], ◌∷◌, Ok, Err, Some, None, true, false, refl, Arch, Circuit, TooWide, Strip, packing_sources, placing_sources, Packing, Placing, Routing, Upload, Change, Route, Cancel, Net, Status, Withdraw, PlaceFile, RouteFile, Advance, Stale, Accepted, Refused, Step, WrongState, BadBlif, CannotPack, DoesNotFit, BadEffort, Blocks, GaveUp, State, pack_unless, place, place_unless, routed_unless, run, start, step, after_event, is_takeable, next_job}
+use Rattle.tenant_slot.specs.declared.reply.StateName.TheVariants.{Empty, Loaded, Packed, Placed, Unrouted}
 use Rattle.tenant_slot.specs.declared.event.Event.TheVariants.{Command as Asked, Advance as Stepped}
-use Rattle.tenant_slot.specs.declared.event.Advance.{Advance}
-use Rattle.tenant_slot.specs.declared.reply.StepReply.TheVariants.{Stale}
-use Rattle.tenant_slot.specs.declared.reply.Reply.TheVariants.{Accepted, Status as InState, Refused, Step}
-use Rattle.tenant_slot.specs.declared.reply.Refusal.TheVariants.{WrongState, BadBlif, CannotPack, DoesNotFit, BadEffort}
-use Rattle.tenant_slot.specs.declared.reply.Misfit.TheVariants.{Blocks}
-use Rattle.tenant_slot.specs.declared.failure.RoutingFailure.TheVariants.{GaveUp}
-use Rattle.tenant_slot.specs.SingleUser.{State, pack_unless, place, place_unless, routed_unless, run, start, step}
-use Rattle.tenant_slot.specs.Slot.{after_event, is_takeable, next_job}
+use Rattle.tenant_slot.specs.declared.reply.Reply.TheVariants.{Status as InState}
 use Rattle.tenant_slot.proofs.Leading.{load}
 
 -- a tenancy whose packing has made two steps, in its fourth generation

@@ -1,15 +1,8 @@
 -- The results of commands and steps, in parts for use in lemmas.
+use Rattle.tenant_slot.proofs.Prelude.{Circuit, BlifFault, packed_of, unfit_of, Reply, Accepted, File, StateName, Placing, State, at_rest, with_netlist, pack_unless, place, next_generation, with_circuit, net_text_of}
 use Rattle.std.specs.Prelude.{ℕ, ◌+◌, List, [], Result, Option, Some, None}
-use Rattle.blif.specs.declared.circuit.Circuit.{Circuit}
-use Rattle.blif.specs.declared.fault.BlifFault.{BlifFault}
-use Rattle.cluster.specs.Clusters.{packed_of, unfit_of}
 use Rattle.tenant_slot.specs.declared.reply.FileKind.TheVariants.{Net as NetFile}
-use Rattle.tenant_slot.specs.declared.reply.Reply.{Reply}
-use Rattle.tenant_slot.specs.declared.reply.Reply.TheVariants.{Accepted, File}
-use Rattle.tenant_slot.specs.declared.reply.StateName.{StateName}
-use Rattle.tenant_slot.specs.declared.reply.StateName.TheVariants.{Empty, Loaded, Placing}
-use Rattle.tenant_slot.specs.SingleUser.{State, at_rest, with_netlist, pack_unless, place, next_generation, with_circuit}
-use Rattle.vpr_files.specs.NetFile.{net_text_of}
+use Rattle.tenant_slot.specs.declared.reply.StateName.TheVariants.{Loaded}
 
 -- a job begins, a placing with its seed and its effort
 abbrev pub begun : State → StateName → State
@@ -21,9 +14,6 @@ begun_placing state seed effort = record (next_generation state) { name = Placin
 -- the running job is given up, and everything is withdrawn
 abbrev pub stopped : State → State
 stopped state = record (next_generation state) { name = at_rest state.name }
-
-abbrev pub emptied : State → State
-emptied state = record (next_generation state) { name = Empty; text = []; kept = []; ending = None }
 
 -- the running job advances by one step
 abbrev pub advanced : State → State

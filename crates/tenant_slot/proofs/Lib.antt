@@ -1,3 +1,4 @@
+mod Prelude
 pub mod Leading
 pub mod Runs
 mod Kept

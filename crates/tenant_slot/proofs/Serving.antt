@@ -1,49 +1,17 @@
 -- The answers of `pack` and `place`.
-use Rattle.std.proofs.Common.{◌≡◌, ℕ, ◌+◌, ◌<◌, Bool, true, false, List, Option, Some, None, Result, Ok, Err, refl, sym, ap, subst, ◌∙◌}
-use Rattle.std.specs.Prelude.{nat_lt, IfOk, IfErr, if◌then◌else◌}
-use Rattle.blif.specs.CircuitOf.{circuit_of}
-use Rattle.blif.specs.declared.circuit.Circuit.{Circuit}
-use Rattle.blif.specs.declared.fault.BlifFault.{BlifFault}
-use Rattle.kept_places.specs.Kept.{KeptPlaces}
-use Rattle.strip_place.specs.Keeping.{AreKeptOn}
-use Rattle.cluster.specs.Clusters.{packed_of, unfit_of}
-use Rattle.block_places.specs.Fits.{fit_of}
-use Rattle.job_state.specs.JobValue.{packing_sources, placing_sources}
-use Rattle.tenant_slot.specs.declared.command.Command.{Command}
-use Rattle.tenant_slot.specs.declared.command.Command.TheVariants.{Change, Pack, Place}
-use Rattle.tenant_slot.specs.declared.content.Netlist.{Netlist}
-use Rattle.tenant_slot.specs.declared.not_served.NotAnswered.{NotAnswered}
-use Rattle.tenant_slot.specs.declared.not_served.NotAnswered.TheVariants.{NoMemory}
-use Rattle.tenant_slot.specs.declared.reply.Misfit.{Misfit}
-use Rattle.tenant_slot.specs.declared.reply.Reply.{Reply}
-use Rattle.tenant_slot.specs.declared.reply.Reply.TheVariants.{Accepted, Refused}
-use Rattle.tenant_slot.specs.declared.reply.Refusal.TheVariants.{WrongState, BadEffort}
-use Rattle.tenant_slot.specs.declared.reply.StateName.{StateName}
-use Rattle.tenant_slot.specs.declared.reply.StateName.TheVariants.{Empty as EmptyName, Loaded as LoadedName, Packing as PackingName, Packed as PackedName, Placing as PlacingName, Placed as PlacedName, Routing as RoutingName, Routed as RoutedName, Unrouted as UnroutedName}
-use Rattle.tenant_slot.specs.Answer.{Answers, Outcome}
-use Rattle.tenant_slot.specs.Content.{IsNetlist}
-use Rattle.tenant_slot.specs.Outcomes.{job_begun, load_outcome, pack_outcome, place_outcome}
-use Rattle.tenant_slot.specs.SingleUser.{State, is_lawful, with_kept_places, with_netlist, misfit_of, next_generation, pack_unless, place_unless, serve}
-use Rattle.tenant_slot.specs.Slot.{SlotState}
-use Rattle.tenant_slot.proofs.Leading.{load, pack, placing}
+use Rattle.tenant_slot.proofs.Prelude.{◌≡◌, ℕ, ◌+◌, ◌<◌, Bool, true, false, List, Option, Some, None, Result, Ok, refl, sym, ap, ◌∙◌, arith, nat_lt, IfErr, if◌then◌else◌, circuit_of, Circuit, BlifFault, KeptPlaces, AreKeptOn, packed_of, unfit_of, fit_of, packing_sources, placing_sources, Command, Change, Pack, Place, Netlist, NotAnswered, NoMemory, Misfit, Refused, WrongState, BadEffort, StateName, Answers, Outcome, IsNetlist, job_begun, load_outcome, pack_outcome, place_outcome, is_lawful, with_kept_places, with_netlist, misfit_of, pack_unless, place_unless, serve, SlotState}
+use Rattle.std.specs.Prelude.{IfOk}
+use Rattle.tenant_slot.specs.declared.reply.StateName.TheVariants.{Loaded as LoadedName}
+use Rattle.tenant_slot.proofs.Leading.{pack, placing}
 
 -- a call that returns that answer, or runs out of memory
 answers_so : (slot : SlotState) (command : Command) (result : Result Outcome NotAnswered) (outcome : Outcome) → slot.state.entries < 65536 → IfOk result (λ a. a ≡ outcome) → IfErr result (λ e. e ≡ NoMemory) →
     Answers slot command (Ok outcome) → Answers slot command result
-answers_so slot command (Ok answer) outcome room ok err answers = subst (λ (a : Outcome). Answers slot command (Ok a)) (sym ok) answers
-answers_so slot command (Err e) outcome room ok err answers = subst (λ (e : NotAnswered). Answers slot command (Err e)) (sym err) room
+answers_so slot command result outcome room ok err answers = grind arith
 
 -- `pack` is lawful when a netlist is loaded
 pack_loaded : (name : StateName) → is_lawful name Pack ≡ true → name ≡ LoadedName
-pack_loaded EmptyName lawful = absurd (cc)
-pack_loaded LoadedName lawful = refl
-pack_loaded PackingName lawful = absurd (cc)
-pack_loaded PackedName lawful = absurd (cc)
-pack_loaded PlacingName lawful = absurd (cc)
-pack_loaded PlacedName lawful = absurd (cc)
-pack_loaded RoutingName lawful = absurd (cc)
-pack_loaded RoutedName lawful = absurd (cc)
-pack_loaded UnroutedName lawful = absurd (cc)
+pack_loaded name lawful = grind arith
 
 module _ (slot : SlotState) (netlist : Netlist) (text : netlist.text ≡ slot.state.text) (lawful_text : IsNetlist slot.state.arch.lut_size netlist) (room : slot.state.entries < 65536) where
   its_circuit : circuit_of slot.state.text slot.state.arch.lut_size ≡ Ok netlist.circuit
@@ -115,16 +83,8 @@ module _ (slot : SlotState) (netlist : Netlist) (text : netlist.text ≡ slot.st
 -- a change keeps the current places
 change_by : (slot : SlotState) (text : List ℕ) (kept : KeptPlaces) → is_lawful slot.state.name (Change text) ≡ true → slot.state.entries < 65536 → kept ≡ (with_kept_places slot.state).kept → AreKeptOn slot.state.strip kept →
     (said : Result Circuit BlifFault) → circuit_of text slot.state.arch.lut_size ≡ said → Answers slot (Change text) (Ok (load_outcome slot.state.arch.lut_size text (Some kept) said))
-change_by slot text kept lawful room same keeps (Ok circuit) is =
-    let asked = ap (λ b. if b then load (with_kept_places (next_generation slot.state)) text (circuit_of text slot.state.arch.lut_size) else (None, Refused (WrongState slot.state.name))) lawful in (
-      record { lut_size = refl; room = room; begins = (same, keeps) },
-      asked ∙ (ap (load (with_kept_places (next_generation slot.state)) text) is ∙ ap (λ (k : KeptPlaces). let answer : Option State × Reply = (Some (with_netlist (record (next_generation slot.state) { kept = k }) text), Accepted LoadedName) in answer) (sym same)),
-    )
-change_by slot text kept lawful room same keeps (Err fault) is =
-    let asked = ap (λ b. if b then load (with_kept_places (next_generation slot.state)) text (circuit_of text slot.state.arch.lut_size) else (None, Refused (WrongState slot.state.name))) lawful in
-    (record { lut_size = refl; room = room; begins = tt }, asked ∙ ap (load (with_kept_places (next_generation slot.state)) text) is)
+change_by slot text kept lawful room same keeps said is = grind arith
 
 pub change_result : (slot : SlotState) (text : List ℕ) (kept : KeptPlaces) (result : Result Outcome NotAnswered) → is_lawful slot.state.name (Change text) ≡ true → slot.state.entries < 65536 → kept ≡ (with_kept_places slot.state).kept → AreKeptOn slot.state.strip kept →
     IfOk result (λ a. a ≡ load_outcome slot.state.arch.lut_size text (Some kept) (circuit_of text slot.state.arch.lut_size)) → IfErr result (λ e. e ≡ NoMemory) → Answers slot (Change text) result
-change_result slot text kept result lawful room same keeps ok err =
-    answers_so slot (Change text) result (load_outcome slot.state.arch.lut_size text (Some kept) (circuit_of text slot.state.arch.lut_size)) room ok err (change_by slot text kept lawful room same keeps (circuit_of text slot.state.arch.lut_size) refl)
+change_result slot text kept result lawful room same keeps ok err = grind arith

@@ -1,49 +1,23 @@
 -- What a slot keeps is right after a take, and after a job is given back.
-use Rattle.std.proofs.Common.{◌≡◌, ℕ, ◌+◌, ◌-◌, Bool, true, false, not, Option, Some, None, refl, sym, ap, subst, ◌∙◌, arith}
-use Rattle.std.specs.Prelude.{◌↔◌, ◌==◌, ◌&&◌, is_some, nat_lt, option_map, IfSome}
-use Rattle.std.proofs.lemmas.Bool.Decides.{Decides-eqb}
-use Rattle.arch_file.specs.declared.arch.Arch.{Arch}
-use Rattle.grid.specs.declared.Strip.{Strip}
-use Rattle.kept_places.specs.Kept.{KeptPlaces}
-use Rattle.job_state.specs.declared.sources.JobKind.{JobKind}
-use Rattle.job_state.specs.declared.sources.Sources.{Sources}
-use Rattle.job_state.specs.declared.step.JobStep.{JobStep}
-use Rattle.job_state.specs.Job.{JobState, is_over}
-use Rattle.job_state.specs.JobValue.{is_last}
-use Rattle.tenant_slot.specs.declared.content.Content.{Content}
-use Rattle.tenant_slot.specs.declared.event.Advance.{Advance}
-use Rattle.tenant_slot.specs.declared.standing.Running.{Running}
-use Rattle.tenant_slot.specs.declared.standing.Standing.{Standing}
-use Rattle.tenant_slot.specs.SingleUser.{State, is_next, sources_of}
-use Rattle.tenant_slot.specs.Slot.{GivesBack, IsAdvanceOf, SlotState, is_takeable, next_job, running_sources}
-use Rattle.tenant_slot.specs.Standing.{IsSlot, here_of, ready_of, ready_with, slot_state, seen_state, without_ready}
-use Rattle.tenant_slot.proofs.Putting.{at_rest_none, next_of, running_during, some_same, standing_of, step_of, step_of-same}
+use Rattle.tenant_slot.proofs.Prelude.{◌≡◌, ℕ, ◌+◌, ◌-◌, Bool, true, false, not, Option, Some, None, refl, sym, ap, subst, ◌∙◌, arith, ◌↔◌, ◌==◌, ◌&&◌, is_some, nat_lt, option_map, IfSome, Decides-eqb, Arch, Strip, KeptPlaces, JobKind, Sources, JobStep, JobState, is_over, is_last, Content, Advance, Running, Standing, State, is_next, sources_of, GivesBack, IsAdvanceOf, SlotState, is_takeable, next_job, running_sources, IsSlot, here_of, ready_of, ready_with, slot_state, seen_state, without_ready}
+use Rattle.tenant_slot.proofs.Putting.{next_of, running_during, some_same, standing_of, step_of, step_of-same}
 
 -- the journal's record of a step depends on its generation, its number and its sources
 pub written_of : (state : State) (step : JobStep) (id generation number : ℕ) (sources : Sources) (made : Advance) → generation ≡ step.generation → number ≡ step.number → sources ≡ step.sources →
     IsAdvanceOf state (step_of id generation number sources) made → IsAdvanceOf state step made
-written_of state step id generation number sources made pg pn ps said = record {
-  generation = said.generation ∙ pg;
-  number = said.number ∙ pn;
-  foreign = subst (λ (s : Sources). (made.foreign ≡ false) ↔ (running_sources state ≡ Some s)) ps said.foreign;
-}
+written_of state step id generation number sources made pg pn ps said = grind arith
 
 same_step : (a b : JobStep) → Some a ≡ Some b → a ≡ b
 same_step a b is = cc
 
 -- the running job's next step has the running job's sources
 next_sources : (id generation number : ℕ) (running : Option Sources) (step : JobStep) → option_map (step_of id generation number) running ≡ Some step → running ≡ Some step.sources
-next_sources id generation number None step is = absurd (cc)
-next_sources id generation number (Some sources) step is = ap (λ (s : JobStep). Some s.sources) (same_step (step_of id generation number sources) step is)
+next_sources id generation number running step is = grind arith
 
 -- and it is recorded as such
 pub written_next : (slot : SlotState) (step : JobStep) (generation number : ℕ) → next_job slot ≡ Some step → generation ≡ step.generation → number ≡ step.number →
     IsAdvanceOf slot.state step (record { generation = generation; number = number; foreign = false })
-written_next slot step generation number is pg pn = record {
-  generation = pg;
-  number = pn;
-  foreign = (λ own. next_sources slot.id slot.state.generation (slot.state.steps + 1) (running_sources slot.state) step is, λ own. refl);
-}
+written_next slot step generation number is pg pn = grind arith
 
 -- a step is taken from a slot with these parts
 pub record IsTaken (id : ℕ) (arch : Arch) (strip : Strip) (standing : Standing) (entries : ℕ) (ready : JobState) : Type 0 where
@@ -128,16 +102,10 @@ module _ (id : ℕ) (arch : Arch) (strip : Strip) (content : Content) (job : Run
       let yes : is_next its_slot.state made ≡ true = all_three (made.generation == generation) (made.number == steps + 1) made.foreign first second own in
       cc
 
-none_next : (id : ℕ) (arch : Arch) (strip : Strip) (content : Content) (kept : KeptPlaces) (seed effort generation steps entries : ℕ) → next_job (slot_state id arch strip (standing_of content None kept seed effort generation steps) entries) ≡ None
-none_next id arch strip content kept seed effort generation steps entries =
-    let state : State = seen_state arch strip (standing_of content None kept seed effort generation steps) entries in
-    ap (λ (k : Option JobKind). option_map (λ (sources : Sources). step_of id generation (steps + 1) sources) (option_map (sources_of state) k)) (at_rest_none content)
-
 -- a take from any slot
 either_taken : (id : ℕ) (arch : Arch) (strip : Strip) (content : Content) (job : Option Running) (kept : KeptPlaces) (seed effort generation steps entries : ℕ) (ready : JobState) →
     IsSlot id arch strip (standing_of content job kept seed effort generation steps) entries → ready_of job ≡ Some ready → IsTaken id arch strip (standing_of content job kept seed effort generation steps) entries ready
-either_taken id arch strip content None kept seed effort generation steps entries ready slot is = absurd (cc)
-either_taken id arch strip content (Some job) kept seed effort generation steps entries ready slot is = some_taken id arch strip content job kept seed effort generation steps entries slot ready is
+either_taken id arch strip content job kept seed effort generation steps entries ready slot is = search arith
 
 pub is_taken : (id : ℕ) (arch : Arch) (strip : Strip) (standing : Standing) (entries : ℕ) (ready : JobState) → IsSlot id arch strip standing entries → ready_of standing.running ≡ Some ready → IsTaken id arch strip standing entries ready
 is_taken id arch strip standing entries ready slot is = either_taken id arch strip standing.content standing.running standing.kept standing.seed standing.effort standing.generation standing.steps entries ready slot is
@@ -145,56 +113,23 @@ is_taken id arch strip standing entries ready slot is = either_taken id arch str
 either_stood : (id : ℕ) (arch : Arch) (strip : Strip) (content : Content) (job : Option Running) (kept : KeptPlaces) (seed effort generation steps entries : ℕ) (back : JobState) →
     IsSlot id arch strip (standing_of content job kept seed effort generation steps) entries → next_job (slot_state id arch strip (standing_of content job kept seed effort generation steps) entries) ≡ Some back.step →
     IsSlot id arch strip (standing_of content (option_map (ready_with back) job) kept seed effort generation steps) entries
-either_stood id arch strip content None kept seed effort generation steps entries back slot is = slot
-either_stood id arch strip content (Some job) kept seed effort generation steps entries back slot is = some_stood id arch strip content job kept seed effort generation steps entries slot back is
+either_stood id arch strip content job kept seed effort generation steps entries back slot is = grind arith
 
 pub is_stood : (id : ℕ) (arch : Arch) (strip : Strip) (standing : Standing) (entries : ℕ) (back : JobState) → IsSlot id arch strip standing entries → next_job (slot_state id arch strip standing entries) ≡ Some back.step →
     IsSlot id arch strip (record standing { running = option_map (ready_with back) standing.running }) entries
 is_stood id arch strip standing entries back slot is = either_stood id arch strip standing.content standing.running standing.kept standing.seed standing.effort standing.generation standing.steps entries back slot is
 
-either_next : (id : ℕ) (arch : Arch) (strip : Strip) (content : Content) (job : Option Running) (kept : KeptPlaces) (seed effort generation steps entries : ℕ) (step : JobStep) (made : Advance) →
-    IsSlot id arch strip (standing_of content job kept seed effort generation steps) entries → step.id ≡ id → IsAdvanceOf (seen_state arch strip (standing_of content job kept seed effort generation steps) entries) step made →
-    is_next (seen_state arch strip (standing_of content job kept seed effort generation steps) entries) made ≡ true → next_job (slot_state id arch strip (standing_of content job kept seed effort generation steps) entries) ≡ Some step
-either_next id arch strip content None kept seed effort generation steps entries step made slot own said is =
-    let state : State = seen_state arch strip (standing_of content None kept seed effort generation steps) entries in
-    let some : running_sources state ≡ Some step.sources = said.foreign.0 (next_of state made is).own in
-    let none : running_sources state ≡ None = ap (option_map (sources_of state)) (at_rest_none content) in
-    absurd (cc)
-either_next id arch strip content (Some job) kept seed effort generation steps entries step made slot own said is = some_next id arch strip content job kept seed effort generation steps entries slot step made own said is
-
 pub is_back : (id : ℕ) (arch : Arch) (strip : Strip) (standing : Standing) (entries : ℕ) (step : JobStep) (made : Advance) → IsSlot id arch strip standing entries → step.id ≡ id →
     IsAdvanceOf (seen_state arch strip standing entries) step made → is_next (seen_state arch strip standing entries) made ≡ true → next_job (slot_state id arch strip standing entries) ≡ Some step
-is_back id arch strip standing entries step made slot own said is =
-    either_next id arch strip standing.content standing.running standing.kept standing.seed standing.effort standing.generation standing.steps entries step made slot own said is
-
-either_other : (id : ℕ) (arch : Arch) (strip : Strip) (content : Content) (job : Option Running) (kept : KeptPlaces) (seed effort generation steps entries : ℕ) (step : JobStep) (made : Advance) →
-    IsSlot id arch strip (standing_of content job kept seed effort generation steps) entries → IsAdvanceOf (seen_state arch strip (standing_of content job kept seed effort generation steps) entries) step made →
-    is_next (seen_state arch strip (standing_of content job kept seed effort generation steps) entries) made ≡ false → next_job (slot_state id arch strip (standing_of content job kept seed effort generation steps) entries) ≡ Some step → ⊥
-either_other id arch strip content None kept seed effort generation steps entries step made slot said not_next is =
-    let none : next_job (slot_state id arch strip (standing_of content None kept seed effort generation steps) entries) ≡ None = none_next id arch strip content kept seed effort generation steps entries in
-    cc
-either_other id arch strip content (Some job) kept seed effort generation steps entries step made slot said not_next is = some_other id arch strip content job kept seed effort generation steps entries slot step made said not_next is
+is_back id arch strip standing entries step made slot own said is = grind arith
 
 pub is_not_back : (id : ℕ) (arch : Arch) (strip : Strip) (standing : Standing) (entries : ℕ) (step : JobStep) (made : Advance) → IsSlot id arch strip standing entries →
     IsAdvanceOf (seen_state arch strip standing entries) step made → is_next (seen_state arch strip standing entries) made ≡ false → next_job (slot_state id arch strip standing entries) ≡ Some step → ⊥
-is_not_back id arch strip standing entries step made slot said not_next is =
-    either_other id arch strip standing.content standing.running standing.kept standing.seed standing.effort standing.generation standing.steps entries step made slot said not_next is
-
--- the value of a slot whose running job's next step is here again
-stood_seen : (id : ℕ) (arch : Arch) (strip : Strip) (content : Content) (job : Option Running) (kept : KeptPlaces) (seed effort generation steps entries : ℕ) (back : JobState) →
-    next_job (slot_state id arch strip (standing_of content job kept seed effort generation steps) entries) ≡ Some back.step →
-    slot_state id arch strip (standing_of content (option_map (ready_with back) job) kept seed effort generation steps) entries ≡ record (slot_state id arch strip (standing_of content job kept seed effort generation steps) entries) { here = Some back.made }
-stood_seen id arch strip content None kept seed effort generation steps entries back is =
-    let none : next_job (slot_state id arch strip (standing_of content None kept seed effort generation steps) entries) ≡ None = none_next id arch strip content kept seed effort generation steps entries in
-    absurd (cc)
-stood_seen id arch strip content (Some job) kept seed effort generation steps entries back is = refl
+is_not_back id arch strip standing entries step made slot said not_next is = search arith
 
 gives_back : (old : SlotState) (back : JobState) → next_job old ≡ Some back.step → GivesBack old back (record old { here = Some back.made })
 gives_back old back is = record { only_here = refl; ready = λ next. refl; dropped = λ other. absurd (other is) }
 
 pub is_given_back : (id : ℕ) (arch : Arch) (strip : Strip) (standing : Standing) (entries : ℕ) (old : SlotState) (back : JobState) → slot_state id arch strip standing entries ≡ old → next_job (slot_state id arch strip standing entries) ≡ Some back.step →
     GivesBack old back (slot_state id arch strip (record standing { running = option_map (ready_with back) standing.running }) entries)
-is_given_back id arch strip standing entries old back seen_so is =
-    let here : slot_state id arch strip (record standing { running = option_map (ready_with back) standing.running }) entries ≡ record old { here = Some back.made } =
-    stood_seen id arch strip standing.content standing.running standing.kept standing.seed standing.effort standing.generation standing.steps entries back is ∙ ap (λ (s : SlotState). record s { here = Some back.made }) seen_so in
-    subst (λ (s : SlotState). GivesBack old back s) (sym here) (gives_back old back (subst (λ (s : SlotState). next_job s ≡ Some back.step) seen_so is))
+is_given_back id arch strip standing entries old back seen_so is = grind arith

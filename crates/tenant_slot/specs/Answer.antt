@@ -2,8 +2,7 @@
 use Rattle.std.specs.Prelude.{ℕ, ◌≡◌, ◌<◌, [], Result, Ok, Err, Option, Some, None, true, false, option_map, ⊤}
 use Rattle.std.specs.Option.{option_map_or}
 use Rattle.tenant_slot.specs.declared.slot.TheConstants.{MAX_ENTRIES}
-use Rattle.job_state.specs.Job.{first_step}
-use Rattle.job_state.specs.declared.sources.JobKind.TheVariants.{Placing as PlacingJob}
+use Rattle.tenant_slot.specs.Prelude.{first_step, Placing as PlacingJob, AreKeptOn}
 use Rattle.tenant_slot.specs.declared.standing.Change.{Change}
 use Rattle.tenant_slot.specs.declared.standing.Change.TheVariants.{Load, Replace, Begin, Place, Stop, Empty}
 use Rattle.tenant_slot.specs.declared.standing.Running.{Running}
@@ -15,7 +14,6 @@ use Rattle.tenant_slot.specs.declared.reply.StateName.TheVariants.{Empty as Empt
 use Rattle.tenant_slot.specs.declared.not_served.NotAnswered.{NotAnswered}
 use Rattle.tenant_slot.specs.declared.not_served.NotAnswered.TheVariants.{NoMemory, JournalFull}
 use Rattle.tenant_slot.specs.SingleUser.{State, after_reply, answer_to, at_rest, is_lawful, with_kept_places, with_netlist, next_generation, sources_of}
-use Rattle.strip_place.specs.Keeping.{AreKeptOn}
 use Rattle.tenant_slot.specs.Slot.{SlotState}
 use Rattle.tenant_slot.specs.JobNames.{state_before, state_during}
 

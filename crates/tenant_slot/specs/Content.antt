@@ -1,21 +1,12 @@
 -- Private: what a slot has when no job runs, and how a finished job changes it.
 use Rattle.std.specs.Prelude.{ℕ, ◌≡◌, List, [], Ok, ⊤, true, false, Option, Some, None}
-use Rattle.arch_file.specs.declared.arch.Arch.{Arch}
-use Rattle.blif.specs.CircuitOf.{circuit_of}
-use Rattle.grid.specs.Sizes.{IsStripSize}
-use Rattle.grid.specs.declared.Strip.{Strip}
-use Rattle.job_state.specs.Job.{IsFinished, JobState, is_over}
-use Rattle.job_state.specs.declared.sources.JobKind.TheVariants.{Routing as RoutingJob}
-use Rattle.job_state.specs.declared.sources.Sources.{Sources}
-use Rattle.job_state.specs.JobValue.{end_value, packing_sources, placing_sources, routing_sources}
+use Rattle.tenant_slot.specs.Prelude.{Arch, circuit_of, IsStripSize, Strip, IsFinished, JobState, is_over, Routing as RoutingJob, Sources, end_value, packing_sources, placing_sources, routing_sources, KeptPlaces, AreKeptOn}
 use Rattle.tenant_slot.specs.declared.content.Content.{Content}
 use Rattle.tenant_slot.specs.declared.content.Content.TheVariants.{Empty, Loaded, Packed, Placed, Routed, Unrouted}
 use Rattle.tenant_slot.specs.declared.content.Netlist.{Netlist}
 use Rattle.tenant_slot.specs.declared.failure.RoutingFailure.{RoutingFailure}
 use Rattle.tenant_slot.specs.declared.reply.StateName.{StateName}
 use Rattle.tenant_slot.specs.declared.reply.StateName.TheVariants.{Empty as EmptyName, Loaded as LoadedName, Packed as PackedName, Placed as PlacedName, Routed as RoutedName, Unrouted as UnroutedName}
-use Rattle.kept_places.specs.Kept.{KeptPlaces}
-use Rattle.strip_place.specs.Keeping.{AreKeptOn}
 use Rattle.tenant_slot.specs.Results.{failure_of}
 
 -- the name of the state when no job runs

@@ -1,6 +1,5 @@
 -- Private: the states that a job of each kind starts from and runs in.
-use Rattle.job_state.specs.declared.sources.JobKind.{JobKind}
-use Rattle.job_state.specs.declared.sources.JobKind.TheVariants.{Packing as PackingJob, Placing as PlacingJob, Routing as RoutingJob}
+use Rattle.tenant_slot.specs.Prelude.{JobKind, Packing as PackingJob, Placing as PlacingJob, Routing as RoutingJob}
 use Rattle.tenant_slot.specs.declared.reply.StateName.{StateName}
 use Rattle.tenant_slot.specs.declared.reply.StateName.TheVariants.{Loaded, Packing, Packed, Placing, Placed, Routing}
 

@@ -1,3 +1,4 @@
+pub mod Prelude
 pub mod Results
 pub mod SingleUser
 pub mod Names

@@ -1,10 +1,7 @@
 -- Private: the answers of the commands that may be refused because of the netlist, begin a job, or
 -- give a file.
 use Rattle.std.specs.Prelude.{ℕ, Bool, true, false, List, Result, Ok, Err, Option, Some, None}
-use Rattle.blif.specs.declared.circuit.Circuit.{Circuit}
-use Rattle.blif.specs.declared.fault.BlifFault.{BlifFault}
-use Rattle.job_state.specs.declared.sources.Sources.{Sources}
-use Rattle.job_state.specs.Job.{first_step}
+use Rattle.tenant_slot.specs.Prelude.{Circuit, BlifFault, Sources, first_step, KeptPlaces}
 use Rattle.tenant_slot.specs.declared.content.Netlist.{Netlist}
 use Rattle.tenant_slot.specs.declared.reply.FileKind.{FileKind}
 use Rattle.tenant_slot.specs.declared.reply.Misfit.{Misfit}
@@ -15,7 +12,6 @@ use Rattle.tenant_slot.specs.declared.reply.Refusal.TheVariants.{BadBlif, Cannot
 use Rattle.tenant_slot.specs.declared.standing.Running.{Running}
 use Rattle.tenant_slot.specs.declared.standing.Change.{Change}
 use Rattle.tenant_slot.specs.declared.standing.Change.TheVariants.{Load, Replace, Begin, Place}
-use Rattle.kept_places.specs.Kept.{KeptPlaces}
 use Rattle.tenant_slot.specs.Answer.{Outcome}
 
 -- the answer that changes nothing, and the one that changes something

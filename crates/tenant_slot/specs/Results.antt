@@ -3,22 +3,11 @@
 use Rattle.std.specs.Prelude.{ℕ, List, [], Result, Ok, Err, Option, Some, None, slice_get}
 use Rattle.std.specs.List.{zip}
 use Rattle.std.specs.Option.{option_map_or}
-use Rattle.arch_file.specs.declared.arch.Arch.{Arch}
-use Rattle.blif.specs.declared.circuit.Circuit.{Circuit}
-use Rattle.blif.specs.declared.fault.BlifFault.{BlifFault}
-use Rattle.cluster.specs.Blocks.{block_nets, net_name}
-use Rattle.cluster.specs.Clusters.{PackedCircuit, packed_of}
-use Rattle.cluster.specs.Keys.{keys_of}
-use Rattle.job_state.specs.declared.work.Work.{Work}
-use Rattle.job_state.specs.declared.work.Work.TheVariants.{Placed, Routed, GaveUp as GivenUp, NoPath as WithoutPath}
-use Rattle.kept_places.specs.Kept.{KeptPlaces, in_order}
-use Rattle.strip_place.specs.Anneal.{places_by_block}
+use Rattle.tenant_slot.specs.Prelude.{Arch, Circuit, BlifFault, block_nets, net_name, PackedCircuit, packed_of, keys_of, Work, Placed, Routed, GaveUp as GivenUp, NoPath as WithoutPath, KeptPlaces, in_order, places_by_block, place_text_of, route_text_of}
 use Rattle.tenant_slot.specs.declared.failure.RoutingFailure.{RoutingFailure}
 use Rattle.tenant_slot.specs.declared.failure.RoutingFailure.TheVariants.{GaveUp as FailedAll, NoPath as FailedNet}
 use Rattle.tenant_slot.specs.declared.reply.Ending.{Ending}
 use Rattle.tenant_slot.specs.declared.reply.Ending.TheVariants.{GaveUp, NoPath}
-use Rattle.vpr_files.specs.PlaceFile.{place_text_of}
-use Rattle.vpr_files.specs.RouteFile.{route_text_of}
 
 -- how a routing ended, if it has no routes
 abbrev pub failure_of : Result Work BlifFault → Option RoutingFailure

@@ -1,8 +1,6 @@
 -- What a tenancy's circuit occupies of its strip.
 use Rattle.std.specs.Prelude.{List, []}
-use Rattle.job_state.specs.RoutedSet.{resources_of}
-use Rattle.job_state.specs.declared.sources.JobKind.TheVariants.{Routing as RoutingJob}
-use Rattle.rr_graph.specs.declared.resource.Resource.{Resource}
+use Rattle.tenant_slot.specs.Prelude.{resources_of, Routing as RoutingJob, Resource}
 use Rattle.tenant_slot.specs.declared.reply.StateName.{StateName}
 use Rattle.tenant_slot.specs.declared.reply.StateName.TheVariants.{Routed}
 use Rattle.tenant_slot.specs.SingleUser.{State, sources_of}

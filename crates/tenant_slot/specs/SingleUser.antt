@@ -2,20 +2,7 @@
 -- the strip's size.
 use Rattle.std.specs.Prelude.{ℕ, ◌+◌, List, [], ◌∷◌, Result, Ok, Err, Bool, true, false, not, ◌&&◌, Option, Some, None, is_some, option_and_then, nat_lt, ◌==◌, if◌then◌else◌}
 use Rattle.tenant_slot.specs.declared.slot.TheConstants.{MAX_ENTRIES}
-use Rattle.strip_place.specs.declared.placing.TheConstants.{MAX_EFFORT}
-use Rattle.arch_file.specs.declared.arch.Arch.{Arch}
-use Rattle.blif.specs.CircuitOf.{circuit_of}
-use Rattle.blif.specs.declared.circuit.Circuit.{Circuit}
-use Rattle.blif.specs.declared.fault.BlifFault.{BlifFault}
-use Rattle.cluster.specs.Clusters.{packed_of, unfit_of}
-use Rattle.block_places.specs.Fits.{fit_of}
-use Rattle.grid.specs.declared.Strip.{Strip}
-use Rattle.block_places.specs.declared.fit.Fit.{Fit}
-use Rattle.block_places.specs.declared.fit.Fit.TheVariants.{Fits, TooManyBlocks, TooManyPads}
-use Rattle.job_state.specs.declared.sources.JobKind.{JobKind}
-use Rattle.job_state.specs.declared.sources.JobKind.TheVariants.{Packing as PackingJob, Placing as PlacingJob, Routing as RoutingJob}
-use Rattle.job_state.specs.declared.sources.Sources.{Sources}
-use Rattle.job_state.specs.JobValue.{end_value, is_last}
+use Rattle.tenant_slot.specs.Prelude.{MAX_EFFORT, Arch, circuit_of, Circuit, BlifFault, packed_of, unfit_of, fit_of, Strip, Fit, Fits, TooManyBlocks, TooManyPads, JobKind, Packing as PackingJob, Placing as PlacingJob, Routing as RoutingJob, Sources, end_value, is_last, KeptPlaces, net_text_of}
 use Rattle.tenant_slot.specs.declared.event.Advance.{Advance}
 use Rattle.tenant_slot.specs.declared.event.Event.{Event}
 use Rattle.tenant_slot.specs.declared.event.Event.TheVariants.{Command as Asked, Advance as Stepped}
@@ -31,9 +18,7 @@ use Rattle.tenant_slot.specs.declared.reply.Refusal.TheVariants.{WrongState, Bad
 use Rattle.tenant_slot.specs.declared.reply.Misfit.{Misfit}
 use Rattle.tenant_slot.specs.declared.reply.Misfit.TheVariants.{Blocks, Pads}
 use Rattle.tenant_slot.specs.declared.failure.RoutingFailure.{RoutingFailure}
-use Rattle.kept_places.specs.Kept.{KeptPlaces}
 use Rattle.tenant_slot.specs.Results.{ending_told, kept_at_end, failure_of, place_file_of, route_file_of}
-use Rattle.vpr_files.specs.NetFile.{net_text_of}
 
 -- the state of the tenancy, and no more: the circuit, its packing, its places and its routes follow
 -- from the text, the kept places, the seed and the effort, and aren't fields. Seed and effort are

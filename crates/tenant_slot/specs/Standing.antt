@@ -1,13 +1,7 @@
 -- Private: what a slot keeps between commands, its value, and the invariant between the two.
 use Rattle.tenant_slot.specs.declared.slot.TheConstants.{MAX_ENTRIES}
-use Rattle.strip_place.specs.Keeping.{AreKeptOn}
+use Rattle.tenant_slot.specs.Prelude.{AreKeptOn, Arch, Strip, IsStripSize, JobState, Sources, is_last}
 use Rattle.std.specs.Prelude.{ℕ, ◌≡◌, ◌+◌, ◌≤◌, [], ⊤, Bool, true, false, is_some, Option, Some, None, option_map, IfSome}
-use Rattle.arch_file.specs.declared.arch.Arch.{Arch}
-use Rattle.grid.specs.declared.Strip.{Strip}
-use Rattle.grid.specs.Sizes.{IsStripSize}
-use Rattle.job_state.specs.Job.{JobState}
-use Rattle.job_state.specs.declared.sources.Sources.{Sources}
-use Rattle.job_state.specs.JobValue.{is_last}
 use Rattle.tenant_slot.specs.declared.reply.StateName.{StateName}
 use Rattle.tenant_slot.specs.declared.reply.StepReply.{StepReply}
 use Rattle.tenant_slot.specs.declared.reply.StepReply.TheVariants.{Advanced, Finished, Stale}

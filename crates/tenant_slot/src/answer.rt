@@ -1,16 +1,6 @@
 //! A reply before it is given.
 ghost use Rattle.std.specs.Prelude.{◌≡◌, length, nat_lt, Err, IfErr, IfOk, None, Some};
-ghost use Rattle.strip_place.specs.declared.placing.TheConstants.{MAX_EFFORT};
-ghost use Rattle.blif.specs.CircuitOf.{circuit_of};
-ghost use Rattle.cluster.specs.Blocks.{block_nets};
-ghost use Rattle.line_text.specs.TextErrors.{Gives};
-ghost use Rattle.cluster.specs.Clusters.{packed_of, unfit_of};
-ghost use Rattle.block_places.specs.Fits.{fit_of};
-ghost use Rattle.job_state.specs.JobValue.{packing_sources, placing_sources, routing_sources};
-ghost use Rattle.strip_place.specs.Anneal.{places_by_block};
-ghost use Rattle.vpr_files.specs.NetFile.{net_text_of};
-ghost use Rattle.vpr_files.specs.PlaceFile.{place_text_of};
-ghost use Rattle.vpr_files.specs.RouteFile.{route_text_of};
+ghost use Rattle.tenant_slot.specs.Prelude.{MAX_EFFORT, circuit_of, block_nets, Gives, packed_of, unfit_of, fit_of, packing_sources, placing_sources, routing_sources, places_by_block, net_text_of, place_text_of, route_text_of};
 ghost use Rattle.tenant_slot.specs.Content.{IsMadeOf, IsNetlist, IsPacked};
 ghost use Rattle.tenant_slot.specs.Outcomes.{file_outcome, job_begun, load_outcome, load_change, pack_outcome, place_outcome, route_outcome};
 ghost use Rattle.tenant_slot.specs.SingleUser.{misfit_of};
@@ -198,10 +188,8 @@ impl PreparedReply {
             ≡ file_outcome lut_size FileKind.Net (net_text_of packed.now)) }
         ensures err { IfErr result (λ e. e ≡ NotAnswered.NoMemory) }
     {
-        match net_file(alloc, packed) {
-            Ok(text) => Ok(PreparedReply::file(lut_size, FileKind::Net, text)),
-            Err(_) => Err(NotAnswered::NoMemory),
-        }
+        let text = net_file(alloc, packed)?;
+        Ok(PreparedReply::file(lut_size, FileKind::Net, text))
     }
 
     /// The answer with the `.place` file of a placed netlist.
@@ -215,10 +203,8 @@ impl PreparedReply {
             (place_text_of placing.now.strip placing.now.packed (places_by_block placing.now))) }
         ensures err { IfErr result (λ e. e ≡ NotAnswered.NoMemory) }
     {
-        match place_file(alloc, placing) {
-            Ok(text) => Ok(PreparedReply::file(lut_size, FileKind::Place, text)),
-            Err(_) => Err(NotAnswered::NoMemory),
-        }
+        let text = place_file(alloc, placing)?;
+        Ok(PreparedReply::file(lut_size, FileKind::Place, text))
     }
 
     /// The answer with the `.route` file of a routed netlist.
@@ -235,10 +221,8 @@ impl PreparedReply {
             routes.now)) }
         ensures err { IfErr result (λ e. e ≡ NotAnswered.NoMemory) }
     {
-        match route_file(alloc, placing, routes) {
-            Ok(text) => Ok(PreparedReply::file(lut_size, FileKind::Route, text)),
-            Err(_) => Err(NotAnswered::NoMemory),
-        }
+        let text = route_file(alloc, placing, routes)?;
+        Ok(PreparedReply::file(lut_size, FileKind::Route, text))
     }
 
     /// The answer with a file that is written already.

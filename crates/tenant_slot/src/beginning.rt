@@ -1,7 +1,6 @@
 //! Jobs that begin.
-ghost use Rattle.std.specs.Prelude.{◌≡◌, IfOk, false};
-ghost use Rattle.job_state.specs.Beginnings.{CanPack, CanPlace};
-ghost use Rattle.job_state.specs.JobValue.{is_last, packing_sources, placing_sources, routing_sources};
+ghost use Rattle.std.specs.Prelude.{◌≡◌, Err, IfOk, MatchResult, Ok, Some, false};
+ghost use Rattle.tenant_slot.specs.Prelude.{CanPack, CanPlace, is_last, packing_sources, placing_sources, routing_sources};
 ghost use Rattle.tenant_slot.specs.Content.{IsMadeOf};
 ghost use Rattle.tenant_slot.specs.Outcomes.{job_begun};
 
@@ -41,16 +40,8 @@ impl Beginning<'_> {
             return Err(AllocError);
         };
         let circuit = &self.netlist.circuit;
-        match Parked::pack(self.alloc, self.id, self.generation, copy, circuit) {
-            Ok(ready) => Ok(Running {
-                sources,
-                ready: Some(ready),
-            }),
-            Err(error) => {
-                drop(sources);
-                Err(error)
-            }
-        }
+        let first = Parked::pack(self.alloc, self.id, self.generation, copy, circuit);
+        running_job(sources, first)
     }
 
     /// Starts the placing of what the finished packing has made, on a strip that has enough places.
@@ -74,16 +65,8 @@ impl Beginning<'_> {
             drop(sources);
             return Err(AllocError);
         };
-        match Parked::place(self.alloc, self.id, self.generation, copy, packing) {
-            Ok(ready) => Ok(Running {
-                sources,
-                ready: Some(ready),
-            }),
-            Err(error) => {
-                drop(sources);
-                Err(error)
-            }
-        }
+        let first = Parked::place(self.alloc, self.id, self.generation, copy, packing);
+        running_job(sources, first)
     }
 
     /// Starts the routing of what the finished placing of that seed and effort has made.
@@ -107,15 +90,25 @@ impl Beginning<'_> {
             drop(sources);
             return Err(AllocError);
         };
-        match Parked::route(self.alloc, self.id, self.generation, copy, placing) {
-            Ok(ready) => Ok(Running {
-                sources,
-                ready: Some(ready),
-            }),
-            Err(error) => {
-                drop(sources);
-                Err(error)
-            }
+        let first = Parked::route(self.alloc, self.id, self.generation, copy, placing);
+        running_job(sources, first)
+    }
+}
+
+/// The running job of these sources, before its first step.
+fn running_job(sources: Sources, first: Result<Parked, AllocError>) -> Result<Running, AllocError>
+    ensures { MatchResult first
+        (λ ready. result ≡ Ok (record { sources = sources; ready = Some ready }))
+        (λ error. result ≡ Err error) }
+{
+    match first {
+        Ok(ready) => Ok(Running {
+            sources,
+            ready: Some(ready),
+        }),
+        Err(error) => {
+            drop(sources);
+            Err(error)
         }
     }
 }

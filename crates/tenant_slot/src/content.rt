@@ -2,8 +2,7 @@
 ghost use Rattle.std.specs.Prelude.{◌≡◌, is_some, Some, true};
 ghost use Rattle.tenant_slot.specs.Content.{CanFinish, cut_back, failure_in, finished_with, name_at_rest, netlist_in, packing_in, placing_in, routed_with};
 ghost use Rattle.tenant_slot.specs.Results.{failure_of};
-ghost use Rattle.job_state.specs.Job.{IsFinished};
-ghost use Rattle.job_state.specs.JobValue.{end_value};
+ghost use Rattle.tenant_slot.specs.Prelude.{IsFinished, end_value};
 
 use crate::failure::RoutingFailure;
 use crate::reply::StateName;

@@ -1,16 +1,16 @@
 //! How the failure of a routing is reported.
 ghost use Rattle.std.specs.Prelude.{◌≡◌, [], IfOk, slice_get};
 ghost use Rattle.std.specs.Option.{option_map_or};
-ghost use Rattle.cluster.specs.Blocks.{block_nets, net_name};
+ghost use Rattle.tenant_slot.specs.Prelude.{block_nets, net_name};
 ghost use Rattle.tenant_slot.specs.Results.{ending_of};
 
 use crate::failure::RoutingFailure;
 use crate::reply::Ending;
-use blif::Circuit;
 use cluster::Packed;
 use job_state::SharedText;
 use line_text::Text;
 use std::alloc::{AllocError, Global};
+use vpr_files::net_name;
 
 /// How a routing of a packed netlist ended, with the name of the net if one has no path.
 pub(crate) fn told_ending(
@@ -36,18 +36,6 @@ fn block_net_name(packed: &Packed, net: u32) -> &[u8]
 {
     if (net as usize) < packed.net_count() {
         net_name(packed.circuit(), packed.net(net as usize).net)
-    } else {
-        &[]
-    }
-}
-
-/// The name of a net of the circuit; empty if there is no such net.
-fn net_name(circuit: &Circuit, net: u32) -> &[u8]
-    ensures { result.now ≡ net_name circuit.now net }
-{
-    let names = &circuit.nets;
-    if (net as usize) < names.len() {
-        names.name(net as usize)
     } else {
         &[]
     }

@@ -1,10 +1,6 @@
 //! The texts of a tenancy's files, each with as many owners as ask for it.
 ghost use Rattle.std.specs.Prelude.{◌≡◌, ℕ, List, IfOk, Some, length};
-ghost use Rattle.cluster.specs.Blocks.{block_nets};
-ghost use Rattle.strip_place.specs.Anneal.{places_by_block};
-ghost use Rattle.vpr_files.specs.NetFile.{net_text_of};
-ghost use Rattle.vpr_files.specs.PlaceFile.{place_text_of};
-ghost use Rattle.vpr_files.specs.RouteFile.{route_text_of};
+ghost use Rattle.tenant_slot.specs.Prelude.{block_nets, places_by_block, net_text_of, place_text_of, route_text_of};
 
 use cluster::Packed;
 use job_state::SharedText;

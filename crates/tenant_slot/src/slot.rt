@@ -1,8 +1,6 @@
 //! One tenancy: its commands, and its job, which leaves and comes back.
 ghost use Rattle.std.specs.Prelude.{◌≡◌, All, AllPairs, Some, false, true};
-ghost use Rattle.grid.specs.Sizes.{IsStripSize};
-ghost use Rattle.rr_graph.specs.declared.resource.Resource.{Resource};
-ghost use Rattle.rr_graph.specs.Resources.{IsEarlier, has, is_there};
+ghost use Rattle.tenant_slot.specs.Prelude.{IsStripSize, Resource, IsEarlier, has, is_there};
 ghost use Rattle.tenant_slot.specs.RoutedSet.{routed_set};
 ghost use Rattle.tenant_slot.specs.SingleUser.{is_next, start};
 ghost use Rattle.tenant_slot.specs.Answer.{Answers, IsAnswerTo, slot_after};

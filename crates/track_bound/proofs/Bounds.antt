@@ -1,25 +1,5 @@
 -- Of legal routes no more cross a column than it has horizontal wires.
-use Rattle.std.proofs.Common.{ℕ, ◌≡◌, ◌+◌, ◌*◌, ◌<◌, ◌≤◌, ◌⊎◌, Bool, true, false, cond, ◌&&◌, ◌||◌, eq-eqb, List, [], ◌∷◌, map, refl, inl, inr, arith, ap, subst, sym, ◌∙◌}
-use Rattle.std.specs.Prelude.{count_by, nat_le, nat_lt}
-use Rattle.std.specs.List.{Contains, list_any}
-use Rattle.std.proofs.lemmas.Bool.{and_from, and_parts, false≢true, leb-true, ltb-true, not-true, or_cases}
-use Rattle.std.proofs.lemmas.List.Folds.{list_any_at}
-use Rattle.arch_file.specs.declared.arch.Arch.{Arch}
-use Rattle.block_places.specs.Placed.{block_at, place_of}
-use Rattle.cluster.specs.Blocks.{BlockNet, block_nets}
-use Rattle.cluster.specs.Clusters.{PackedCircuit}
-use Rattle.grid.specs.declared.Strip.{Strip}
-use Rattle.grid.specs.declared.place.Place.{Place}
-use Rattle.pathfinder.specs.LegalRoutes.{IsLegal, IsRoute, IsRouted, path_nodes}
-use Rattle.pathfinder.specs.Terminals.{is_same_node, net_sinks, net_source, sink_at}
-use Rattle.pathfinder.proofs.Steps.{in_first, in_later, in_none}
-use Rattle.rr_graph.specs.declared.node.NodeKind.TheVariants.{ChanX}
-use Rattle.rr_graph.specs.declared.node.Node.{Node}
-use Rattle.rr_graph.specs.Geometry.{capacity_of, is_block_row, is_chan_y, is_node, is_slot}
-use Rattle.rr_graph.specs.Graph.{make_node}
-use Rattle.rr_graph.specs.Node.{rank_of}
-use Rattle.rr_graph.proofs.Nearness.{any_below}
-use Rattle.track_bound.specs.Crossings.{crosses_column, crossing_count, is_between}
+use Rattle.track_bound.proofs.Prelude.{ℕ, ◌≡◌, ◌+◌, ◌*◌, ◌<◌, ◌≤◌, ◌⊎◌, Bool, true, false, cond, ◌&&◌, ◌||◌, eq-eqb, List, [], ◌∷◌, map, refl, inl, inr, arith, ap, subst, sym, ◌∙◌, count_by, nat_le, nat_lt, Contains, list_any, and_from, and_parts, false≢true, leb-true, ltb-true, not-true, or_cases, list_any_at, Arch, block_at, place_of, BlockNet, block_nets, PackedCircuit, Strip, Place, IsLegal, IsRoute, IsRouted, path_nodes, is_same_node, net_sinks, net_source, sink_at, in_first, in_later, in_none, ChanX, Node, capacity_of, is_block_row, is_chan_y, is_node, is_slot, make_node, rank_of, any_below, crosses_column, crossing_count, is_between}
 use Rattle.track_bound.proofs.Chains.{AreApart, IsOver, leads_across}
 use Rattle.track_bound.proofs.Counts.{any_at, count_any, count_zip}
 

@@ -1,16 +1,5 @@
 -- A net that leads from one side of a column to the other uses a horizontal wire over the column.
-use Rattle.std.proofs.Common.{ℕ, ◌≡◌, ◌*◌, ◌<◌, ◌⊎◌, true, List, [], ◌∷◌, inl, inr, arith, ap, subst, sym, ◌∙◌}
-use Rattle.std.specs.List.{Contains}
-use Rattle.std.proofs.lemmas.Bool.{cases_order}
-use Rattle.std.proofs.lemmas.List.Elements.{Contains-append_cases, Contains-append_left, Contains-append_right}
-use Rattle.arch_file.specs.declared.arch.Arch.{Arch}
-use Rattle.grid.specs.declared.Strip.{Strip}
-use Rattle.rr_graph.specs.declared.node.NodeKind.{NodeKind}
-use Rattle.rr_graph.specs.declared.node.NodeKind.TheVariants.{Ipin, ChanX}
-use Rattle.rr_graph.specs.declared.node.Node.{Node}
-use Rattle.rr_graph.specs.Geometry.{across_of, is_edge, is_node}
-use Rattle.pathfinder.specs.LegalRoutes.{LeadsOver, pairs_of, path_nodes, steps_of}
-use Rattle.pathfinder.proofs.Steps.{in_cases, in_first, in_later, in_none}
+use Rattle.track_bound.proofs.Prelude.{ℕ, ◌≡◌, ◌*◌, ◌<◌, ◌⊎◌, true, List, [], ◌∷◌, inl, inr, arith, ap, subst, sym, ◌∙◌, Contains, cases_order, Contains-append_cases, Contains-append_left, Contains-append_right, Arch, Strip, NodeKind, Ipin, ChanX, Node, across_of, is_edge, is_node, LeadsOver, pairs_of, path_nodes, steps_of, in_cases, in_first, in_later, in_none}
 use Rattle.track_bound.proofs.Edges.{across, arrives, end_there, leads_nowhere, skips_left, skips_right, stays}
 
 -- the end of a step is on the path

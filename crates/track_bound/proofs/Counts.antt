@@ -1,10 +1,5 @@
 -- Counts of the elements that pass one of several tests.
-use Rattle.std.proofs.Common.{ℕ, zero, suc, ◌≡◌, ◌+◌, ◌*◌, ◌<◌, ◌≤◌, Bool, true, false, cond, ◌||◌, List, [], ◌∷◌, refl, inl, inr, arith, subst, sym}
-use Rattle.std.specs.Prelude.{count_by}
-use Rattle.std.specs.List.{AllZip}
-use Rattle.std.proofs.lemmas.Bool.{cases_eq, or_left, or_right}
-use Rattle.std.proofs.lemmas.List.Sums.{sum_by-cons}
-use Rattle.rr_graph.proofs.Nearness.{any_below}
+use Rattle.track_bound.proofs.Prelude.{ℕ, zero, suc, ◌≡◌, ◌+◌, ◌*◌, ◌<◌, ◌≤◌, Bool, true, false, cond, ◌||◌, List, [], ◌∷◌, refl, inl, inr, arith, subst, sym, count_by, AllZip, cases_eq, or_left, or_right, sum_by-cons, any_below}
 
 pub any_at : (test : ℕ → Bool) (n k : ℕ) → k < n → test k ≡ true → any_below test n ≡ true
 any_at test zero k less is = absurd (omega (arith, less))

@@ -1,13 +1,5 @@
 -- The edges of a strip beside a column.
-use Rattle.std.proofs.Common.{ℕ, ◌≡◌, ◌*◌, ◌<◌, ◌⊎◌, true, refl, inl, inr, arith, ap, subst, sym, ◌∙◌}
-use Rattle.std.proofs.lemmas.Bool.{and_parts, false≢true}
-use Rattle.arch_file.specs.declared.arch.Arch.{Arch}
-use Rattle.grid.specs.declared.Strip.{Strip}
-use Rattle.rr_graph.specs.declared.node.NodeKind.{NodeKind}
-use Rattle.rr_graph.specs.declared.node.NodeKind.TheVariants.{Source, Sink, Opin, Ipin, ChanX, ChanY}
-use Rattle.rr_graph.specs.declared.node.Node.{Node}
-use Rattle.rr_graph.specs.Geometry.{across_of, is_edge, is_node, joins}
-use Rattle.rr_graph.proofs.Nearness.{IsReached, joins_reached}
+use Rattle.track_bound.proofs.Prelude.{ℕ, ◌≡◌, ◌*◌, ◌<◌, ◌⊎◌, true, refl, inl, inr, arith, ap, subst, sym, ◌∙◌, and_parts, false≢true, Arch, Strip, NodeKind, Source, Sink, Opin, Ipin, ChanX, ChanY, Node, across_of, is_edge, is_node, joins, IsReached, joins_reached}
 
 -- where a node is across the strip, in half columns
 abbrev pub across : Node → ℕ

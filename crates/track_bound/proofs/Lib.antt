@@ -1,3 +1,4 @@
+mod Prelude
 pub mod Edges
 pub mod Chains
 pub mod Counts

@@ -1,14 +1,5 @@
 -- The loops over nets and over columns.
-use Rattle.std.proofs.Common.{ℕ, ◌≡◌, ◌+◌, ◌-◌, ◌<◌, ◌≤◌, Bool, cond, List, Some, get_or, take, inl, inr, arith, ap, sym, ◌∙◌}
-use Rattle.std.specs.Prelude.{count_by, slice_get}
-use Rattle.std.proofs.lemmas.Bool.{cases_eq}
-use Rattle.std.proofs.lemmas.List.Sums.{sum_by_more}
-use Rattle.std.proofs.lemmas.Option.{get_or_from_slice_get, slice_get_within}
-use Rattle.cluster.specs.Clusters.{PackedCircuit}
-use Rattle.grid.specs.declared.place.Place.{Place}
-use Rattle.track_bound.specs.Busiest.{IsBusiest}
-use Rattle.track_bound.specs.Crossings.{crossing_count}
-use Rattle.track_bound.specs.declared.crossing.Crossing.{Crossing}
+use Rattle.track_bound.proofs.Prelude.{ℕ, ◌≡◌, ◌+◌, ◌-◌, ◌<◌, ◌≤◌, Bool, cond, List, Some, get_or, take, inl, inr, arith, ap, sym, ◌∙◌, count_by, slice_get, cases_eq, sum_by_more, get_or_from_slice_get, slice_get_within, PackedCircuit, Place, IsBusiest, crossing_count, Crossing}
 
 -- 1 for an element that passes
 abbrev pub one_if : Bool → ℕ

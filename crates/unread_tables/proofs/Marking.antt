@@ -1,18 +1,5 @@
 -- Marks of the nets that are read.
-use Rattle.std.proofs.Common.{ℕ, ◌≡◌, ◌+◌, ◌<◌, ◌∙◌, Bool, true, false, List, [], ◌∷◌, ◌++◌, length, length-set, get_or, set, take, replicate, not, nat_eq, ◌||◌, cond, sym, refl, ap, subst, arith, inl, inr, count_by, flat_map, option_to_list, Option, Some, None}
-use Rattle.std.specs.List.{All, slice_get}
-use Rattle.std.specs.Option.{ForSome}
-use Rattle.std.proofs.lemmas.Bool.Decides.{eqb_tells}
-use Rattle.std.proofs.lemmas.List.{flat_map_more, get_or-replicate, get_or-set_other, get_or-set_same, length-replicate, take_more}
-use Rattle.std.proofs.lemmas.List.Elements.{All-append, All-cons, All-get_or, All-nil, All-tail}
-use Rattle.std.proofs.lemmas.List.Folds.{list_any-append}
-use Rattle.std.proofs.lemmas.List.Sums.{count_by_more_no, count_by_more_yes, sum_by-cons}
-use Rattle.std.proofs.lemmas.Option.{get_or_from_slice_get, slice_get_within}
-use Rattle.blif.specs.LawfulCircuits.{IsCircuit, IsLatchWithin, IsTableWithin, has_net}
-use Rattle.blif.specs.LookupTables.{LookupTable}
-use Rattle.blif.specs.declared.circuit.Circuit.{Circuit}
-use Rattle.blif.specs.declared.latches.Latch.{Latch}
-use Rattle.unread_tables.specs.Unread.{AreMarks, read_nets, reads_of}
+use Rattle.unread_tables.proofs.Prelude.{ℕ, ◌≡◌, ◌+◌, ◌<◌, ◌∙◌, Bool, true, false, List, [], ◌∷◌, ◌++◌, length, length-set, get_or, set, take, replicate, not, nat_eq, ◌||◌, cond, sym, refl, ap, arith, inl, inr, count_by, flat_map, option_to_list, Option, Some, None, All, slice_get, ForSome, eqb_tells, flat_map_more, get_or-replicate, get_or-set_other, get_or-set_same, length-replicate, take_more, All-append, All-cons, All-get_or, All-nil, All-tail, list_any-append, count_by_more_no, count_by_more_yes, sum_by-cons, get_or_from_slice_get, slice_get_within, IsCircuit, IsLatchWithin, IsTableWithin, has_net, LookupTable, Circuit, Latch, AreMarks, read_nets, reads_of}
 
 -- before the first net none is marked
 pub marks_none : (count : ℕ) (marks : List Bool) → marks ≡ replicate count false → AreMarks count [] marks
@@ -46,12 +33,6 @@ marks_more count nets more marks small are = record {
         ∙ sym (has_more nets more net ∙ (ap (λ b. has_net nets net || (b || false)) off.0 ∙ or_false (has_net nets net))))
   ];
 }
-
-pub marks_step : (count : ℕ) (nets : List ℕ) (i : ℕ) (marks : List Bool) → i < length nets → All (λ net. net < count) nets → AreMarks count (take i nets) marks
-    → AreMarks count (take (i + 1) nets) (set marks (get_or nets i 0) true)
-marks_step count nets i marks within all are =
-    subst (λ (ns : List ℕ). AreMarks count ns (set marks (get_or nets i 0) true)) (sym (take_more nets i 0 within))
-    (marks_more count (take i nets) (get_or nets i 0) marks (All-get_or (λ net. net < count) nets i 0 within all) are)
 
 -- the counts of two tests that agree
 counted : (p : LookupTable → Bool) (table : LookupTable) (tables : List LookupTable) → count_by p (table ∷ tables) ≡ cond {A = ℕ} (p table) 1 0 + count_by p tables

@@ -1,28 +1,5 @@
 -- The BLEs and pins of a cluster, by index.
-use Rattle.std.proofs.Common.{◌≡◌, ◌==◌, ℕ, Bool, false, ◌<◌, ◌++◌, List, [], ◌∷◌, map, length, Option, Some, None, refl, sym, ap, ◌∙◌, slice_get, get_or, subst, All, arith}
-use Rattle.std.proofs.lemmas.List.Elements.{All-append, All-from_get_or, All-get_or, All-map}
-use Rattle.blif.specs.declared.circuit.Circuit.{Circuit}
-use Rattle.cluster.specs.Packing.{IsPacked}
-use Rattle.std.specs.Prelude.{⊤}
-use Rattle.std.specs.List.{enumerate_from, range_with_len, zip}
-use Rattle.std.proofs.lemmas.Option.{slice_get-map, get_or_from_slice_get, slice_get-get_or, slice_get_within}
-use Rattle.std.specs.Option.{option_map, option_eq, option_map_or}
-use Rattle.std.proofs.lemmas.List.{length-map}
-use Rattle.std.proofs.lemmas.Slice.Zip.{get_or-zip, length-zip}
-use Rattle.std.proofs.lemmas.List.FromFn.{get_or-range_with_len, length-enumerate_from, length-range_with_len}
-use Rattle.std.proofs.Math.Dec.{eqb}
-use denote.Enum.Bare.{sameb}
-use Rattle.arch_file.specs.contracts.arch.PinClass.{the_type}
-use Rattle.arch_file.specs.declared.arch.Pin.{Pin}
-use Rattle.arch_file.specs.declared.arch.PinClass.{PinClass}
-use Rattle.arch_file.specs.declared.arch.PinClass.TheVariants.{Input, Output, Clock}
-use Rattle.cluster.specs.Bles.{LogicElement, bles_of, element_at}
-use Rattle.cluster.specs.Clusters.{PackedCircuit, outputs_of}
-use Rattle.cluster.specs.Blocks.{block_name, blocks_of, elements_in, is_same_class, net_name, pins_of}
-use Rattle.cluster.specs.ClusterPins.{seed_name}
-use Rattle.cluster.specs.declared.block.Block.{Block}
-use Rattle.cluster.specs.declared.block.Block.TheVariants.{InputPad, OutputPad, Cluster}
-use Rattle.vpr_files.specs.BlockClusters.{HasCluster}
+use Rattle.vpr_files.proofs.Prelude.{◌≡◌, ◌==◌, ℕ, Bool, false, ◌<◌, ◌++◌, List, [], ◌∷◌, map, length, Option, Some, sym, ap, ◌∙◌, slice_get, get_or, subst, All, arith, All-append, All-from_get_or, All-get_or, All-map, Circuit, IsPacked, ⊤, enumerate_from, range_with_len, zip, slice_get-map, get_or_from_slice_get, slice_get-get_or, slice_get_within, option_eq, option_map_or, length-map, get_or-zip, length-zip, get_or-range_with_len, length-enumerate_from, length-range_with_len, eqb, sameb, the_type, Pin, PinClass, LogicElement, bles_of, element_at, PackedCircuit, outputs_of, block_name, blocks_of, elements_in, is_same_class, net_name, pins_of, seed_name, Block, InputPad, OutputPad, Cluster, HasCluster}
 
 -- a BLE, from its parts
 abbrev pub element : List ℕ → ℕ → Option ℕ → LogicElement
@@ -39,18 +16,12 @@ elements_are packed cluster members e = ap (map (element_at (bles_of packed.circ
 -- the BLE at an index
 pub element_in_at : (packed : PackedCircuit) (cluster : ℕ) (members : List ℕ) (place number : ℕ) → slice_get packed.clusters cluster ≡ Some members → slice_get members place ≡ Some number
     → slice_get (elements_in packed cluster) place ≡ Some (element_at (bles_of packed.circuit) number)
-element_in_at packed cluster members place number e at =
-    ap (λ elements. slice_get elements place) (elements_are packed cluster members e)
-    ∙ slice_get-map (element_at (bles_of packed.circuit)) members place
-    ∙ ap (option_map (element_at (bles_of packed.circuit))) at
+element_in_at packed cluster members place number e at = grind (arith, slice_get-map, elements_are packed cluster members e, slice_get-map (element_at (bles_of packed.circuit)) members place)
 
 -- the output of the BLE at an index
 pub output_at : (packed : PackedCircuit) (cluster : ℕ) (members : List ℕ) (place number : ℕ) (element : LogicElement) → slice_get packed.clusters cluster ≡ Some members → slice_get members place ≡ Some number → slice_get (bles_of packed.circuit) number ≡ Some element
     → slice_get (outputs_of (elements_in packed cluster)) place ≡ Some element.output
-output_at packed cluster members place number element e at is =
-    slice_get-map (λ (one : LogicElement). one.output) (elements_in packed cluster) place
-    ∙ ap (option_map (λ (one : LogicElement). one.output)) (element_in_at packed cluster members place number e at)
-    ∙ ap (λ (one : LogicElement). Some one.output) (element_is (bles_of packed.circuit) number element is)
+output_at packed cluster members place number element e at is = grind (arith, slice_get-map, element_in_at, element_is)
 
 -- a cluster has as many BLEs as members
 pub element_count : (packed : PackedCircuit) (cluster : ℕ) (members : List ℕ) → slice_get packed.clusters cluster ≡ Some members → length (elements_in packed cluster) ≡ length members
@@ -84,23 +55,14 @@ zip_count packed cluster = let count = pin_count packed cluster in omega (arith,
 
 -- the comparison of two classes, and of the net on a pin with another net
 pub class_is : (a b : PinClass) → sameb the_type a b ≡ is_same_class b a
-class_is Input Input = refl
-class_is Input Output = refl
-class_is Input Clock = refl
-class_is Output Input = refl
-class_is Output Output = refl
-class_is Output Clock = refl
-class_is Clock Input = refl
-class_is Clock Output = refl
-class_is Clock Clock = refl
+class_is a b = grind arith
 
 -- a pin carries the net
 abbrev pub is_on : ℕ → Option ℕ → Bool
 is_on net carried = option_map_or (λ it. it == net) carried false
 
 pub carried_is : (carried : Option ℕ) (net : ℕ) → option_eq eqb carried (Some net) ≡ is_on net carried
-carried_is None net = refl
-carried_is (Some other) net = refl
+carried_is carried net = grind arith
 
 -- an element at an index has a property that all have
 pub all_at : {X : Type 0} (P : X → Type 0) (xs : List X) (i : ℕ) (x : X) → slice_get xs i ≡ Some x → All P xs → P x
@@ -143,8 +105,7 @@ seed_is packed cluster members seed element e first is = ap (net_name packed.cir
         ∙ sym (ap (seed_name packed.circuit) (elements_are packed cluster (one ∷ others) e))
 
 pub no_seed : (packed : PackedCircuit) (cluster : ℕ) (members : List ℕ) → slice_get packed.clusters cluster ≡ Some members → members ≡ [] → [] ≡ block_name packed (Cluster cluster)
-no_seed packed cluster members e none =
-    sym (ap (seed_name packed.circuit) (elements_are packed cluster members e ∙ ap (map (element_at (bles_of packed.circuit))) none))
+no_seed packed cluster members e none = grind (arith, elements_are packed cluster members e)
 
 -- a text for a circuit that is known by an equation
 pub by_circuit : (f : Circuit → List ℕ) (text : List ℕ) (found circuit : Circuit) → text ≡ f found → found ≡ circuit → text ≡ f circuit

@@ -1,16 +1,5 @@
 -- The `.net` files of small circuits.
-use Rattle.std.proofs.Common.{◌≡◌, ℕ, List, [], ◌∷◌, Some, None, true, false, refl, codes, decimal, lit<}
-use Rattle.std.proofs.lemmas.Fmt.{decimal_digit}
-use Rattle.arch_file.specs.declared.arch.Arch.{Arch}
-use Rattle.arch_file.specs.declared.arch.Pin.{Pin}
-use Rattle.arch_file.specs.declared.arch.PinClass.{PinClass}
-use Rattle.arch_file.specs.declared.arch.PinClass.TheVariants.{Input, Output, Clock}
-use Rattle.blif.specs.declared.circuit.Circuit.{Circuit}
-use Rattle.blif.specs.declared.latches.Latch.{Latch}
-use Rattle.blif.specs.LookupTables.{LookupTable}
-use Rattle.cluster.specs.Bles.{bles_of}
-use Rattle.cluster.specs.Clusters.{cluster_of, clusters_after, packed_of}
-use Rattle.vpr_files.specs.NetFile.{net_text_of}
+use Rattle.vpr_files.proofs.Prelude.{◌≡◌, ℕ, List, [], ◌∷◌, Some, None, true, false, refl, codes, decimal, lit<, decimal_digit, Arch, Pin, PinClass, Input, Output, Clock, Circuit, Latch, LookupTable, bles_of, cluster_of, clusters_after, packed_of, net_text_of}
 
 abbrev pin_of : PinClass → Pin
 pin_of class = record { class = class; sides = record { top = true; bottom = false; left = false; right = false } }

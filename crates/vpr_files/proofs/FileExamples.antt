@@ -1,16 +1,6 @@
 -- The `.place` and `.route` files of small circuits.
-use Rattle.std.proofs.Common.{◌≡◌, ℕ, [], ◌∷◌, Some, refl, codes}
-use Rattle.blif.specs.declared.circuit.Circuit.{Circuit}
-use Rattle.cluster.specs.Bles.{bles_of}
-use Rattle.cluster.specs.Clusters.{cluster_of, clusters_after, packed_of}
-use Rattle.grid.specs.declared.Strip.{Strip}
+use Rattle.vpr_files.proofs.Prelude.{◌≡◌, ℕ, [], ◌∷◌, Some, refl, codes, Circuit, bles_of, cluster_of, clusters_after, packed_of, Strip, Node, NodeKind, Source, Sink, Opin, Ipin, ChanX, node_text_of, place_text_of, route_text_of}
 use Rattle.grid.specs.Places.{place_at}
-use Rattle.rr_graph.specs.declared.node.Node.{Node}
-use Rattle.rr_graph.specs.declared.node.NodeKind.{NodeKind}
-use Rattle.rr_graph.specs.declared.node.NodeKind.TheVariants.{Source, Sink, Opin, Ipin, ChanX}
-use Rattle.vpr_files.specs.NodeText.{node_text_of}
-use Rattle.vpr_files.specs.PlaceFile.{place_text_of}
-use Rattle.vpr_files.specs.RouteFile.{route_text_of}
 use Rattle.vpr_files.proofs.Examples.{circuit, digit_0, digit_1, digit_2, digit_3, single}
 
 -- one block, with two pads at each end of its column

@@ -1,23 +1,5 @@
 -- Lines of the `.place` and `.route` files, as they are written part by part.
-use Rattle.std.proofs.Common.{◌≡◌, ℕ, ◌==◌, ◌||◌, nat_lt, Bool, true, false, List, [], ◌∷◌, ◌++◌, All, Some, cond, sym, ap, ◌∙◌, codes, decimal, map, slice_get, append_assoc, append-nil}
-use Rattle.std.specs.List.{flat_map}
-use Rattle.std.proofs.lemmas.Grind.{flat_map-append}
-use Rattle.std.proofs.lemmas.Option.{get_or_from_slice_get}
-use Rattle.blif.specs.declared.circuit.Circuit.{Circuit}
-use Rattle.cluster.specs.declared.block.Block.{Block}
-use Rattle.cluster.specs.Clusters.{PackedCircuit}
-use Rattle.cluster.specs.Blocks.{BlockNet, block_name, block_nets, blocks_of, net_name}
-use Rattle.cluster.specs.PackingLaws.{IsBlockNet}
-use Rattle.grid.specs.declared.Strip.{Strip}
-use Rattle.grid.specs.declared.place.Place.{Place}
-use Rattle.rr_graph.specs.declared.node.Node.{Node}
-use Rattle.block_places.specs.Placed.{block_at, place_of}
-use Rattle.vpr_files.specs.TextLines.{line_of, word_after_space, text_of}
-use Rattle.vpr_files.specs.PlaceFile.{placed_line}
-use Rattle.vpr_files.specs.NodeText.{kind_word, node_text_of, number_word}
-use Rattle.vpr_files.specs.RouteFile.{connected_line}
-use Rattle.vpr_files.specs.FileParts.{connected_lines, connections, net_heading, node_line, numbered_net, place_headings, route_headings}
-use Rattle.vpr_files.proofs.ClusterLemmas.{all_at}
+use Rattle.vpr_files.proofs.Prelude.{◌≡◌, ℕ, ◌==◌, ◌||◌, nat_lt, Bool, true, false, List, [], ◌∷◌, ◌++◌, Some, cond, sym, ap, ◌∙◌, codes, decimal, map, slice_get, append_assoc, append-nil, arith, flat_map, flat_map-append, get_or_from_slice_get, Circuit, Block, PackedCircuit, BlockNet, block_name, block_nets, blocks_of, net_name, Strip, Place, Node, block_at, place_of, line_of, word_after_space, text_of, placed_line, kind_word, node_text_of, number_word, connected_line, connected_lines, connections, net_heading, node_line, numbered_net, place_headings, route_headings}
 
 -- lists that are joined
 three : (a b c d : List ℕ) → ((a ++ b) ++ c) ++ d ≡ a ++ (b ++ (c ++ d))
@@ -35,10 +17,7 @@ named before net name rest e = sym (append_assoc before net rest) ∙ ap (λ n. 
 
 -- two numbers and the end of their line
 size_text : (width rows end rest : List ℕ) → ((width ++ (codes " x " ++ (rows ++ end))) ++ 10 ∷ []) ++ rest ≡ width ++ (codes " x " ++ (rows ++ (end ++ 10 ∷ rest)))
-size_text width rows end rest =
-    append_assoc (width ++ (codes " x " ++ (rows ++ end))) (10 ∷ []) rest
-    ∙ append_assoc width (codes " x " ++ (rows ++ end)) (10 ∷ rest)
-    ∙ ap (λ t. width ++ (codes " x " ++ t)) (append_assoc rows end (10 ∷ rest))
+size_text width rows end rest = grind (arith, append_assoc)
 
 -- the headings of the columns
 abbrev columns_text : List ℕ
@@ -62,11 +41,7 @@ route_headings_text strip width rows f g = rw (f, g) (sym (ap (λ t. codes "Arra
 -- the line of a placed block
 placed_tail : (x y subblock number : List ℕ)
     → (x ++ (32 ∷ (y ++ (32 ∷ (subblock ++ (codes " #" ++ (number ++ []))))))) ++ 10 ∷ [] ≡ x ++ (32 ∷ (y ++ (32 ∷ (subblock ++ (codes " #" ++ (number ++ 10 ∷ []))))))
-placed_tail x y subblock number =
-    append_assoc x _ (10 ∷ [])
-    ∙ ap (λ t. x ++ 32 ∷ t) (append_assoc y _ (10 ∷ [])
-    ∙ ap (λ t. y ++ 32 ∷ t) (append_assoc subblock _ (10 ∷ [])
-    ∙ ap (λ t. subblock ++ (codes " #" ++ t)) (append_assoc number [] (10 ∷ []))))
+placed_tail x y subblock number = grind (arith, append_assoc)
 
 placed_text : (before net name x y subblock number : List ℕ) → before ++ net ≡ name
     → before ++ (net ++ (32 ∷ (x ++ (32 ∷ (y ++ (32 ∷ (subblock ++ (codes " #" ++ (number ++ 10 ∷ [])))))))))
@@ -94,26 +69,15 @@ connected_text before net name number x y e =
 node_parts : (start kind x y between label number : List ℕ) → start ≡ kind ++ codes " (" → between ≡ codes ") " ++ label ++ codes " "
     → start ++ (x ++ (codes "," ++ (y ++ (between ++ (number ++ [])))))
     ≡ kind ++ word_after_space (codes "(" ++ x ++ codes "," ++ y ++ codes ")") ++ word_after_space label ++ word_after_space number
-node_parts start kind x y between label number e f =
-    ap (λ s. s ++ (x ++ (codes "," ++ (y ++ (between ++ (number ++ [])))))) e
-    ∙ append_assoc kind (codes " (") (x ++ (codes "," ++ (y ++ (between ++ (number ++ [])))))
-    ∙ ap (λ b. kind ++ (codes " (" ++ (x ++ (codes "," ++ (y ++ (b ++ (number ++ []))))))) f
-    ∙ ap (λ t. kind ++ (codes " (" ++ (x ++ (codes "," ++ (y ++ (codes ") " ++ t)))))) (append_assoc label (codes " ") (number ++ []) ∙ ap (λ n. label ++ (codes " " ++ n)) (append-nil number))
-    ∙ sym (three kind (word_after_space (codes "(" ++ x ++ codes "," ++ y ++ codes ")")) (word_after_space label) (word_after_space number)
-    ∙ ap (λ t. kind ++ 32 ∷ t) (position_tail x y (word_after_space label ++ word_after_space number)))
+node_parts start kind x y between label number e f = grind (arith, append_assoc, append-nil)
 
 -- the first line of a net, with its end, and an empty line
 first_text : (number name end : List ℕ) → codes "Net " ++ (number ++ (codes " (" ++ (name ++ (end ++ codes "\n\n")))) ≡ text_of ((codes "Net" ∷ number ∷ (codes "(" ++ name ++ end) ∷ []) ∷ [] ∷ [])
-first_text number name end =
-    sym (ap (λ t. codes "Net " ++ t) (
-    three number (codes " (" ++ ((name ++ end) ++ [])) (10 ∷ []) (10 ∷ [])
-    ∙ ap (λ t. number ++ (codes " (" ++ t)) (last name end (codes "\n\n"))))
+first_text number name end = grind (arith, three)
 
 -- the lines of a net
 pub net_text : (heading : List (List ℕ)) (lines : List (List (List ℕ))) → text_of (heading ∷ [] ∷ []) ++ (text_of lines ++ 10 ∷ []) ≡ text_of (heading ∷ [] ∷ lines ++ [] ∷ [])
-net_text heading lines =
-    append_assoc (line_of heading) (10 ∷ []) (text_of lines ++ 10 ∷ [])
-    ∙ ap (λ t. line_of heading ++ 10 ∷ t) (sym (flat_map-append line_of lines ([] ∷ [])))
+net_text heading lines = grind (arith, append_assoc, flat_map-append)
 
 -- a block, from its number
 name_is : (packed : PackedCircuit) (block : ℕ) (found : Block) (name : List ℕ) → slice_get (blocks_of packed) block ≡ Some found → name ≡ block_name packed found → name ≡ block_name packed (block_at packed block)
@@ -125,8 +89,7 @@ pub placed_line_text : (packed : PackedCircuit) (block : ℕ) (found : Block) (p
     → x ≡ decimal place.x → y ≡ decimal place.y → subblock ≡ decimal place.subblock → number ≡ decimal block
     → before ++ (net ++ (32 ∷ (x ++ (32 ∷ (y ++ (32 ∷ (subblock ++ (codes " #" ++ (number ++ 10 ∷ [])))))))))
     ≡ line_of (placed_line packed block place)
-placed_line_text packed block found place before net x y subblock number at e f g h k =
-    rw (f, g, h, k) (placed_text before net (block_name packed (block_at packed block)) (decimal place.x) (decimal place.y) (decimal place.subblock) (decimal block) (name_is packed block found (before ++ net) at e))
+placed_line_text packed block found place before net x y subblock number at e f g h k = grind (arith, placed_text, name_is)
 
 -- the line of a block that a global net connects
 pub connected_line_text : (packed : PackedCircuit) (block : ℕ) (found : Block) (place : Place) (before net number x y : List ℕ)
@@ -134,8 +97,7 @@ pub connected_line_text : (packed : PackedCircuit) (block : ℕ) (found : Block)
     → number ≡ decimal block → x ≡ decimal place.x → y ≡ decimal place.y
     → codes "Block " ++ (before ++ (net ++ (codes " (#" ++ (number ++ (codes ") at (" ++ (x ++ (codes "," ++ (y ++ codes ").\n"))))))))
     ≡ line_of (connected_line packed block place)
-connected_line_text packed block found place before net number x y at e f g h =
-    rw (f, g, h) (connected_text before net (block_name packed (block_at packed block)) (decimal block) (decimal place.x) (decimal place.y) (name_is packed block found (before ++ net) at e))
+connected_line_text packed block found place before net number x y at e f g h = grind (arith, connected_text, name_is)
 
 -- a node, from the parts that are written
 pub node_text : (rows : ℕ) (node : Node) (start x y between number : List ℕ)
@@ -143,8 +105,7 @@ pub node_text : (rows : ℕ) (node : Node) (start x y between number : List ℕ)
     → between ≡ codes ") " ++ number_word node.kind ((node.y == 0) || nat_lt rows node.y) ++ codes " " → number ≡ decimal node.n
     → start ++ (x ++ (codes "," ++ (y ++ (between ++ (number ++ []))))) ≡ node_text_of rows node
 unfolding node_text_of
-node_text rows node start x y between number e f g h k =
-    rw (f, g, k) (node_parts start (kind_word node.kind) (decimal node.x) (decimal node.y) between (number_word node.kind ((node.y == 0) || nat_lt rows node.y)) (decimal node.n) e h)
+node_text rows node start x y between number e f g h k = grind (arith, node_parts)
 
 -- a net, from its parts
 abbrev pub net_value : ℕ → ℕ → List ℕ → Bool → BlockNet
@@ -189,14 +150,9 @@ local_connections strip packed places paths number found at is =
     choice_false found.global _ (flat_map (map (node_line strip)) paths) is
     ∙ by_number (λ net. connections strip packed places net paths) packed number found at
 
--- a net between blocks satisfies the laws
-pub net_is_lawful : (packed : PackedCircuit) (number : ℕ) (found : BlockNet) → All (IsBlockNet packed) (block_nets packed) → slice_get (block_nets packed) number ≡ Some found → IsBlockNet packed found
-net_is_lawful packed number found all at = all_at (IsBlockNet packed) (block_nets packed) number found at all
-
 -- the line of a block at its place
 pub at_its_place : (line : PackedCircuit → ℕ → Place → List ℕ) (packed found : PackedCircuit) (places : List Place) (block : ℕ) (place : Place) → found ≡ packed → slice_get places block ≡ Some place → line found block place ≡ line packed block (place_of places block)
-at_its_place line packed found places block place e at =
-    ap (λ circuit. line circuit block place) e ∙ ap (line packed block) (sym (get_or_from_slice_get places block place _ at))
+at_its_place line packed found places block place e at = grind (arith, get_or_from_slice_get)
 
 -- the headings, from the strip and packing that were looked up
 pub headings_found : {strip found_strip : Strip} {packed found : PackedCircuit} → found_strip ≡ strip → found ≡ packed → text_of (place_headings found_strip found) ≡ text_of (place_headings strip packed)

@@ -1,14 +1,5 @@
 -- The lines of global nets, net by net.
-use Rattle.std.proofs.Common.{◌≡◌, ℕ, ◌+◌, Bool, true, false, ◌||◌, List, [], ◌∷◌, ◌++◌, map, filter, cond, refl, sym, ap, ◌∙◌, codes, slice_get, Some, take, append-nil}
-use Rattle.std.proofs.lemmas.Option.{slice_get_within, get_or_from_slice_get}
-use Rattle.std.specs.List.{flat_map, list_any}
-use Rattle.std.proofs.lemmas.Grind.{flat_map-append}
-use Rattle.std.proofs.lemmas.List.Folds.{flat_map-map, list_any_more}
-use Rattle.blif.specs.declared.circuit.Circuit.{Circuit}
-use Rattle.cluster.specs.Clusters.{PackedCircuit}
-use Rattle.cluster.specs.Blocks.{BlockNet, block_nets, net_name}
-use Rattle.vpr_files.specs.TextLines.{line_of, text_of}
-use Rattle.vpr_files.specs.FileParts.{global_lines}
+use Rattle.vpr_files.proofs.Prelude.{◌≡◌, ℕ, ◌+◌, Bool, true, false, ◌||◌, List, [], ◌∷◌, ◌++◌, map, filter, cond, refl, sym, ap, ◌∙◌, codes, slice_get, Some, take, append-nil, arith, slice_get_within, get_or_from_slice_get, flat_map, list_any, flat_map-append, flat_map-map, list_any_more, Circuit, PackedCircuit, BlockNet, block_nets, net_name, line_of, text_of, global_lines}
 
 -- the text, or nothing
 abbrev pub told : Bool → List ℕ → List ℕ
@@ -25,16 +16,11 @@ global_text circuit net = told net.global (line_of (global_line circuit net))
 
 flat_filter : {X : Type 0} (p : X → Bool) (f : X → List ℕ) (xs : List X) → flat_map (λ x. told (p x) (f x)) xs ≡ flat_map f (filter p xs)
 flat_filter p f [] = refl
-flat_filter p f (x ∷ xs) =
-    elim (p x) as (λ b. told b (f x) ++ flat_map (λ y. told (p y) (f y)) xs ≡ flat_map f (cond b (x ∷ filter p xs) (filter p xs))) [
-      | true ↦ ap (λ rest. f x ++ rest) (flat_filter p f xs)
-      | false ↦ flat_filter p f xs
-    ]
+flat_filter p f (x ∷ xs) = grind (arith, flat_filter p f xs)
 
 -- an empty line, or nothing
 gap_text : (b : Bool) → told b (10 ∷ []) ≡ text_of (cond b ([] ∷ []) [])
-gap_text true = refl
-gap_text false = refl
+gap_text b = grind arith
 
 -- the lines net by net, followed by an empty one if there was a global net
 pub globals_text : (packed : PackedCircuit) → flat_map (global_text packed.circuit) (block_nets packed) ++ told (list_any (λ net. net.global) (block_nets packed)) (10 ∷ []) ≡ text_of (global_lines packed)
@@ -48,8 +34,7 @@ globals_text packed =
 
 -- the line of one net, from the name that was looked up
 pub global_line_text : (circuit : Circuit) (name : List ℕ) (net : BlockNet) → name ≡ net_name circuit net.net → codes ".global " ++ (name ++ 10 ∷ []) ≡ line_of (global_line circuit net)
-global_line_text circuit name net named =
-    ap (λ n. codes ".global " ++ (n ++ 10 ∷ [])) (named ∙ sym (append-nil (net_name circuit net.net)))
+global_line_text circuit name net named = grind (arith, append-nil)
 
 -- whether there is a global net, after one more net
 pub some_more : (nets : List BlockNet) (number : ℕ) (net : BlockNet) → slice_get nets number ≡ Some net
@@ -59,9 +44,7 @@ some_more nets number net e =
     ∙ sym (list_any_more (λ one. one.global) nets number net (slice_get_within nets number net e))
 
 pub some_true : (b global : Bool) → global ≡ true → true ≡ (b || global)
-some_true true global e = refl
-some_true false global e = sym e
+some_true b global e = grind arith
 
 pub some_false : (b global : Bool) → global ≡ false → b ≡ (b || global)
-some_false true global e = refl
-some_false false global e = sym e
+some_false b global e = grind arith

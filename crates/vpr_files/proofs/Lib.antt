@@ -1,3 +1,4 @@
+mod Prelude
 pub mod Searches
 pub mod ClusterLemmas
 pub mod TextLemmas

@@ -1,9 +1,6 @@
 -- The first index at which a test passes, searched from the front.
-use Rattle.std.proofs.Common.{◌≡◌, ℕ, ◌+◌, ◌≤◌, Bool, true, false, cond, List, length, drop, Option, Some, None, sym, ap, ◌∙◌, position}
-use Rattle.std.specs.List.{position_from, slice_get}
-use Rattle.std.proofs.lemmas.List.{at_drop_more, at_drop_all}
-use Rattle.std.proofs.lemmas.Option.{slice_get_within, get_or_from_slice_get}
-use Rattle.std.proofs.lemmas.Iterator.Adapters.{position_from-zero}
+use Rattle.vpr_files.proofs.Prelude.{◌≡◌, ℕ, ◌+◌, ◌≤◌, Bool, true, false, cond, List, length, drop, Option, Some, None, sym, ap, ◌∙◌, position, arith, position_from, at_drop_more, at_drop_all, slice_get_within, get_or_from_slice_get, position_from-zero}
+use Rattle.std.specs.List.{slice_get}
 
 -- the search before the first element
 pub search_none : {X : Type 0} (p : X → Bool) (xs : List X) → position_from p 0 xs ≡ position p xs
@@ -11,9 +8,7 @@ search_none p xs = sym (position_from-zero p xs)
 
 -- the remaining elements begin with this one
 left_at : {X : Type 0} (p : X → Bool) (xs : List X) (i : ℕ) (x : X) → slice_get xs i ≡ Some x → position_from p i (drop i xs) ≡ cond (p x) (Some i) (position_from p (i + 1) (drop (i + 1) xs))
-left_at p xs i x e =
-    at_drop_more (position_from p i) xs i x (slice_get_within xs i x e)
-    ∙ ap (λ y. cond (p y) (Some i) (position_from p (i + 1) (drop (i + 1) xs))) (get_or_from_slice_get xs i x x e)
+left_at p xs i x e = grind (arith, at_drop_more (position_from p i) xs i x (slice_get_within xs i x e), get_or_from_slice_get xs i x x e)
 
 -- the test fails here
 pub search_miss : {X : Type 0} (p : X → Bool) (xs : List X) (i : ℕ) (x : X) (r : Option ℕ) → slice_get xs i ≡ Some x → p x ≡ false → position_from p i (drop i xs) ≡ r → position_from p (i + 1) (drop (i + 1) xs) ≡ r

@@ -1,15 +1,5 @@
 -- Lines and blocks, as they are written part by part.
-use Rattle.std.proofs.Common.{◌≡◌, ℕ, List, [], ◌∷◌, ◌++◌, map, Option, refl, sym, ap, ◌∙◌, codes, decimal, slice_get, option_and_then, append_assoc, append-nil}
-use Rattle.std.specs.List.{flat_map, range_with_len}
-use Rattle.std.proofs.lemmas.Grind.{flat_map-append}
-use Rattle.std.proofs.lemmas.List.Folds.{flat_map-map}
-use Rattle.arch_file.specs.declared.arch.PinClass.TheVariants.{Output, Clock}
-use Rattle.cluster.specs.declared.block.Block.TheVariants.{InputPad, OutputPad, Cluster}
-use Rattle.cluster.specs.Bles.{LogicElement}
-use Rattle.cluster.specs.Clusters.{PackedCircuit}
-use Rattle.cluster.specs.Blocks.{block_name, elements_in, net_name, pins_of}
-use Rattle.vpr_files.specs.TextLines.{line_of, word_after_space, text_of}
-use Rattle.vpr_files.specs.NetFile.{block_lines, element_line, input_word, or_open, pin_with}
+use Rattle.vpr_files.proofs.Prelude.{◌≡◌, ℕ, List, [], ◌∷◌, ◌++◌, map, Option, refl, ap, ◌∙◌, codes, decimal, slice_get, option_and_then, append_assoc, append-nil, arith, flat_map, range_with_len, flat_map-append, flat_map-map, Output, Clock, InputPad, OutputPad, Cluster, LogicElement, PackedCircuit, block_name, elements_in, net_name, pins_of, line_of, word_after_space, text_of, block_lines, element_line, input_word, or_open, pin_with}
 
 -- the words of the inputs of a BLE, each with a space before it
 abbrev pub inputs_text : PackedCircuit → ℕ → List ℕ → List ℕ
@@ -25,12 +15,7 @@ two_words output clock = ap (λ t. 32 ∷ t) (append_assoc output (32 ∷ (clock
 -- the end of a line with words and two more
 words_tail : (name : List ℕ) (words : List (List ℕ)) (output clock : List ℕ)
     → (name ++ []) ++ (flat_map word_after_space words ++ (word_after_space output ++ (word_after_space clock ++ 10 ∷ []))) ≡ (name ++ flat_map word_after_space (words ++ output ∷ clock ∷ [])) ++ 10 ∷ []
-words_tail name words output clock =
-    ap (λ n. n ++ (flat_map word_after_space words ++ (word_after_space output ++ (word_after_space clock ++ 10 ∷ [])))) (append-nil name)
-    ∙ sym (append_assoc name (flat_map word_after_space (words ++ output ∷ clock ∷ [])) (10 ∷ [])
-    ∙ ap (λ t. name ++ t) (ap (λ t. t ++ 10 ∷ []) (flat_map-append word_after_space words (output ∷ clock ∷ []))
-    ∙ append_assoc (flat_map word_after_space words) (word_after_space output ++ (word_after_space clock ++ [])) (10 ∷ [])
-    ∙ ap (λ t. flat_map word_after_space words ++ t) (two_words output clock)))
+words_tail name words output clock = grind (arith, append_assoc, flat_map-append)
 
 -- the line of a BLE
 element_parts : (packed : PackedCircuit) (cluster : ℕ) (element : LogicElement)
@@ -39,13 +24,7 @@ element_parts : (packed : PackedCircuit) (cluster : ℕ) (element : LogicElement
     ++ (word_after_space (or_open decimal (pin_with packed cluster Output element.output))
     ++ (word_after_space (or_open decimal (option_and_then (pin_with packed cluster Clock) element.clock)) ++ 10 ∷ [])))
     ≡ line_of (element_line packed cluster element)
-element_parts packed cluster element =
-    let word = λ (place : ℕ). or_open (input_word packed cluster) (slice_get element.inputs place) in
-    let output = or_open decimal (pin_with packed cluster Output element.output) in
-    let clock = or_open decimal (option_and_then (pin_with packed cluster Clock) element.clock) in
-    let name = net_name packed.circuit element.output in
-    ap (λ inputs. element_head name ++ (inputs ++ (word_after_space output ++ (word_after_space clock ++ 10 ∷ [])))) (sym (flat_map-map word_after_space word (range_with_len 0 packed.arch.lut_size)))
-    ∙ ap (λ rest. codes "subblock: " ++ rest) (words_tail name (map word (range_with_len 0 packed.arch.lut_size)) output clock)
+element_parts packed cluster element = grind (arith, flat_map-map, words_tail)
 
 -- the line of a BLE, from the parts that are written
 pub element_text : (packed : PackedCircuit) (cluster : ℕ) (element : LogicElement) (name : List ℕ) (output clock : Option ℕ)
@@ -54,11 +33,7 @@ pub element_text : (packed : PackedCircuit) (cluster : ℕ) (element : LogicElem
     → clock ≡ option_and_then (pin_with packed cluster Clock) element.clock
     → element_head name ++ (inputs_text packed cluster element.inputs ++ (word_after_space (or_open decimal output) ++ (word_after_space (or_open decimal clock) ++ 10 ∷ [])))
     ≡ line_of (element_line packed cluster element)
-element_text packed cluster element name output clock named at clocked =
-    ap (λ n. element_head n ++ (inputs_text packed cluster element.inputs ++ (word_after_space (or_open decimal output) ++ (word_after_space (or_open decimal clock) ++ 10 ∷ [])))) named
-    ∙ ap (λ o. element_head (net_name packed.circuit element.output) ++ (inputs_text packed cluster element.inputs ++ (word_after_space (or_open decimal o) ++ (word_after_space (or_open decimal clock) ++ 10 ∷ [])))) at
-    ∙ ap (λ k. element_head (net_name packed.circuit element.output) ++ (inputs_text packed cluster element.inputs ++ (word_after_space (or_open decimal (pin_with packed cluster Output element.output)) ++ (word_after_space (or_open decimal k) ++ 10 ∷ [])))) clocked
-    ∙ element_parts packed cluster element
+element_text packed cluster element name output clock named at clocked = grind (arith, element_parts)
 
 -- the words of the pins of a cluster, each with a space before it
 abbrev pub pins_text : PackedCircuit → ℕ → List ℕ
@@ -81,15 +56,13 @@ cluster_tail name word pins lines = rw (flat_map-append line_of lines ([] ∷ []
 cluster_parts : (packed : PackedCircuit) (cluster : ℕ)
     → cluster_head (block_name packed (Cluster cluster)) ++ (pins_text packed cluster ++ (10 ∷ [] ++ (elements_text packed cluster ++ 10 ∷ [])))
     ≡ text_of (block_lines packed (Cluster cluster))
-cluster_parts packed cluster =
-    ap (λ rest. codes ".clb " ++ rest) (cluster_tail (block_name packed (Cluster cluster)) (codes "pinlist:") (pins_text packed cluster) (map (element_line packed cluster) (elements_in packed cluster)))
+cluster_parts packed cluster = grind (arith, cluster_tail (block_name packed (Cluster cluster)) (codes "pinlist:") (pins_text packed cluster) (map (element_line packed cluster) (elements_in packed cluster)))
 
 -- a cluster, from the name that was looked up
 pub cluster_text : (packed : PackedCircuit) (cluster : ℕ) (name : List ℕ) → name ≡ block_name packed (Cluster cluster)
     → cluster_head name ++ (pins_text packed cluster ++ (10 ∷ [] ++ (elements_text packed cluster ++ 10 ∷ [])))
     ≡ text_of (block_lines packed (Cluster cluster))
-cluster_text packed cluster name named =
-    ap (λ n. cluster_head n ++ (pins_text packed cluster ++ (10 ∷ [] ++ (elements_text packed cluster ++ 10 ∷ [])))) named ∙ cluster_parts packed cluster
+cluster_text packed cluster name named = grind (arith, cluster_parts)
 
 -- joined lists of lists, each turned into a text
 pub flat_map-flat_map : {X Y Z : Type 0} (h : Y → List Z) (g : X → List Y) (xs : List X) → flat_map h (flat_map g xs) ≡ flat_map (λ x. flat_map h (g x)) xs
@@ -102,13 +75,9 @@ pad_tail name word = simp (append_assoc, append-nil)
 -- a pad of an input, from the name that was looked up
 pub input_text : (packed : PackedCircuit) (net : ℕ) (name : List ℕ) → name ≡ net_name packed.circuit net
     → codes ".input " ++ (name ++ (codes "\npinlist: " ++ (name ++ (10 ∷ 10 ∷ [])))) ≡ text_of (block_lines packed (InputPad net))
-input_text packed net name named =
-    ap (λ n. codes ".input " ++ (n ++ (codes "\npinlist: " ++ (n ++ (10 ∷ 10 ∷ []))))) named
-    ∙ ap (λ rest. codes ".input " ++ rest) (pad_tail (net_name packed.circuit net) (codes "pinlist: "))
+input_text packed net name named = grind (arith, pad_tail (net_name packed.circuit net) (codes "pinlist: "))
 
 -- a pad of an output
 pub output_text : (packed : PackedCircuit) (net : ℕ) (name : List ℕ) → name ≡ net_name packed.circuit net
     → codes ".output out:" ++ (name ++ (codes "\npinlist: " ++ (name ++ (10 ∷ 10 ∷ [])))) ≡ text_of (block_lines packed (OutputPad net))
-output_text packed net name named =
-    ap (λ n. codes ".output out:" ++ (n ++ (codes "\npinlist: " ++ (n ++ (10 ∷ 10 ∷ []))))) named
-    ∙ ap (λ rest. codes ".output out:" ++ rest) (pad_tail (net_name packed.circuit net) (codes "pinlist: "))
+output_text packed net name named = grind (arith, pad_tail (net_name packed.circuit net) (codes "pinlist: "))

@@ -1,8 +1,6 @@
 -- Private: the clusters of blocks.
 use Rattle.std.specs.Prelude.{◌<◌, ⊤, length}
-use Rattle.cluster.specs.declared.block.Block.{Block}
-use Rattle.cluster.specs.declared.block.Block.TheVariants.{Cluster}
-use Rattle.cluster.specs.Clusters.{PackedCircuit}
+use Rattle.vpr_files.specs.Prelude.{Block, Cluster, PackedCircuit}
 
 -- if the block is a cluster, it is one of the packing's
 abbrev pub HasCluster : PackedCircuit → Block → Type 0

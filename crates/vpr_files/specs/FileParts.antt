@@ -1,12 +1,7 @@
 -- Private: parts of the files, as they are written one after another.
 use Rattle.std.specs.Prelude.{ℕ, ◌<◌, Bool, false, List, [], ◌∷◌, ◌++◌, All, map, filter, length, codes, decimal, slice_index_or, if◌then◌else◌}
 use Rattle.std.specs.List.{enumerate_from, flat_map, list_any, range_with_len}
-use Rattle.cluster.specs.Clusters.{PackedCircuit}
-use Rattle.cluster.specs.Blocks.{BlockNet, block_nets, blocks_of, net_name}
-use Rattle.grid.specs.declared.Strip.{Strip}
-use Rattle.grid.specs.declared.place.Place.{Place}
-use Rattle.rr_graph.specs.declared.node.Node.{Node}
-use Rattle.block_places.specs.Placed.{place_of}
+use Rattle.vpr_files.specs.Prelude.{PackedCircuit, BlockNet, block_nets, blocks_of, net_name, Strip, Place, Node, place_of}
 use Rattle.vpr_files.specs.NodeText.{node_text_of}
 use Rattle.vpr_files.specs.PlaceFile.{placed_line}
 use Rattle.vpr_files.specs.RouteFile.{connected_line, net_lines}

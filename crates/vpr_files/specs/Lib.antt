@@ -1,3 +1,4 @@
+pub mod Prelude
 pub mod TextLines
 pub mod NetFile
 pub mod PlaceFile

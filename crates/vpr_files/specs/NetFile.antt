@@ -2,13 +2,7 @@
 use Rattle.std.specs.Prelude.{ℕ, false, ◌&&◌, ◌==◌, List, [], ◌∷◌, ◌++◌, map, filter, codes, decimal, position, option_and_then, slice_get, Option, if◌then◌else◌}
 use Rattle.std.specs.List.{flat_map, list_any, range_with_len, zip}
 use Rattle.std.specs.Option.{option_map_or}
-use Rattle.arch_file.specs.declared.arch.PinClass.{PinClass}
-use Rattle.arch_file.specs.declared.arch.PinClass.TheVariants.{Input, Output, Clock}
-use Rattle.cluster.specs.declared.block.Block.{Block}
-use Rattle.cluster.specs.declared.block.Block.TheVariants.{InputPad, OutputPad, Cluster}
-use Rattle.cluster.specs.Bles.{LogicElement}
-use Rattle.cluster.specs.Clusters.{PackedCircuit, outputs_of}
-use Rattle.cluster.specs.Blocks.{blocks_of, block_name, block_nets, elements_in, is_same_class, net_name, pins_of}
+use Rattle.vpr_files.specs.Prelude.{PinClass, Input, Output, Clock, Block, InputPad, OutputPad, Cluster, LogicElement, PackedCircuit, outputs_of, blocks_of, block_name, block_nets, elements_in, is_same_class, net_name, pins_of}
 use Rattle.vpr_files.specs.TextLines.{text_of}
 
 -- the word for a number, or `open` if there is no number

@@ -1,8 +1,6 @@
 -- Nodes of the routing graph as text.
 use Rattle.std.specs.Prelude.{ℕ, Bool, true, false, ◌||◌, ◌==◌, nat_lt, List, ◌++◌, codes, decimal}
-use Rattle.rr_graph.specs.declared.node.Node.{Node}
-use Rattle.rr_graph.specs.declared.node.NodeKind.{NodeKind}
-use Rattle.rr_graph.specs.declared.node.NodeKind.TheVariants.{Source, Sink, Opin, Ipin, ChanX, ChanY}
+use Rattle.vpr_files.specs.Prelude.{Node, NodeKind, Source, Sink, Opin, Ipin, ChanX, ChanY}
 use Rattle.vpr_files.specs.TextLines.{word_after_space}
 
 abbrev pub kind_word : NodeKind → List ℕ

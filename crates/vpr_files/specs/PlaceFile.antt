@@ -1,11 +1,7 @@
 -- The `.place` file of a placed circuit: the place of each block.
 use Rattle.std.specs.Prelude.{ℕ, List, [], ◌∷◌, ◌++◌, map, length, codes, decimal}
 use Rattle.std.specs.List.{range_with_len}
-use Rattle.cluster.specs.Clusters.{PackedCircuit}
-use Rattle.cluster.specs.Blocks.{block_name, blocks_of}
-use Rattle.grid.specs.declared.Strip.{Strip}
-use Rattle.grid.specs.declared.place.Place.{Place}
-use Rattle.block_places.specs.Placed.{block_at, place_of}
+use Rattle.vpr_files.specs.Prelude.{PackedCircuit, block_name, blocks_of, Strip, Place, block_at, place_of}
 use Rattle.vpr_files.specs.TextLines.{text_of}
 
 -- the line of a block at a place: its name, the column, the row, the number among the pads at that

@@ -1,12 +1,7 @@
 -- The `.route` file of a placed and routed circuit: the nodes of each net.
 use Rattle.std.specs.Prelude.{ℕ, List, [], ◌∷◌, ◌++◌, map, codes, decimal, slice_index_or, if◌then◌else◌}
 use Rattle.std.specs.List.{enumerate_from, flat_map}
-use Rattle.cluster.specs.Clusters.{PackedCircuit}
-use Rattle.cluster.specs.Blocks.{BlockNet, block_name, block_nets, net_name}
-use Rattle.grid.specs.declared.Strip.{Strip}
-use Rattle.grid.specs.declared.place.Place.{Place}
-use Rattle.rr_graph.specs.declared.node.Node.{Node}
-use Rattle.block_places.specs.Placed.{block_at, place_of}
+use Rattle.vpr_files.specs.Prelude.{PackedCircuit, BlockNet, block_name, block_nets, net_name, Strip, Place, Node, block_at, place_of}
 use Rattle.vpr_files.specs.NodeText.{node_text_of, position_text}
 use Rattle.vpr_files.specs.TextLines.{text_of}
 

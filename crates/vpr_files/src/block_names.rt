@@ -1,6 +1,6 @@
 //! The names of blocks.
 ghost use Rattle.std.specs.Prelude.{◌≡◌, ◌++◌};
-ghost use Rattle.cluster.specs.Blocks.{block_name};
+ghost use Rattle.vpr_files.specs.Prelude.{block_name};
 ghost use Rattle.vpr_files.specs.BlockClusters.{HasCluster};
 
 use crate::net_file::{cluster_name, net_name};

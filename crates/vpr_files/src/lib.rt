@@ -20,7 +20,7 @@ mod place_file;
 mod route_file;
 mod writing;
 
-pub use net_file::net_text;
+pub use net_file::{net_name, net_text};
 pub use node_text::write_node;
 pub use place_file::place_text;
 pub use route_file::route_text;

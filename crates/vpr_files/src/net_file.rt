@@ -2,13 +2,11 @@
 //! pins.
 ghost use Rattle.std.specs.Prelude.{◌≡◌, ◌<◌, length, map};
 ghost use Rattle.std.specs.List.{flat_map};
-ghost use Rattle.cluster.specs.declared.block.Block.TheVariants.{Cluster};
-ghost use Rattle.cluster.specs.Blocks.{block_name, blocks_of, elements_in, net_name, pins_of};
+ghost use Rattle.vpr_files.specs.Prelude.{Cluster, block_name, blocks_of, elements_in, net_name, pins_of, Writes};
 ghost use Rattle.vpr_files.specs.BlockClusters.{HasCluster};
 ghost use Rattle.vpr_files.specs.NetFile.{block_lines, element_line, net_text_of, or_open};
 ghost use Rattle.vpr_files.specs.TextLines.{word_after_space, text_of};
 ghost use Rattle.vpr_files.specs.FileParts.{global_lines};
-ghost use Rattle.line_text.specs.Writing.{Writes};
 
 use crate::pin_words::write_element;
 use crate::writing::{end_line, write_word};
@@ -128,7 +126,7 @@ fn write_elements<W: Sink>(packed: &Packed, cluster: usize, sink: &mut W) -> Res
 }
 
 /// The name of a net of the circuit, or no bytes if there is no such net.
-pub(crate) fn net_name(circuit: &Circuit, net: u32) -> &[u8]
+pub fn net_name(circuit: &Circuit, net: u32) -> &[u8]
     ensures { result.now ≡ net_name circuit.now net }
 {
     let names = &circuit.nets;

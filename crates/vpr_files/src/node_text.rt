@@ -1,7 +1,7 @@
 //! Nodes of the routing graph as text.
 ghost use Rattle.std.specs.Prelude.{◌≡◌, ◌++◌, ◌==◌, ◌||◌, codes, nat_lt};
 ghost use Rattle.vpr_files.specs.NodeText.{kind_word, node_text_of, number_word};
-ghost use Rattle.line_text.specs.Writing.{Writes};
+ghost use Rattle.vpr_files.specs.Prelude.{Writes};
 
 use itoa::Buffer;
 use line_text::{Failed, Sink, write_slices};

@@ -1,10 +1,9 @@
 //! The words for the pins that connect the BLEs of a cluster.
 ghost use Rattle.std.specs.Prelude.{◌≡◌, ◌<◌, decimal, length, option_and_then, slice_get, Some};
-ghost use Rattle.arch_file.specs.declared.arch.PinClass.TheVariants.{Clock};
+ghost use Rattle.vpr_files.specs.Prelude.{Clock, Writes};
 ghost use Rattle.std.specs.List.{flat_map, range_with_len};
 ghost use Rattle.vpr_files.specs.TextLines.{word_after_space, line_of};
 ghost use Rattle.vpr_files.specs.NetFile.{driver_place, element_line, input_word, or_open, pin_with};
-ghost use Rattle.line_text.specs.Writing.{Writes};
 
 use crate::net_file::net_name;
 use crate::writing::{end_line, write_number, write_word};

@@ -1,15 +1,13 @@
 //! The `.place` file: the places of a placed circuit's blocks.
 ghost use Rattle.std.specs.Prelude.{◌<◌, length};
-ghost use Rattle.cluster.specs.Blocks.{blocks_of};
-ghost use Rattle.strip_place.specs.Anneal.{places_by_block};
+ghost use Rattle.vpr_files.specs.Prelude.{blocks_of, places_by_block, place_of, Writes};
 ghost use Rattle.vpr_files.specs.PlaceFile.{place_text_of, placed_line};
 ghost use Rattle.vpr_files.specs.TextLines.{line_of, text_of};
 ghost use Rattle.vpr_files.specs.FileParts.{place_headings, placed_lines};
-ghost use Rattle.line_text.specs.Writing.{Writes};
 
 use crate::block_names::block_name;
 use cluster::Packed;
-use grid::{Place, Strip};
+use grid::Strip;
 use itoa::Buffer;
 use line_text::{Failed, Sink, write_slices};
 use strip_place::Placing;
@@ -55,22 +53,20 @@ fn write_places<W: Sink>(placing: &Placing, sink: &mut W) -> Result<(), Failed>
         (text_of (placed_lines placing.now.packed (places_by_block placing.now))) result }
 {
     for block in 0..placing.packed().block_count() {
-        write_place(placing.packed(), block, placing.place_of(block), sink)?;
+        write_place(placing, block, sink)?;
     }
     Ok(())
 }
 
 /// Writes the line of a block at a place.
-fn write_place<W: Sink>(
-    packed: &Packed,
-    block: usize,
-    place: Place,
-    sink: &mut W,
-) -> Result<(), Failed>
-    requires { block < length (blocks_of packed.now) }
+fn write_place<W: Sink>(placing: &Placing, block: usize, sink: &mut W) -> Result<(), Failed>
+    requires { block < length (blocks_of placing.now.packed) }
     ensures { Writes W.contents W.has_failed sink.old sink.new
-        (line_of (placed_line packed.now block place)) result }
+        (line_of (placed_line placing.now.packed block
+        (place_of (places_by_block placing.now) block))) result }
 {
+    let packed = placing.packed();
+    let place = placing.place_of(block);
     let name = block_name(packed, packed.block(block));
     let mut x = Buffer::new();
     let mut y = Buffer::new();

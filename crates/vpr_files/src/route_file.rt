@@ -1,19 +1,17 @@
 //! The `.route` file: what the nets of a placed and routed circuit connect.
 ghost use Rattle.std.specs.Prelude.{◌≡◌, ◌<◌, ◌∷◌, [], All, length, map, slice_index_or};
 ghost use Rattle.std.specs.List.{flat_map};
-ghost use Rattle.cluster.specs.Blocks.{block_nets, blocks_of};
-ghost use Rattle.strip_place.specs.Anneal.{places_by_block};
+ghost use Rattle.vpr_files.specs.Prelude.{block_nets, blocks_of, places_by_block, place_of, Writes};
 ghost use Rattle.vpr_files.specs.RouteFile.{connected_line, net_lines, route_text_of};
 ghost use Rattle.vpr_files.specs.FileParts.{AreBlocks, IsRouted, connected_lines, connections, net_heading, node_line, numbered_net, route_headings, routed_lines};
 ghost use Rattle.vpr_files.specs.TextLines.{line_of, text_of};
-ghost use Rattle.line_text.specs.Writing.{Writes};
 
 use crate::block_names::block_name;
 use crate::net_file::net_name;
 use crate::node_text::write_node;
 use crate::writing::end_line;
-use cluster::{Packed, laws_of_packing};
-use grid::{Place, Strip};
+use cluster::laws_of_packing;
+use grid::Strip;
 use itoa::Buffer;
 use line_text::{Failed, Sink, write_slices};
 use pathfinder::Routes;
@@ -154,7 +152,7 @@ fn write_connected<W: Sink>(
         (text_of (connected_lines placing.now.packed (places_by_block placing.now)
         (driver ∷ readers.now))) result }
 {
-    write_block(placing.packed(), driver, placing.place_of(driver), sink)?;
+    write_block(placing, driver, sink)?;
     write_readers(placing, readers, sink)
 }
 
@@ -166,23 +164,20 @@ fn write_readers<W: Sink>(placing: &Placing, readers: &[u32], sink: &mut W) -> R
         result }
 {
     for reader in readers {
-        let block = *reader as usize;
-        write_block(placing.packed(), block, placing.place_of(block), sink)?;
+        write_block(placing, *reader as usize, sink)?;
     }
     Ok(())
 }
 
 /// Writes the line of a block that a global net connects.
-fn write_block<W: Sink>(
-    packed: &Packed,
-    block: usize,
-    place: Place,
-    sink: &mut W,
-) -> Result<(), Failed>
-    requires { block < length (blocks_of packed.now) }
+fn write_block<W: Sink>(placing: &Placing, block: usize, sink: &mut W) -> Result<(), Failed>
+    requires { block < length (blocks_of placing.now.packed) }
     ensures { Writes W.contents W.has_failed sink.old sink.new
-        (line_of (connected_line packed.now block place)) result }
+        (line_of (connected_line placing.now.packed block
+        (place_of (places_by_block placing.now) block))) result }
 {
+    let packed = placing.packed();
+    let place = placing.place_of(block);
     let name = block_name(packed, packed.block(block));
     let mut number = Buffer::new();
     let mut x = Buffer::new();

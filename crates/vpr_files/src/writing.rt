@@ -1,7 +1,7 @@
 //! Words and numbers, written to a sink.
 ghost use Rattle.std.specs.Prelude.{◌++◌, ◌∷◌, [], decimal};
 ghost use Rattle.vpr_files.specs.TextLines.{word_after_space};
-ghost use Rattle.line_text.specs.Writing.{Writes};
+ghost use Rattle.vpr_files.specs.Prelude.{Writes};
 
 use itoa::Buffer;
 use line_text::{Failed, Sink, write_slices};

@@ -1,2 +1,3 @@
+mod Prelude
 pub mod OwnColumns
 pub mod Switches

@@ -1,49 +1,8 @@
 -- The pins and wires that a tenancy has routed are in its strip's own columns; only a wire right of
 -- a column may be left of them.
-use Rattle.std.proofs.Common.{◌≡◌, ℕ, Bool, true, false, List, [], ◌∷◌, length, get_or, map, ◌&&◌, ◌||◌, nat_le, Result, Ok, Err, refl}
-use Rattle.std.specs.Prelude.{All}
-use Rattle.std.specs.List.{flat_map, range_with_len}
-use Rattle.std.specs.Option.{option_to_list}
-use Rattle.std.proofs.lemmas.Bool.{and_parts, false≢true}
-use Rattle.std.proofs.lemmas.List.{get_or_past}
-use Rattle.std.proofs.lemmas.Bool.{cases_lt}
-use Rattle.std.proofs.Common.{inl, inr}
-use Rattle.std.proofs.lemmas.List.Elements.{All-append, All-cons, All-nil, filter_passes}
-use Rattle.arch_file.specs.declared.arch.Arch.{Arch}
-use Rattle.blif.specs.declared.circuit.Circuit.{Circuit}
-use Rattle.blif.specs.declared.fault.BlifFault.{BlifFault}
-use Rattle.cluster.specs.declared.block.Block.{Block}
-use Rattle.cluster.specs.declared.block.Block.TheVariants.{InputPad, OutputPad, Cluster}
-use Rattle.cluster.specs.Clusters.{PackedCircuit, packed_of}
-use Rattle.cluster.specs.Blocks.{blocks_of}
-use Rattle.grid.specs.declared.Strip.{Strip}
-use Rattle.grid.specs.declared.place.Place.{Place}
-use Rattle.rr_graph.specs.declared.node.NodeKind.{NodeKind}
+use Rattle.wires_law.proofs.Prelude.{◌≡◌, ℕ, Bool, true, false, List, [], ◌∷◌, length, get_or, map, ◌&&◌, ◌||◌, nat_le, Result, Ok, Err, refl, arith, All, flat_map, range_with_len, option_to_list, and_parts, false≢true, get_or_past, All-append, All-cons, All-nil, filter_passes, Arch, Circuit, BlifFault, Block, InputPad, OutputPad, Cluster, PackedCircuit, packed_of, blocks_of, Strip, Place, NodeKind, Node, Resource, ResourceKind, Opin, Ipin, ChanX, ChanY, Pad, is_chan_y, is_node, is_slot, graph_of, make_node, nodes_of, has, resource_of, places_by_block, block_at, place_of, Tree, Standing, More, Done, GaveUp as GivenUp, NoPath as WithoutPath, Routed as RoutedTrees, routed_after, wiring_of, routes_by_node, Net, Sources, KeptPlaces, basis_in, circuit_in, nets_in, pads_in, pass_count, placing_at, routing_sources, routing_stands, step_count, value_of, pad_of, pads_of, on_path, on_tree, on_trees, held_at_end, resources_of, StateName, Empty, Loaded, Packing, Packed, Placing, Placed, Routing, Unrouted, State, held_in, routed_set, has_all}
 use Rattle.rr_graph.specs.declared.node.NodeKind.TheVariants as Nodes
-use Rattle.rr_graph.specs.declared.node.Node.{Node}
-use Rattle.rr_graph.specs.declared.resource.Resource.{Resource}
-use Rattle.rr_graph.specs.declared.resource.ResourceKind.{ResourceKind}
-use Rattle.rr_graph.specs.declared.resource.ResourceKind.TheVariants.{Opin, Ipin, ChanX, ChanY, Pad}
-use Rattle.rr_graph.specs.Geometry.{is_chan_y, is_node, is_slot}
-use Rattle.rr_graph.specs.Graph.{graph_of, make_node, nodes_of}
-use Rattle.rr_graph.specs.Resources.{has, resource_of}
-use Rattle.strip_place.specs.Anneal.{places_by_block}
-use Rattle.block_places.specs.Placed.{block_at, place_of}
-use Rattle.pathfinder.specs.Negotiation.{Tree, Standing, More, Done, GaveUp as GivenUp, NoPath as WithoutPath, Routed as RoutedTrees, routed_after}
-use Rattle.pathfinder.specs.PlacedNets.{wiring_of}
-use Rattle.pathfinder.specs.Routings.{routes_by_node}
-use Rattle.pathfinder.specs.Wiring.{Net}
-use Rattle.job_state.specs.declared.sources.Sources.{Sources}
-use Rattle.kept_places.specs.Kept.{KeptPlaces}
-use Rattle.job_state.specs.JobValue.{basis_in, circuit_in, nets_in, pads_in, pass_count, placing_at, routing_sources, routing_stands, step_count, value_of}
-use Rattle.job_state.specs.RoutedCircuits.{pad_of, pads_of}
-use Rattle.job_state.specs.Gathered.{on_path, on_tree, on_trees}
-use Rattle.job_state.specs.RoutedSet.{held_at_end, resources_of}
-use Rattle.tenant_slot.specs.declared.reply.StateName.{StateName}
-use Rattle.tenant_slot.specs.declared.reply.StateName.TheVariants.{Empty, Loaded, Packing, Packed, Placing, Placed, Routing, Routed, Unrouted}
-use Rattle.tenant_slot.specs.SingleUser.{State}
-use Rattle.tenant_slot.specs.RoutedSet.{held_in, routed_set}
-use Rattle.service_core.proofs.Holdings.{has_all}
+use Rattle.tenant_slot.specs.declared.reply.StateName.TheVariants.{Routed}
 
 -- a pin or a wire above a row is right of the strip's left end
 abbrev pub own_column : ResourceKind → ℕ → Bool
@@ -57,10 +16,7 @@ abbrev pub IsOwn : Resource → Type 0
 IsOwn resource = own_column resource.kind resource.x ≡ true
 
 at_any : {X : Type 0} (P : X → Type 0) (xs : List X) (i : ℕ) (d : X) → All P xs → P d → P (get_or xs i d)
-at_any P xs i d all default = elim (cases_lt i (length xs)) [
-  | inl within ↦ all i d within
-  | inr past ↦ rw (get_or_past xs i d past) default
-]
+at_any P xs i d all default = grind (arith, get_or_past)
 
 all_flat : {X Y : Type 0} (P : Y → Type 0) (f : X → List Y) (xs : List X) → ((x : X) → All P (f x)) → All P (flat_map f xs)
 all_flat P f [] each = All-nil P
@@ -78,16 +34,10 @@ abbrev NodeOwn : Node → Type 0
 NodeOwn node = All IsOwn (option_to_list (resource_of node))
 
 or_false : (b : Bool) → (b || false) ≡ true → b ≡ true
-or_false true h = refl
-or_false false h = h
+or_false b h = grind arith
 
 kind_own : (x : ℕ) (kind : NodeKind) (y n : ℕ) → (nat_le 1 x || is_chan_y kind) ≡ true → NodeOwn (make_node x kind y n)
-kind_own x Nodes.Source y n own = All-nil IsOwn
-kind_own x Nodes.Sink y n own = All-nil IsOwn
-kind_own x Nodes.Opin y n own = All-cons IsOwn _ [] (or_false (nat_le 1 x) own) (All-nil IsOwn)
-kind_own x Nodes.Ipin y n own = All-cons IsOwn _ [] (or_false (nat_le 1 x) own) (All-nil IsOwn)
-kind_own x Nodes.ChanX y n own = All-cons IsOwn _ [] (or_false (nat_le 1 x) own) (All-nil IsOwn)
-kind_own x Nodes.ChanY y n own = All-cons IsOwn _ [] refl (All-nil IsOwn)
+kind_own x kind y n own = grind arith
 
 module _ (strip : Strip) where
   node_own : (arch : Arch) (node : Node) → is_node arch strip node ≡ true → NodeOwn node

@@ -1,60 +1,16 @@
 -- No pair of the device's graph joins what two tenancies own.
-use Rattle.std.proofs.Common.{◌≡◌, ◌≢◌, ℕ, ◌-◌, ◌≤◌, Bool, true, false, nat_le, ◌&&◌, ◌||◌, List, map, Option, Some, None, refl, sym, ap, ◌∙◌, subst, arith}
-use Rattle.std.specs.Prelude.{IsSomeAnd, option_map}
-use Rattle.std.proofs.lemmas.Bool.{and_parts, and_from, false≢true, le-leb}
-use Rattle.std.proofs.lemmas.Option.{same_Some}
-use Rattle.arch_file.specs.declared.arch.Arch.{Arch}
-use Rattle.grid.specs.declared.Strip.{Strip}
-use Rattle.rr_graph.specs.declared.node.NodeKind.{NodeKind}
-use Rattle.rr_graph.specs.declared.node.NodeKind.TheVariants.{Source, Sink, Opin, Ipin, ChanX, ChanY}
-use Rattle.rr_graph.specs.declared.node.Node.{Node}
-use Rattle.rr_graph.specs.declared.resource.Resource.{Resource}
-use Rattle.rr_graph.specs.declared.resource.ResourceKind.{ResourceKind}
-use Rattle.rr_graph.specs.Geometry.{is_chan_y, is_edge, is_node, is_slot, joins}
-use Rattle.rr_graph.specs.Resources.{has, moved_resource, resource_kind_of, resource_of}
-use Rattle.strips.specs.declared.placed_strip.PlacedStrip.{PlacedStrip}
-use Rattle.strips.specs.Plan.{AreApart, offset_of, strip_of}
-use Rattle.strips.specs.Windows.{device_strip, is_in_window, moved_back, strip_of_width}
-use Rattle.strips.proofs.Laid.{apart_of}
-use Rattle.strips.proofs.Windows.{beside_outside, pair_leaves, windows_apart}
-use Rattle.tenant_slot.specs.RoutedSet.{routed_set}
-use Rattle.service_core.specs.declared.device.Device.{Device}
-use Rattle.service_core.specs.Headline.{AreParted}
-use Rattle.service_core.specs.History.{History, state_of}
-use Rattle.service_core.specs.Owners.{IsOwner}
-use Rattle.service_core.specs.Run.{Call, Run}
-use Rattle.service_core.specs.Service.{ServiceState, empty_service, live_of}
-use Rattle.service_core.proofs.Holdings.{has-moved, moved_left}
-use Rattle.service_core.proofs.Owning.{in_window}
-use Rattle.service_core.proofs.Parted.{are_parted}
-use Rattle.wires_law.specs.Untouched.{AreUntouched}
-use Rattle.wires_law.proofs.OwnColumns.{own_column, own_of_routed}
+use Rattle.wires_law.proofs.Prelude.{◌≡◌, ◌≢◌, ℕ, Bool, true, false, ◌&&◌, ◌||◌, List, map, Some, refl, sym, ◌∙◌, arith, and_parts, false≢true, le-leb, Arch, Strip, NodeKind, Node, Resource, ResourceKind, is_edge, is_node, is_slot, joins, has, moved_resource, resource_kind_of, resource_of, PlacedStrip, AreApart, strip_of, device_strip, is_in_window, strip_of_width, apart_of, beside_outside, pair_leaves, windows_apart, routed_set, Device, AreParted, History, state_of, IsOwner, Call, Run, ServiceState, empty_service, has-moved, in_window, are_parted, AreUntouched}
+use Rattle.wires_law.proofs.OwnColumns.{own_of_routed}
 
 or_none : (b : Bool) → b ≡ true → (b || false) ≡ true
-or_none true e = refl
-or_none false e = e
+or_none b e = grind arith
 
 or_any : (b : Bool) → (b || true) ≡ true
-or_any true = refl
-or_any false = refl
-
--- a pin's or a wire's column in its strip
-kind_column : (kind : NodeKind) (held : ResourceKind) (x : ℕ) → resource_kind_of kind ≡ Some held → own_column held x ≡ true → (nat_le 1 x || is_chan_y kind) ≡ true
-kind_column Source held x is own = cc
-kind_column Sink held x is own = cc
-kind_column Opin held x is own = or_none (nat_le 1 x) (ap (λ k. own_column k x) (same_Some _ _ is) ∙ own)
-kind_column Ipin held x is own = or_none (nat_le 1 x) (ap (λ k. own_column k x) (same_Some _ _ is) ∙ own)
-kind_column ChanX held x is own = or_none (nat_le 1 x) (ap (λ k. own_column k x) (same_Some _ _ is) ∙ own)
-kind_column ChanY held x is own = or_any (nat_le 1 x)
+or_any b = grind arith
 
 -- what is in a column doesn't depend on the number of columns
 slot_of_width : (arch : Arch) (device : Strip) (width : ℕ) (kind : NodeKind) (y n : ℕ) → is_slot arch (strip_of_width device width) kind y n ≡ is_slot arch device kind y n
-slot_of_width arch device width Source y n = refl
-slot_of_width arch device width Sink y n = refl
-slot_of_width arch device width Opin y n = refl
-slot_of_width arch device width Ipin y n = refl
-slot_of_width arch device width ChanX y n = refl
-slot_of_width arch device width ChanY y n = refl
+slot_of_width arch device width kind y n = grind arith
 
 -- a node whose resource an owner has is in the window of the owner's strip
 record Seen (arch : Arch) (device : Strip) (state : ServiceState) (id : ℕ) (node : Node) : Type 0 where
@@ -64,37 +20,10 @@ record Seen (arch : Arch) (device : Strip) (state : ServiceState) (id : ℕ) (no
 
 node_seen : (arch : Arch) (device : Strip) (strip : PlacedStrip) (h : History) (node : Node) (held : ResourceKind) → resource_kind_of node.kind ≡ Some held → is_node arch device node ≡ true → strip.width ≡ h.strip.width →
     has (map (moved_resource strip.offset) (routed_set (state_of h))) (record { x = node.x; kind = held; y = node.y; n = node.n }) ≡ true → is_in_window arch device strip node ≡ true
-node_seen arch device strip h node held kind is width has_it =
-    let r : Resource = record { x = node.x; kind = held; y = node.y; n = node.n } in
-    let columns = in_window strip.offset h r has_it in
-    let both = and_parts (nat_le strip.offset node.x) (has (routed_set (state_of h)) (moved_left strip.offset r)) (sym (has-moved strip.offset (routed_set (state_of h)) r) ∙ has_it) in
-    let own : own_column held (node.x - strip.offset) ≡ true = own_of_routed (state_of h) (moved_left strip.offset r) both.1 in
-    let outer = and_parts (nat_le node.x device.width) ((nat_le 1 node.x || is_chan_y node.kind) && is_slot arch device node.kind node.y node.n) is in
-    let inner = and_parts (nat_le 1 node.x || is_chan_y node.kind) (is_slot arch device node.kind node.y node.n) outer.1 in
-    let low : node.x - strip.offset ≤ strip.width = omega (arith, columns.0, columns.1, width) in
-    and_from (nat_le strip.offset node.x) (is_node arch (strip_of_width device strip.width) (moved_back strip.offset node)) both.0
-    (and_from (nat_le (node.x - strip.offset) strip.width) ((nat_le 1 (node.x - strip.offset) || is_chan_y node.kind) && is_slot arch (strip_of_width device strip.width) node.kind node.y node.n) (le-leb (node.x - strip.offset) strip.width low)
-    (and_from (nat_le 1 (node.x - strip.offset) || is_chan_y node.kind) (is_slot arch (strip_of_width device strip.width) node.kind node.y node.n) (kind_column node.kind held (node.x - strip.offset) kind own) (slot_of_width arch device strip.width node.kind node.y node.n ∙ inner.1)))
+node_seen arch device strip h node held kind is width has_it = grind (arith, in_window, has-moved, own_of_routed, le-leb)
 
 owner_seen : (arch : Arch) (device : Strip) (dev : Device) (state : ServiceState) (id : ℕ) (node : Node) (r : Resource) → AreParted dev state → resource_of node ≡ Some r → IsOwner state r id → is_node arch device node ≡ true → Seen arch device state id node
-owner_seen arch device dev state id node r parted is owns there = by_kind (resource_kind_of node.kind) refl is
-  where
-    by_strip : (held : ResourceKind) → resource_kind_of node.kind ≡ Some held → record { x = node.x; kind = held; y = node.y; n = node.n } ≡ r → (h : History) → live_of state.histories id ≡ Some h → (o : Option PlacedStrip) → strip_of state.plan.strips id ≡ o →
-        IsSomeAnd (option_map (λ (s : PlacedStrip). s.offset) o) (λ offset. has (map (moved_resource offset) (routed_set (state_of h))) r ≡ true) → Seen arch device state id node
-    by_strip held kind same h live None found never = absurd never
-    by_strip held kind same h live (Some s) found has_it =
-        let width : s.width ≡ h.strip.width = same_Some _ _ (sym (ap (option_map (λ (s : PlacedStrip). s.width)) found) ∙ (parted.of_live id ∙ ap (option_map (λ (g : History). g.strip.width)) live)) in
-        let P : Resource → Type 0 = λ q. has (map (moved_resource s.offset) (routed_set (state_of h))) q ≡ true in
-        record { strip = s; found = found; within = node_seen arch device s h node held kind there width (subst P (sym same) has_it) }
-
-    by_live : (held : ResourceKind) → resource_kind_of node.kind ≡ Some held → record { x = node.x; kind = held; y = node.y; n = node.n } ≡ r → (o : Option History) → live_of state.histories id ≡ o →
-        IsSomeAnd o (λ h. IsSomeAnd (offset_of state.plan.strips id) (λ offset. has (map (moved_resource offset) (routed_set (state_of h))) r ≡ true)) → Seen arch device state id node
-    by_live held kind same None live never = absurd never
-    by_live held kind same (Some h) live owns = by_strip held kind same h live (strip_of state.plan.strips id) refl owns
-
-    by_kind : (o : Option ResourceKind) → resource_kind_of node.kind ≡ o → option_map (λ kind. record { x = node.x; kind = kind; y = node.y; n = node.n }) o ≡ Some r → Seen arch device state id node
-    by_kind None kind never = cc
-    by_kind (Some held) kind some = by_live held kind (same_Some _ _ some) (live_of state.histories id) refl owns
+owner_seen arch device dev state id node r parted is owns there = search (node_seen, arith)
 
 -- so no pair leads from one to the other
 pub untouched : (device : Device) (calls : List Call) (state : ServiceState) → Run (empty_service device) calls state → AreUntouched device state

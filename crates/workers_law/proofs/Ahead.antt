@@ -1,22 +1,6 @@
 -- The operator's lines ask no command in a tenancy's name.
-use Rattle.std.proofs.Common.{◌≡◌, ℕ, List, [], ◌∷◌, Option, Some, None, inl, inr}
-use Rattle.std.specs.Prelude.{All, ⊤, option_map, reverse}
-use Rattle.std.specs.List.{filter_map, flat_map}
-use Rattle.std.proofs.lemmas.List.Elements.{All-append, All-cons, All-head, All-nil, All-same, All-tail}
-use Rattle.job_state.specs.Job.{JobState}
-use Rattle.service_core.specs.History.{History}
-use Rattle.service_core.specs.Run.{Call}
-use Rattle.service_core.specs.Run.Call.{Tenant, Take as TakeCall, GiveBack}
-use Rattle.service_core.specs.Service.{live_of}
-use Rattle.sessions.specs.declared.steps.StepOutcome.{StepOutcome}
-use Rattle.sessions.specs.declared.steps.StepOutcome.TheVariants.{Recorded, Full, Gone, NoMemory, Nothing, Unfit}
-use Rattle.sessions.specs.Steps.{MakesStep, StepsAndPuts}
-use Rattle.script_text.specs.declared.operator_line.OperatorLine.{OperatorLine}
+use Rattle.workers_law.proofs.Prelude.{◌≡◌, ℕ, List, [], ◌∷◌, Option, Some, None, arith, All, ⊤, option_map, reverse, filter_map, flat_map, All-append, All-cons, All-head, All-nil, All-same, All-tail, JobState, History, Call, Tenant, Take as TakeCall, GiveBack, live_of, StepOutcome, MakesStep, StepsAndPuts, OperatorLine, HeldList, Holds, PutsHeld, give_backs, job_at, last_id, IsAdmission, IsServed, Stage, AreServed, with_give_backs}
 use Rattle.script_text.specs.declared.operator_line.OperatorLine.TheVariants.{Admit, Evict, Move, List as ListAll, Owners, Step, Take, Put}
-use Rattle.operator.specs.HeldJobs.{HeldList, Holds, PutsHeld, give_backs, job_at}
-use Rattle.operator.specs.OperatorText.{last_id}
-use Rattle.operator.specs.Serving.{IsAdmission, IsServed, Stage}
-use Rattle.script_threads.specs.Lines.{AreServed, with_give_backs}
 
 -- a call that asks no command
 abbrev pub NotAsked : Call → Type 0
@@ -33,24 +17,13 @@ two : (a b : Call) → NotAsked a → NotAsked b → NoneAsked (a ∷ b ∷ [])
 two a b is other = All-cons NotAsked a (b ∷ []) is (one b other)
 
 puts_none : (job : JobState) (calls : List Call) (outcome : StepOutcome) → StepsAndPuts job calls outcome → NoneAsked calls
-puts_none job calls (Recorded reply) is = All-same NotAsked calls _ is.1 (one _ tt)
-puts_none job calls Full is = All-same NotAsked calls _ is.1 (one _ tt)
-puts_none job calls Gone is = All-same NotAsked calls _ is.1 (one _ tt)
-puts_none job calls NoMemory (inl is) = All-same NotAsked calls _ is (one _ tt)
-puts_none job calls NoMemory (inr is) = All-same NotAsked calls _ is.2 (two _ _ tt tt)
-puts_none job calls Nothing is = absurd is
-puts_none job calls Unfit is = All-same NotAsked calls _ is (one _ tt)
+puts_none job calls outcome is = grind arith
 
 takes_none : (id : ℕ) (job : JobState) (calls more : List Call) (outcome : StepOutcome) → StepsAndPuts job more outcome → calls ≡ TakeCall id (Some job) ∷ more → NoneAsked calls
 takes_none id job calls more outcome puts is = All-same NotAsked calls _ is (All-cons NotAsked (TakeCall id (Some job)) more tt (puts_none job more outcome puts))
 
 pub step_none : (id : ℕ) (calls : List Call) (outcome : StepOutcome) → MakesStep id calls outcome → NoneAsked calls
-step_none id calls (Recorded reply) is = takes_none id is.0 calls is.1 (Recorded reply) is.2 is.3
-step_none id calls Full is = takes_none id is.0 calls is.1 Full is.2 is.3
-step_none id calls Gone is = takes_none id is.0 calls is.1 Gone is.2 is.3
-step_none id calls NoMemory is = takes_none id is.0 calls is.1 NoMemory is.2 is.3
-step_none id calls Nothing is = All-same NotAsked calls _ is (one _ tt)
-step_none id calls Unfit is = takes_none id is.0 calls is.1 Unfit is.2 is.3
+step_none id calls outcome is = grind arith
 
 abbrev Tried : Type 0
 Tried = List Call × StepOutcome
@@ -61,17 +34,13 @@ tried_none id (t ∷ ts) all =
     All-append NotAsked t.0 (flat_map (λ (t : Tried). t.0) ts) (step_none id t.0 t.1 (All-head (λ (t : Tried). MakesStep id t.0 t.1) t ts all)) (tried_none id ts (All-tail (λ (t : Tried). MakesStep id t.0 t.1) t ts all))
 
 holds_none : (id : ℕ) (job : Option JobState) (calls : List Call) → Holds id job calls → NoneAsked calls
-holds_none id (Some job) calls is = All-same NotAsked calls _ is (one _ tt)
-holds_none id None calls (inl is) = All-same NotAsked calls _ is (one _ tt)
-holds_none id None calls (inr is) = All-same NotAsked calls _ is.1 (two _ _ tt tt)
+holds_none id job calls is = grind arith
 
 held_none : (job : Option JobState) (calls : List Call) (outcome : StepOutcome) → PutsHeld job calls outcome → NoneAsked calls
-held_none None calls outcome is = All-same NotAsked calls [] is.0 (All-nil NotAsked)
-held_none (Some job) calls outcome is = puts_none job calls outcome is
+held_none job calls outcome is = grind arith
 
 admission_none : (o : Option History) (old new : Stage) (name : List ℕ) (width : ℕ) (calls : List Call) (text : List ℕ) → IsAdmission o old name width calls text new → NoneAsked calls
-admission_none (Some h) old new name width calls text is = All-same NotAsked calls [] is.0 (All-nil NotAsked)
-admission_none None old new name width calls text is = All-same NotAsked calls _ is.4 (one _ tt)
+admission_none o old new name width calls text is = grind arith
 
 pub line_none : (old : Stage) (line : OperatorLine (List ℕ)) (calls : List Call) (text : List ℕ) (new : Stage) → IsServed old line calls text new → NoneAsked calls
 line_none old (Admit name width) calls text new is = admission_none (live_of old.service.histories (last_id old.names name)) old new name width calls text is
@@ -85,8 +54,7 @@ line_none old Owners calls text new is = All-same NotAsked calls _ is.2 (one _ t
 
 lines_none : (old : Stage) (lines : List (OperatorLine (List ℕ))) (calls : List Call) (text : List ℕ) (new : Stage) → AreServed old lines calls text new → NoneAsked calls
 lines_none old [] calls text new is = All-same NotAsked calls [] is.0 (All-nil NotAsked)
-lines_none old (line ∷ lines) calls text new is =
-    All-same NotAsked calls _ is.7 (All-append NotAsked is.0 is.3 (line_none old line is.0 is.1 is.2 is.5) (lines_none is.2 lines is.3 is.4 new is.6))
+lines_none old (line ∷ lines) calls text new is = grind (arith, All-append NotAsked is.0 is.3 (line_none old line is.0 is.1 is.2 is.5) (lines_none is.2 lines is.3 is.4 new is.6), lines_none is.2 lines is.3 is.4 new is.6)
 
 gives_none : (jobs : HeldList) → NoneAsked (filter_map (option_map GiveBack) jobs)
 gives_none [] = All-nil NotAsked

@@ -1,17 +1,7 @@
 -- Examples that are computed.
-use Rattle.std.proofs.Common.{◌≡◌, [], ◌∷◌, ◌++◌, true, false, None, refl}
-use Rattle.arch_file.specs.declared.arch.Arch.{Arch}
-use Rattle.grid.specs.declared.Strip.{Strip}
-use Rattle.tenant_slot.specs.declared.command.Command.TheVariants.{Pack, Route, Status}
-use Rattle.tenant_slot.specs.declared.reply.Refusal.TheVariants.{WrongState}
-use Rattle.tenant_slot.specs.declared.reply.Reply.{Reply}
+use Rattle.workers_law.proofs.Prelude.{◌≡◌, [], ◌∷◌, ◌++◌, true, false, None, refl, Arch, Strip, Pack, Route, Status, WrongState, Reply, Empty, Packed, Packing, start, Wait, Refused, UnknownCommand, reply_text, after_last_step, waited_text, waits_for_each}
 use Rattle.tenant_slot.specs.declared.reply.Reply.TheVariants.{Refused as RefusedReply, Status as InState}
-use Rattle.tenant_slot.specs.declared.reply.StateName.TheVariants.{Empty, Packed, Packing}
-use Rattle.tenant_slot.specs.SingleUser.{start}
-use Rattle.sessions.specs.declared.line.SessionLine.TheVariants.{Command, Wait, Refused}
-use Rattle.sessions.specs.declared.refusal.SessionRefusal.TheVariants.{UnknownCommand}
-use Rattle.sessions.specs.SessionText.{reply_text}
-use Rattle.workers_law.specs.Waited.{after_last_step, waited_text, waits_for_each}
+use Rattle.sessions.specs.declared.line.SessionLine.TheVariants.{Command}
 
 -- a line that is refused by itself may come between
 each_waits : waits_for_each false (Command Pack ∷ Refused UnknownCommand ∷ Wait ∷ Command Status ∷ Command Route ∷ Wait ∷ []) ≡ true

@@ -1,46 +1,8 @@
 -- The next step of a tenancy's job is here, unless somebody has taken it.
-use Rattle.std.proofs.Common.{◌≡◌, ◌≢◌, ◌<◌, ℕ, ◌+◌, ◌-◌, List, [], ◌∷◌, ◌++◌, length, Bool, true, false, not, eqb, Option, Some, None, Ok, Err, refl, sym, ap, ◌∙◌, subst, arith}
-use Rattle.std.specs.Prelude.{◌⊎◌, ◌&&◌, All, IsSomeAnd, is_some, nat_lt, option_map, if◌then◌else◌}
-use Rattle.std.specs.List.{flat_map}
-use Rattle.std.specs.Option.{option_map_or}
-use Rattle.std.proofs.lemmas.Bool.{and_from}
-use Rattle.std.proofs.lemmas.Bool.Decides.{nat_tests, Decides-eqb}
-use Rattle.std.proofs.lemmas.List.Elements.{All-head, All-tail}
-use Rattle.job_state.specs.declared.sources.JobKind.{JobKind}
-use Rattle.job_state.specs.declared.step.JobStep.{JobStep}
-use Rattle.job_state.specs.Job.{JobState}
-use Rattle.job_state.specs.JobValue.{is_last}
-use Rattle.tenant_slot.specs.declared.command.Command.{Command}
-use Rattle.tenant_slot.specs.declared.event.Advance.{Advance}
-use Rattle.tenant_slot.specs.declared.event.Event.{Event}
+use Rattle.workers_law.proofs.Prelude.{◌≡◌, ◌≢◌, ◌<◌, ℕ, ◌+◌, ◌-◌, List, [], ◌∷◌, ◌++◌, length, Bool, true, false, not, Option, Some, None, Ok, Err, refl, sym, ap, ◌∙◌, subst, arith, ◌⊎◌, ◌&&◌, All, IsSomeAnd, is_some, nat_lt, option_map, if◌then◌else◌, flat_map, All-head, All-tail, JobKind, JobStep, JobState, Command, Event, Reply, StepReply, State, after_reply, answer_to, kind_that_runs, sources_of, step, is_takeable, next_job, Entry, NoRoom, TooManyStrips, BadWidth, IdsSpent, NoMemory, JournalFull, NoSuchTenancy, Recorded, Full, Gone, IsPut, IsTaken, History, slot_of, state_of, with_entry, with_here, Call, Happens, IsGivenBackTo, IsStepOf, Run, step_entry, Admit, Evict, Move, Tenant, Take, Put, GiveBack, Owners, Receipted, IsAloneOn, ServiceState, history_of, live_of, with_changed, closed_history, state_after-push, if_live_some, Kept, All-history_of, history_of-modified, history_of-past, history_of-push, MadeStep, MakesStep, IsOthers, live_of-changed, some_and, split, TakesNone}
 use Rattle.tenant_slot.specs.declared.event.Event.TheVariants.{Command as Asked}
-use Rattle.tenant_slot.specs.declared.reply.Reply.{Reply}
-use Rattle.tenant_slot.specs.declared.reply.Reply.TheVariants.{Step}
-use Rattle.tenant_slot.specs.declared.reply.StepReply.{StepReply}
-use Rattle.tenant_slot.specs.declared.reply.StepReply.TheVariants.{Advanced, Finished, Stale}
-use Rattle.tenant_slot.specs.SingleUser.{State, advance, after_reply, answer_to, state_at_end, go_on, is_next, kind_that_runs, sources_of, start, step}
-use Rattle.tenant_slot.specs.Slot.{GivesBack, is_takeable, next_job}
-use Rattle.service_core.specs.declared.entry.Entry.{Entry}
-use Rattle.service_core.specs.declared.op_refusal.OpRefusal.TheVariants.{NoMemory as OpNoMemory, NoRoom, TooManyStrips, BadWidth, NoSuchTenancy as NotThere, IdsSpent}
-use Rattle.service_core.specs.declared.not_served.NotServed.TheVariants.{NoMemory, JournalFull, NoSuchTenancy}
-use Rattle.service_core.specs.declared.put_reply.PutReply.TheVariants.{Recorded, Full, Gone}
-use Rattle.service_core.specs.Calls.{IsPut, IsTaken}
-use Rattle.service_core.specs.History.{History, slot_of, state_of, with_entry, with_here}
-use Rattle.service_core.specs.Run.{Call, Happens, IsGivenBackTo, IsStepOf, Run, step_entry}
-use Rattle.service_core.specs.Run.Call.{Admit, Evict, Move, Tenant, Take, Put, GiveBack, Owners}
-use Rattle.service_core.specs.Receipt.{Receipted}
-use Rattle.service_core.specs.Service.{IsAloneOn, ServiceState, history_of, live_of, with_changed}
-use Rattle.service_core.specs.Tenancy.{closed_history, if_live}
-use Rattle.service_core.proofs.Histories.{state_after-push}
-use Rattle.service_core.proofs.Keeps.{if_live_some}
-use Rattle.service_core.proofs.Effects.{Kept}
-use Rattle.service_core.proofs.Lists.{All-history_of, history_of-modified, history_of-past, history_of-push}
+use Rattle.service_core.specs.declared.op_refusal.OpRefusal.TheVariants.{NoMemory as OpNoMemory, NoSuchTenancy as NotThere}
 use Rattle.sessions.specs.declared.steps.StepOutcome.TheVariants.{Recorded as StepRecorded}
-use Rattle.sessions.specs.Steps.{MadeStep, MakesStep}
-use Rattle.sessions.specs.WholeSession.{IsOthers}
-use Rattle.sessions.proofs.Counted.{live_of-changed, some_and}
-use Rattle.sessions.proofs.EndToEndLemmas.{split}
-use Rattle.workers_law.specs.Workers.{TakesNone}
 
 -- if a job of a live tenancy runs, its next step is here
 abbrev pub is_out : Bool → Option Bool → Bool
@@ -57,88 +19,34 @@ same_here old new id same is = let P : ServiceState → Type 0 = λ s. IsHere s 
 
 -- a change of another tenancy
 other_changed : (old new : ServiceState) (t id : ℕ) (change : History → History) → t ≢ id → new.histories ≡ with_changed old.histories t change → IsHere old id → IsHere new id
-other_changed old new t id change apart made is =
-    let no : eqb id t ≡ false = grind (arith, nat_tests) in
-    let same : history_of (with_changed old.histories t change) id ≡ history_of old.histories id = history_of-modified old.histories t id change ∙ ap (λ b. if b then option_map change (history_of old.histories id) else history_of old.histories id) no in
-    let live : live_of new.histories id ≡ live_of old.histories id = ap (λ hs. live_of hs id) made ∙ ap if_live same in
-    subst (λ o. IsSomeAnd o HasHere) (sym live) is
+other_changed old new t id change apart made is = grind (arith, history_of-modified)
 
 -- a change after which it is here
 own_changed : (old new : ServiceState) (id : ℕ) (change : History → History) → ((h : History) → (change h).live ≡ h.live) → ((h : History) → live_of old.histories id ≡ Some h → HasHere h → HasHere (change h)) → new.histories ≡ with_changed old.histories id change → IsHere old id → IsHere new id
-own_changed old new id change lives keeps made is =
-    let was = some_and HasHere (live_of old.histories id) is in
-    let now : live_of new.histories id ≡ Some (change was.0) = ap (λ hs. live_of hs id) made ∙ live_of-changed old.histories id change was.0 lives was.1 in
-    subst (λ o. IsSomeAnd o HasHere) (sym now) (keeps was.0 was.1 was.2)
+own_changed old new id change lives keeps made is = grind (arith, some_and, live_of-changed)
 
 any_changed : (old new : ServiceState) (t id : ℕ) (change : History → History) → ((h : History) → (change h).live ≡ h.live) → ((h : History) → live_of old.histories t ≡ Some h → HasHere h → HasHere (change h)) → new.histories ≡ with_changed old.histories t change → IsHere old id → IsHere new id
-any_changed old new t id change lives keeps made is = by_test (eqb t id) refl
-  where
-    by_test : (b : Bool) → eqb t id ≡ b → IsHere new id
-    by_test true e =
-        let own : t ≡ id = (Decides-eqb t id).0 e in
-        let P : ℕ → Type 0 = λ i. IsHere new i in
-        subst P own (own_changed old new t change lives keeps made (let Q : ℕ → Type 0 = λ i. IsHere old i in subst Q (sym own) is))
-    by_test false e =
-        let apart : t ≢ id = λ same. (let yes : eqb t id ≡ true = (Decides-eqb t id).1 same in cc) in
-        other_changed old new t id change apart made is
+any_changed old new t id change lives keeps made is = grind (arith, own_changed, other_changed)
 
 -- an entry leaves it here
 never_out : (runs : Bool) (here : Option Bool) → is_some here ≡ true → is_out runs here ≡ false
-never_out true here is = ap not is
-never_out false here is = refl
+never_out runs here is = grind arith
 
 abbrev StepIf : State → Event → Bool → State × Option Reply
 StepIf s event full = if full then (s, None) else (after_reply s (answer_to s event).0, Some (answer_to s event).1)
 
 same_name : (s : State) (event : Event) → (answer_to s event).0 ≡ None → (step s event).0.name ≡ s.name
-same_name s event none = by_test (eqb s.entries 65536)
-  where
-    by_test : (b : Bool) → (StepIf s event b).0.name ≡ s.name
-    by_test true = refl
-    by_test false = ap (λ change. (after_reply s change).name) none
+same_name s event none = grind arith
 
 entry_here : (e : Entry) (h : History) → HasHere h → HasHere (with_entry e h)
-entry_here e h is = by_change (answer_to (state_of h) e.event).0 refl
-  where
-    next : state_of (with_entry e h) ≡ (step (state_of h) e.event).0
-    next = state_after-push (start h.arch h.strip) h.entries e
-
-    by_change : (change : Option State) → (answer_to (state_of h) e.event).0 ≡ change → HasHere (with_entry e h)
-    by_change None none =
-        let name : (state_of (with_entry e h)).name ≡ (state_of h).name = ap (λ (s : State). s.name) next ∙ same_name (state_of h) e.event none in
-        let here : (with_entry e h).here ≡ h.here = ap (λ (change : Option State). option_map_or (λ new. Some false) change h.here) none in
-        ap (λ n. is_out (is_some (kind_that_runs n)) (with_entry e h).here) name ∙ (ap (is_out (is_some (kind_that_runs (state_of h).name))) here ∙ is)
-    by_change (Some new) some =
-        let here : is_some (with_entry e h).here ≡ true = ap (λ (change : Option State). is_some (option_map_or (λ new. Some false) change h.here)) some in
-        never_out (is_some (kind_that_runs (state_of (with_entry e h)).name)) (with_entry e h).here here
-
--- a job that is given back is here
-back_here : (h : History) (job : JobState) (here : Option Bool) → GivesBack (slot_of h) job (slot_of (with_here here h)) → HasHere h → HasHere (with_here here h)
-back_here h job here gives is = by_test (is_some here) refl
-  where
-    by_test : (b : Bool) → is_some here ≡ b → HasHere (with_here here h)
-    by_test true e = never_out (is_some (kind_that_runs (state_of h).name)) here e
-    by_test false e =
-        let not_ready : next_job (slot_of h) ≡ Some job.step → ⊥ = λ next. (let made : here ≡ Some job.made = gives.ready next in let yes : is_some here ≡ true = ap is_some made in cc) in
-        ap (is_out (is_some (kind_that_runs (state_of h).name))) (gives.dropped not_ready) ∙ is
+entry_here e h is = search (state_after-push, never_out, arith)
 
 given_here : (o : Option History) (old new : ServiceState) (job : JobState) (id : ℕ) → live_of old.histories job.step.id ≡ o → IsGivenBackTo o old job new → IsHere old id → IsHere new id
-given_here None old new job id live is was = same_here old new id is was
-given_here (Some h) old new job id live is was =
-    any_changed old new job.step.id id (with_here is.0) (λ g. refl) (λ g at here. (let same : h ≡ g = cc in subst (λ x. HasHere x → HasHere (with_here is.0 x)) same (back_here h job is.0 is.1) here)) (ap (λ (s : ServiceState). s.histories) is.2) was
+given_here o old new job id live is was = grind (arith, any_changed)
 
 -- one more tenancy
 push_here : (old new : ServiceState) (x : History) (id : ℕ) → new.histories ≡ old.histories ++ x ∷ [] → IsHere old id → IsHere new id
-push_here old new x id made is =
-    let was = some_and HasHere (live_of old.histories id) is in
-    let there : history_of old.histories id ≡ Some was.0 = if_live_some (history_of old.histories id) was.0 was.1 in
-    let same : history_of (old.histories ++ x ∷ []) id ≡ history_of old.histories id = history_of-push old.histories x id ∙ by_test there (eqb id (length old.histories + 1)) refl in
-    let live : live_of new.histories id ≡ live_of old.histories id = ap (λ hs. live_of hs id) made ∙ ap if_live same in
-    subst (λ o. IsSomeAnd o HasHere) (sym live) is
-  where
-    by_test : {h : History} → history_of old.histories id ≡ Some h → (b : Bool) → eqb id (length old.histories + 1) ≡ b → (if b then Some x else history_of old.histories id) ≡ history_of old.histories id
-    by_test there false e = refl
-    by_test there true e = let past : history_of old.histories id ≡ None = history_of-past old.histories id (grind (arith, nat_tests)) in cc
+push_here old new x id made is = grind (arith, history_of-push, history_of-past)
 
 -- the entry of a command
 abbrev asked_with : Command → Reply → Entry
@@ -174,42 +82,11 @@ others_here old (Put done foreign (Err back)) new id others takes is was = same_
 others_here old (GiveBack job) new id others takes is was = given_here (live_of old.histories job.step.id) old new job id refl is was
 others_here old (Owners list) new id others takes is was = same_here old new id is.1 was
 
--- a step of the running job that was just taken is the next one
-abbrev GoIf : State → JobKind → Bool → Option State × Reply
-GoIf s kind last = if last then (Some (state_at_end s kind), Step Finished) else (Some (record s { steps = s.steps + 1 }), Step Advanced)
-
-abbrev NextIf : State → JobKind → Bool → Option State × Reply
-NextIf s kind next = if next then go_on s kind else (None, Step Stale)
-
-goes_here : (s : State) (kind : JobKind) (b : Bool) → is_some (option_map_or (λ new. Some false) (GoIf s kind b).0 None) ≡ true
-goes_here s kind true = refl
-goes_here s kind false = refl
-
-advance_here : (s : State) (id : ℕ) (made : Advance) (step : JobStep) (o : Option JobKind) → option_map (λ sources. record { id = id; generation = s.generation; number = s.steps + 1; sources = sources }) (option_map (sources_of s) o) ≡ Some step →
-    made.generation ≡ step.generation → made.number ≡ step.number → made.foreign ≡ false → is_some (option_map_or (λ new. Some false) (advance s made o).0 None) ≡ true
-advance_here s id made step None next generation number own = cc
-advance_here s id made step (Some kind) next generation number own =
-    let its : JobStep = record { id = id; generation = s.generation; number = s.steps + 1; sources = sources_of s kind } in
-    let e : its ≡ step = cc in
-    let first : (eqb made.generation s.generation) ≡ true = (Decides-eqb made.generation s.generation).1 (generation ∙ ap (λ (x : JobStep). x.generation) (sym e)) in
-    let second : (eqb made.number (s.steps + 1)) ≡ true = (Decides-eqb made.number (s.steps + 1)).1 (number ∙ ap (λ (x : JobStep). x.number) (sym e)) in
-    let is : is_next s made ≡ true = and_from _ _ first (and_from _ _ second (ap not own)) in
-    ap (λ b. is_some (option_map_or (λ (new : State). Some false) (NextIf s kind b).0 None)) is ∙ goes_here s kind (is_last (sources_of s kind) (s.steps + 1))
-
 next_sources : (s : State) (id : ℕ) (step : JobStep) (o : Option JobKind) → option_map (λ sources. record { id = id; generation = s.generation; number = s.steps + 1; sources = sources }) (option_map (sources_of s) o) ≡ Some step → (option_map (sources_of s) o ≡ Some step.sources) × (step.id ≡ id)
-next_sources s id step None next = cc
-next_sources s id step (Some kind) next =
-    let its : JobStep = record { id = id; generation = s.generation; number = s.steps + 1; sources = sources_of s kind } in
-    let e : its ≡ step = cc in
-    (ap (λ (x : JobStep). Some x.sources) e, ap (λ (x : JobStep). x.id) (sym e))
+next_sources s id step o next = grind arith
 
 step_here : (h : History) (done : JobStep) (foreign : Bool) (reply : StepReply) → next_job (slot_of h) ≡ Some done → IsStepOf (with_here None h) done foreign reply → HasHere (with_entry (step_entry done foreign reply) (with_here None h))
-step_here h done foreign reply next is =
-    let s : State = state_of h in
-    let made : Advance = record { generation = done.generation; number = done.number; foreign = foreign } in
-    let sources = next_sources s h.id done (kind_that_runs s.name) next in
-    let after_reply : History = with_entry (step_entry done foreign reply) (with_here None h) in
-    never_out (is_some (kind_that_runs (state_of after_reply).name)) after_reply.here (advance_here s h.id made done (kind_that_runs s.name) next refl refl (is.flag.foreign.1 sources.0))
+step_here h done foreign reply next is = search arith
 
 abbrev IsTakenOf : ℕ → JobState → History → Type 0
 IsTakenOf id job h = (h.id ≡ id) × (is_takeable (slot_of h) ≡ true) × (next_job (slot_of h) ≡ Some job.step) × (h.here ≡ Some job.made)
@@ -231,20 +108,13 @@ recorded_here old mid new id job foreign reply takes puts =
 
 -- a put right after the take finds its tenancy, with room in its journal
 taken_live : (old mid : ServiceState) (id : ℕ) (job : JobState) → IsTaken old id (Some job) mid → (h : History) × (live_of old.histories id ≡ Some h) × (is_takeable (slot_of h) ≡ true) × (live_of mid.histories job.step.id ≡ Some (with_here None h))
-taken_live old mid id job takes =
-    let was = some_and (IsTakenOf id job) (live_of old.histories id) takes.0 in
-    let h : History = was.0 in
-    let own : job.step.id ≡ id = (next_sources (state_of h) h.id job.step (kind_that_runs (state_of h).name) was.2.2).1 ∙ was.2.0 in
-    let out : live_of mid.histories id ≡ Some (with_here None h) = ap (λ (s : ServiceState). live_of s.histories id) takes.1 ∙ live_of-changed old.histories id (with_here None) h (λ g. refl) was.1 in
-    (h, was.1, was.2.1, ap (live_of mid.histories) own ∙ out)
+taken_live old mid id job takes = grind (arith, live_of-changed)
 
 pub never_away : (old mid new : ServiceState) (id : ℕ) (job : JobState) (foreign : Bool) → IsTaken old id (Some job) mid → Happens mid (Put job.step foreign (Ok Gone)) new → ⊥
 never_away old mid new id job foreign takes puts = let t = taken_live old mid id job takes in let none : live_of mid.histories job.step.id ≡ None = puts.0 in let some : live_of mid.histories job.step.id ≡ Some (with_here None t.0) = t.3 in cc
 
 has_room : (runs here : Bool) (entries : ℕ) → (runs && (here && nat_lt entries 65536)) ≡ true → entries < 65536
-has_room true true entries is = grind (arith, nat_tests)
-has_room true false entries is = cc
-has_room false here entries is = cc
+has_room runs here entries is = grind arith
 
 pub never_full : (old mid new : ServiceState) (id : ℕ) (job : JobState) (foreign : Bool) → Kept old → IsTaken old id (Some job) mid → Happens mid (Put job.step foreign (Ok Full)) new → ⊥
 never_full old mid new id job foreign kept takes puts =
@@ -264,12 +134,7 @@ asked_here old id command r new is was =
 
 -- so after recorded steps it is here
 made_here : (old : ServiceState) (calls : List Call) (new : ServiceState) (id : ℕ) (reply : StepReply) → MakesStep id calls (StepRecorded reply) → Run old calls new → IsHere new id
-made_here old calls new id reply makes runs =
-    let job : JobState = makes.0 in
-    let all : calls ≡ Take id (Some job) ∷ Put job.step makes.2.0 (Ok (Recorded reply)) ∷ [] = makes.3 ∙ ap (λ more. Take id (Some job) ∷ more) makes.2.1 in
-    let run : Run old (Take id (Some job) ∷ Put job.step makes.2.0 (Ok (Recorded reply)) ∷ []) new = (let P : List Call → Type 0 = λ cs. Run old cs new in subst P all runs) in
-    let Q : ServiceState → Type 0 = λ s. IsHere s id in
-    subst Q (sym run.2.2) (recorded_here old run.0 run.2.0 id job makes.2.0 reply run.1 run.2.1)
+made_here old calls new id reply makes runs = grind (arith, recorded_here)
 
 abbrev IsMade : ℕ → MadeStep → Type 0
 IsMade id m = MakesStep id m.0 (StepRecorded m.1)

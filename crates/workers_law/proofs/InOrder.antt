@@ -1,42 +1,8 @@
 -- Without workers, the text of a session that waits is the same function of its items.
-use Rattle.std.proofs.Common.{◌≡◌, ◌≢◌, ℕ, List, [], ◌∷◌, ◌++◌, map, Bool, true, false, eqb, Option, Some, None, Result, Ok, Err, refl, sym, ap, ◌∙◌, subst, append_assoc, arith}
-use Rattle.std.specs.Prelude.{All, if◌then◌else◌}
-use Rattle.std.specs.List.{flat_map}
-use Rattle.std.proofs.lemmas.Bool.Decides.{nat_tests}
-use Rattle.std.proofs.lemmas.Grind.{flat_map-append}
-use Rattle.std.proofs.lemmas.List.Elements.{All-append, All-head, All-nil, All-same, All-tail}
-use Rattle.tenant_slot.specs.declared.command.Command.{Command as TenantCommand}
-use Rattle.tenant_slot.specs.declared.command.Command.TheVariants.{Status}
-use Rattle.tenant_slot.specs.declared.event.Advance.{Advance}
-use Rattle.tenant_slot.specs.declared.event.Event.{Event}
+use Rattle.workers_law.proofs.Prelude.{◌≡◌, ◌≢◌, ℕ, List, [], ◌∷◌, ◌++◌, map, Bool, true, false, eqb, Option, Some, None, Result, Ok, Err, refl, sym, ap, ◌∙◌, subst, append_assoc, arith, All, if◌then◌else◌, flat_map, nat_tests, flat_map-append, All-append, All-head, All-nil, All-same, All-tail, Command as TenantCommand, Status, Advance, Event, Reply, Step, State, answer_to, kind_that_runs, start, state_after, step, Device, NotServed, NoMemory, JournalFull, NoSuchTenancy, Recorded, Full, Gone, own_events, own_exchange, own_exchanges, Receipted, Call, Run, Admit, Evict, Move, Tenant, Take, Put, GiveBack, Owners, ServiceState, empty_service, live_width, strip_on, Kept, run_keeps, IsService-empty, SessionLine, Blank, Wait, Refused, StepOutcome, Answer, Served, AsksCommand, EndsWait, answer_text, reply_text, session_refusal_text, MadeStep, MakesStep, Waits, IsOthers, Turn, Turns, Item, Meanwhile, text_of_turns, Run-append, after_command, begins_job, after_last_step, waited_text, waits_for_each, AreReplied, OwnTurns, items_in}
 use Rattle.tenant_slot.specs.declared.event.Event.TheVariants.{Command as Asked, Advance as Stepped}
-use Rattle.tenant_slot.specs.declared.reply.Reply.{Reply}
-use Rattle.tenant_slot.specs.declared.reply.Reply.TheVariants.{Step}
-use Rattle.tenant_slot.specs.SingleUser.{State, answer_to, kind_that_runs, start, state_after, step}
-use Rattle.service_core.specs.declared.device.Device.{Device}
-use Rattle.service_core.specs.declared.not_served.NotServed.{NotServed}
-use Rattle.service_core.specs.declared.not_served.NotServed.TheVariants.{NoMemory, JournalFull, NoSuchTenancy}
-use Rattle.service_core.specs.declared.put_reply.PutReply.TheVariants.{Recorded, Full, Gone}
-use Rattle.service_core.specs.OwnEvents.{own_events, own_exchange, own_exchanges}
-use Rattle.service_core.specs.Receipt.{Receipted}
-use Rattle.service_core.specs.Run.{Call, Run}
-use Rattle.service_core.specs.Run.Call.{Admit, Evict, Move, Tenant, Take, Put, GiveBack, Owners}
-use Rattle.service_core.specs.Service.{ServiceState, empty_service, live_width, strip_on}
-use Rattle.service_core.proofs.Effects.{Kept, run_keeps}
-use Rattle.service_core.proofs.Keeps.{IsService-empty}
-use Rattle.sessions.specs.declared.line.SessionLine.{SessionLine}
-use Rattle.sessions.specs.declared.line.SessionLine.TheVariants.{Blank, Command, Wait, Refused}
-use Rattle.sessions.specs.declared.steps.StepOutcome.{StepOutcome}
-use Rattle.sessions.specs.declared.steps.StepOutcome.TheVariants.{Recorded as StepRecorded, Full as StepFull, Gone as StepGone, NoMemory as StepNoMemory, Nothing, Unfit}
-use Rattle.sessions.specs.declared.told.Answer.{Answer}
-use Rattle.sessions.specs.declared.told.Answer.TheVariants.{Served}
-use Rattle.sessions.specs.SessionAnswer.{AsksCommand, EndsWait}
-use Rattle.sessions.specs.SessionText.{answer_text, reply_text, session_refusal_text}
-use Rattle.sessions.specs.Steps.{MadeStep, MakesStep, Waits}
-use Rattle.sessions.specs.WholeSession.{IsOthers, Turn, Turns, Item, Meanwhile, text_of_turns}
-use Rattle.sessions.proofs.StepLemmas.{Run-append}
-use Rattle.workers_law.specs.Waited.{after_command, begins_job, after_last_step, waited_text, waits_for_each}
-use Rattle.workers_law.specs.Workers.{AreReplied, OwnTurns, items_in}
+use Rattle.sessions.specs.declared.line.SessionLine.TheVariants.{Command}
+use Rattle.sessions.specs.declared.steps.StepOutcome.TheVariants.{Recorded as StepRecorded}
 use Rattle.workers_law.proofs.Replied.{AreAllReplied, IsReplied, are_replied, first_here}
 use Rattle.workers_law.proofs.Ahead.{NoneAsked, NotAsked, step_none}
 use Rattle.workers_law.proofs.States.{AreAlike, alike-name, ended-rests, status_rests}
@@ -62,8 +28,7 @@ stays : (begun : Bool) (s t : State) (rest : Exchanges) → Agree begun s t → 
 stays begun s t rest agree shows = (s, agree, shows)
 
 not_own : (b : Bool) (begun : Bool) (s t : State) (event : Event) (reply : Option Reply) (rest : Exchanges) → b ≡ false → Agree begun s t → Shows s ((if b then (event, reply) ∷ [] else []) ++ rest) → Goes begun t rest
-not_own true begun s t event reply rest other agree shows = cc
-not_own false begun s t event reply rest other agree shows = stays begun s t rest agree shows
+not_own b begun s t event reply rest other agree shows = grind arith
 
 a_step : (b : Bool) (begun : Bool) (s t : State) (made : Advance) (reply : Option Reply) (rest : Exchanges) → Agree begun s t → Shows s ((if b then (Stepped made, reply) ∷ [] else []) ++ rest) → Goes begun t rest
 a_step true begun s t made reply rest agree shows = stays begun (step s (Stepped made)).0 t rest (agree_stepped begun s t made agree) shows.1
@@ -108,23 +73,14 @@ own_one id command r = let e : eqb id id ≡ true = grind (arith, nat_tests) in 
 served_line : (id : ℕ) (line : SessionLine) (command : TenantCommand) (served : Result Receipted NotServed) (s : State) (rest : Exchanges) → ((e : NotServed) → IsReplied line (Served (Err e)) → ⊥) → IsReplied line (Served served) →
     Shows s (own_exchanges id (Tenant id command served ∷ []) ++ rest) → Line id line command (Tenant id command served ∷ []) (Served served) s rest
 served_line id line command (Err e) s rest never replied shows = absurd (never e replied)
-served_line id line command (Ok r) s rest never replied shows =
-    let here : Shows s ((Asked command, Some r.reply) ∷ rest) = subst (λ xs. Shows s (xs ++ rest)) (own_one id command r) shows in
-    (r, refl, sym here.0, here.1, replied)
+served_line id line command (Ok r) s rest never replied shows = grind arith
 
 asked_line : (id : ℕ) (line : SessionLine) (command : TenantCommand) (calls : List Call) (answer : Answer) (s : State) (rest : Exchanges) → ((e : NotServed) → IsReplied line (Served (Err e)) → ⊥) → AsksCommand id command calls answer → IsReplied line answer →
     Shows s (own_exchanges id calls ++ rest) → Line id line command calls answer s rest
-asked_line id line command calls answer s rest never asks replied shows =
-    let one = served_line id line command asks.0 s rest never (subst (IsReplied line) asks.2 replied) (subst (λ cs. Shows s (own_exchanges id cs ++ rest)) asks.1 shows) in
-    (one.0, asks.2 ∙ one.1, one.2, one.3, one.4)
+asked_line id line command calls answer s rest never asks replied shows = grind (arith, served_line)
 
 status_line : (id : ℕ) (last : StepOutcome) (calls : List Call) (answer : Answer) → EndsWait id last calls answer → IsReplied Wait answer → AsksCommand id Status calls answer
-status_line id (StepRecorded reply) calls answer is replied = is
-status_line id StepFull calls answer is replied = is
-status_line id StepGone calls answer is replied = is
-status_line id StepNoMemory calls answer is replied = absurd (subst (IsReplied Wait) is.1 replied)
-status_line id Nothing calls answer is replied = is
-status_line id Unfit calls answer is replied = is
+status_line id last calls answer is replied = grind arith
 
 split_shows : (id : ℕ) (s : State) (calls more : List Call) → Shows s (own_exchanges id (calls ++ more)) → Shows s (own_exchanges id calls ++ own_exchanges id more)
 split_shows id s calls more shows = subst (Shows s) (flat_map-append (own_exchange id) calls more) shows

@@ -1,3 +1,4 @@
+mod Prelude
 mod Ahead
 mod Endings
 mod Examples

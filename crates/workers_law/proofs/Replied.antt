@@ -1,52 +1,9 @@
 -- A wait that gives no job back ends with no job running, if nobody else took one.
-use Rattle.std.proofs.Common.{◌≡◌, ◌≢◌, ◌≤◌, length, ℕ, List, [], ◌∷◌, ◌++◌, Bool, true, false, not, Option, Some, None, Result, Ok, Err, refl, sym, ap, ◌∙◌, subst, arith, inl, inr}
-use Rattle.std.specs.Prelude.{◌⊎◌, ⊤, ◌&&◌, IfSome, IsSomeAnd, is_some, nat_lt, option_map, if◌then◌else◌}
-use Rattle.std.specs.List.{flat_map}
-use Rattle.std.proofs.lemmas.Bool.Decides.{nat_tests}
-use Rattle.tenant_slot.specs.declared.command.Command.{Command as TenantCommand}
-use Rattle.tenant_slot.specs.declared.command.Command.TheVariants.{Status}
-use Rattle.tenant_slot.specs.declared.event.Event.{Event}
+use Rattle.workers_law.proofs.Prelude.{◌≡◌, ◌≢◌, ◌≤◌, length, ℕ, List, [], ◌∷◌, ◌++◌, Bool, true, false, not, Option, Some, None, Result, Ok, Err, sym, ap, ◌∙◌, subst, arith, inl, inr, ◌⊎◌, ⊤, ◌&&◌, IfSome, IsSomeAnd, is_some, nat_lt, if◌then◌else◌, flat_map, nat_tests, Command as TenantCommand, Status, kind_that_runs, run, is_takeable, step-served, Device, NotServed, NoMemory, PutReply, Full, Gone, IsTaken, JobStep, JobState, AllocError, History, slot_of, state_of, own_events, Receipted, Call, Happens, IsReceipt, Run, Admit, Evict, Move, Tenant, Take, Put, GiveBack, Owners, IsAloneOn, ServiceState, empty_service, history_of, live_of, live_width, each_alone, Kept, kept_after, run_keeps, if_live_some, All-history_of, SessionLine, Blank, Wait, Refused, StepOutcome, Nothing, Unfit, Answer, Served, AsksCommand, EndsWait, GivesNoneBack, LeavesNone, answer_text, EndsSteps, IsOnePut, MadeStep, MakesStep, Waits, Turn, Item, Meanwhile, some_and, split, IsAtRest, IsReply, AreReplied, OwnTurns}
 use Rattle.tenant_slot.specs.declared.event.Event.TheVariants.{Command as Asked}
-use Rattle.tenant_slot.specs.SingleUser.{State, kind_that_runs, run}
-use Rattle.tenant_slot.specs.Slot.{is_takeable}
-use Rattle.tenant_slot.proofs.Runs.{step-served}
-use Rattle.service_core.specs.declared.device.Device.{Device}
-use Rattle.service_core.specs.declared.not_served.NotServed.{NotServed}
-use Rattle.service_core.specs.declared.not_served.NotServed.TheVariants.{NoMemory, JournalFull, NoSuchTenancy}
-use Rattle.service_core.specs.declared.put_reply.PutReply.{PutReply}
-use Rattle.service_core.specs.declared.put_reply.PutReply.TheVariants.{Full, Gone}
-use Rattle.service_core.specs.Calls.{IsTaken}
-use Rattle.job_state.specs.declared.step.JobStep.{JobStep}
-use Rattle.job_state.specs.Job.{JobState}
-use Rattle.std.specs.declared.alloc.AllocError.{AllocError}
-use Rattle.tenant_slot.specs.declared.reply.Reply.{Reply}
-use Rattle.service_core.specs.Headline.{EachIsAlone}
-use Rattle.service_core.specs.History.{History, slot_of, state_of}
-use Rattle.service_core.specs.OwnEvents.{own_events, own_replies}
-use Rattle.service_core.specs.Receipt.{Receipted}
-use Rattle.service_core.specs.Run.{Call, Happens, IsReceipt, Run}
-use Rattle.service_core.specs.Run.Call.{Admit, Evict, Move, Tenant, Take, Put, GiveBack, Owners}
-use Rattle.service_core.specs.Service.{IsAloneOn, ServiceState, empty_service, history_of, live_of, live_width, strip_on}
-use Rattle.service_core.proofs.Alone.{each_alone}
-use Rattle.service_core.proofs.Effects.{Kept, kept_after, run_keeps}
-use Rattle.service_core.proofs.Keeps.{if_live_some}
-use Rattle.service_core.proofs.Lists.{All-history_of}
-use Rattle.sessions.specs.declared.line.SessionLine.{SessionLine}
-use Rattle.sessions.specs.declared.line.SessionLine.TheVariants.{Blank, Command, Wait, Refused}
-use Rattle.sessions.specs.declared.steps.StepOutcome.{StepOutcome}
-use Rattle.sessions.specs.declared.steps.StepOutcome.TheVariants.{Recorded as StepRecorded, Full as StepFull, Gone as StepGone, NoMemory as StepNoMemory, Nothing, Unfit}
-use Rattle.sessions.specs.declared.told.Answer.{Answer}
-use Rattle.sessions.specs.declared.told.Answer.TheVariants.{Served}
-use Rattle.sessions.specs.SessionAnswer.{AsksCommand, EndsWait, GivesNoneBack, LeavesNone}
-use Rattle.sessions.specs.SessionText.{answer_text}
-use Rattle.sessions.specs.Steps.{EndsSteps, IsOnePut, MadeStep, MakesStep, Waits}
-use Rattle.sessions.specs.WholeSession.{Turn, Item, Meanwhile}
-use Rattle.sessions.proofs.Counted.{some_and}
-use Rattle.sessions.proofs.EndToEndLemmas.{split}
-use Rattle.session_threads.specs.Told.{IsAtRest}
-use Rattle.workers_law.specs.Waited.{IsReply}
-use Rattle.workers_law.specs.Workers.{AreReplied, OwnTurns}
-use Rattle.workers_law.proofs.Here.{HasHere, IsHere, asked_here, is_out, never_away, never_full, others_here, same_here, steps_here}
+use Rattle.sessions.specs.declared.line.SessionLine.TheVariants.{Command}
+use Rattle.sessions.specs.declared.steps.StepOutcome.TheVariants.{Recorded as StepRecorded, Full as StepFull, Gone as StepGone, NoMemory as StepNoMemory}
+use Rattle.workers_law.proofs.Here.{HasHere, IsHere, asked_here, never_away, never_full, others_here, same_here, steps_here}
 use Rattle.workers_law.proofs.States.{rests_status}
 
 -- an item has a reply of the tenancy, or a refusal of its own; a wait is answered with a state in
@@ -64,22 +21,10 @@ AreAllReplied (Meanwhile call ∷ turns) = AreAllReplied turns
 
 -- no job runs of a tenancy to which nothing happened
 idle_start : (device : Device) (before : List Call) (old : ServiceState) (id : ℕ) (h : History) → Run (empty_service device) before old → own_events id before ≡ [] → live_of old.histories id ≡ Some h → kind_that_runs (state_of h).name ≡ None
-idle_start device before old id h first nothing live =
-    let was : history_of old.histories id ≡ Some h = if_live_some (history_of old.histories id) h live in
-    let all : EachIsAlone device before old = each_alone device before old first in
-    let P : Option History → Type 0 = λ o. IfSome o (λ x. (state_of x, own_replies id before) ≡ run device.arch (strip_on device x.strip.width) (own_events id before)) in
-    let own : (state_of h, own_replies id before) ≡ run device.arch (strip_on device h.strip.width) (own_events id before) = subst P was (all id) in
-    ap (λ (p : State × List (Option Reply)). kind_that_runs p.0.name) own ∙ ap (λ (events : List Event). kind_that_runs (run device.arch (strip_on device h.strip.width) events).0.name) nothing
-
-live_one : (o : Option History) (width : ℕ) → option_map (λ (h : History). h.strip.width) o ≡ Some width → (h : History) × (o ≡ Some h)
-live_one None width is = cc
-live_one (Some h) width is = (h, refl)
+idle_start device before old id h first nothing live = grind (arith, each_alone device before old first)
 
 pub first_here : (device : Device) (before : List Call) (old : ServiceState) (id width : ℕ) → Run (empty_service device) before old → own_events id before ≡ [] → live_width old.histories id ≡ Some width → IsHere old id
-first_here device before old id width first nothing live =
-    let is = live_one (live_of old.histories id) width live in
-    let rests : kind_that_runs (state_of is.0).name ≡ None = idle_start device before old id is.0 first nothing is.1 in
-    subst (λ o. IsSomeAnd o HasHere) (sym is.1) (ap (λ o. is_out (is_some o) is.0.here) rests)
+first_here device before old id width first nothing live = grind (arith, idle_start)
 
 -- a command that is answered
 never_gone : (old new : ServiceState) (id : ℕ) → IsHere old id → live_of old.histories id ≡ None → ⊥
@@ -89,10 +34,7 @@ abbrev IsOk : Result Receipted NotServed → Type 0
 IsOk served = (r : Receipted) × (served ≡ Ok r)
 
 served_ok : (old new : ServiceState) (id : ℕ) (command : TenantCommand) (served : Result Receipted NotServed) → IsHere old id → IsReply (answer_text (Served served)) → Happens old (Tenant id command served) new → IsOk served
-served_ok old new id command (Ok r) here reply is = (r, refl)
-served_ok old new id command (Err NoMemory) here reply is = absurd (reply.0 refl)
-served_ok old new id command (Err (JournalFull n)) here reply is = absurd (reply.1 refl)
-served_ok old new id command (Err (NoSuchTenancy n)) here reply is = absurd (never_gone old new id here is.1)
+served_ok old new id command served here reply is = search arith
 
 -- no job is given back among calls
 back_left : (xs ys : List Call) → GivesNoneBack (xs ++ ys) → GivesNoneBack xs
@@ -119,13 +61,10 @@ back_right (Owners list ∷ xs) ys none = back_right xs ys none
 
 -- a status while the job's next step would be here and there is none to take
 runs_not : (runs here room : Bool) → room ≡ true → (runs && (here && room)) ≡ false → (runs && not here) ≡ false → runs ≡ false
-runs_not false here room space none out = refl
-runs_not true true room space none out = cc
-runs_not true false room space none out = cc
+runs_not runs here room space none out = grind arith
 
 none_of : {A : Type 0} (o : Option A) → is_some o ≡ false → o ≡ None
-none_of None is = refl
-none_of (Some x) is = cc
+none_of o is = grind arith
 
 status_replied : (old new : ServiceState) (id : ℕ) (r : Receipted) → Kept old → IsHere old id → IfSome (live_of old.histories id) (λ h. is_takeable (slot_of h) ≡ false) → Happens old (Tenant id Status (Ok r)) new → IsAtRest r.reply
 status_replied old new id r kept here none is =
@@ -160,8 +99,7 @@ GivesNone Wait calls answer = (answer ≡ Served (Err NoMemory)) ⊎ GivesNoneBa
 GivesNone line calls answer = ⊤
 
 gives_none : (id : ℕ) (calls : List Call) (answer : Answer) (new : ServiceState) → LeavesNone id Wait calls answer new → GivesNone Wait calls answer
-gives_none id calls answer new (inl none) = inl none
-gives_none id calls answer new (inr leaves) = inr leaves.0
+gives_none id calls answer new h1 = grind arith
 
 out_of_memory : (id : ℕ) (answer : Answer) → answer ≡ Served (Err NoMemory) → IsReply (answer_text answer) → ⊥
 out_of_memory id answer is reply = reply.0 (ap answer_text is)

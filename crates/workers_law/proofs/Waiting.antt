@@ -1,36 +1,12 @@
 -- The text of a session that waits for each of its jobs.
-use Rattle.std.proofs.Common.{◌≡◌, ℕ, List, [], ◌∷◌, ◌++◌, map, Bool, true, false, eqb, Option, Some, None, Ok, Err, refl, sym, ap, ◌∙◌, subst}
-use Rattle.std.specs.Prelude.{All, ⊤, not, ◌&&◌, if◌then◌else◌}
-use Rattle.std.specs.List.{AllZip}
-use Rattle.std.proofs.lemmas.List.Elements.{All-cons, All-head, All-nil, All-tail}
-use Rattle.tenant_slot.specs.declared.command.Command.{Command as TenantCommand}
-use Rattle.tenant_slot.specs.declared.command.Command.TheVariants.{Status}
-use Rattle.tenant_slot.specs.declared.event.Advance.{Advance}
-use Rattle.tenant_slot.specs.declared.event.Event.{Event}
+use Rattle.workers_law.proofs.Prelude.{◌≡◌, ℕ, List, [], ◌∷◌, ◌++◌, map, Bool, true, false, eqb, Option, Some, None, Ok, Err, refl, sym, ap, ◌∙◌, subst, arith, All, ⊤, ◌&&◌, if◌then◌else◌, AllZip, All-head, All-nil, All-tail, Command as TenantCommand, Status, Advance, Event, Reply, Step, State, answer_to, replies_to, kind_that_runs, state_after, step, Recorded, Full, Gone, own_exchanges, Noted, Receipted, Call, Run, Admit, Evict, Move, Tenant, Take, Put, GiveBack, Owners, ServiceState, SessionLine, Blank, Wait, Refused, reply_text, own_receipts, IsOfThreads, ItemAnswer, Receipt, Note, IsTold, place_text, told_text, told_texts, receipts_told, IsReply, after_command, begins_job, after_last_step, waited_text, waits_for_each}
+use Rattle.std.specs.Prelude.{not}
 use Rattle.tenant_slot.specs.declared.event.Event.TheVariants.{Command as Asked, Advance as Stepped}
-use Rattle.tenant_slot.specs.declared.reply.Reply.{Reply}
-use Rattle.tenant_slot.specs.declared.reply.Reply.TheVariants.{Step}
-use Rattle.tenant_slot.specs.SingleUser.{State, answer_to, replies_to, kind_that_runs, state_after, step}
-use Rattle.service_core.specs.declared.put_reply.PutReply.TheVariants.{Recorded, Full, Gone}
 use Rattle.service_core.specs.declared.not_served.NoteCause.TheVariants.{JournalFull}
-use Rattle.service_core.specs.History.{History}
-use Rattle.service_core.specs.OwnEvents.{own_exchanges}
-use Rattle.service_core.specs.Receipt.{Noted, Receipted}
-use Rattle.service_core.specs.Run.{Call, Happens, IsReceipt, Run}
-use Rattle.service_core.specs.Run.Call.{Admit, Evict, Move, Tenant, Take, Put, GiveBack, Owners}
-use Rattle.service_core.specs.Service.{ServiceState, live_of}
-use Rattle.sessions.specs.declared.line.SessionLine.{SessionLine}
-use Rattle.sessions.specs.declared.line.SessionLine.TheVariants.{Blank, Command, Wait, Refused}
-use Rattle.sessions.specs.SessionText.{note_text, reply_text}
-use Rattle.shared_core.specs.Reaching.{own_receipts}
-use Rattle.shared_core.proofs.Reaching.{IsOfThreads}
-use Rattle.transcripts.specs.declared.item.ItemAnswer.{ItemAnswer}
-use Rattle.transcripts.specs.declared.item.ItemAnswer.TheVariants.{Receipt, Note, Refused as RefusedPlace}
-use Rattle.session_threads.specs.Told.{IsTold, place_text, told_text, told_texts}
-use Rattle.script_threads.specs.Turns.{receipts_told}
-use Rattle.workers_law.specs.Waited.{IsReply, after_command, begins_job, after_last_step, waited_text, waits_for_each}
+use Rattle.sessions.specs.declared.line.SessionLine.TheVariants.{Command}
+use Rattle.transcripts.specs.declared.item.ItemAnswer.TheVariants.{Refused as RefusedPlace}
 use Rattle.workers_law.proofs.Ahead.{NoneAsked, NotAsked}
-use Rattle.workers_law.proofs.States.{AreAlike, alike-ended, alike-name, alike-trans, asked_alike, command_rests, ended-rests, status_rests, stepped_alike, stepped_rests}
+use Rattle.workers_law.proofs.States.{AreAlike, alike-ended, alike-name, asked_alike, command_rests, ended-rests, status_rests, stepped_alike}
 
 abbrev pub Exchanges : Type 0
 Exchanges = List (Event × Option Reply)
@@ -63,10 +39,7 @@ pub record Agree (begun : Bool) (s t : State) : Type 0 where
   pub rest : begun ≡ false → (kind_that_runs s.name ≡ None) × (kind_that_runs t.name ≡ None)
 
 pub agree_stepped : (begun : Bool) (s t : State) (made : Advance) → Agree begun s t → Agree begun (step s (Stepped made)).0 t
-agree_stepped begun s t made agree = record {
-  alike = alike-trans (after_last_step (step s (Stepped made)).0) (after_last_step s) (after_last_step t) (stepped_alike s made) agree.alike;
-  rest = λ free. (stepped_rests s made (agree.rest free).0, (agree.rest free).1);
-}
+agree_stepped begun s t made agree = grind (arith, stepped_alike)
 
 -- events that are no commands
 abbrev pub AreSteps : Exchanges → Type 0
@@ -79,10 +52,6 @@ agree_steps begun s t (x ∷ xs) are agree =
     let P : Event → Type 0 = λ e. Agree begun (step s e).0 t in
     agree_steps begun (step s x.0).0 t xs are.1 (subst P (sym are.0.1) (agree_stepped begun s t are.0.0 agree))
 
-steps_if : (b : Bool) (made : Advance) (reply : Option Reply) (xs : Exchanges) → AreSteps xs → AreSteps ((if b then (Stepped made, reply) ∷ [] else []) ++ xs)
-steps_if true made reply xs are = ((made, refl), are)
-steps_if false made reply xs are = are
-
 pub none_asked_steps : (id : ℕ) (calls : List Call) → NoneAsked calls → AreSteps (own_exchanges id calls)
 none_asked_steps id [] none = tt
 none_asked_steps id (Admit width answer ∷ calls) none = none_asked_steps id calls (All-tail NotAsked (Admit width answer) calls none)
@@ -90,10 +59,8 @@ none_asked_steps id (Evict t answer ∷ calls) none = none_asked_steps id calls 
 none_asked_steps id (Move t offset answer ∷ calls) none = none_asked_steps id calls (All-tail NotAsked (Move t offset answer) calls none)
 none_asked_steps id (Tenant t command served ∷ calls) none = absurd (All-head NotAsked (Tenant t command served) calls none)
 none_asked_steps id (Take t answer ∷ calls) none = none_asked_steps id calls (All-tail NotAsked (Take t answer) calls none)
-none_asked_steps id (Put done foreign (Ok (Recorded reply)) ∷ calls) none =
-    steps_if (eqb done.id id) _ (Some (Step reply)) (own_exchanges id calls) (none_asked_steps id calls (All-tail NotAsked (Put done foreign (Ok (Recorded reply))) calls none))
-none_asked_steps id (Put done foreign (Ok Full) ∷ calls) none =
-    steps_if (eqb done.id id) _ None (own_exchanges id calls) (none_asked_steps id calls (All-tail NotAsked (Put done foreign (Ok Full)) calls none))
+none_asked_steps id (Put done foreign (Ok (Recorded reply)) ∷ calls) none = grind (arith, none_asked_steps id calls (All-tail NotAsked (Put done foreign (Ok (Recorded reply))) calls none))
+none_asked_steps id (Put done foreign (Ok Full) ∷ calls) none = grind (arith, none_asked_steps id calls (All-tail NotAsked (Put done foreign (Ok Full)) calls none))
 none_asked_steps id (Put done foreign (Ok Gone) ∷ calls) none = none_asked_steps id calls (All-tail NotAsked (Put done foreign (Ok Gone)) calls none)
 none_asked_steps id (Put done foreign (Err back) ∷ calls) none = none_asked_steps id calls (All-tail NotAsked (Put done foreign (Err back)) calls none)
 none_asked_steps id (GiveBack job ∷ calls) none = none_asked_steps id calls (All-tail NotAsked (GiveBack job) calls none)
@@ -107,25 +74,9 @@ IsFair (Put done foreign answer) = ⊤
 IsFair (GiveBack job) = ⊤
 IsFair call = ⊥
 
-fair_call : (a b : ServiceState) (call : Call) → IsOfThreads call → Happens a call b → IsFair call
-fair_call a b (Admit width answer) never is = cc
-fair_call a b (Evict t answer) never is = cc
-fair_call a b (Move t offset answer) never is = cc
-fair_call a b (Tenant t command (Err refusal)) never is = cc
-fair_call a b (Tenant t command (Ok r)) kind is = by_live (live_of a.histories t) is.0
-  where
-    by_live : (o : Option History) → IsReceipt o t command r → r.command ≡ command
-    by_live None never = absurd never
-    by_live (Some h) said = said.2
-fair_call a b (Take t answer) kind is = tt
-fair_call a b (Put done foreign answer) kind is = tt
-fair_call a b (GiveBack job) kind is = tt
-fair_call a b (Owners list) never is = cc
-
 pub fair_calls : (a : ServiceState) (calls : List Call) (b : ServiceState) → All IsOfThreads calls → Run a calls b → All IsFair calls
 fair_calls a [] b kinds run = All-nil IsFair
-fair_calls a (call ∷ calls) b kinds run =
-    All-cons IsFair call calls (fair_call a run.0 call (All-head IsOfThreads call calls kinds) run.1) (fair_calls run.0 calls b (All-tail IsOfThreads call calls kinds) run.2)
+fair_calls a (call ∷ calls) b kinds run = grind (arith, fair_calls run.0 calls b (All-tail IsOfThreads call calls kinds) run.2)
 
 -- the state in which the next command is asked, and what follows
 pub record Next (id : ℕ) (begun : Bool) (t : State) (r : Receipted) (rs : List Receipted) : Type 0 where
@@ -143,19 +94,7 @@ Later id begun t r rs calls = (s : State) → Shows s (own_exchanges id calls) �
 
 at_command : (b : Bool) (id : ℕ) (begun : Bool) (s t : State) (command : TenantCommand) (q r : Receipted) (rs : List Receipted) (calls : List Call) → q.command ≡ command → All IsFair calls →
     Shows s ((if b then (Asked command, Some q.reply) ∷ [] else []) ++ own_exchanges id calls) → (if b then q ∷ [] else []) ++ own_receipts id calls ≡ r ∷ rs → Agree begun s t → Later id begun t r rs calls → Next id begun t r rs
-at_command false id begun s t command q r rs calls same fair shows is agree later = later s shows is agree
-at_command true id begun s t command q r rs calls same fair shows is agree later =
-    let first : q ≡ r = ap (head_or q) is in
-    let here : Next id begun t q rs = record {
-      s = s;
-      agree = agree;
-      told = ap (λ c. (step s (Asked c)).1) same ∙ sym shows.0;
-      calls = calls;
-      fair = fair;
-      shows = subst (λ c. Shows (step s (Asked c)).0 (own_exchanges id calls)) (sym same) shows.1;
-      rest = ap tail_of is;
-    } in
-    subst (λ x. Next id begun t x rs) first here
+at_command b id begun s t command q r rs calls same fair shows is agree later = grind arith
 
 at_put : (b : Bool) (id : ℕ) (begun : Bool) (s t : State) (made : Advance) (reply : Option Reply) (r : Receipted) (rs : List Receipted) (calls : List Call) →
     Shows s ((if b then (Stepped made, reply) ∷ [] else []) ++ own_exchanges id calls) → own_receipts id calls ≡ r ∷ rs → Agree begun s t → Later id begun t r rs calls → Next id begun t r rs
@@ -198,10 +137,7 @@ abbrev pub TellsOnlyFull : Option ItemAnswer → Type 0
 TellsOnlyFull x = (n : Noted) → x ≡ Some (Note n) → n.cause ≡ JournalFull
 
 given_one : (x : Option ItemAnswer) → TellsOnlyFull x → IsReply (told_text x) → IsGiven x
-given_one None full reply = reply.0 refl
-given_one (Some (Receipt r)) full reply = tt
-given_one (Some (Note n)) full reply = reply.1 (ap note_text (full n refl))
-given_one (Some (RefusedPlace refusal)) full reply = tt
+given_one x full reply = grind arith
 
 pub are_given : (told : List (Option ItemAnswer)) → All TellsOnlyFull told → All (λ (x : Option ItemAnswer). IsReply (told_text x)) told → AreGiven told
 are_given [] full replies = tt
@@ -210,8 +146,7 @@ are_given (x ∷ told) full replies =
 
 -- the answer to a command while no job runs
 pub both_hold : (b other : Bool) → (not b && other) ≡ true → (b ≡ false) × (other ≡ true)
-both_hold true other is = cc
-both_hold false other is = (refl, is)
+both_hold b other is = grind arith
 
 -- a state, the one that the definition has, and the reply to a command in both
 pub record Answered (s t : State) (command : TenantCommand) (r : Receipted) : Type 0 where
@@ -231,9 +166,7 @@ answered s t command r same alike rests told =
     record { text = ap reply_text both.0; agree = subst (λ c. Agree (begins_job command) (step s (Asked c)).0 (after_command t command)) (sym same) agree }
 
 pub free_alike : (s t : State) → Agree false s t → AreAlike s t
-free_alike s t agree =
-    let rest = agree.rest refl in
-    subst (λ x. AreAlike x t) (ended-rests s rest.0) (subst (λ x. AreAlike (after_last_step s) x) (ended-rests t rest.1) agree.alike)
+free_alike s t agree = grind arith
 
 -- the whole text
 pub whole_text : (id : ℕ) (items : List SessionLine) (told : List (Option ItemAnswer)) (calls : List Call) (s t : State) (begun : Bool) → AllZip (IsTold id) items told → AreGiven told → waits_for_each begun items ≡ true → Agree begun s t →

@@ -1,39 +1,6 @@
 -- With any number of workers, the text of a session that waits is one function of its input.
-use Rattle.std.proofs.Common.{◌≡◌, ℕ, List, ◌++◌, get_or, true, false, Option, Some, None, refl, sym, ap, ◌∙◌, subst, [], ◌∷◌}
-use Rattle.std.specs.Prelude.{All, IfSome, IsSomeAnd, is_some, option_map}
-use Rattle.std.specs.Option.{option_map_or}
-use Rattle.std.proofs.lemmas.Grind.{flat_map-append}
-use Rattle.std.proofs.lemmas.List.Elements.{All-cons, All-nil}
-use Rattle.tenant_slot.specs.declared.event.Event.{Event}
-use Rattle.tenant_slot.specs.declared.reply.Reply.{Reply}
-use Rattle.tenant_slot.specs.SingleUser.{State, replies_to, run, start, state_after}
-use Rattle.grid.specs.declared.Strip.{Strip}
-use Rattle.service_core.specs.declared.device.Device.{Device}
-use Rattle.service_core.specs.Headline.{EachIsAlone}
-use Rattle.service_core.specs.History.{History, state_of}
-use Rattle.service_core.specs.OwnEvents.{own_events, own_exchange, own_exchanges, own_replies}
-use Rattle.service_core.specs.Run.{Call, Run}
-use Rattle.service_core.specs.Service.{ServiceState, empty_service, history_of, live_of, live_width, strip_on}
-use Rattle.service_core.proofs.Alone.{each_alone}
-use Rattle.service_core.proofs.Effects.{Kept, run_keeps}
-use Rattle.service_core.proofs.Keeps.{IsService-empty, if_live_some}
-use Rattle.sessions.specs.Fitting.{own_graph}
-use Rattle.sessions.specs.Items.{items_of}
-use Rattle.sessions.proofs.Counted.{some_and}
-use Rattle.sessions.proofs.StepLemmas.{Run-append}
+use Rattle.workers_law.proofs.Prelude.{◌≡◌, ℕ, List, ◌++◌, get_or, true, false, Option, Some, None, refl, sym, ap, ◌∙◌, subst, [], ◌∷◌, arith, All, IfSome, IsSomeAnd, is_some, option_map, option_map_or, flat_map-append, All-cons, All-nil, Event, Reply, State, replies_to, run, start, state_after, Strip, Device, EachIsAlone, History, state_of, own_events, own_exchange, own_exchanges, own_replies, Call, Run, ServiceState, empty_service, history_of, live_of, live_width, strip_on, each_alone, Kept, run_keeps, IsService-empty, if_live_some, own_graph, items_of, some_and, Run-append, Noted, ItemAnswer, Note, told_text, told_texts, Parts as Script, with_give_backs, Section, Conversation, IsAnswered, IsServedFrom, told_in, evicted_text, serves_run, IsTurn, full_from, served_told, without_refused, IsReply, waited_text, waits_for_each}
 use Rattle.service_core.specs.declared.not_served.NoteCause.TheVariants.{JournalFull}
-use Rattle.service_core.specs.Receipt.{Noted}
-use Rattle.transcripts.specs.declared.item.ItemAnswer.{ItemAnswer}
-use Rattle.transcripts.specs.declared.item.ItemAnswer.TheVariants.{Note}
-use Rattle.session_threads.specs.Told.{told_text, told_texts}
-use Rattle.script_text.specs.Threaded.{Parts as Script}
-use Rattle.script_threads.specs.Lines.{with_give_backs}
-use Rattle.script_text.specs.Replies.{Section}
-use Rattle.script_threads.specs.Served.{Conversation, IsAnswered, IsServedFrom, told_in}
-use Rattle.script_threads.specs.Sessions.{evicted_text}
-use Rattle.script_threads.proofs.OneRunLemmas.{serves_run}
-use Rattle.script_threads.proofs.TurnLemmas.{IsTurn, full_from, served_told, without_refused}
-use Rattle.workers_law.specs.Waited.{IsReply, waited_text, waits_for_each}
 use Rattle.workers_law.specs.Workers.{Waits}
 use Rattle.workers_law.proofs.Ahead.{NoneAsked, ahead_none}
 use Rattle.workers_law.proofs.Sizes.{run_sized}
@@ -41,8 +8,7 @@ use Rattle.workers_law.proofs.Waiting.{Agree, Shows, TellsOnlyFull, agree_steps,
 
 -- a live tenancy's width, and its history
 live_with : (o : Option History) (width : ℕ) → option_map (λ (h : History). h.strip.width) o ≡ Some width → (h : History) × (o ≡ Some h) × (h.strip.width ≡ width)
-live_with None width is = cc
-live_with (Some h) width is = (h, refl, cc)
+live_with o width is = grind arith
 
 -- the tenancy's replies after some calls are those of the events after them
 abbrev replied : Event × Option Reply → Option Reply
@@ -68,9 +34,7 @@ shows_after device before calls mid new id width first later live =
 
 -- a tenancy that was admitted
 pub at_start : (device : Device) (before : List Call) (id width : ℕ) → NoneAsked before → Agree false (state_after (start device.arch (strip_on device width)) (own_events id before)) (start device.arch (strip_on device width))
-at_start device before id width none =
-    let begin : State = start device.arch (strip_on device width) in
-    agree_steps false begin begin (own_exchanges id before) (none_asked_steps id before none) (record { alike = refl; rest = λ free. (refl, refl) })
+at_start device before id width none = search (agree_steps, none_asked_steps, arith)
 
 -- what is said of each note
 only_full : (told : List (Option ItemAnswer)) → ((before after : List (Option ItemAnswer)) (n : Noted) → told ≡ before ++ Some (Note n) ∷ after → n.cause ≡ JournalFull) → All TellsOnlyFull told
@@ -92,8 +56,7 @@ one_text device before calls mid new width c (Some told) answered replies live w
     (fair_calls mid serving.served new serving.kinds serving.run) (shows_after device before serving.served mid new c.id width first serving.run size) (serving.receipts c.id ∙ served_told calls c told answered)
 
 live_some : (o : Option History) (width : ℕ) → option_map (λ (h : History). h.strip.width) o ≡ Some width → is_some o ≡ true
-live_some None width is = cc
-live_some (Some h) width is = refl
+live_some o width is = grind arith
 
 pub same_with : (device : Device) (script : Script) (sections : List Section) (text : List ℕ) (is : IsServedFrom (own_graph device) (empty_service device) script sections text) →
     All (λ (c : Conversation). (width : ℕ) → live_width is.service.histories c.id ≡ Some width → Waits c → (told_in c).text ≡ waited_text (start device.arch (strip_on device width)) (items_of c.said.input)) is.ran.conversations

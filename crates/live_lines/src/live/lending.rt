@@ -1,6 +1,6 @@
 //! What a live service lends to those who make its steps.
 ghost use Rattle.std.specs.Prelude.{◌≡◌, is_some};
-ghost use Rattle.service_core.specs.Calls.{IsGivenBack, IsTaken};
+ghost use Rattle.live_lines.specs.Prelude.{IsGivenBack, IsTaken};
 ghost use Rattle.live_lines.specs.Live.{IsSteady, state_of, with_service};
 
 use crate::live::Live;

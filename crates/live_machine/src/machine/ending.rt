@@ -1,7 +1,7 @@
 //! How a machine begins to work, and how it ends.
 ghost use Rattle.std.specs.Prelude.{◌≡◌, [], length, true, IfOk, OnOk};
 ghost use Rattle.std.specs.List.{flat_map};
-ghost use Rattle.live_input.specs.Serving.{state_in};
+ghost use Rattle.live_machine.specs.Prelude.{state_in};
 ghost use Rattle.live_machine.specs.Held.{are_at_rest};
 ghost use Rattle.live_machine.specs.Parts.{EndsMachine, IsReady, lost_texts, machine_of};
 

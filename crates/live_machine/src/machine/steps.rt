@@ -1,7 +1,6 @@
 //! The steps that workers make, and the turns of names that are held.
 ghost use Rattle.std.specs.Prelude.{◌≡◌, ◌≢◌, List, ℕ, None, IfOk, OnOk};
-ghost use Rattle.operator.specs.OperatorText.{name_of};
-ghost use Rattle.live_input.specs.Serving.{state_in};
+ghost use Rattle.live_machine.specs.Prelude.{name_of, state_in};
 ghost use Rattle.live_machine.specs.declared.machine.steps.StepEnd.TheVariants.{Dropped, Made};
 ghost use Rattle.live_machine.specs.Machine.{Happens};
 ghost use Rattle.live_machine.specs.Machine.Call.{Drain};

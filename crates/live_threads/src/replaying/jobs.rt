@@ -1,7 +1,6 @@
 //! The jobs that workers have while a log is served again.
 ghost use Rattle.std.specs.Prelude.{◌≡◌, true, OnOk};
-ghost use Rattle.live_input.specs.Serving.{is_ready, state_in};
-ghost use Rattle.live_machine.specs.Workers.{IsHome, without_workers};
+ghost use Rattle.live_threads.specs.Prelude.{is_ready, state_in, IsHome, without_workers};
 
 use crate::letters::{Order, StepLetter, StepOrder};
 use crate::replaying::Replayed;

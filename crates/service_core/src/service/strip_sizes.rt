@@ -1,6 +1,6 @@
 //! The device's rows, and the strips of the tenancies.
 ghost use Rattle.std.specs.Prelude.{◌≡◌, option_map};
-ghost use Rattle.strips.specs.Plan.{IsLaidOut, offset_of};
+ghost use Rattle.service_core.specs.Prelude.{IsLaidOut, offset_of};
 ghost use Rattle.service_core.specs.Headline.{AreParted};
 ghost use Rattle.service_core.specs.Service.{AreAlone, live_of};
 

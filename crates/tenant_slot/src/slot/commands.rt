@@ -1,6 +1,6 @@
 //! The answer to each command.
 ghost use Rattle.std.specs.Prelude.{◌≡◌, option_and_then, IfOk};
-ghost use Rattle.strip_place.specs.Keeping.{AreKeptOn};
+ghost use Rattle.tenant_slot.specs.Prelude.{AreKeptOn};
 ghost use Rattle.tenant_slot.specs.Answer.{Answers, IsAsked};
 ghost use Rattle.tenant_slot.specs.Results.{ending_told};
 ghost use Rattle.tenant_slot.specs.SingleUser.{circuit_in, with_kept_places};
@@ -40,8 +40,14 @@ impl Slot {
                 Ok(PreparedReply::with_change(lut_size, Change::Empty, reply))
             }
             Command::Status => self.status(),
-            Command::Net => self.net(),
-            Command::PlaceFile => self.place_file(),
+            Command::Net => {
+                let packing = self.standing.content.packing();
+                PreparedReply::net(self.alloc, lut_size, packing.packed())
+            }
+            Command::PlaceFile => {
+                let placing = self.standing.content.placing();
+                PreparedReply::place_file(self.alloc, lut_size, placing.placing())
+            }
             Command::RouteFile => self.route_file(),
         }
     }
@@ -150,24 +156,6 @@ impl Slot {
             }
             None => Ok(None),
         }
-    }
-
-    fn net(&self) -> Result<PreparedReply, NotAnswered>
-        requires { IsAsked self.now Command.Net }
-        ensures { Answers self.now Command.Net result }
-    {
-        let lut_size = self.arch.arch().lut_size;
-        let packing = self.standing.content.packing();
-        PreparedReply::net(self.alloc, lut_size, packing.packed())
-    }
-
-    fn place_file(&self) -> Result<PreparedReply, NotAnswered>
-        requires { IsAsked self.now Command.PlaceFile }
-        ensures { Answers self.now Command.PlaceFile result }
-    {
-        let lut_size = self.arch.arch().lut_size;
-        let placing = self.standing.content.placing();
-        PreparedReply::place_file(self.alloc, lut_size, placing.placing())
     }
 
     fn route_file(&self) -> Result<PreparedReply, NotAnswered>

@@ -1,4 +1,4 @@
-use Rattle.arch_file.specs.PinLine.{pin_line_faults}
+use Rattle.arch_file.proofs.Prelude.{pin_line_faults}
 use Rattle.arch_file.proofs.pin_line.pin_in.Goals as goal
 
 pub returns-in-Some-split_first-clause-faults : goal.returns-in-Some-split_first-clause-faults

@@ -1,4 +1,4 @@
-use Rattle.std.proofs.Common.{◌∙◌, arith, sym, take}
+use Rattle.arch_file.proofs.Prelude.{◌∙◌, arith, sym, take}
 use Rattle.arch_file.proofs.ReaderLemmas.{faults_behind-fine, reads_fault, take_line}
 use Rattle.arch_file.proofs.reader.read_lines.Goals as goal
 

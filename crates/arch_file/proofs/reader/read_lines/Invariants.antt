@@ -1,6 +1,4 @@
-use Rattle.std.proofs.Common.{◌≡◌, ◌≤◌, [], drop, length, take}
-use Rattle.arch_file.specs.ArchFaults.{faults_after}
-use Rattle.arch_file.specs.Draft.{FollowsLines}
+use Rattle.arch_file.proofs.Prelude.{◌≡◌, ◌≤◌, [], drop, length, take, faults_after, FollowsLines}
 use Rattle.arch_file.proofs.reader.read_lines.Given as goal
 
 abbrev pub invariant-loop-place : goal.invariant-loop-place

@@ -1,5 +1,4 @@
-use Rattle.std.proofs.Common.{◌∙◌, ap, ◌%◌, length, sym}
-use Rattle.std.proofs.lemmas.List.{length-map}
+use Rattle.arch_file.proofs.Prelude.{◌∙◌, ap, ◌%◌, length, sym, length-map}
 use Rattle.arch_file.proofs.SegmentLemmas.{segment_faults-odd}
 use Rattle.arch_file.proofs.segment.check_segment.Goals as goal
 

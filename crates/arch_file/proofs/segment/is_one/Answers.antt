@@ -1,6 +1,4 @@
-use Rattle.std.proofs.Common.{◌+◌, ◌*◌, [], arith}
-use Rattle.std.proofs.lemmas.List.{length-map}
-use Rattle.arch_file.specs.Words.{texts}
+use Rattle.arch_file.proofs.Prelude.{◌+◌, ◌*◌, [], arith, length-map, texts}
 use Rattle.arch_file.proofs.SegmentLemmas.{values_under-pair, values_under-end, is_one-found, is_one-other}
 use Rattle.arch_file.proofs.segment.is_one.Goals as goal
 

@@ -1,6 +1,4 @@
-use Rattle.std.proofs.Common.{◌≡◌, ◌*◌, drop}
-use Rattle.arch_file.specs.Segment.{is_one, values_under}
-use Rattle.arch_file.specs.Words.{texts}
+use Rattle.arch_file.proofs.Prelude.{◌≡◌, ◌*◌, drop, is_one, values_under, texts}
 use Rattle.arch_file.proofs.SegmentLemmas.{is_one_still}
 use Rattle.arch_file.proofs.segment.is_one.Given as goal
 

@@ -1,10 +1,4 @@
-use Rattle.std.proofs.Common.{◌≡◌, ◌++◌, [], ◌∷◌, arith, ap, sym, ◌∙◌, take, length, length-take}
-use Rattle.std.proofs.lemmas.List.{take_more}
-use Rattle.std.proofs.lemmas.Option.{get_or_from_slice_get}
-use Rattle.ble_cluster.specs.Bles.{LogicElement}
-use Rattle.ble_cluster.specs.Clusters.{nets_of}
-use Rattle.ble_cluster.specs.BleIndex.{pairs_from}
-use Rattle.rows.specs.ByKey.{pairs_with}
+use Rattle.ble_cluster.proofs.Prelude.{◌≡◌, ◌++◌, [], ◌∷◌, arith, ap, sym, ◌∙◌, take, length, length-take, take_more, get_or_from_slice_get, LogicElement, nets_of, pairs_from, pairs_with}
 use Rattle.ble_cluster.proofs.ElementLemmas.{inputs_once, pairs_more}
 use Rattle.ble_cluster.proofs.ble_index.nets_with_elements.Goals as goal
 

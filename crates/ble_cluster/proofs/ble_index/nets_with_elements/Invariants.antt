@@ -1,5 +1,4 @@
-use Rattle.std.proofs.Common.{◌≡◌, take}
-use Rattle.ble_cluster.specs.BleIndex.{pairs_from}
+use Rattle.ble_cluster.proofs.Prelude.{◌≡◌, take, pairs_from}
 use Rattle.ble_cluster.proofs.ble_index.nets_with_elements.Given as goal
 
 abbrev pub invariant-loop-number : goal.invariant-loop-number

@@ -1,5 +1,4 @@
-use Rattle.std.proofs.Common.{arith}
-use Rattle.std.proofs.lemmas.List.{take_all}
+use Rattle.ble_cluster.proofs.Prelude.{arith, take_all}
 use Rattle.ble_cluster.proofs.ElementLemmas.{all_pushed, last_pushed}
 use Rattle.ble_cluster.proofs.ble_index.push_nets.Goals as goal
 

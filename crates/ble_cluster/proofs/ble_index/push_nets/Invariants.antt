@@ -1,6 +1,4 @@
-use Rattle.std.proofs.Common.{◌≡◌, ◌++◌, take}
-use Rattle.ble_cluster.specs.Nets.{has}
-use Rattle.rows.specs.ByKey.{pairs_with}
+use Rattle.ble_cluster.proofs.Prelude.{◌≡◌, ◌++◌, take, has, pairs_with}
 use Rattle.ble_cluster.proofs.ble_index.push_nets.Given as goal
 
 abbrev pub invariant-loop-net : goal.invariant-loop-net

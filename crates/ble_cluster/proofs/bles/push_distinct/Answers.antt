@@ -1,4 +1,4 @@
-use Rattle.std.proofs.Common.{◌≡◌, length, arith, rules}
+use Rattle.ble_cluster.proofs.Prelude.{◌≡◌, length, arith, rules}
 use Rattle.ble_cluster.proofs.FirstSights.{distinct_new, distinct_old}
 use Rattle.ble_cluster.proofs.bles.push_distinct.Goals as goal
 use Rattle.ble_cluster.proofs.bles.push_distinct.Goals.{then-not-contains+in_ok-push, else-not-contains}

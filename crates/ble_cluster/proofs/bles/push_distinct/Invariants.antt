@@ -1,5 +1,4 @@
-use Rattle.std.proofs.Common.{◌≡◌, ◌++◌, take}
-use Rattle.ble_cluster.specs.Nets.{distinct_nets}
+use Rattle.ble_cluster.proofs.Prelude.{◌≡◌, ◌++◌, take, distinct_nets}
 use Rattle.ble_cluster.proofs.bles.push_distinct.Given as goal
 
 -- the distinct nets so far are appended to the old inputs

@@ -1,7 +1,4 @@
-use Rattle.std.proofs.Common.{◌<◌, ℕ, Bool, ◌∷◌, [], ◌∙◌, not, length, sym, arith}
-use Rattle.ble_cluster.specs.Bles.{element_at}
-use Rattle.ble_cluster.specs.Clusters.{fits_in_cluster}
-use Rattle.ble_cluster.specs.FreeBles.{IsElement}
+use Rattle.ble_cluster.proofs.Prelude.{◌<◌, ℕ, Bool, ◌∷◌, [], ◌∙◌, not, length, sym, arith, element_at, fits_in_cluster, IsElement}
 use Rattle.ble_cluster.proofs.Choosing.{element_lawful}
 use Rattle.ble_cluster.proofs.LeastUnfit.{fit_narrow, found_here, found_later, unfit_wide}
 use Rattle.ble_cluster.proofs.fit.first_unfit.Goals as goal

@@ -1,7 +1,4 @@
-use Rattle.std.proofs.Common.{◌≡◌, ◌∷◌, [], ◌-◌, not, length}
-use Rattle.std.specs.List.{find, range_with_len}
-use Rattle.ble_cluster.specs.Bles.{element_at}
-use Rattle.ble_cluster.specs.Clusters.{fits_in_cluster, unfit_among}
+use Rattle.ble_cluster.proofs.Prelude.{◌≡◌, ◌∷◌, [], ◌-◌, not, length, find, range_with_len, element_at, fits_in_cluster, unfit_among}
 use Rattle.ble_cluster.proofs.fit.first_unfit.Given as goal
 
 -- each BLE so far fits alone

@@ -1,7 +1,4 @@
-use Rattle.std.proofs.Common.{◌≡◌, filter, not, refl, sym, subst, take, set, get_or, true, arith}
-use Rattle.std.proofs.lemmas.List.{take_more}
-use Rattle.ble_cluster.specs.Nets.{has}
-use Rattle.ble_cluster.specs.FreeBles.{free_in}
+use Rattle.ble_cluster.proofs.Prelude.{◌≡◌, filter, not, refl, sym, subst, take, set, get_or, true, arith, take_more, has, free_in}
 use Rattle.ble_cluster.proofs.FreeNumbers.{kept_more}
 use Rattle.ble_cluster.proofs.Marking.{free_more, free_same}
 use Rattle.ble_cluster.proofs.free_bles.mark_taken.Goals as goal

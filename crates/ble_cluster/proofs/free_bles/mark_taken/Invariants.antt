@@ -1,7 +1,4 @@
-use Rattle.std.proofs.Common.{◌≡◌, filter, not, take}
-use Rattle.ble_cluster.specs.FirstFree.{IsKept}
-use Rattle.ble_cluster.specs.Nets.{has}
-use Rattle.ble_cluster.specs.FreeBles.{free_in}
+use Rattle.ble_cluster.proofs.Prelude.{◌≡◌, filter, not, take, IsKept, has, free_in}
 use Rattle.ble_cluster.proofs.free_bles.mark_taken.Given as goal
 
 -- the members so far are no longer free, and all numbers that were taken still are

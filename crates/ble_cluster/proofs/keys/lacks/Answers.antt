@@ -1,4 +1,4 @@
-use Rattle.std.proofs.Common.{arith}
+use Rattle.ble_cluster.proofs.Prelude.{arith}
 use Rattle.ble_cluster.proofs.KeyLemmas.{are_lacks, lacks_within}
 use Rattle.ble_cluster.proofs.keys.lacks.Goals as goal
 

@@ -1,6 +1,4 @@
-use Rattle.std.proofs.Common.{◌≡◌, ◌+◌, ℕ, ◌<◌, length}
-use Rattle.ble_cluster.specs.Clusters.{input_count_at}
-use Rattle.ble_cluster.specs.FirstFree.{key_at}
+use Rattle.ble_cluster.proofs.Prelude.{◌≡◌, ◌+◌, ℕ, ◌<◌, length, input_count_at, key_at}
 use Rattle.ble_cluster.proofs.keys.lacks.Given as goal
 
 abbrev pub invariant-loop-number : goal.invariant-loop-number

@@ -1,4 +1,4 @@
-use Rattle.std.proofs.Common.{◌<◌, length, arith, below_more}
+use Rattle.ble_cluster.proofs.Prelude.{◌<◌, length, arith, below_more}
 use Rattle.ble_cluster.proofs.KeyLemmas.{count_is, inputs_few}
 use Rattle.ble_cluster.proofs.keys.most_inputs.Goals as goal
 use Rattle.ble_cluster.proofs.keys.most_inputs.Goals.{then-most-inputs, else-most-inputs}

@@ -1,5 +1,4 @@
-use Rattle.std.proofs.Common.{ℕ, ◌<◌, ◌≤◌}
-use Rattle.ble_cluster.specs.Clusters.{input_count_at}
+use Rattle.ble_cluster.proofs.Prelude.{ℕ, ◌<◌, ◌≤◌, input_count_at}
 use Rattle.ble_cluster.proofs.keys.most_inputs.Given as goal
 
 abbrev pub invariant-loop-number : goal.invariant-loop-number

@@ -1,4 +1,4 @@
-use Rattle.std.proofs.Common.{arith}
+use Rattle.ble_cluster.proofs.Prelude.{arith}
 use Rattle.ble_cluster.proofs.KeyLemmas.{counts_within}
 use Rattle.ble_cluster.proofs.keys.outside_counts.Goals as goal
 

@@ -1,6 +1,4 @@
-use Rattle.std.proofs.Common.{◌≡◌, ℕ, ◌<◌, length}
-use Rattle.ble_cluster.specs.Bles.{element_at}
-use Rattle.ble_cluster.specs.FirstFree.{key_at, own_outside}
+use Rattle.ble_cluster.proofs.Prelude.{◌≡◌, ℕ, ◌<◌, length, element_at, key_at, own_outside}
 use Rattle.ble_cluster.proofs.keys.outside_counts.Given as goal
 
 abbrev pub invariant-loop-number : goal.invariant-loop-number

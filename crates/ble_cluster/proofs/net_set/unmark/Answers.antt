@@ -1,4 +1,4 @@
-use Rattle.std.proofs.Common.{arith}
+use Rattle.ble_cluster.proofs.Prelude.{arith}
 use Rattle.ble_cluster.proofs.Marks.{left_none, left_more, left_all}
 use Rattle.ble_cluster.proofs.net_set.unmark.Goals as goal
 

@@ -1,5 +1,4 @@
-use Rattle.std.proofs.Common.{sym, arith, take}
-use Rattle.std.proofs.lemmas.List.{take_more}
+use Rattle.ble_cluster.proofs.Prelude.{sym, arith, take, take_more}
 use Rattle.ble_cluster.proofs.Counting.{counts_on, counts_on_none}
 use Rattle.ble_cluster.proofs.readers.count_all.Goals as goal
 

@@ -1,5 +1,4 @@
-use Rattle.std.proofs.Common.{take}
-use Rattle.ble_cluster.specs.Reads.{CountsOn}
+use Rattle.ble_cluster.proofs.Prelude.{take, CountsOn}
 use Rattle.ble_cluster.proofs.readers.count_all.Given as goal
 
 -- the nets so far are counted

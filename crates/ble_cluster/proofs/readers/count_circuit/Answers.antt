@@ -1,8 +1,4 @@
-use Rattle.std.proofs.Common.{refl, ◌++◌, map, List, ℕ}
-use Rattle.std.specs.List.{flat_map}
-use Rattle.std.specs.Option.{option_to_list}
-use Rattle.blif.specs.declared.latches.Latch.{Latch}
-use Rattle.blif.specs.LookupTables.{LookupTable}
+use Rattle.ble_cluster.proofs.Prelude.{refl, ◌++◌, map, List, ℕ, flat_map, option_to_list, Latch, LookupTable}
 use Rattle.ble_cluster.proofs.Counting.{counts_on}
 use Rattle.ble_cluster.proofs.readers.count_circuit.Goals as goal
 

@@ -1,9 +1,4 @@
-use Rattle.std.proofs.Common.{List, ℕ, take, arith, subst}
-use Rattle.std.specs.List.{flat_map}
-use Rattle.std.specs.Option.{option_to_list}
-use Rattle.std.proofs.lemmas.List.{take_all}
-use Rattle.blif.specs.declared.latches.Latch.{Latch}
-use Rattle.ble_cluster.specs.Reads.{CountsOn}
+use Rattle.ble_cluster.proofs.Prelude.{List, ℕ, take, arith, subst, flat_map, option_to_list, take_all, Latch, CountsOn}
 use Rattle.ble_cluster.proofs.Counting.{control_here, control_none, controls_more, counts_on, counts_on_none}
 use Rattle.ble_cluster.proofs.readers.count_controls.Goals as goal
 use Rattle.ble_cluster.proofs.readers.count_controls.Goals.{in-Some, in_default}

@@ -1,7 +1,4 @@
-use Rattle.std.proofs.Common.{take}
-use Rattle.std.specs.List.{flat_map}
-use Rattle.std.specs.Option.{option_to_list}
-use Rattle.ble_cluster.specs.Reads.{CountsOn}
+use Rattle.ble_cluster.proofs.Prelude.{take, flat_map, option_to_list, CountsOn}
 use Rattle.ble_cluster.proofs.readers.count_controls.Given as goal
 
 -- the controls so far are counted

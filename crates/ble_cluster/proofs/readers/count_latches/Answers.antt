@@ -1,7 +1,4 @@
-use Rattle.std.proofs.Common.{sym, ap, ◌∙◌, map, take, arith, subst}
-use Rattle.std.proofs.lemmas.List.{take_more, take_all, map_push}
-use Rattle.blif.specs.declared.latches.Latch.{Latch}
-use Rattle.ble_cluster.specs.Reads.{CountsOn}
+use Rattle.ble_cluster.proofs.Prelude.{sym, ap, ◌∙◌, map, take, arith, subst, take_more, take_all, map_push, Latch, CountsOn}
 use Rattle.ble_cluster.proofs.Counting.{counts_on}
 use Rattle.ble_cluster.proofs.readers.count_latches.Goals as goal
 

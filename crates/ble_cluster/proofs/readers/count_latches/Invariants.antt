@@ -1,5 +1,4 @@
-use Rattle.std.proofs.Common.{take, map}
-use Rattle.ble_cluster.specs.Reads.{CountsOn}
+use Rattle.ble_cluster.proofs.Prelude.{take, map, CountsOn}
 use Rattle.ble_cluster.proofs.readers.count_latches.Given as goal
 
 -- the latches so far are counted

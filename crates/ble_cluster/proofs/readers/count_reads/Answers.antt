@@ -1,7 +1,4 @@
-use Rattle.std.proofs.Common.{◌≡◌, ◌++◌, length, take, drop, replicate, subst, sym, [], arith}
-use Rattle.std.proofs.lemmas.Grind.{common_steps}
-use Rattle.ble_cluster.specs.Bles.{reads_of}
-use Rattle.ble_cluster.specs.Reads.{AreCounts}
+use Rattle.ble_cluster.proofs.Prelude.{◌≡◌, ◌++◌, length, take, drop, replicate, subst, sym, [], arith, common_steps, reads_of, AreCounts}
 use Rattle.ble_cluster.proofs.Counting.{counts_none}
 use Rattle.ble_cluster.proofs.readers.count_reads.Goals as goal
 

@@ -1,8 +1,4 @@
-use Rattle.std.proofs.Common.{sym, ap, ◌∙◌, take, arith, subst}
-use Rattle.std.specs.List.{flat_map}
-use Rattle.std.proofs.lemmas.List.{take_all}
-use Rattle.blif.specs.LookupTables.{LookupTable}
-use Rattle.ble_cluster.specs.Reads.{CountsOn}
+use Rattle.ble_cluster.proofs.Prelude.{sym, ap, ◌∙◌, take, arith, subst, flat_map, take_all, LookupTable, CountsOn}
 use Rattle.ble_cluster.proofs.Counting.{counts_on, flat_map_push, take_place}
 use Rattle.ble_cluster.proofs.readers.count_tables.Goals as goal
 

@@ -1,6 +1,4 @@
-use Rattle.std.proofs.Common.{take}
-use Rattle.std.specs.List.{flat_map}
-use Rattle.ble_cluster.specs.Reads.{CountsOn}
+use Rattle.ble_cluster.proofs.Prelude.{take, flat_map, CountsOn}
 use Rattle.ble_cluster.proofs.readers.count_tables.Given as goal
 
 -- the tables so far are counted

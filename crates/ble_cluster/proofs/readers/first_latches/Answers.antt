@@ -1,5 +1,4 @@
-use Rattle.std.proofs.Common.{arith}
-use Rattle.std.proofs.lemmas.Grind.{common_steps}
+use Rattle.ble_cluster.proofs.Prelude.{arith, common_steps}
 use Rattle.ble_cluster.proofs.Counting.{latches_free, latches_taken}
 use Rattle.ble_cluster.proofs.readers.first_latches.Goals as goal
 use Rattle.ble_cluster.proofs.readers.first_latches.Goals.{then-is_none, else-is_none}

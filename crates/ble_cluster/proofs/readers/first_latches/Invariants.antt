@@ -1,5 +1,4 @@
-use Rattle.std.proofs.Common.{◌≡◌, take, length}
-use Rattle.ble_cluster.specs.Reads.{AreLatches}
+use Rattle.ble_cluster.proofs.Prelude.{◌≡◌, take, length, AreLatches}
 use Rattle.ble_cluster.proofs.readers.first_latches.Given as goal
 
 -- the first of the latches so far

@@ -1,6 +1,4 @@
-use Rattle.std.proofs.Common.{refl, arith, subst, sym, set, true}
-use Rattle.std.proofs.lemmas.Grind.{common_steps}
-use Rattle.ble_cluster.specs.Reads.{AreDriven}
+use Rattle.ble_cluster.proofs.Prelude.{refl, arith, subst, sym, set, true, common_steps, AreDriven}
 use Rattle.ble_cluster.proofs.Counting.{driven_more, take_place}
 use Rattle.ble_cluster.proofs.Within.{table_at_place}
 use Rattle.ble_cluster.proofs.readers.mark_driven.Goals as goal

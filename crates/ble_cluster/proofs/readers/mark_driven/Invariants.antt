@@ -1,5 +1,4 @@
-use Rattle.std.proofs.Common.{◌≡◌, take, length}
-use Rattle.ble_cluster.specs.Reads.{AreDriven}
+use Rattle.ble_cluster.proofs.Prelude.{◌≡◌, take, length, AreDriven}
 use Rattle.ble_cluster.proofs.readers.mark_driven.Given as goal
 
 -- the outputs of the tables so far are marked

@@ -1,4 +1,4 @@
-use Rattle.std.proofs.Common.{arith}
+use Rattle.ble_cluster.proofs.Prelude.{arith}
 use Rattle.ble_cluster.proofs.Raising.{left_first, left_next, left_none}
 use Rattle.ble_cluster.proofs.shared_nets.forget.Goals as goal
 

@@ -1,7 +1,4 @@
-use Rattle.std.proofs.Common.{arith, ◌≡◌, ◌&&◌, not, map, filter, None, Some, ◌∙◌}
-use Rattle.std.proofs.lemmas.Grind.{common_steps}
-use Rattle.blif.specs.declared.fault.BlifFaultKind.TheVariants.{TwoDrivers}
-use Rattle.blif.specs.Names.{first_of, has_name, texts}
+use Rattle.blif.proofs.Prelude.{arith, ◌≡◌, ◌&&◌, not, map, filter, None, Some, ◌∙◌, common_steps, TwoDrivers, first_of, has_name, texts}
 use Rattle.blif.proofs.PlacedNames.{first_clock}
 use Rattle.blif.proofs.checker.clock.Goals as goal
 

@@ -1,6 +1,4 @@
-use Rattle.std.proofs.Common.{◌≡◌, drop, filter, not, ◌&&◌}
-use Rattle.blif.specs.Names.{texts, has_name, with_names}
-use Rattle.blif.specs.LineByLine.{undeclared_names}
+use Rattle.blif.proofs.Prelude.{◌≡◌, drop, filter, not, ◌&&◌, texts, has_name, with_names, undeclared_names}
 use Rattle.blif.proofs.checker.clock.Given as goal
 
 -- no name so far was driven by another line

@@ -1,8 +1,4 @@
-use Rattle.std.proofs.Common.{arith, ◌≡◌, ◌++◌, map, None, Some, ◌∙◌}
-use Rattle.std.proofs.lemmas.Grind.{common_steps}
-use Rattle.blif.specs.declared.fault.BlifFaultKind.TheVariants.{TwoDrivers}
-use Rattle.blif.specs.Names.{first_of, texts}
-use Rattle.blif.specs.Repeats.{repeats}
+use Rattle.blif.proofs.Prelude.{arith, ◌≡◌, ◌++◌, map, None, Some, ◌∙◌, common_steps, TwoDrivers, first_of, texts, repeats}
 use Rattle.blif.proofs.PlacedNames.{first_driver}
 use Rattle.blif.proofs.checker.drive.Goals as goal
 

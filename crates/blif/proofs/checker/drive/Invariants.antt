@@ -1,6 +1,4 @@
-use Rattle.std.proofs.Common.{◌≡◌, ◌++◌, take, drop}
-use Rattle.blif.specs.Names.{texts}
-use Rattle.blif.specs.Repeats.{repeats}
+use Rattle.blif.proofs.Prelude.{◌≡◌, ◌++◌, take, drop, texts, repeats}
 use Rattle.blif.proofs.checker.drive.Given as goal
 
 -- no name so far was driven

@@ -1,7 +1,4 @@
-use Rattle.std.proofs.Common.{rules, ◌≡◌, map, None, Some, ◌∙◌}
-use Rattle.blif.specs.declared.fault.BlifFaultKind.TheVariants.{RepeatedOutput}
-use Rattle.blif.specs.Names.{first_of, texts}
-use Rattle.blif.specs.Repeats.{repeats}
+use Rattle.blif.proofs.Prelude.{rules, ◌≡◌, map, None, Some, ◌∙◌, RepeatedOutput, first_of, texts, repeats}
 use Rattle.blif.proofs.PlacedNames.{first_output}
 use Rattle.blif.proofs.checker.show.Goals as goal
 

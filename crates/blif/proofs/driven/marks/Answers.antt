@@ -1,5 +1,4 @@
-use Rattle.std.proofs.Common.{◌++◌, ◌∙◌, arith}
-use Rattle.blif.specs.Names.{has_name}
+use Rattle.blif.proofs.Prelude.{◌++◌, ◌∙◌, arith, has_name}
 use Rattle.blif.proofs.Named.{marks_more}
 use Rattle.blif.proofs.driven.marks.Goals as goal
 

@@ -1,5 +1,4 @@
-use Rattle.std.proofs.Common.{◌≡◌, ◌++◌, take, map}
-use Rattle.blif.specs.Names.{has_name}
+use Rattle.blif.proofs.Prelude.{◌≡◌, ◌++◌, take, map, has_name}
 use Rattle.blif.proofs.driven.marks.Given as goal
 
 -- the marks so far

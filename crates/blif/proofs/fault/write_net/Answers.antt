@@ -1,8 +1,4 @@
-use Rattle.std.proofs.Common.{◌≡◌, ℕ, ◌+◌, ◌<◌, List, [], ◌∷◌, ◌++◌, length, get_or, take, true, refl, ap, sym, ◌∙◌, arith}
-use Rattle.std.specs.Prelude.{encode_utf8, encode_utf8_all}
-use Rattle.std.proofs.lemmas.Grind.{put_two}
-use Rattle.std.proofs.lemmas.List.{append-nil, take_more}
-use Rattle.std.proofs.lemmas.Str.{encodes-append}
+use Rattle.blif.proofs.Prelude.{◌≡◌, ℕ, ◌+◌, ◌<◌, List, [], ◌∷◌, ◌++◌, length, get_or, take, true, refl, ap, sym, ◌∙◌, arith, encode_utf8, encode_utf8_all, put_two, append-nil, take_more, encodes-append}
 use Rattle.blif.proofs.fault.write_net.Goals as goal
 
 -- the characters of one more byte

@@ -1,6 +1,4 @@
-use Rattle.std.proofs.Common.{◌++◌, codes, take}
-use Rattle.std.specs.Prelude.{encode_utf8_all}
-use Rattle.std.specs.Fmt.{HasWritten, IsPlainFormatter}
+use Rattle.blif.proofs.Prelude.{◌++◌, codes, take, encode_utf8_all, HasWritten, IsPlainFormatter}
 use Rattle.blif.proofs.fault.write_net.Given as goal
 
 -- the blank and the bytes so far are written

@@ -1,5 +1,4 @@
-use Rattle.std.proofs.Common.{◌∙◌, ap, sym}
-use Rattle.blif.specs.LineNets.{front_of}
+use Rattle.blif.proofs.Prelude.{◌∙◌, ap, sym, front_of}
 use Rattle.blif.proofs.Words.{front_of-texts}
 use Rattle.blif.proofs.keyword.front_of.Goals as goal
 

@@ -1,5 +1,4 @@
-use Rattle.std.proofs.Common.{◌∙◌, ap, sym, arith}
-use Rattle.blif.specs.Keywords.{last_of}
+use Rattle.blif.proofs.Prelude.{◌∙◌, ap, sym, arith, last_of}
 use Rattle.blif.proofs.Words.{last_of-texts}
 use Rattle.blif.proofs.keyword.last_of.Goals as goal
 

@@ -1,6 +1,4 @@
-use Rattle.std.proofs.Common.{◌≡◌, ◌++◌, drop}
-use Rattle.blif.specs.Numbering.{numbers_of}
-use Rattle.blif.specs.Names.{texts, with_names}
+use Rattle.blif.proofs.Prelude.{◌≡◌, ◌++◌, drop, numbers_of, texts, with_names}
 use Rattle.blif.proofs.names.number_all.Given as goal
 
 -- adding the remaining names to the names so far has the result of adding all names to the first

@@ -1,6 +1,4 @@
-use Rattle.std.proofs.Common.{◌≡◌, ◌++◌, ◌∙◌, Some, true, ap, sym}
-use Rattle.blif.specs.Names.{has_name}
-use Rattle.blif.specs.LatchLines.{is_latch}
+use Rattle.blif.proofs.Prelude.{◌≡◌, ◌++◌, ◌∙◌, Some, true, ap, sym, has_name, is_latch}
 use Rattle.blif.proofs.LatchNumbers.{latch_input, latch_numbers, input_undriven, control_undriven, latch_driven, free_latch_driven}
 use Rattle.blif.proofs.parts.add_latch.Goals as goal
 use Rattle.blif.proofs.parts.add_latch.Goals.{in-Some+else-not-is_driven-2, in-None}

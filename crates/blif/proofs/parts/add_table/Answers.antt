@@ -1,7 +1,4 @@
-use Rattle.std.proofs.Common.{◌<◌, ◌++◌, ◌∷◌, [], ◌∙◌, length, map, ap, sym, arith}
-use Rattle.std.proofs.lemmas.List.{length-map}
-use Rattle.std.proofs.lemmas.Bool.Decides.{nat_tests}
-use Rattle.blif.specs.Names.{has_name, number_of}
+use Rattle.blif.proofs.Prelude.{◌<◌, ◌++◌, ◌∷◌, [], ◌∙◌, length, map, ap, sym, arith, length-map, nat_tests, has_name, number_of}
 use Rattle.blif.proofs.Named.{list_all-take}
 use Rattle.blif.proofs.NetNumbers.{front_numbers, last_number, table_with_names}
 use Rattle.blif.proofs.parts.add_table.Goals as goal

@@ -1,5 +1,4 @@
-use Rattle.std.proofs.Common.{◌∙◌, arith}
-use Rattle.blif.specs.Names.{number_of}
+use Rattle.blif.proofs.Prelude.{◌∙◌, arith, number_of}
 use Rattle.blif.proofs.NetNumbers.{numbers_at}
 use Rattle.blif.proofs.parts.number_names.Goals as goal
 

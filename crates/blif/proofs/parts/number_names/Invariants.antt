@@ -1,5 +1,4 @@
-use Rattle.std.proofs.Common.{◌≡◌, ◌++◌, take, map}
-use Rattle.blif.specs.Names.{number_of}
+use Rattle.blif.proofs.Prelude.{◌≡◌, ◌++◌, take, map, number_of}
 use Rattle.blif.proofs.parts.number_names.Given as goal
 
 -- the numbers so far are appended

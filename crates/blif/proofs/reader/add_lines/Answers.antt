@@ -1,8 +1,5 @@
-use Rattle.std.proofs.Common.{[], ◌<◌, ◌++◌, ◌∙◌, flat_map, length, refl, ap, arith}
-use Rattle.line_text.specs.Lines.{JoinedLine}
-use Rattle.blif.specs.Names.{has_name, number_of, with_names}
-use Rattle.blif.specs.LineNets.{names_in}
-use Rattle.blif.specs.Sights.{names_of}
+use Rattle.blif.proofs.Prelude.{[], ◌<◌, ◌++◌, ◌∙◌, length, refl, ap, arith, JoinedLine, has_name, number_of, with_names, names_in, names_of}
+use Rattle.std.proofs.Common.{flat_map}
 use Rattle.blif.proofs.Named.{all_named, list_all-part}
 use Rattle.blif.proofs.Numbered.{enough_numbers, own_numbers, later_numbers}
 use Rattle.blif.proofs.Building.{parts_at, undriven_at, no_undriven_at, fails_as}

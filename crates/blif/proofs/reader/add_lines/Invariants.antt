@@ -1,10 +1,4 @@
-use Rattle.std.proofs.Common.{◌≡◌, ◌++◌, take, drop, map}
-use Rattle.std.specs.List.{flat_map}
-use Rattle.blif.specs.Names.{number_of}
-use Rattle.blif.specs.FirstFaults.{first_fault}
-use Rattle.blif.specs.Sights.{names_of}
-use Rattle.blif.specs.LineByLine.{parts_of}
-use Rattle.blif.specs.CircuitOf.{undriven_faults}
+use Rattle.blif.proofs.Prelude.{◌≡◌, ◌++◌, take, drop, map, flat_map, number_of, first_fault, names_of, parts_of, undriven_faults}
 use Rattle.blif.proofs.reader.add_lines.Given as goal
 
 -- each net that was read so far is driven, and the numbers of the later lines are left

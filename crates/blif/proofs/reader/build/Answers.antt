@@ -1,11 +1,4 @@
-use Rattle.std.proofs.Common.{◌≡◌, ◌<◌, ◌∙◌, ap, sym, map, length, arith}
-use Rattle.std.specs.List.{flat_map}
-use Rattle.std.proofs.lemmas.List.{nil_from_length}
-use Rattle.blif.specs.Names.{number_of}
-use Rattle.blif.specs.FirstFaults.{first_fault}
-use Rattle.blif.specs.Sights.{Sights, names_of, sights_of}
-use Rattle.blif.specs.DrivenNets.{DrivenNets}
-use Rattle.blif.specs.CircuitOf.{final_faults}
+use Rattle.blif.proofs.Prelude.{◌≡◌, ◌<◌, ◌∙◌, ap, sym, map, length, arith, flat_map, nil_from_length, number_of, first_fault, Sights, names_of, sights_of, DrivenNets, final_faults}
 use Rattle.blif.proofs.Building.{built_is}
 use Rattle.blif.proofs.reader.build.Goals as goal
 

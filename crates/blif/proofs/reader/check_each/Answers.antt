@@ -1,11 +1,4 @@
-use Rattle.std.proofs.Common.{◌<◌, ◌≤◌, [], length, take, sym, refl, ap, ◌∙◌, arith}
-use Rattle.std.proofs.lemmas.List.{take_all, drop_all}
-use Rattle.line_text.specs.Lines.{JoinedLine}
-use Rattle.std.specs.List.{flat_map}
-use Rattle.blif.specs.Numbering.{numbers_of}
-use Rattle.blif.specs.FirstFaults.{first_fault}
-use Rattle.blif.specs.Sights.{names_of, sights_of}
-use Rattle.blif.specs.CircuitOf.{line_faults}
+use Rattle.blif.proofs.Prelude.{◌<◌, ◌≤◌, [], length, take, sym, refl, ap, ◌∙◌, arith, take_all, drop_all, JoinedLine, flat_map, numbers_of, first_fault, names_of, sights_of, line_faults}
 use Rattle.blif.proofs.Sightings.{sights_at, numbers_so_far, fault_at, no_fault_at}
 use Rattle.blif.proofs.reader.check_each.Goals as goal
 

@@ -1,10 +1,4 @@
-use Rattle.std.proofs.Common.{◌≡◌, ◌≤◌, [], take, drop, length}
-use Rattle.std.specs.List.{flat_map}
-use Rattle.blif.specs.Numbering.{numbers_of}
-use Rattle.blif.specs.FirstFaults.{first_fault}
-use Rattle.blif.specs.Sights.{names_of, sights_of}
-use Rattle.blif.specs.CircuitOf.{line_faults}
-use Rattle.blif.specs.declared.circuit.TheConstants.{MAX_NETS}
+use Rattle.blif.proofs.Prelude.{◌≡◌, ◌≤◌, [], take, drop, length, flat_map, numbers_of, first_fault, names_of, sights_of, line_faults, MAX_NETS}
 use Rattle.blif.proofs.reader.check_each.Given as goal
 
 -- no line so far has a fault

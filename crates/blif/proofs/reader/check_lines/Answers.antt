@@ -1,5 +1,4 @@
-use Rattle.std.proofs.Common.{◌∙◌, [], sym, ap}
-use Rattle.blif.specs.Sights.{sights_of}
+use Rattle.blif.proofs.Prelude.{◌∙◌, [], sym, ap, sights_of}
 use Rattle.blif.proofs.Answering.{declared_is}
 use Rattle.blif.proofs.reader.check_lines.Goals as goal
 

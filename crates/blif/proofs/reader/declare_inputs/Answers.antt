@@ -1,9 +1,4 @@
-use Rattle.std.proofs.Common.{◌∙◌, sym, ap, arith}
-use Rattle.line_text.specs.Lines.{JoinedLine}
-use Rattle.blif.specs.Names.{with_names}
-use Rattle.blif.specs.LineNets.{inputs_in}
-use Rattle.blif.specs.Sights.{is_end}
-use Rattle.blif.specs.CircuitOf.{declared_in}
+use Rattle.blif.proofs.Prelude.{◌∙◌, sym, ap, arith, JoinedLine, with_names, inputs_in, is_end, declared_in}
 use Rattle.blif.proofs.Building.{declared_at, declared_at_end, declared_past}
 use Rattle.blif.proofs.reader.declare_inputs.Goals as goal
 

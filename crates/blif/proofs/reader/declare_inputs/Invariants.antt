@@ -1,8 +1,4 @@
-use Rattle.std.proofs.Common.{◌≡◌, [], drop}
-use Rattle.std.specs.List.{flat_map}
-use Rattle.blif.specs.Names.{with_names}
-use Rattle.blif.specs.Sights.{inputs_of}
-use Rattle.blif.specs.LineByLine.{lines_to_end}
+use Rattle.blif.proofs.Prelude.{◌≡◌, [], drop, flat_map, with_names, inputs_of, lines_to_end}
 use Rattle.blif.proofs.reader.declare_inputs.Given as goal
 
 -- adding the inputs of the remaining lines has the result of adding those of all lines

@@ -1,4 +1,4 @@
-use Rattle.std.proofs.Common.{◌++◌, ◌∷◌, [], ◌∙◌, sym, ap, arith}
+use Rattle.blif.proofs.Prelude.{◌++◌, ◌∷◌, [], ◌∙◌, sym, ap, arith}
 use Rattle.blif.proofs.Places.{take_place}
 use Rattle.blif.proofs.reader.net_names.Goals as goal
 

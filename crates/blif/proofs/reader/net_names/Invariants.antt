@@ -1,4 +1,4 @@
-use Rattle.std.proofs.Common.{◌≡◌, take}
+use Rattle.blif.proofs.Prelude.{◌≡◌, take}
 use Rattle.blif.proofs.reader.net_names.Given as goal
 
 -- the names so far are copied

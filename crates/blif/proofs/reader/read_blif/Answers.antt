@@ -1,4 +1,4 @@
-use Rattle.std.proofs.Common.{Ok}
+use Rattle.blif.proofs.Prelude.{Ok}
 use Rattle.blif.proofs.Answering.{circuit_of-long, circuit_of-short, gives_error_of_lines}
 use Rattle.blif.proofs.reader.read_blif.Goals as goal
 

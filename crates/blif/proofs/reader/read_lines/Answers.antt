@@ -1,10 +1,4 @@
-use Rattle.std.proofs.Common.{◌∙◌, [], map, sym, ap}
-use Rattle.std.specs.List.{flat_map}
-use Rattle.std.proofs.lemmas.Result.{err_from_is_err_and}
-use Rattle.blif.specs.Sights.{Sights, names_of, sights_of}
-use Rattle.blif.specs.Names.{number_of}
-use Rattle.blif.specs.FirstFaults.{first_fault}
-use Rattle.blif.specs.CircuitOf.{line_faults}
+use Rattle.blif.proofs.Prelude.{◌∙◌, [], map, sym, ap, flat_map, err_from_is_err_and, Sights, names_of, sights_of, number_of, first_fault, line_faults}
 use Rattle.blif.proofs.Numbered.{numbered_all}
 use Rattle.blif.proofs.Answering.{declared_is, gives_line_fault, gives_built, lawful_built}
 use Rattle.blif.proofs.reader.read_lines.Goals as goal

@@ -1,7 +1,4 @@
-use Rattle.std.proofs.Common.{◌≡◌, ◌∙◌, Bool, List, Some, sym, arith}
-use Rattle.std.specs.List.{slice_get}
-use Rattle.blif.specs.LookupTables.{LookupTable}
-use Rattle.circuit_use.specs.Counts.{has_inputs}
+use Rattle.circuit_use.proofs.Prelude.{◌≡◌, ◌∙◌, Bool, List, Some, sym, arith, slice_get, LookupTable, has_inputs}
 use Rattle.circuit_use.proofs.CountMore.{count_no, count_yes}
 use Rattle.circuit_use.proofs.counting.tables_with.Goals as goal
 use Rattle.circuit_use.proofs.counting.tables_with.Goals.{then-has_inputs, else-has_inputs}

@@ -1,5 +1,4 @@
-use Rattle.std.proofs.Common.{◌≡◌, ◌≤◌, count_by, take}
-use Rattle.circuit_use.specs.Counts.{has_inputs}
+use Rattle.circuit_use.proofs.Prelude.{◌≡◌, ◌≤◌, count_by, take, has_inputs}
 use Rattle.circuit_use.proofs.counting.tables_with.Given as goal
 
 -- the tables before this one were counted

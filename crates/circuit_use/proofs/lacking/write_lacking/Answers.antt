@@ -1,6 +1,4 @@
-use Rattle.std.proofs.Common.{sym, subst}
-use Rattle.line_text.specs.Writing.{Writes}
-use Rattle.circuit_use.specs.Lacking.{lacking_line}
+use Rattle.circuit_use.proofs.Prelude.{sym, subst, Writes, lacking_line}
 use Rattle.circuit_use.proofs.lacking.write_lacking.Goals as goal
 
 pub returns-in-Nothing : goal.returns-in-Nothing

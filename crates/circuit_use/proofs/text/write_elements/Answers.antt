@@ -1,4 +1,4 @@
-use Rattle.line_text.proofs.WritingLemmas.{part_first, part_then, writes_part, writes_then}
+use Rattle.circuit_use.proofs.Prelude.{part_first, part_then, writes_part, writes_then}
 use Rattle.circuit_use.proofs.text.write_elements.Goals as goal
 
 pub returns-in_err-write_line : goal.returns-in_err-write_line

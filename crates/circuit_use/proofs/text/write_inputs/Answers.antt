@@ -1,7 +1,4 @@
-use Rattle.std.proofs.Common.{ℕ, ◌+◌, ◌<◌, ◌≤◌, arith}
-use Rattle.std.specs.List.{range_with_len}
-use Rattle.circuit_use.specs.Text.{inputs_word}
-use Rattle.line_text.proofs.WritingLemmas.{all_loop, all_range_end, part_loop, place_at, writes_part}
+use Rattle.circuit_use.proofs.Prelude.{ℕ, ◌+◌, ◌<◌, ◌≤◌, arith, range_with_len, inputs_word, all_loop, all_range_end, part_loop, place_at, writes_part}
 use Rattle.circuit_use.proofs.text.write_inputs.Goals as goal
 
 pub returns-in_err-write_count : goal.returns-in_err-write_count

@@ -1,7 +1,4 @@
-use Rattle.std.proofs.Common.{◌+◌, take}
-use Rattle.std.specs.List.{flat_map, range_with_len}
-use Rattle.line_text.specs.Writing.{TakesAll}
-use Rattle.circuit_use.specs.Text.{inputs_word}
+use Rattle.circuit_use.proofs.Prelude.{◌+◌, take, flat_map, range_with_len, TakesAll, inputs_word}
 use Rattle.circuit_use.proofs.text.write_inputs.Given as goal
 
 -- the numbers of inputs before this one are written

@@ -1,7 +1,4 @@
-use Rattle.std.proofs.Common.{[], ◌∷◌, subst}
-use Rattle.std.specs.List.{concat}
-use Rattle.std.specs.Prelude.{codes, decimal}
-use Rattle.line_text.specs.Writing.{Writes}
+use Rattle.circuit_use.proofs.Prelude.{[], ◌∷◌, subst, concat, codes, decimal, Writes}
 use Rattle.circuit_use.proofs.text.write_table_count.Goals as goal
 
 pub returns : goal.returns

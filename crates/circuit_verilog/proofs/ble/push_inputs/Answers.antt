@@ -1,6 +1,4 @@
-use Rattle.std.proofs.Common.{ℕ, ◌<◌, ◌≤◌, arith}
-use Rattle.std.specs.List.{slice_get}
-use Rattle.circuit_verilog.specs.Parts.{input_text}
+use Rattle.circuit_verilog.proofs.Prelude.{ℕ, ◌<◌, ◌≤◌, arith, slice_get, input_text}
 use Rattle.circuit_verilog.proofs.Lists.{number_more, numbers_end}
 use Rattle.circuit_verilog.proofs.ble.push_inputs.Goals as goal
 

@@ -1,6 +1,4 @@
-use Rattle.std.proofs.Common.{◌≡◌, ◌++◌, take}
-use Rattle.std.specs.List.{flat_map, range_with_len, slice_get}
-use Rattle.circuit_verilog.specs.Parts.{input_text}
+use Rattle.circuit_verilog.proofs.Prelude.{◌≡◌, ◌++◌, take, flat_map, range_with_len, slice_get, input_text}
 use Rattle.circuit_verilog.proofs.ble.push_inputs.Given as goal
 
 -- the ones before this one are written

@@ -1,6 +1,4 @@
-use Rattle.std.proofs.Common.{◌≡◌, ◌++◌, take}
-use Rattle.std.specs.List.{flat_map}
-use Rattle.text_parts.specs.Parts.{bytes_of_part}
+use Rattle.circuit_verilog.proofs.Prelude.{◌≡◌, ◌++◌, take, flat_map, bytes_of_part}
 use Rattle.circuit_verilog.proofs.parts.push_parts.Given as goal
 
 -- the parts before this one are written

@@ -1,7 +1,4 @@
-use Rattle.std.proofs.Common.{◌++◌}
-use Rattle.std.specs.List.{flat_map, range_with_len}
-use Rattle.std.proofs.Common.{length}
-use Rattle.circuit_verilog.specs.Verilog.{clock_line, input_line, output_line, wire_line}
+use Rattle.circuit_verilog.proofs.Prelude.{◌++◌, flat_map, range_with_len, length, clock_line, input_line, output_line, wire_line}
 use Rattle.circuit_verilog.proofs.Lists.{ok_then, then}
 use Rattle.circuit_verilog.proofs.ports.push_declarations.Goals as goal
 

@@ -1,5 +1,4 @@
-use Rattle.std.proofs.Common.{ℕ, ◌<◌, ◌≤◌, arith}
-use Rattle.circuit_verilog.specs.Verilog.{wire_line}
+use Rattle.circuit_verilog.proofs.Prelude.{ℕ, ◌<◌, ◌≤◌, arith, wire_line}
 use Rattle.circuit_verilog.proofs.Lists.{number_more, numbers_end}
 use Rattle.circuit_verilog.proofs.ports.push_wires_of.Goals as goal
 

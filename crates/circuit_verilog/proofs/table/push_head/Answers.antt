@@ -1,4 +1,4 @@
-use Rattle.std.proofs.Common.{sym}
+use Rattle.circuit_verilog.proofs.Prelude.{sym}
 use Rattle.circuit_verilog.proofs.table.push_head.Goals as goal
 
 pub returns : goal.returns

@@ -1,5 +1,4 @@
-use Rattle.std.proofs.Common.{ℕ, ◌<◌, ◌≤◌, arith}
-use Rattle.circuit_verilog.specs.Parts.{level_line}
+use Rattle.circuit_verilog.proofs.Prelude.{ℕ, ◌<◌, ◌≤◌, arith, level_line}
 use Rattle.circuit_verilog.proofs.Lists.{number_more, numbers_end}
 use Rattle.circuit_verilog.proofs.table.push_levels.Goals as goal
 

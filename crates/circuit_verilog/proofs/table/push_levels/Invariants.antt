@@ -1,6 +1,4 @@
-use Rattle.std.proofs.Common.{◌≡◌, ◌++◌, take}
-use Rattle.std.specs.List.{flat_map, range_with_len}
-use Rattle.circuit_verilog.specs.Parts.{level_line}
+use Rattle.circuit_verilog.proofs.Prelude.{◌≡◌, ◌++◌, take, flat_map, range_with_len, level_line}
 use Rattle.circuit_verilog.proofs.table.push_levels.Given as goal
 
 -- the ones before this one are written

@@ -1,6 +1,4 @@
-use Rattle.std.proofs.Common.{◌++◌, codes}
-use Rattle.std.specs.List.{flat_map, range_with_len}
-use Rattle.circuit_verilog.specs.Parts.{level_line, table_head}
+use Rattle.circuit_verilog.proofs.Prelude.{◌++◌, codes, flat_map, range_with_len, level_line, table_head}
 use Rattle.circuit_verilog.proofs.Lists.{ok_then, then}
 use Rattle.circuit_verilog.proofs.table.push_table_module.Goals as goal
 

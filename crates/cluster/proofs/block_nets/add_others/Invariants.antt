@@ -1,5 +1,4 @@
-use Rattle.std.proofs.Common.{◌≡◌, ◌++◌, take}
-use Rattle.cluster.specs.NetUses.{other_readers}
+use Rattle.cluster.proofs.Prelude.{◌≡◌, ◌++◌, take, other_readers}
 use Rattle.cluster.proofs.block_nets.add_others.Given as goal
 
 abbrev pub invariant-loop-block : goal.invariant-loop-block

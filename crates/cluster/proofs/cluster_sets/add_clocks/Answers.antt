@@ -1,4 +1,4 @@
-use Rattle.std.proofs.Common.{◌∙◌, arith, length, ◌<◌}
+use Rattle.cluster.proofs.Prelude.{◌∙◌, arith, length, ◌<◌}
 use Rattle.cluster.proofs.NetLists.{clocks_more}
 use Rattle.cluster.proofs.cluster_sets.add_clocks.Goals as goal
 use Rattle.cluster.proofs.cluster_sets.add_clocks.Goals.{in-Some+in_ok-insert, in_default}

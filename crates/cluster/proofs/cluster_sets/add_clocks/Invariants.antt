@@ -1,7 +1,4 @@
-use Rattle.std.proofs.Common.{◌≡◌, take}
-use Rattle.ble_cluster.specs.Nets.{with_nets}
-use Rattle.ble_cluster.specs.Clusters.{elements_at}
-use Rattle.cluster.specs.ClusterPins.{all_clocks_of}
+use Rattle.cluster.proofs.Prelude.{◌≡◌, take, with_nets, elements_at, all_clocks_of}
 use Rattle.cluster.proofs.cluster_sets.add_clocks.Given as goal
 
 abbrev pub invariant-loop-member : goal.invariant-loop-member

@@ -1,4 +1,4 @@
-use Rattle.std.proofs.Common.{arith}
+use Rattle.cluster.proofs.Prelude.{arith}
 use Rattle.cluster.proofs.NetLists.{inputs_more}
 use Rattle.cluster.proofs.cluster_sets.add_inputs.Goals as goal
 

@@ -1,8 +1,5 @@
-use Rattle.std.proofs.Common.{◌≡◌, take, not}
+use Rattle.cluster.proofs.Prelude.{◌≡◌, take, not, has, with_nets, elements_at, inputs_of}
 use Rattle.std.specs.List.{filter}
-use Rattle.ble_cluster.specs.Nets.{has, with_nets}
-use Rattle.ble_cluster.specs.Clusters.{elements_at}
-use Rattle.ble_cluster.specs.OutsideInputs.{inputs_of}
 use Rattle.cluster.proofs.cluster_sets.add_inputs.Given as goal
 
 abbrev pub invariant-loop-member : goal.invariant-loop-member

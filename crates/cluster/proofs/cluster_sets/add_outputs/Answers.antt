@@ -1,4 +1,4 @@
-use Rattle.std.proofs.Common.{arith}
+use Rattle.cluster.proofs.Prelude.{arith}
 use Rattle.cluster.proofs.NetLists.{outputs_more}
 use Rattle.cluster.proofs.cluster_sets.add_outputs.Goals as goal
 

@@ -1,4 +1,4 @@
-use Rattle.std.proofs.Common.{◌∙◌, ◌<◌, arith, length, sym}
+use Rattle.cluster.proofs.Prelude.{◌∙◌, ◌<◌, arith, length, sym}
 use Rattle.cluster.proofs.DrivenNets.{driven_leaves, driven_stays, net_made}
 use Rattle.cluster.proofs.driven_nets.add_driven.Goals as goal
 use Rattle.cluster.proofs.driven_nets.add_driven.Goals.{then-leaves+in_ok-push, else-leaves}

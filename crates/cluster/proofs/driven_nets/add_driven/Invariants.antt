@@ -1,6 +1,4 @@
-use Rattle.std.proofs.Common.{◌≡◌, ◌++◌, take}
-use Rattle.ble_cluster.specs.Clusters.{elements_at}
-use Rattle.cluster.specs.NetUses.{driven_nets}
+use Rattle.cluster.proofs.Prelude.{◌≡◌, ◌++◌, take, elements_at, driven_nets}
 use Rattle.cluster.proofs.driven_nets.add_driven.Given as goal
 
 abbrev pub invariant-loop-member : goal.invariant-loop-member

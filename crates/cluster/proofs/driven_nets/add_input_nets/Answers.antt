@@ -1,4 +1,4 @@
-use Rattle.std.proofs.Common.{List, ap, slice_index, ℕ}
+use Rattle.cluster.proofs.Prelude.{List, ap, slice_index, ℕ}
 use Rattle.cluster.proofs.DrivenNets.{inputs_more, net_made}
 use Rattle.cluster.proofs.driven_nets.add_input_nets.Goals as goal
 

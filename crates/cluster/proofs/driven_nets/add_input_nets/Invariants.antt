@@ -1,5 +1,4 @@
-use Rattle.std.proofs.Common.{◌≡◌, ◌++◌}
-use Rattle.cluster.specs.NetUses.{input_nets}
+use Rattle.cluster.proofs.Prelude.{◌≡◌, ◌++◌, input_nets}
 use Rattle.cluster.proofs.driven_nets.add_input_nets.Given as goal
 
 abbrev pub invariant-loop-pad : goal.invariant-loop-pad

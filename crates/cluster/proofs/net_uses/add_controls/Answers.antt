@@ -1,5 +1,4 @@
-use Rattle.std.proofs.Common.{◌∙◌, ◌<◌, ap, arith, get_or, length, sym, List, None}
-use Rattle.blif.specs.declared.latches.Latch.{Latch}
+use Rattle.cluster.proofs.Prelude.{◌∙◌, ◌<◌, ap, arith, get_or, length, sym, List, None, Latch}
 use Rattle.cluster.proofs.NetLaws.{controls_more}
 use Rattle.cluster.proofs.net_uses.add_controls.Goals as goal
 use Rattle.cluster.proofs.net_uses.add_controls.Goals.{in-Some+in_ok-insert, in_default}

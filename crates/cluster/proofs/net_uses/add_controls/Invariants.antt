@@ -1,6 +1,4 @@
-use Rattle.std.proofs.Common.{◌≡◌, length, take}
-use Rattle.ble_cluster.specs.Nets.{distinct_nets}
-use Rattle.cluster.specs.NetUses.{controls_of}
+use Rattle.cluster.proofs.Prelude.{◌≡◌, length, take, distinct_nets, controls_of}
 use Rattle.cluster.proofs.net_uses.add_controls.Given as goal
 
 abbrev pub invariant-loop-latch : goal.invariant-loop-latch

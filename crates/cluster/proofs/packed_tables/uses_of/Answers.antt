@@ -1,7 +1,4 @@
-use Rattle.std.proofs.Common.{◌≡◌, ◌<◌, All, List, ap, arith, length, subst, sym, ◌∙◌, ℕ}
-use Rattle.ble_cluster.specs.NetSets.{NetsAmong}
-use Rattle.ble_cluster.specs.Bles.{LogicElement}
-use Rattle.cluster.specs.ClusterPins.{IsElementWithin}
+use Rattle.cluster.proofs.Prelude.{◌≡◌, ◌<◌, All, List, ap, arith, length, subst, sym, ◌∙◌, ℕ, NetsAmong, LogicElement, IsElementWithin}
 use Rattle.cluster.proofs.FewBlocks.{elements_within, few_blocks}
 use Rattle.cluster.proofs.TableLaws.{uses_count}
 use Rattle.cluster.proofs.packed_tables.uses_of.Goals as goal

@@ -1,5 +1,4 @@
-use Rattle.std.proofs.Common.{◌∙◌, ◌==◌, ap, sym, length}
-use Rattle.ble_cluster.specs.Clusters.{cluster_of}
+use Rattle.cluster.proofs.Prelude.{◌∙◌, ◌==◌, ap, sym, length, cluster_of}
 use Rattle.cluster.proofs.Going.{none_taken}
 use Rattle.cluster.proofs.packing.add_cluster.Goals as goal
 

@@ -1,5 +1,4 @@
-use Rattle.std.proofs.Common.{◌∙◌, sym, Some, None}
-use Rattle.ble_cluster.proofs.Elements.{elements_lawful}
+use Rattle.cluster.proofs.Prelude.{◌∙◌, sym, Some, None, elements_lawful}
 use Rattle.cluster.proofs.Members.{few_bles}
 use Rattle.cluster.proofs.Going.{unfit_is}
 use Rattle.cluster.proofs.packing.check.Goals as goal

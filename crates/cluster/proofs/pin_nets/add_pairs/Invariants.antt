@@ -1,5 +1,4 @@
-use Rattle.std.proofs.Common.{◌≡◌, ◌++◌, take}
-use Rattle.rows.specs.ByKey.{pairs_with}
+use Rattle.cluster.proofs.Prelude.{◌≡◌, ◌++◌, take, pairs_with}
 use Rattle.cluster.proofs.pin_nets.add_pairs.Given as goal
 
 abbrev pub invariant-loop-net : goal.invariant-loop-net

@@ -1,5 +1,4 @@
-use Rattle.std.proofs.Common.{◌≡◌, ℕ, List, arith, ap, length, slice_index, subst}
-use Rattle.cluster.specs.ClusterPins.{TellReaders}
+use Rattle.cluster.proofs.Prelude.{◌≡◌, ℕ, List, arith, ap, length, slice_index, subst, TellReaders}
 use Rattle.cluster.proofs.FewBlocks.{few_pads}
 use Rattle.cluster.proofs.ReaderLists.{tell_none, tell_pad}
 use Rattle.cluster.proofs.pin_nets.pad_pairs.Goals as goal

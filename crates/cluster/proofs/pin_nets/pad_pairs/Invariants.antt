@@ -1,6 +1,4 @@
-use Rattle.std.proofs.Common.{ℕ, List}
-use Rattle.ble_cluster.specs.Bles.{LogicElement}
-use Rattle.cluster.specs.ClusterPins.{TellReaders}
+use Rattle.cluster.proofs.Prelude.{ℕ, List, LogicElement, TellReaders}
 use Rattle.cluster.proofs.pin_nets.pad_pairs.Given as goal
 
 abbrev pub invariant-loop-pad : goal.invariant-loop-pad

@@ -1,4 +1,4 @@
-use Rattle.std.proofs.Common.{◌∙◌, ◌<◌, ap, arith, length, ℕ, Vec, Global}
+use Rattle.cluster.proofs.Prelude.{◌∙◌, ◌<◌, ap, arith, length, ℕ, Vec, Global}
 use Rattle.cluster.proofs.PinRanks.{ranked_none, ranked_input, ranked_output, ranked_clock, ranked_all}
 use Rattle.cluster.proofs.pin_ranks.add_ranks.Goals as goal
 use Rattle.cluster.proofs.pin_ranks.add_ranks.Goals.{in-Input+in_ok-push-in-Input, in-Output+in_ok-push-in-Output, in-Clock+in_ok-push-in-Clock}

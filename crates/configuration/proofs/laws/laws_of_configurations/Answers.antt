@@ -1,4 +1,4 @@
-use Rattle.std.proofs.Common.{[]}
+use Rattle.configuration.proofs.Prelude.{[]}
 use Rattle.configuration.proofs.Apart.{bles_apart}
 use Rattle.configuration.proofs.Connected.{configures}
 use Rattle.configuration.proofs.OneDriver.{has_one_driver}

@@ -1,5 +1,4 @@
-use Rattle.std.proofs.Common.{◌∙◌, drop, sym, ap}
-use Rattle.std.proofs.lemmas.List.{drop-drop}
+use Rattle.configuration_text.proofs.Prelude.{◌∙◌, drop, sym, ap, drop-drop}
 use Rattle.configuration_text.proofs.bits.first_row.Goals as goal
 
 pub returns-then-place-len : goal.returns-then-place-len

@@ -1,6 +1,4 @@
-use Rattle.std.proofs.Common.{drop, map}
-use Rattle.table_rows.specs.TableBits.{value_in, value_of}
-use Rattle.configuration_text.specs.Parts.{row_words}
+use Rattle.configuration_text.proofs.Prelude.{drop, map, value_in, value_of, row_words}
 use Rattle.configuration_text.proofs.Rest.{AreBitsLeft}
 use Rattle.configuration_text.proofs.bits.push_rows.Given as goal
 

@@ -1,8 +1,4 @@
-use Rattle.std.proofs.Common.{◌++◌, List, map, ap}
-use Rattle.std.proofs.lemmas.Result.{IfOk-equal}
-use Rattle.line_text.specs.Lines.{JoinedLine}
-use Rattle.configuration.specs.ConfigurationText.{bit_digit}
-use Rattle.configuration_text.specs.Parts.{row_words, values_below}
+use Rattle.configuration_text.proofs.Prelude.{◌++◌, List, map, ap, IfOk-equal, JoinedLine, bit_digit, row_words, values_below}
 use Rattle.configuration_text.proofs.bits.push_values.Goals as goal
 
 pub returns : goal.returns

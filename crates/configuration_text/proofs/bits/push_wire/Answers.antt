@@ -1,5 +1,4 @@
-use Rattle.std.proofs.Common.{◌==◌, ◌%◌, sym}
-use Rattle.table_rows.specs.TableBits.{bit_of}
+use Rattle.configuration_text.proofs.Prelude.{◌==◌, ◌%◌, sym, bit_of}
 use Rattle.configuration_text.proofs.Rest.{bits_end, bits_more, bits_none}
 use Rattle.configuration_text.proofs.NumberBits.{bit_first}
 use Rattle.configuration_text.proofs.bits.push_wire.Goals as goal

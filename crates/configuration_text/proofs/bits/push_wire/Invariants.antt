@@ -1,4 +1,4 @@
-use Rattle.table_rows.specs.TableBits.{bit_of}
+use Rattle.configuration_text.proofs.Prelude.{bit_of}
 use Rattle.configuration_text.proofs.Rest.{AreBitsLeft}
 use Rattle.configuration_text.proofs.bits.push_wire.Given as goal
 

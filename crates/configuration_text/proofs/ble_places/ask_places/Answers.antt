@@ -1,7 +1,4 @@
-use Rattle.std.proofs.Common.{◌≡◌, ◌∙◌, ◌++◌, ◌∷◌, [], Option, ℕ, ap, map, refl, rules}
-use Rattle.std.specs.List.{enumerate_from}
-use Rattle.configuration.specs.RoutedPins.{routed_place}
-use Rattle.implements.specs.Layouts.{LaidBle}
+use Rattle.configuration_text.proofs.Prelude.{◌≡◌, ◌∙◌, ◌++◌, ◌∷◌, [], Option, ℕ, ap, map, refl, rules, enumerate_from, routed_place, LaidBle}
 use Rattle.configuration_text.proofs.Rest.{past_from, read_from, written_end, written_more}
 use Rattle.configuration_text.proofs.ble_places.ask_places.Goals as goal
 

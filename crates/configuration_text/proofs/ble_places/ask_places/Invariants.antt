@@ -1,6 +1,4 @@
-use Rattle.std.proofs.Common.{◌≡◌, ◌++◌, drop, map}
-use Rattle.std.specs.List.{enumerate_from}
-use Rattle.configuration.specs.RoutedPins.{routed_place, routed_places}
+use Rattle.configuration_text.proofs.Prelude.{◌≡◌, ◌++◌, drop, map, enumerate_from, routed_place, routed_places}
 use Rattle.configuration_text.proofs.ble_places.ask_places.Given as goal
 
 abbrev pub invariant-loop-index : goal.invariant-loop-index

@@ -1,7 +1,4 @@
-use Rattle.std.proofs.Common.{◌∙◌, ◌++◌, ◌<◌, List, ℕ, None, ap, get_or, length, rules}
-use Rattle.configuration.specs.RoutedPins.{filled_places}
-use Rattle.configuration_text.specs.Parts.{free_from}
-use Rattle.std.proofs.lemmas.Option.{slice_get-get_or}
+use Rattle.configuration_text.proofs.Prelude.{◌∙◌, ◌++◌, ◌<◌, List, ℕ, None, ap, get_or, length, rules, filled_places, free_from, slice_get-get_or}
 use Rattle.configuration_text.proofs.Places.{fill_end, fill_more, free_all}
 use Rattle.configuration_text.proofs.ble_places.fill_each.Goals as goal
 

@@ -1,6 +1,4 @@
-use Rattle.std.proofs.Common.{◌≡◌, ◌++◌, drop}
-use Rattle.configuration.specs.RoutedPins.{filled_places}
-use Rattle.configuration_text.specs.Parts.{free_from}
+use Rattle.configuration_text.proofs.Prelude.{◌≡◌, ◌++◌, drop, filled_places, free_from}
 use Rattle.configuration_text.proofs.ble_places.fill_each.Given as goal
 
 abbrev pub invariant-loop-asked : goal.invariant-loop-asked

@@ -1,6 +1,4 @@
-use Rattle.std.proofs.Common.{◌≡◌, ◌∙◌, true, false, not, sym, rules, arith}
-use Rattle.std.specs.List.{list_any}
-use Rattle.configuration.specs.RoutedPins.{is_place}
+use Rattle.configuration_text.proofs.Prelude.{◌≡◌, ◌∙◌, true, false, not, sym, rules, arith, list_any, is_place}
 use Rattle.configuration_text.proofs.Places.{free_end, free_hit, free_miss}
 use Rattle.configuration_text.proofs.ble_places.first_free.Goals as goal
 

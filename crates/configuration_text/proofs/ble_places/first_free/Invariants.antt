@@ -1,5 +1,4 @@
-use Rattle.std.proofs.Common.{◌≡◌}
-use Rattle.configuration_text.specs.Parts.{free_from}
+use Rattle.configuration_text.proofs.Prelude.{◌≡◌, free_from}
 use Rattle.configuration_text.proofs.ble_places.first_free.Given as goal
 
 abbrev pub invariant-loop-place : goal.invariant-loop-place

@@ -1,7 +1,4 @@
-use Rattle.std.proofs.Common.{Bool, ap, not, rules, tests}
-use Rattle.std.proofs.lemmas.Iterator.{YieldsList-from_slice}
-use Rattle.std.proofs.lemmas.Iterator.Search.{any_from_yields_List}
-use Rattle.configuration.specs.RoutedPins.{is_place}
+use Rattle.configuration_text.proofs.Prelude.{Bool, ap, not, rules, tests, YieldsList-from_slice, any_from_yields_List, is_place}
 use Rattle.configuration_text.proofs.ble_places.is_free.Goals as goal
 
 pub returns : goal.returns

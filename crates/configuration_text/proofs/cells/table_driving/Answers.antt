@@ -1,6 +1,4 @@
-use Rattle.std.proofs.Common.{◌≡◌, ◌==◌, Bool, true, false, rules, tests, arith}
-use Rattle.blif.specs.LookupTables.{LookupTable}
-use Rattle.configuration_text.specs.Parts.{table_read}
+use Rattle.configuration_text.proofs.Prelude.{◌≡◌, ◌==◌, Bool, true, false, rules, tests, arith, LookupTable, table_read}
 use Rattle.configuration_text.proofs.Found.{find_end, find_hit, find_miss}
 use Rattle.configuration_text.proofs.cells.table_driving.Goals as goal
 

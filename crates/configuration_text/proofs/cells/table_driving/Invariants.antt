@@ -1,5 +1,4 @@
-use Rattle.std.proofs.Common.{◌≡◌, ◌==◌, drop}
-use Rattle.std.specs.Prelude.{find}
+use Rattle.configuration_text.proofs.Prelude.{◌≡◌, ◌==◌, drop, find}
 use Rattle.configuration_text.proofs.cells.table_driving.Given as goal
 
 abbrev pub invariant-loop-place : goal.invariant-loop-place

@@ -1,5 +1,4 @@
-use Rattle.std.proofs.Common.{◌∙◌, sym}
-use Rattle.implements.specs.Layouts.{traced_ble}
+use Rattle.configuration_text.proofs.Prelude.{◌∙◌, sym, traced_ble}
 use Rattle.configuration_text.proofs.Within.{with_latch}
 use Rattle.configuration_text.proofs.cells.table_within.Goals as goal
 

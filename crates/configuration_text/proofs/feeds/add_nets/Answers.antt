@@ -1,10 +1,4 @@
-use Rattle.std.proofs.Common.{◌≡◌, ◌∙◌, ℕ, List, ap, get_or, length, refl, ◌++◌, ◌<◌}
-use Rattle.std.specs.List.{flat_map}
-use Rattle.std.specs.Option.{option_to_list}
-use Rattle.implements.specs.Layouts.{input_net}
-use Rattle.implements.specs.declared.feed.Feed.{Feed}
-use Rattle.implements.specs.declared.feed.Feed.TheVariants.{Pin}
-use Rattle.std.proofs.lemmas.Option.{slice_get-get_or}
+use Rattle.configuration_text.proofs.Prelude.{◌≡◌, ◌∙◌, ℕ, List, ap, get_or, length, refl, ◌++◌, ◌<◌, flat_map, option_to_list, input_net, Feed, Pin, slice_get-get_or}
 use Rattle.configuration_text.proofs.Rest.{written_end, written_more}
 use Rattle.configuration_text.proofs.feeds.add_nets.Goals as goal
 

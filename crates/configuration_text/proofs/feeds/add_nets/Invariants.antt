@@ -1,7 +1,4 @@
-use Rattle.std.proofs.Common.{◌≡◌, ◌++◌, drop}
-use Rattle.std.specs.List.{flat_map}
-use Rattle.std.specs.Option.{option_to_list}
-use Rattle.implements.specs.Layouts.{input_net}
+use Rattle.configuration_text.proofs.Prelude.{◌≡◌, ◌++◌, drop, flat_map, option_to_list, input_net}
 use Rattle.configuration_text.proofs.feeds.add_nets.Given as goal
 
 abbrev pub invariant-loop-feed : goal.invariant-loop-feed

@@ -1,5 +1,4 @@
-use Rattle.std.proofs.Common.{◌∙◌, Some, None, sym, ap}
-use Rattle.configuration.specs.declared.line.Driver.{Driver}
+use Rattle.configuration_text.proofs.Prelude.{◌∙◌, Some, None, sym, ap, Driver}
 use Rattle.configuration_text.proofs.DriversIn.{cluster_driver}
 use Rattle.configuration_text.proofs.global_lines.driver_in.Goals as goal
 

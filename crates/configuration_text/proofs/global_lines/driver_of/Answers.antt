@@ -1,7 +1,4 @@
-use Rattle.std.proofs.Common.{◌≡◌, ◌∙◌, List, None, sym, rules}
-use Rattle.configuration.specs.Configuration.{drivers_as}
-use Rattle.configuration.specs.declared.line.Driver.{Driver}
-use Rattle.implements.specs.Layouts.{LaidBlock}
+use Rattle.configuration_text.proofs.Prelude.{◌≡◌, ◌∙◌, List, None, sym, rules, drivers_as, Driver, LaidBlock}
 use Rattle.configuration_text.proofs.Rest.{past_from, read_from}
 use Rattle.configuration_text.proofs.Found.{first_end, first_found, first_passed}
 use Rattle.configuration_text.proofs.global_lines.driver_of.Goals as goal

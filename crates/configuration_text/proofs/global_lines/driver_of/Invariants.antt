@@ -1,6 +1,4 @@
-use Rattle.std.proofs.Common.{◌≡◌, drop, slice_get}
-use Rattle.std.specs.List.{flat_map}
-use Rattle.configuration.specs.Configuration.{driver_of_net, drivers_as}
+use Rattle.configuration_text.proofs.Prelude.{◌≡◌, drop, slice_get, flat_map, driver_of_net, drivers_as}
 use Rattle.configuration_text.proofs.global_lines.driver_of.Given as goal
 
 abbrev pub invariant-loop-laid : goal.invariant-loop-laid

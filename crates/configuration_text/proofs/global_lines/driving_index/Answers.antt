@@ -1,6 +1,4 @@
-use Rattle.std.proofs.Common.{◌==◌, ◌&&◌, ◌∙◌, Bool, ℕ, sym}
-use Rattle.std.specs.Prelude.{is_some}
-use Rattle.implements.specs.Layouts.{LaidBle}
+use Rattle.configuration_text.proofs.Prelude.{◌==◌, ◌&&◌, ◌∙◌, Bool, ℕ, sym, is_some, LaidBle}
 use Rattle.configuration_text.proofs.Rest.{read_get}
 use Rattle.configuration_text.proofs.Found.{index_end, index_hit, index_miss}
 use Rattle.configuration_text.proofs.global_lines.driving_index.Goals as goal

@@ -1,6 +1,4 @@
-use Rattle.std.proofs.Common.{◌≡◌, ◌==◌, ◌&&◌, drop, filter, slice_get}
-use Rattle.std.specs.Prelude.{is_some}
-use Rattle.std.specs.List.{enumerate_from}
+use Rattle.configuration_text.proofs.Prelude.{◌≡◌, ◌==◌, ◌&&◌, drop, filter, slice_get, is_some, enumerate_from}
 use Rattle.configuration_text.proofs.global_lines.driving_index.Given as goal
 
 abbrev pub invariant-loop-index : goal.invariant-loop-index

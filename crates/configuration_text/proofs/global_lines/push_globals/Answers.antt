@@ -1,10 +1,4 @@
-use Rattle.std.proofs.Common.{◌≡◌, ◌∙◌, ◌++◌, List, ℕ, ap, map, get_or, length, ◌<◌, Option, arith}
-use Rattle.std.specs.Option.{option_to_list}
-use Rattle.configuration.specs.Configuration.{driver_of_net}
-use Rattle.configuration.specs.ConfigurationText.{lines_text}
-use Rattle.configuration.specs.Lines.{ConfigurationLine, Feeds}
-use Rattle.configuration.specs.declared.line.Driver.{Driver}
-use Rattle.std.proofs.lemmas.Option.{slice_get-get_or}
+use Rattle.configuration_text.proofs.Prelude.{◌≡◌, ◌∙◌, ◌++◌, List, ℕ, ap, map, get_or, length, ◌<◌, Option, arith, option_to_list, driver_of_net, lines_text, ConfigurationLine, Feeds, Driver, slice_get-get_or}
 use Rattle.configuration_text.proofs.Rest.{past_from}
 use Rattle.configuration_text.proofs.Texts.{each_end, each_more}
 use Rattle.configuration_text.proofs.global_lines.push_globals.Goals as goal

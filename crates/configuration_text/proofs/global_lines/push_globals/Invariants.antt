@@ -1,9 +1,4 @@
-use Rattle.std.proofs.Common.{◌≡◌, ◌++◌, drop, map}
-use Rattle.std.specs.List.{enumerate_from, flat_map}
-use Rattle.std.specs.Option.{option_to_list}
-use Rattle.configuration.specs.Configuration.{driver_of_net, global_lines}
-use Rattle.configuration.specs.ConfigurationText.{lines_text}
-use Rattle.configuration.specs.Lines.{Feeds}
+use Rattle.configuration_text.proofs.Prelude.{◌≡◌, ◌++◌, drop, map, enumerate_from, flat_map, option_to_list, driver_of_net, global_lines, lines_text, Feeds}
 use Rattle.configuration_text.proofs.global_lines.push_globals.Given as goal
 
 abbrev pub invariant-loop-number : goal.invariant-loop-number

@@ -1,5 +1,4 @@
-use Rattle.std.proofs.Common.{◌≡◌, ◌==◌, ◌<◌, true, false, get_or, length, rules, tests, refl, arith}
-use Rattle.std.proofs.lemmas.Option.{slice_get-get_or}
+use Rattle.configuration_text.proofs.Prelude.{◌≡◌, ◌==◌, ◌<◌, true, false, get_or, length, rules, tests, refl, arith, slice_get-get_or}
 use Rattle.configuration_text.proofs.Numbers.{search_end, search_hit, search_miss}
 use Rattle.configuration_text.proofs.pins.number_of.Goals as goal
 

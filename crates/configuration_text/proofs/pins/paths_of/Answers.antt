@@ -1,9 +1,5 @@
-use Rattle.std.proofs.Common.{◌≡◌, ◌∙◌, sym, ap, [], Option, Some, None, rules, tests, option_map}
-use Rattle.std.specs.Prelude.{◌==◌, find}
-use Rattle.std.specs.Option.{option_map_or}
-use Rattle.std.proofs.lemmas.Iterator.{YieldsList-from_slice}
-use Rattle.std.proofs.lemmas.Iterator.Search.{find_from_yields_List}
-use Rattle.implements.specs.Layouts.{LaidNet}
+use Rattle.configuration_text.proofs.Prelude.{◌≡◌, ◌∙◌, sym, ap, [], Option, Some, None, rules, tests, option_map, find, option_map_or, YieldsList-from_slice, find_from_yields_List, LaidNet}
+use Rattle.std.specs.Prelude.{◌==◌}
 use Rattle.configuration_text.proofs.pins.paths_of.Goals as goal
 
 pub returns-in-Some : goal.returns-in-Some

@@ -1,5 +1,4 @@
-use Rattle.std.proofs.Common.{◌∙◌, sym, arith}
-use Rattle.table_rows.specs.TableBits.{value_in}
+use Rattle.configuration_text.proofs.Prelude.{◌∙◌, sym, arith, value_in}
 use Rattle.configuration_text.proofs.Rows.{agree_end}
 use Rattle.configuration_text.proofs.row_values.all_agree.Goals as goal
 

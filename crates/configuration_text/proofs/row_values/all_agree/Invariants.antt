@@ -1,5 +1,4 @@
-use Rattle.std.proofs.Common.{◌≡◌, drop, map}
-use Rattle.table_rows.specs.TableBits.{all_agree, value_in}
+use Rattle.configuration_text.proofs.Prelude.{◌≡◌, drop, map, all_agree, value_in}
 use Rattle.configuration_text.proofs.row_values.all_agree.Given as goal
 
 abbrev pub invariant-loop-place : goal.invariant-loop-place

@@ -1,7 +1,4 @@
-use Rattle.std.proofs.Common.{◌≡◌, true, false, rules, map}
-use Rattle.blif.specs.Sights.{kind_of}
-use Rattle.table_rows.specs.CellLines.{is_row_kind}
-use Rattle.table_rows.specs.TableBits.{applies, value_in}
+use Rattle.configuration_text.proofs.Prelude.{◌≡◌, true, false, rules, map, kind_of, is_row_kind, applies, value_in}
 use Rattle.configuration_text.proofs.Rows.{any_ended, any_here, any_later}
 use Rattle.configuration_text.proofs.row_values.any_applies.Goals as goal
 

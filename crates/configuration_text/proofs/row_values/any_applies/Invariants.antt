@@ -1,7 +1,4 @@
-use Rattle.std.proofs.Common.{◌≡◌, drop, map}
-use Rattle.std.specs.List.{list_any}
-use Rattle.table_rows.specs.TableBits.{applies, value_in}
-use Rattle.configuration_text.specs.Parts.{row_words}
+use Rattle.configuration_text.proofs.Prelude.{◌≡◌, drop, map, list_any, applies, value_in, row_words}
 use Rattle.configuration_text.proofs.row_values.any_applies.Given as goal
 
 abbrev pub invariant-loop-place : goal.invariant-loop-place

@@ -1,5 +1,4 @@
-use Rattle.std.proofs.Common.{◌∙◌, ap, sym, arith}
-use Rattle.blif.specs.Keywords.{last_of}
+use Rattle.configuration_text.proofs.Prelude.{◌∙◌, ap, sym, arith, last_of}
 use Rattle.configuration_text.proofs.LastWord.{last_of-texts}
 use Rattle.configuration_text.proofs.row_values.last_of.Goals as goal
 

@@ -1,5 +1,4 @@
-use Rattle.std.proofs.Common.{◌≡◌, ◌==◌, Bool, not, true, false, rules, tests}
-use Rattle.line_text.specs.Lines.{JoinedLine}
+use Rattle.configuration_text.proofs.Prelude.{◌≡◌, ◌==◌, Bool, not, true, false, rules, tests, JoinedLine}
 use Rattle.configuration_text.proofs.Rest.{prefix_more, prefix_stop}
 use Rattle.configuration_text.proofs.row_values.line_index.Goals as goal
 

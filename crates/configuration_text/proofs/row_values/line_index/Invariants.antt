@@ -1,5 +1,4 @@
-use Rattle.std.proofs.Common.{◌≡◌, ◌==◌, ◌+◌, not, drop}
-use Rattle.std.specs.List.{prefix_len}
+use Rattle.configuration_text.proofs.Prelude.{◌≡◌, ◌==◌, ◌+◌, not, drop, prefix_len}
 use Rattle.configuration_text.proofs.row_values.line_index.Given as goal
 
 abbrev pub invariant-loop-place : goal.invariant-loop-place

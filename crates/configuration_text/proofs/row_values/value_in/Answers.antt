@@ -1,4 +1,4 @@
-use Rattle.std.proofs.Common.{◌≡◌, ◌==◌, ◌<◌, false, rules, tests, get_or, length}
+use Rattle.configuration_text.proofs.Prelude.{◌≡◌, ◌==◌, ◌<◌, false, rules, tests, get_or, length}
 use Rattle.configuration_text.proofs.Rest.{read_get}
 use Rattle.configuration_text.proofs.Rows.{value_more}
 use Rattle.configuration_text.proofs.row_values.value_in.Goals as goal

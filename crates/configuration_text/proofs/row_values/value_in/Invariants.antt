@@ -1,5 +1,4 @@
-use Rattle.std.proofs.Common.{◌≡◌, drop}
-use Rattle.table_rows.specs.TableBits.{value_in}
+use Rattle.configuration_text.proofs.Prelude.{◌≡◌, drop, value_in}
 use Rattle.configuration_text.proofs.row_values.value_in.Given as goal
 
 abbrev pub invariant-loop-other : goal.invariant-loop-other

@@ -1,10 +1,4 @@
-use Rattle.std.proofs.Common.{◌≡◌, ◌∙◌, Bool, true, false, not, rules, map, cond, drop, sym, ap}
-use Rattle.std.specs.List.{list_any}
-use Rattle.blif.specs.Covers.{gives_one}
-use Rattle.blif.specs.Sights.{kind_of}
-use Rattle.configuration_text.specs.Parts.{row_words}
-use Rattle.table_rows.specs.CellLines.{is_row_kind}
-use Rattle.table_rows.specs.TableBits.{applies, value_in}
+use Rattle.configuration_text.proofs.Prelude.{◌≡◌, ◌∙◌, Bool, true, false, not, rules, map, cond, drop, sym, ap, list_any, gives_one, kind_of, row_words, is_row_kind, applies, value_in}
 use Rattle.configuration_text.proofs.Rows.{no_value, value_by_first}
 use Rattle.configuration_text.proofs.row_values.value_of.Goals as goal
 

@@ -1,9 +1,5 @@
-use Rattle.std.proofs.Common.{◌≡◌, ◌+◌, ◌<◌, ◌≤◌, ◌&&◌, not, get_or, length, sym, ap, ◌∙◌, ◌++◌, arith, rules, append-nil, List, ℕ, subst}
-use Rattle.std.specs.List.{list_any, filter}
-use Rattle.configuration.specs.Configuration.{each_once, is_same_edge, is_switch}
-use Rattle.rr_graph.specs.Graph.{make_node}
-use Rattle.rr_graph.specs.declared.node.Node.{Node}
-use Rattle.rr_graph.specs.declared.node.NodeKind.TheVariants.{Source}
+use Rattle.configuration_text.proofs.Prelude.{◌≡◌, ◌+◌, ◌<◌, ◌≤◌, ◌&&◌, not, get_or, length, sym, ap, ◌∙◌, ◌++◌, arith, rules, append-nil, List, ℕ, subst, list_any, each_once, is_same_edge, is_switch, make_node, Node, Source}
+use Rattle.std.specs.List.{filter}
 use Rattle.configuration_text.proofs.Switches.{IsHalfWritten, edges_text, half_new, half_old, step_end}
 use Rattle.configuration_text.proofs.switch_lines.push_path.Goals as goal
 use Rattle.configuration_text.proofs.switch_lines.push_path.Goals.{then-is_new_switch+in_ok-push_switch+in_ok-push, else-is_new_switch}

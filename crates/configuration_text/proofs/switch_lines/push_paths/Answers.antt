@@ -1,7 +1,4 @@
-use Rattle.std.proofs.Common.{◌≡◌, ◌<◌, List, [], Some, length, ap, ◌∙◌, rules, arith, get_or}
-use Rattle.std.proofs.lemmas.Grind.{common_steps}
-use Rattle.std.proofs.lemmas.Option.{slice_get-get_or}
-use Rattle.rr_graph.specs.declared.node.Node.{Node}
+use Rattle.configuration_text.proofs.Prelude.{◌≡◌, ◌<◌, List, [], Some, length, ap, ◌∙◌, rules, arith, get_or, common_steps, slice_get-get_or, Node}
 use Rattle.configuration_text.proofs.Switches.{half_path}
 use Rattle.configuration_text.proofs.switch_lines.push_paths.Goals as goal
 

@@ -1,10 +1,4 @@
-use Rattle.std.proofs.Common.{◌∙◌, ◌++◌, ap, List}
-use Rattle.std.specs.List.{flat_map}
-use Rattle.std.proofs.lemmas.Result.{IfOk-weaker}
-use Rattle.configuration.specs.Configuration.{block_lines, configuration_of, global_lines, switch_lines}
-use Rattle.configuration.specs.ConfigurationText.{lines_text}
-use Rattle.configuration.specs.Lines.{Device}
-use Rattle.implements.specs.Layouts.{LaidNet}
+use Rattle.configuration_text.proofs.Prelude.{◌∙◌, ◌++◌, ap, List, flat_map, IfOk-weaker, block_lines, configuration_of, global_lines, switch_lines, lines_text, Device, LaidNet}
 use Rattle.configuration_text.proofs.Texts.{whole_written}
 use Rattle.configuration_text.proofs.text.push_all.Goals as goal
 

@@ -1,4 +1,4 @@
-use Rattle.configuration.specs.Configuration.{block_lines}
+use Rattle.configuration_text.proofs.Prelude.{block_lines}
 use Rattle.configuration_text.proofs.Rest.{past_from, read_from}
 use Rattle.configuration_text.proofs.Texts.{all_end, all_more}
 use Rattle.configuration_text.proofs.text.push_blocks.Goals as goal

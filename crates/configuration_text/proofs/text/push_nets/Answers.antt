@@ -1,4 +1,4 @@
-use Rattle.configuration.specs.Configuration.{switch_lines}
+use Rattle.configuration_text.proofs.Prelude.{switch_lines}
 use Rattle.configuration_text.proofs.Rest.{read_get}
 use Rattle.configuration_text.proofs.Texts.{all_end, all_more}
 use Rattle.configuration_text.proofs.text.push_nets.Goals as goal

@@ -1,7 +1,4 @@
-use Rattle.std.proofs.Common.{◌≡◌, ◌++◌, drop}
-use Rattle.std.specs.List.{flat_map}
-use Rattle.configuration.specs.Configuration.{switch_lines}
-use Rattle.configuration.specs.ConfigurationText.{lines_text}
+use Rattle.configuration_text.proofs.Prelude.{◌≡◌, ◌++◌, drop, flat_map, switch_lines, lines_text}
 use Rattle.configuration_text.proofs.text.push_nets.Given as goal
 
 abbrev pub invariant-loop-between : goal.invariant-loop-between

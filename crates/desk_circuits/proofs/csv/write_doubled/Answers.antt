@@ -1,6 +1,4 @@
-use Rattle.std.proofs.lemmas.Option.{slice_get-get_or}
-use Rattle.line_text.proofs.WritingLemmas.{part_loop, writes_part}
-use Rattle.desk_circuits.specs.Fields.{doubled_quote}
+use Rattle.desk_circuits.proofs.Prelude.{slice_get-get_or, part_loop, writes_part, doubled_quote}
 use Rattle.desk_circuits.proofs.csv.write_doubled.Goals as goal
 
 pub returns-in_err-write_byte : goal.returns-in_err-write_byte

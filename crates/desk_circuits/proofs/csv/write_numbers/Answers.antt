@@ -1,6 +1,4 @@
-use Rattle.std.proofs.lemmas.Option.{slice_get-get_or}
-use Rattle.line_text.proofs.WritingLemmas.{part_loop, writes_part}
-use Rattle.desk_circuits.specs.Fields.{number_field}
+use Rattle.desk_circuits.proofs.Prelude.{slice_get-get_or, part_loop, writes_part, number_field}
 use Rattle.desk_circuits.proofs.csv.write_numbers.Goals as goal
 
 pub returns-in_err-write_number : goal.returns-in_err-write_number

@@ -1,7 +1,4 @@
-use Rattle.std.proofs.Common.{take}
-use Rattle.std.specs.List.{flat_map}
-use Rattle.line_text.specs.Writing.{TakesAll}
-use Rattle.desk_circuits.specs.Fields.{number_field}
+use Rattle.desk_circuits.proofs.Prelude.{take, flat_map, TakesAll, number_field}
 use Rattle.desk_circuits.proofs.csv.write_numbers.Given as goal
 
 -- the numbers before this one are written

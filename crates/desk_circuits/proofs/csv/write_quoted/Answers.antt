@@ -1,4 +1,4 @@
-use Rattle.line_text.proofs.WritingLemmas.{part_first, part_then, writes_part, writes_then}
+use Rattle.desk_circuits.proofs.Prelude.{part_first, part_then, writes_part, writes_then}
 use Rattle.desk_circuits.proofs.csv.write_quoted.Goals as goal
 
 pub returns-in_err-write_quote : goal.returns-in_err-write_quote

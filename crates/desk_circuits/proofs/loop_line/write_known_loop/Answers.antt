@@ -1,6 +1,4 @@
-use Rattle.std.proofs.Common.{ap, option_map, subst, sym}
-use Rattle.line_text.specs.Writing.{Writes}
-use Rattle.desk_circuits.specs.PathLines.{known_loop, loop_text}
+use Rattle.desk_circuits.proofs.Prelude.{ap, option_map, subst, sym, Writes, known_loop, loop_text}
 use Rattle.desk_circuits.proofs.loop_line.write_known_loop.Goals as goal
 
 pub returns-in-Some : goal.returns-in-Some

@@ -1,4 +1,4 @@
-use Rattle.line_text.proofs.WritingLemmas.{part_first, part_then, writes_part, writes_then}
+use Rattle.desk_circuits.proofs.Prelude.{part_first, part_then, writes_part, writes_then}
 use Rattle.desk_circuits.proofs.loop_line.write_loop.Goals as goal
 
 pub returns-in_err-write_parts : goal.returns-in_err-write_parts

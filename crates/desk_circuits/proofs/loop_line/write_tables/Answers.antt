@@ -1,8 +1,4 @@
-use Rattle.std.proofs.Common.{ℕ, ◌<◌, ◌≤◌, List, length, min, arith}
-use Rattle.std.specs.List.{range_with_len}
-use Rattle.desk_circuits.specs.PathLines.{loop_table, table_text}
-use Rattle.desk_circuits.specs.declared.loop_line.TheConstants.{MAX_SHOWN}
-use Rattle.line_text.proofs.WritingLemmas.{all_loop, all_range_end, part_loop, place_at, writes_part}
+use Rattle.desk_circuits.proofs.Prelude.{ℕ, ◌<◌, ◌≤◌, List, length, min, arith, range_with_len, loop_table, table_text, MAX_SHOWN, all_loop, all_range_end, part_loop, place_at, writes_part}
 use Rattle.desk_circuits.proofs.loop_line.write_tables.Goals as goal
 
 pub returns-in_err-write_table : goal.returns-in_err-write_table

@@ -1,8 +1,4 @@
-use Rattle.std.proofs.Common.{length, min, take}
-use Rattle.std.specs.List.{flat_map, range_with_len}
-use Rattle.line_text.specs.Writing.{TakesAll}
-use Rattle.desk_circuits.specs.PathLines.{loop_table, table_text}
-use Rattle.desk_circuits.specs.declared.loop_line.TheConstants.{MAX_SHOWN}
+use Rattle.desk_circuits.proofs.Prelude.{length, min, take, flat_map, range_with_len, TakesAll, loop_table, table_text, MAX_SHOWN}
 use Rattle.desk_circuits.proofs.loop_line.write_tables.Given as goal
 
 -- the tables before this one are written

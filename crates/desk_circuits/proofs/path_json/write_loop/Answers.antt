@@ -1,5 +1,4 @@
-use Rattle.json_text.proofs.Tokens.{list_written, ok_then}
-use Rattle.desk_circuits.specs.Json.{table_json}
+use Rattle.desk_circuits.proofs.Prelude.{list_written, ok_then, table_json}
 use Rattle.desk_circuits.proofs.path_json.write_loop.Goals as goal
 
 pub returns : goal.returns

@@ -1,8 +1,5 @@
-use Rattle.std.proofs.Common.{[], ◌∷◌, codes}
+use Rattle.desk_circuits.proofs.Prelude.{[], ◌∷◌, codes, Json, object_written, ok_then, one_member, loop_json}
 use Rattle.std.specs.Prelude.{option_map}
-use Rattle.json.specs.Json.{Json}
-use Rattle.json_text.proofs.Tokens.{object_written, ok_then, one_member}
-use Rattle.desk_circuits.specs.Json.{loop_json}
 use Rattle.desk_circuits.proofs.path_json.write_looped.Goals as goal
 
 pub returns : goal.returns

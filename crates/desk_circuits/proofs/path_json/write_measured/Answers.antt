@@ -1,7 +1,4 @@
-use Rattle.std.proofs.Common.{[], ◌∷◌, codes}
-use Rattle.json.specs.Json.{Json}
-use Rattle.json_text.proofs.Tokens.{members_more, ok_then, one_member}
-use Rattle.desk_circuits.specs.Json.{count_members, longest_json}
+use Rattle.desk_circuits.proofs.Prelude.{[], ◌∷◌, codes, Json, members_more, ok_then, one_member, count_members, longest_json}
 use Rattle.desk_circuits.proofs.path_json.write_measured.Goals as goal
 
 pub returns : goal.returns

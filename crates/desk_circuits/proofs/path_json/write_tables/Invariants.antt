@@ -1,7 +1,4 @@
-use Rattle.std.proofs.Common.{◌≡◌, ◌++◌, take}
-use Rattle.std.specs.List.{flat_map}
-use Rattle.json.specs.Tree.{json_tokens}
-use Rattle.desk_circuits.specs.Json.{table_json}
+use Rattle.desk_circuits.proofs.Prelude.{◌≡◌, ◌++◌, take, flat_map, json_tokens, table_json}
 use Rattle.desk_circuits.proofs.path_json.write_tables.Given as goal
 
 -- the tables before this one are written

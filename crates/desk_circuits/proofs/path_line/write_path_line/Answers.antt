@@ -1,7 +1,4 @@
-use Rattle.std.proofs.Common.{length, subst}
-use Rattle.line_text.proofs.WritingLemmas.{part_first, part_then, writes_part, writes_then}
-use Rattle.line_text.specs.Writing.{TakesAll, TakesPart}
-use Rattle.desk_circuits.specs.PathLines.{counted_tables}
+use Rattle.desk_circuits.proofs.Prelude.{length, subst, part_first, part_then, writes_part, writes_then, TakesAll, TakesPart, counted_tables}
 use Rattle.desk_circuits.proofs.path_line.write_path_line.Goals as goal
 
 pub returns-in_err-write_parts : goal.returns-in_err-write_parts

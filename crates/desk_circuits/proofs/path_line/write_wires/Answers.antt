@@ -1,7 +1,4 @@
-use Rattle.std.proofs.Common.{sym, subst}
-use Rattle.line_text.proofs.WritingLemmas.{part_first, writes_part, writes_then}
-use Rattle.line_text.specs.Writing.{Writes}
-use Rattle.desk_circuits.specs.PathLines.{wires_part}
+use Rattle.desk_circuits.proofs.Prelude.{sym, subst, part_first, writes_part, writes_then, Writes, wires_part}
 use Rattle.desk_circuits.proofs.path_line.write_wires.Goals as goal
 
 pub returns-in_err-write_parts-in-Some : goal.returns-in_err-write_parts-in-Some

@@ -1,7 +1,4 @@
-use Rattle.std.proofs.Common.{◌∙◌, ap, option_map, subst, sym}
-use Rattle.desk_circuits.specs.Measured.{ShowsLongest}
-use Rattle.desk_circuits.specs.PathWires.{ShowsStops}
-use Rattle.desk_circuits.specs.Strips.{files_of_texts}
+use Rattle.desk_circuits.proofs.Prelude.{◌∙◌, ap, option_map, subst, sym, ShowsLongest, ShowsStops, files_of_texts}
 use Rattle.desk_circuits.proofs.Shown.{empty_or, longest_shown}
 use Rattle.desk_circuits.proofs.path_text.write_measured_stops.Goals as goal
 

@@ -1,5 +1,4 @@
-use Rattle.desk_circuits.specs.PathWires.{ShowsStops, ShowsStopsOn}
-use Rattle.desk_circuits.specs.Strips.{files_of_texts}
+use Rattle.desk_circuits.proofs.Prelude.{ShowsStops, ShowsStopsOn, files_of_texts}
 use Rattle.desk_circuits.proofs.Shown.{empty_or}
 use Rattle.desk_circuits.proofs.path_text.write_path_stops.Goals as goal
 

@@ -1,7 +1,4 @@
-use Rattle.std.proofs.Common.{inr, refl, subst, sym}
-use Rattle.std.specs.List.{flat_map}
-use Rattle.path_stops.specs.Text.{stop_text}
-use Rattle.desk_circuits.specs.PathWires.{AreStops}
+use Rattle.desk_circuits.proofs.Prelude.{inr, refl, subst, sym, flat_map, stop_text, AreStops}
 use Rattle.desk_circuits.proofs.path_text.write_stops_on.Goals as goal
 
 pub returns-in-Ok : goal.returns-in-Ok

@@ -1,6 +1,4 @@
-use Rattle.std.proofs.lemmas.Option.{slice_get-get_or}
-use Rattle.script_replies.specs.Accounts.{account_now}
-use Rattle.desk_circuits.specs.Usages.{IsFactsOf}
+use Rattle.desk_circuits.proofs.Prelude.{slice_get-get_or, account_now, IsFactsOf}
 use Rattle.desk_circuits.proofs.Zipped.{added_more}
 use Rattle.desk_circuits.proofs.usages.add_facts.Goals as goal
 

@@ -1,7 +1,4 @@
-use Rattle.std.proofs.Common.{◌≡◌, ◌++◌, List, map, take}
-use Rattle.script_replies.specs.Accounts.{account_now}
-use Rattle.desk_circuits.specs.Usages.{AreFactsOf}
-use Rattle.desk_circuits.specs.declared.usages.NameFacts.{NameFacts}
+use Rattle.desk_circuits.proofs.Prelude.{◌≡◌, ◌++◌, List, map, take, account_now, AreFactsOf, NameFacts}
 use Rattle.desk_circuits.proofs.usages.add_facts.Given as goal
 
 -- the accounts before this one are added

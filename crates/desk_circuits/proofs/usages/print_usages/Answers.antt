@@ -1,7 +1,4 @@
-use Rattle.std.proofs.Common.{◌++◌, map, refl}
-use Rattle.line_text.proofs.WritingLemmas.{part_first, writes_part, writes_then}
-use Rattle.script_replies.specs.Accounts.{account_now}
-use Rattle.desk_circuits.specs.Usages.{ShowsUsage, usage_headings}
+use Rattle.desk_circuits.proofs.Prelude.{◌++◌, map, refl, part_first, writes_part, writes_then, account_now, ShowsUsage, usage_headings}
 use Rattle.desk_circuits.proofs.Shown.{each_of, usage_unknown}
 use Rattle.desk_circuits.proofs.usages.print_usages.Goals as goal
 

@@ -1,5 +1,4 @@
-use Rattle.std.proofs.Common.{refl}
-use Rattle.desk_circuits.specs.Usages.{usage_text}
+use Rattle.desk_circuits.proofs.Prelude.{refl, usage_text}
 use Rattle.desk_circuits.proofs.usages.write_account.Goals as goal
 
 pub returns : goal.returns

@@ -1,6 +1,4 @@
-use Rattle.std.proofs.Common.{subst, sym}
-use Rattle.line_text.specs.Writing.{Writes}
-use Rattle.desk_circuits.specs.Usages.{usage_headings}
+use Rattle.desk_circuits.proofs.Prelude.{subst, sym, Writes, usage_headings}
 use Rattle.desk_circuits.proofs.usages.write_headings.Goals as goal
 
 pub returns-then-is_table : goal.returns-then-is_table

@@ -1,4 +1,4 @@
-use Rattle.line_text.proofs.WritingLemmas.{part_first, writes_part, writes_then}
+use Rattle.desk_circuits.proofs.Prelude.{part_first, writes_part, writes_then}
 use Rattle.desk_circuits.proofs.usages.write_lines.Goals as goal
 
 pub returns-in_err-write_usage : goal.returns-in_err-write_usage

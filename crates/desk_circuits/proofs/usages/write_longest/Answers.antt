@@ -1,7 +1,4 @@
-use Rattle.std.proofs.Common.{subst, sym}
-use Rattle.line_text.proofs.WritingLemmas.{writes_then}
-use Rattle.line_text.specs.Writing.{Writes}
-use Rattle.desk_circuits.specs.PathLines.{longest_line}
+use Rattle.desk_circuits.proofs.Prelude.{subst, sym, writes_then, Writes, longest_line}
 use Rattle.desk_circuits.proofs.usages.write_longest.Goals as goal
 
 pub returns-in_ok-write_parts-in-Some : goal.returns-in_ok-write_parts-in-Some

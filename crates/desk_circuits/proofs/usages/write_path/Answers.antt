@@ -1,7 +1,4 @@
-use Rattle.std.proofs.Common.{subst}
-use Rattle.line_text.proofs.WritingLemmas.{part_first, part_then, writes_part, writes_then}
-use Rattle.line_text.specs.Writing.{TakesAll, TakesPart}
-use Rattle.desk_circuits.specs.Fields.{known_field}
+use Rattle.desk_circuits.proofs.Prelude.{subst, part_first, part_then, writes_part, writes_then, TakesAll, TakesPart, known_field}
 use Rattle.desk_circuits.proofs.usages.write_path.Goals as goal
 
 pub returns-in_err-write_known-2 : goal.returns-in_err-write_known-2

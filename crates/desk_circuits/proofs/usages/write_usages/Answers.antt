@@ -1,11 +1,4 @@
-use Rattle.std.proofs.Common.{ℕ, ◌≤◌, List, length, subst, arith}
-use Rattle.std.proofs.lemmas.List.{take_all}
-use Rattle.std.proofs.lemmas.Option.{slice_get-get_or}
-use Rattle.line_text.proofs.WritingLemmas.{writes_part}
-use Rattle.script_replies.specs.Accounts.{account_now}
-use Rattle.script_replies.specs.declared.accounts.Account.{Account}
-use Rattle.desk_circuits.specs.EachText.{ShowsEach}
-use Rattle.desk_circuits.specs.Usages.{ShowsUsage}
+use Rattle.desk_circuits.proofs.Prelude.{ℕ, ◌≤◌, List, length, subst, arith, take_all, slice_get-get_or, writes_part, account_now, Account, ShowsEach, ShowsUsage}
 use Rattle.desk_circuits.proofs.Shown.{each_map, shown_more, shown_part, usage_unknown}
 use Rattle.desk_circuits.proofs.usages.write_usages.Goals as goal
 

@@ -1,6 +1,4 @@
-use Rattle.std.proofs.Common.{take}
-use Rattle.script_replies.specs.Accounts.{account_now}
-use Rattle.desk_circuits.specs.Usages.{ShowsUsage}
+use Rattle.desk_circuits.proofs.Prelude.{take, account_now, ShowsUsage}
 use Rattle.desk_circuits.proofs.Shown.{IsShown}
 use Rattle.desk_circuits.proofs.usages.write_usages.Given as goal
 

@@ -1,5 +1,4 @@
-use Rattle.json_text.proofs.Tokens.{list_written, ok_then}
-use Rattle.desk_circuits.specs.Json.{name_json}
+use Rattle.desk_circuits.proofs.Prelude.{list_written, ok_then, name_json}
 use Rattle.desk_circuits.proofs.usages_json.write_list.Goals as goal
 
 pub returns : goal.returns

@@ -1,6 +1,4 @@
-use Rattle.std.proofs.Common.{◌++◌}
-use Rattle.json_text.proofs.Tokens.{members_more, object_written, ok_then}
-use Rattle.desk_circuits.specs.Json.{circuit_members, usage_members}
+use Rattle.desk_circuits.proofs.Prelude.{◌++◌, members_more, object_written, ok_then, circuit_members, usage_members}
 use Rattle.desk_circuits.proofs.usages_json.write_name.Goals as goal
 
 pub returns : goal.returns

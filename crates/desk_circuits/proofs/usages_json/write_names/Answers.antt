@@ -1,9 +1,4 @@
-use Rattle.std.proofs.Common.{◌≡◌, ◌∙◌, Some, ap, sym}
-use Rattle.std.specs.List.{slice_get}
-use Rattle.std.proofs.lemmas.Option.{slice_get-get_or}
-use Rattle.json.specs.Tree.{json_tokens}
-use Rattle.json_text.proofs.Tokens.{one_more}
-use Rattle.desk_circuits.specs.Json.{name_json}
+use Rattle.desk_circuits.proofs.Prelude.{◌≡◌, ◌∙◌, Some, ap, sym, slice_get, slice_get-get_or, json_tokens, one_more, name_json}
 use Rattle.desk_circuits.proofs.usages_json.write_names.Goals as goal
 
 pub loop-facts-preserved : goal.loop-facts-preserved

@@ -1,7 +1,4 @@
-use Rattle.std.proofs.Common.{◌≡◌, ◌++◌, take}
-use Rattle.std.specs.List.{flat_map}
-use Rattle.json.specs.Tree.{json_tokens}
-use Rattle.desk_circuits.specs.Json.{name_json}
+use Rattle.desk_circuits.proofs.Prelude.{◌≡◌, ◌++◌, take, flat_map, json_tokens, name_json}
 use Rattle.desk_circuits.proofs.usages_json.write_names.Given as goal
 
 -- the names before this one are written

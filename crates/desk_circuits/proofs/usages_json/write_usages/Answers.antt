@@ -1,8 +1,4 @@
-use Rattle.std.proofs.Common.{ℕ, List, [], ◌∷◌, ◌++◌, codes, map}
-use Rattle.json.specs.Json.{Json}
-use Rattle.json_text.specs.Values.{list_of}
-use Rattle.json_text.proofs.Tokens.{members_more, object_written, ok_then, one_member}
-use Rattle.desk_circuits.specs.Json.{line_members, name_json}
+use Rattle.desk_circuits.proofs.Prelude.{ℕ, List, [], ◌∷◌, ◌++◌, codes, map, Json, list_of, members_more, object_written, ok_then, one_member, line_members, name_json}
 use Rattle.desk_circuits.proofs.usages_json.write_usages.Goals as goal
 
 pub returns : goal.returns

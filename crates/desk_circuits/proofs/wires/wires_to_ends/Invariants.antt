@@ -1,5 +1,4 @@
-use Rattle.std.proofs.Common.{◌≡◌, fold, max, take}
-use Rattle.desk_circuits.specs.PathWires.{wires_to_end}
+use Rattle.desk_circuits.proofs.Prelude.{◌≡◌, fold, max, take, wires_to_end}
 use Rattle.desk_circuits.proofs.wires.wires_to_ends.Given as goal
 
 -- the most wires to the ends before this stop

@@ -1,6 +1,4 @@
-use Rattle.std.proofs.Common.{◌≡◌, ◌-◌, ◌^◌, min, take}
-use Rattle.std.specs.List.{sum_by}
-use Rattle.desk_circuits.specs.PathWires.{wires_to_table}
+use Rattle.desk_circuits.proofs.Prelude.{◌≡◌, ◌-◌, ◌^◌, min, take, sum_by, wires_to_table}
 use Rattle.desk_circuits.proofs.wires.wires_to_tables.Given as goal
 
 -- the wires to the tables before this stop

@@ -1,7 +1,4 @@
-use Rattle.std.proofs.lemmas.Result.{IfOk-at_ok}
-use Rattle.layout_verdict.specs.declared.laid_circuit.LaidCircuit.{LaidCircuit}
-use Rattle.desk_layouts.specs.Checked.{IsLaidIn}
-use Rattle.desk_layouts.specs.Refused.{IsFailure}
+use Rattle.desk_layouts.proofs.Prelude.{IfOk-at_ok, LaidCircuit, IsLaidIn, IsFailure}
 use Rattle.desk_layouts.proofs.Refusals.{err_as, refused}
 use Rattle.desk_layouts.proofs.check.run.Goals as goal
 

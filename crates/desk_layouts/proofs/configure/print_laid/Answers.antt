@@ -1,4 +1,4 @@
-use Rattle.std.proofs.lemmas.Result.{IfOk-weaker}
+use Rattle.desk_layouts.proofs.Prelude.{IfOk-weaker}
 use Rattle.desk_layouts.proofs.configure.print_laid.Goals as goal
 
 pub returns-in-Ok-clause-printed : goal.returns-in-Ok-clause-printed

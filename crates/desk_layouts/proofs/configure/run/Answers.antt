@@ -1,5 +1,4 @@
-use Rattle.std.proofs.lemmas.Result.{IfErr-weaker, IfOk-weaker}
-use Rattle.std.specs.Option.{ForSome}
+use Rattle.desk_layouts.proofs.Prelude.{IfErr-weaker, IfOk-weaker, ForSome}
 use Rattle.desk_layouts.proofs.Refusals.{unwritten_or}
 use Rattle.desk_layouts.proofs.configure.run.Goals as goal
 

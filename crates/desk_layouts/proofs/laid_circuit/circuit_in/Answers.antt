@@ -1,9 +1,5 @@
-use Rattle.std.proofs.Common.{subst}
-use Rattle.std.proofs.lemmas.Result.{IfErr-weaker, IfOk-weaker}
-use Rattle.layout_verdict.specs.Texts.{IsReadFrom}
+use Rattle.desk_layouts.proofs.Prelude.{subst, IfErr-weaker, IfOk-weaker, IsReadFrom, IsOnlyShape, IsRefusalOf}
 use Rattle.desk_layouts.proofs.Refusals.{refusal}
-use Rattle.desk_layouts.specs.Asked.{IsOnlyShape}
-use Rattle.desk_layouts.specs.Refused.{IsRefusalOf}
 use Rattle.desk_layouts.proofs.laid_circuit.circuit_in.Goals as goal
 
 pub returns-clause-laid : goal.returns-clause-laid

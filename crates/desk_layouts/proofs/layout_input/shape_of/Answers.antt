@@ -1,8 +1,4 @@
-use Rattle.std.proofs.Common.{◌≡◌, ◌∙◌, ℕ, Option, Some, None, IfSome, ap, sym}
-use Rattle.std.proofs.lemmas.Option.{IfSome_then}
-use Rattle.std.specs.Option.{option_map_or, unwrap_or}
-use Rattle.strip_files.specs.SizeLines.{HasSize}
-use Rattle.strip_files.specs.declared.size.StripSize.{StripSize}
+use Rattle.desk_layouts.proofs.Prelude.{◌≡◌, ◌∙◌, ℕ, Option, Some, None, IfSome, ap, sym, IfSome_then, option_map_or, unwrap_or, HasSize, StripSize}
 use Rattle.desk_layouts.proofs.layout_input.shape_of.Goals as goal
 
 columns_are : (given : Option ℕ) (found : Option StripSize) (columns rows : ℕ) → IfSome given (λ told. columns ≡ told) → HasSize found columns rows → columns ≡ unwrap_or given (option_map_or (λ size. size.columns) found 1)

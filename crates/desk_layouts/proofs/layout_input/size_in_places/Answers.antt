@@ -1,6 +1,4 @@
-use Rattle.std.proofs.Common.{◌≡◌, ◌∙◌, ℕ, List, codes, refl, ap, arith}
-use Rattle.line_text.specs.Physical.{first_line}
-use Rattle.strip_files.specs.SizeLines.{size_line}
+use Rattle.desk_layouts.proofs.Prelude.{◌≡◌, ◌∙◌, ℕ, List, codes, refl, ap, arith, first_line, size_line}
 use Rattle.desk_layouts.proofs.PlaceHeading.{second_line}
 use Rattle.desk_layouts.proofs.layout_input.size_in_places.Goals as goal
 

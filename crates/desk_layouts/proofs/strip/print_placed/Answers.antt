@@ -1,8 +1,4 @@
-use Rattle.std.proofs.Common.{◌≡◌, true, codes, sym}
-use Rattle.std.proofs.lemmas.Result.{on_ok_weaker}
-use Rattle.std.proofs.lemmas.Slice.Eq.{bytes_eq-Decides}
-use Rattle.std.specs.Str.{bytes_eq}
-use Rattle.desk_layouts.specs.Drawn.{AreChecked, without_nets}
+use Rattle.desk_layouts.proofs.Prelude.{◌≡◌, true, codes, sym, on_ok_weaker, bytes_eq-Decides, bytes_eq, AreChecked, without_nets}
 use Rattle.desk_layouts.proofs.StripTexts.{texts_without_routes, unchecked}
 use Rattle.desk_layouts.proofs.strip.print_placed.Goals as goal
 

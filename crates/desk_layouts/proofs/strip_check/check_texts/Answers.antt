@@ -1,7 +1,4 @@
-use Rattle.std.proofs.Common.{subst}
-use Rattle.std.proofs.lemmas.Result.{IfOk-at_ok}
-use Rattle.layout_verdict.specs.Texts.{IsReadFrom}
-use Rattle.layout_verdict.specs.Verdicts.{IsImplemented}
+use Rattle.desk_layouts.proofs.Prelude.{subst, IfOk-at_ok, IsReadFrom, IsImplemented}
 use Rattle.desk_layouts.proofs.strip_check.check_texts.Goals as goal
 
 pub returns-in-Ok : goal.returns-in-Ok

@@ -1,5 +1,4 @@
-use Rattle.std.proofs.Common.{◌≡◌, ◌++◌, length}
-use Rattle.desk_layouts.specs.Drawn.{unpinned_text}
+use Rattle.desk_layouts.proofs.Prelude.{◌≡◌, ◌++◌, length, unpinned_text}
 use Rattle.desk_layouts.proofs.without_routes.without_nets.Given as goal
 
 -- the lines so far, with those of the rest, are those of the whole text

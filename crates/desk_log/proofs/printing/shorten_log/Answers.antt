@@ -1,6 +1,4 @@
-use Rattle.std.proofs.Common.{◌≡◌, ap, ◌∙◌}
-use Rattle.live_input.specs.Serving.{begins, state_in}
-use Rattle.live_run.specs.Limits.{device_of}
+use Rattle.desk_log.proofs.Prelude.{◌≡◌, ap, ◌∙◌, begins, state_in, device_of}
 use Rattle.desk_log.proofs.Along.{safe_log}
 use Rattle.desk_log.proofs.printing.shorten_log.Goals as goal
 

@@ -1,6 +1,4 @@
-use Rattle.std.proofs.Common.{subst}
-use Rattle.std.proofs.lemmas.Result.{IfOk-weaker}
-use Rattle.layout_verdict.specs.Texts.{IsReadFrom}
+use Rattle.desk_netlists.proofs.Prelude.{subst, IfOk-weaker, IsReadFrom}
 use Rattle.desk_netlists.proofs.Saving.{checked_so}
 use Rattle.desk_netlists.proofs.extra_files.check_routed.Goals as goal
 

@@ -1,5 +1,4 @@
-use Rattle.std.proofs.Common.{refl}
-use Rattle.std.proofs.lemmas.Result.{IfOk-weaker}
+use Rattle.desk_netlists.proofs.Prelude.{refl, IfOk-weaker}
 use Rattle.desk_netlists.proofs.Saving.{configured_if_asked}
 use Rattle.desk_netlists.proofs.extra_files.save_configuration.Goals as goal
 

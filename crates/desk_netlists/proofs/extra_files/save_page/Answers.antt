@@ -1,5 +1,4 @@
-use Rattle.std.proofs.Common.{codes, refl}
-use Rattle.std.proofs.lemmas.Result.{IfOk-weaker}
+use Rattle.desk_netlists.proofs.Prelude.{codes, refl, IfOk-weaker}
 use Rattle.desk_netlists.proofs.Saving.{extra_if_asked}
 use Rattle.desk_netlists.proofs.extra_files.save_page.Goals as goal
 

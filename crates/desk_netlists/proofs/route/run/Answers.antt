@@ -1,7 +1,4 @@
-use Rattle.std.proofs.Common.{subst, sym}
-use Rattle.std.proofs.lemmas.Result.{IfOk-weaker}
-use Rattle.desk_common.specs.Outputs.{IsBeginning}
-use Rattle.desk_netlists.specs.declared.route.TheConstants.{MAX_READ}
+use Rattle.desk_netlists.proofs.Prelude.{subst, sym, IfOk-weaker, IsBeginning, MAX_READ}
 use Rattle.desk_netlists.proofs.Runs.{done_telling}
 use Rattle.desk_netlists.proofs.route.run.Goals as goal
 

@@ -1,7 +1,4 @@
-use Rattle.std.proofs.Common.{sym, subst}
-use Rattle.desk_common.specs.Outputs.{IsBeginning}
-use Rattle.desk_netlists.specs.Jobs.{IsSized}
-use Rattle.desk_netlists.specs.declared.route.TheConstants.{MAX_READ}
+use Rattle.desk_netlists.proofs.Prelude.{sym, subst, IsBeginning, IsSized, MAX_READ}
 use Rattle.desk_netlists.proofs.Runs.{done_if}
 use Rattle.desk_netlists.proofs.route.run_with_arch.Goals as goal
 use Rattle.desk_netlists.proofs.route.run_with_arch.Goals.{in-Ok-Size, in-Ok-Refused, in-Err}

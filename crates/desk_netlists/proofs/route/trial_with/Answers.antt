@@ -1,6 +1,4 @@
-use Rattle.std.proofs.Common.{subst, sym}
-use Rattle.one_user.specs.Tracks.{IsLeast}
-use Rattle.desk_netlists.specs.Jobs.{IsTrial}
+use Rattle.desk_netlists.proofs.Prelude.{subst, sym, IsLeast, IsTrial}
 use Rattle.desk_netlists.proofs.route.trial_with.Goals as goal
 
 pub returns-in_ok-least-in-None : goal.returns-in_ok-least-in-None

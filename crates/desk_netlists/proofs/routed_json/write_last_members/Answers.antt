@@ -1,8 +1,4 @@
-use Rattle.std.proofs.Common.{ℕ, List, [], ◌∷◌, ◌++◌, codes, map}
-use Rattle.json.specs.Json.{Json}
-use Rattle.json_text.specs.Values.{list_of}
-use Rattle.json_text.proofs.Tokens.{members_more, ok_then, one_member}
-use Rattle.desk_netlists.specs.RoutedJson.{fullest_json, lacking_json, stop_json}
+use Rattle.desk_netlists.proofs.Prelude.{ℕ, List, [], ◌∷◌, ◌++◌, codes, map, Json, list_of, members_more, ok_then, one_member, fullest_json, lacking_json, stop_json}
 use Rattle.desk_netlists.proofs.routed_json.write_last_members.Goals as goal
 
 pub returns : goal.returns

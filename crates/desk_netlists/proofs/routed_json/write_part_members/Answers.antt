@@ -1,7 +1,4 @@
-use Rattle.std.proofs.Common.{ℕ, List, [], ◌∷◌, ◌++◌, codes}
-use Rattle.json.specs.Json.{Json}
-use Rattle.json_text.proofs.Tokens.{members_more, ok_then, one_member}
-use Rattle.desk_netlists.specs.RoutedJson.{part_json}
+use Rattle.desk_netlists.proofs.Prelude.{ℕ, List, [], ◌∷◌, ◌++◌, codes, Json, members_more, ok_then, one_member, part_json}
 use Rattle.desk_netlists.proofs.routed_json.write_part_members.Goals as goal
 
 pub returns : goal.returns

@@ -1,7 +1,4 @@
-use Rattle.std.proofs.Common.{◌++◌}
-use Rattle.json_text.proofs.Tokens.{members_more, object_written, ok_then}
-use Rattle.desk_circuits.specs.Json.{circuit_members}
-use Rattle.desk_netlists.specs.RoutedJson.{last_members, part_members, size_members}
+use Rattle.desk_netlists.proofs.Prelude.{◌++◌, members_more, object_written, ok_then, circuit_members, last_members, part_members, size_members}
 use Rattle.desk_netlists.proofs.routed_json.write_routed.Goals as goal
 
 pub returns : goal.returns

@@ -1,5 +1,4 @@
-use Rattle.json_text.proofs.Tokens.{list_written, ok_then}
-use Rattle.desk_netlists.specs.RoutedJson.{stop_json}
+use Rattle.desk_netlists.proofs.Prelude.{list_written, ok_then, stop_json}
 use Rattle.desk_netlists.proofs.routed_json.write_stop_list.Goals as goal
 
 pub returns : goal.returns

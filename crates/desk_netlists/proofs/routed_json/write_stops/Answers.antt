@@ -1,10 +1,4 @@
-use Rattle.std.proofs.Common.{None}
-use Rattle.std.proofs.lemmas.Option.{slice_get-get_or}
-use Rattle.json.specs.Tree.{json_tokens}
-use Rattle.json_text.proofs.Tokens.{one_more}
-use Rattle.path_stops.specs.declared.stops.StopKind.TheVariants.{Start}
-use Rattle.desk_netlists.specs.RoutedJson.{stop_json}
-use Rattle.desk_netlists.specs.declared.path_facts.StopFacts.{StopFacts}
+use Rattle.desk_netlists.proofs.Prelude.{None, slice_get-get_or, json_tokens, one_more, Start, stop_json, StopFacts}
 use Rattle.desk_netlists.proofs.routed_json.write_stops.Goals as goal
 
 pub loop-stop-preserved : goal.loop-stop-preserved

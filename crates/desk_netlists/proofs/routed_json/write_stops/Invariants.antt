@@ -1,7 +1,4 @@
-use Rattle.std.proofs.Common.{◌≡◌, ◌++◌, take}
-use Rattle.std.specs.List.{flat_map}
-use Rattle.json.specs.Tree.{json_tokens}
-use Rattle.desk_netlists.specs.RoutedJson.{stop_json}
+use Rattle.desk_netlists.proofs.Prelude.{◌≡◌, ◌++◌, take, flat_map, json_tokens, stop_json}
 use Rattle.desk_netlists.proofs.routed_json.write_stops.Given as goal
 
 -- the ones before this one are written

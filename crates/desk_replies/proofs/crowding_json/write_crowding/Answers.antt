@@ -1,10 +1,4 @@
-use Rattle.std.proofs.Common.{ℕ, List, [], ◌∷◌, ◌++◌, codes, map, ◌∙◌, ap}
-use Rattle.json.specs.Json.{Json}
-use Rattle.json.specs.Tree.{json_tokens}
-use Rattle.json_text.specs.Values.{list_of, number_of}
-use Rattle.json_text.proofs.Tokens.{members_more, object_written, ok_then, one_member}
-use Rattle.one_user.specs.declared.crowding.CrowdedNode.{CrowdedNode}
-use Rattle.desk_replies.specs.ReportJson.{node_json}
+use Rattle.desk_replies.proofs.Prelude.{ℕ, List, [], ◌∷◌, ◌++◌, codes, map, ◌∙◌, ap, Json, json_tokens, list_of, number_of, members_more, object_written, ok_then, one_member, CrowdedNode, node_json}
 use Rattle.desk_replies.proofs.crowding_json.write_crowding.Goals as goal
 
 pub returns : goal.returns

@@ -1,5 +1,4 @@
-use Rattle.json_text.proofs.Tokens.{list_written, ok_then}
-use Rattle.desk_replies.specs.ReportJson.{node_json}
+use Rattle.desk_replies.proofs.Prelude.{list_written, ok_then, node_json}
 use Rattle.desk_replies.proofs.crowding_json.write_list.Goals as goal
 
 pub returns : goal.returns

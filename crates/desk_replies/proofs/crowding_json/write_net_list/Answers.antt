@@ -1,5 +1,4 @@
-use Rattle.json_text.proofs.Tokens.{list_written, ok_then}
-use Rattle.desk_replies.specs.ReportJson.{net_json}
+use Rattle.desk_replies.proofs.Prelude.{list_written, ok_then, net_json}
 use Rattle.desk_replies.proofs.crowding_json.write_net_list.Goals as goal
 
 pub returns : goal.returns

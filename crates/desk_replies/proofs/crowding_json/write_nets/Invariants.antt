@@ -1,7 +1,4 @@
-use Rattle.std.proofs.Common.{◌≡◌, ◌++◌, take}
-use Rattle.std.specs.List.{flat_map}
-use Rattle.json.specs.Tree.{json_tokens}
-use Rattle.desk_replies.specs.ReportJson.{net_json}
+use Rattle.desk_replies.proofs.Prelude.{◌≡◌, ◌++◌, take, flat_map, json_tokens, net_json}
 use Rattle.desk_replies.proofs.crowding_json.write_nets.Given as goal
 
 -- the ones before this one are written

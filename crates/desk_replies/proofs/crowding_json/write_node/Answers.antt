@@ -1,9 +1,4 @@
-use Rattle.std.proofs.Common.{ℕ, List, [], ◌∷◌, ◌++◌, codes, map, ◌∙◌, ap}
-use Rattle.json.specs.Json.{Json}
-use Rattle.json.specs.Tree.{json_tokens}
-use Rattle.json_text.specs.Values.{list_of}
-use Rattle.json_text.proofs.Tokens.{members_more, object_written, ok_then, one_member}
-use Rattle.desk_replies.specs.ReportJson.{net_json, node_members}
+use Rattle.desk_replies.proofs.Prelude.{ℕ, List, [], ◌∷◌, ◌++◌, codes, map, ◌∙◌, ap, Json, json_tokens, list_of, members_more, object_written, ok_then, one_member, net_json, node_members}
 use Rattle.desk_replies.proofs.crowding_json.write_node.Goals as goal
 
 pub returns : goal.returns

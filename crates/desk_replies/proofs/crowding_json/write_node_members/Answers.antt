@@ -1,4 +1,4 @@
-use Rattle.std.proofs.Common.{sym}
+use Rattle.desk_replies.proofs.Prelude.{sym}
 use Rattle.desk_replies.proofs.crowding_json.write_node_members.Goals as goal
 
 pub returns : goal.returns

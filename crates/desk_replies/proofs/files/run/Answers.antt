@@ -1,6 +1,4 @@
-use Rattle.std.proofs.Common.{refl, subst}
-use Rattle.std.proofs.lemmas.Result.{IfOk-weaker}
-use Rattle.desk_replies.specs.Lines.{AreLines}
+use Rattle.desk_replies.proofs.Prelude.{refl, subst, IfOk-weaker, AreLines}
 use Rattle.desk_replies.proofs.files.run.Goals as goal
 
 pub returns : goal.returns

@@ -1,4 +1,4 @@
-use Rattle.line_text.proofs.WritingLemmas.{all_then}
+use Rattle.desk_replies.proofs.Prelude.{all_then}
 use Rattle.desk_replies.proofs.Ended.{ok_after}
 use Rattle.desk_replies.proofs.files_text.write_lines.Goals as goal
 

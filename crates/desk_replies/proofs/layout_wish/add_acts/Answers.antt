@@ -1,9 +1,4 @@
-use Rattle.std.proofs.Common.{ℕ, ◌≡◌, ◌∙◌, ◌+◌, List, length, map, drop, ap, sym, arith}
-use Rattle.std.proofs.lemmas.List.{length-map}
-use Rattle.printed_replies.specs.Replies.{AnsweredLine, answered_line}
-use Rattle.script_text.specs.Script.{named_act}
-use Rattle.script_text.specs.declared.act.Act.{Act}
-use Rattle.desk_replies.specs.Wishes.{Wish, wish_from, wish_now}
+use Rattle.desk_replies.proofs.Prelude.{ℕ, ◌≡◌, ◌∙◌, ◌+◌, List, length, map, drop, ap, sym, arith, length-map, AnsweredLine, answered_line, named_act, Act, Wish, wish_from, wish_now}
 use Rattle.desk_replies.proofs.WishLemmas.{no_more, wish_next}
 use Rattle.desk_replies.proofs.layout_wish.add_acts.Goals as goal
 

@@ -1,7 +1,4 @@
-use Rattle.std.proofs.Common.{◌≡◌, drop, map}
-use Rattle.printed_replies.specs.Replies.{answered_line}
-use Rattle.script_text.specs.Script.{named_act}
-use Rattle.desk_replies.specs.Wishes.{wish_from, wish_now}
+use Rattle.desk_replies.proofs.Prelude.{◌≡◌, drop, map, answered_line, named_act, wish_from, wish_now}
 use Rattle.desk_replies.proofs.layout_wish.add_acts.Given as goal
 
 -- the wish so far, with what is left, comes to that of all

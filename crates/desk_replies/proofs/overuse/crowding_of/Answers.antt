@@ -1,6 +1,4 @@
-use Rattle.std.proofs.Common.{IfSome, subst}
-use Rattle.desk_replies.specs.Overused.{IsCrowdingFor}
-use Rattle.desk_replies.specs.Wishes.{Wish}
+use Rattle.desk_replies.proofs.Prelude.{IfSome, subst, IsCrowdingFor, Wish}
 use Rattle.desk_replies.proofs.overuse.crowding_of.Goals as goal
 
 pub returns-in-Some : goal.returns-in-Some

@@ -1,4 +1,4 @@
-use Rattle.desk_replies.specs.Wishes.{wish_now}
+use Rattle.desk_replies.proofs.Prelude.{wish_now}
 use Rattle.desk_replies.proofs.OveruseLemmas.{found_for}
 use Rattle.desk_replies.proofs.overuse.crowding_on.Goals as goal
 

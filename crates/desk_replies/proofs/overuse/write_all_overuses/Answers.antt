@@ -1,11 +1,4 @@
-use Rattle.std.proofs.Common.{◌≡◌, ◌∙◌, Some, [], ap, map, refl, subst, sym}
-use Rattle.std.specs.List.{slice_get}
-use Rattle.std.proofs.lemmas.List.{take_all}
-use Rattle.std.proofs.lemmas.Option.{slice_get-get_or}
-use Rattle.line_text.proofs.WritingLemmas.{all_none}
-use Rattle.script_text.specs.Script.{named_act}
-use Rattle.desk_replies.specs.Overused.{IsOveruseIf, IsOveruseOf}
-use Rattle.desk_replies.specs.Written.{AreTextsOf, WritesSome}
+use Rattle.desk_replies.proofs.Prelude.{◌≡◌, ◌∙◌, Some, [], ap, map, refl, subst, sym, slice_get, take_all, slice_get-get_or, all_none, named_act, IsOveruseIf, IsOveruseOf, AreTextsOf, WritesSome}
 use Rattle.desk_replies.proofs.WrittenTexts.{some_more, taken_more}
 use Rattle.desk_replies.proofs.overuse.write_all_overuses.Goals as goal
 

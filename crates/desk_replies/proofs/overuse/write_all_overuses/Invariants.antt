@@ -1,7 +1,4 @@
-use Rattle.std.proofs.Common.{map, take}
-use Rattle.script_text.specs.Script.{named_act}
-use Rattle.desk_replies.specs.Overused.{IsOveruseOf}
-use Rattle.desk_replies.specs.Written.{AreTextsOf, WritesSome}
+use Rattle.desk_replies.proofs.Prelude.{map, take, named_act, IsOveruseOf, AreTextsOf, WritesSome}
 use Rattle.desk_replies.proofs.overuse.write_all_overuses.Given as goal
 
 -- those of the tenancies before this one are written

@@ -1,8 +1,5 @@
-use Rattle.std.proofs.Common.{subst}
+use Rattle.desk_replies.proofs.Prelude.{subst, IsOveruseBy, is_placed, Wish, WritesSome}
 use Rattle.std.specs.Prelude.{OnOk}
-use Rattle.desk_replies.specs.Overused.{IsOveruseBy, is_placed}
-use Rattle.desk_replies.specs.Wishes.{Wish}
-use Rattle.desk_replies.specs.Written.{WritesSome}
 use Rattle.desk_replies.proofs.overuse.write_overuse.Goals as goal
 
 pub returns-in-Some : goal.returns-in-Some

@@ -1,6 +1,4 @@
-use Rattle.std.proofs.Common.{subst}
-use Rattle.desk_replies.specs.Overused.{IsCrowdedBy, IsOveruseBy, is_placed}
-use Rattle.desk_replies.specs.Wishes.{wish_now}
+use Rattle.desk_replies.proofs.Prelude.{subst, IsCrowdedBy, IsOveruseBy, is_placed, wish_now}
 use Rattle.desk_replies.proofs.OveruseLemmas.{crowded_for}
 use Rattle.desk_replies.proofs.WrittenTexts.{some_weaker}
 use Rattle.desk_replies.proofs.overuse.write_overuse_on.Goals as goal

@@ -1,5 +1,4 @@
-use Rattle.std.proofs.Common.{inr, refl}
-use Rattle.desk_replies.specs.Overused.{IsCrowdedBy}
+use Rattle.desk_replies.proofs.Prelude.{inr, refl, IsCrowdedBy}
 use Rattle.desk_replies.proofs.WrittenTexts.{some_written}
 use Rattle.desk_replies.proofs.overuse.write_overused.Goals as goal
 

@@ -1,4 +1,4 @@
-use Rattle.line_text.proofs.WritingLemmas.{part_first, part_then, writes_part, writes_then}
+use Rattle.desk_replies.proofs.Prelude.{part_first, part_then, writes_part, writes_then}
 use Rattle.desk_replies.proofs.page_items.write_files.Goals as goal
 
 pub returns-in_err-write_present : goal.returns-in_err-write_present

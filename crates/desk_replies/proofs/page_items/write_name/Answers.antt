@@ -1,7 +1,4 @@
-use Rattle.std.proofs.Common.{map}
-use Rattle.script_replies.specs.Accounts.{account_now}
-use Rattle.script_text.specs.Script.{named_act}
-use Rattle.desk_replies.specs.Overused.{IsOveruse}
+use Rattle.desk_replies.proofs.Prelude.{map, account_now, named_act, IsOveruse}
 use Rattle.desk_replies.proofs.PageLemmas.{name_written}
 use Rattle.desk_replies.proofs.page_items.write_name.Goals as goal
 

@@ -1,12 +1,4 @@
-use Rattle.std.proofs.Common.{[], map, refl, subst}
-use Rattle.std.proofs.lemmas.List.{take_all}
-use Rattle.std.proofs.lemmas.Option.{slice_get-get_or}
-use Rattle.line_text.proofs.WritingLemmas.{all_none}
-use Rattle.script_replies.specs.Accounts.{account_now}
-use Rattle.script_text.specs.Script.{named_act}
-use Rattle.desk_replies.specs.Overused.{IsOveruse}
-use Rattle.desk_replies.specs.Paged.{AreItemsOf}
-use Rattle.desk_replies.specs.Written.{AreTextsOf, WritesSome}
+use Rattle.desk_replies.proofs.Prelude.{[], map, refl, subst, take_all, slice_get-get_or, all_none, account_now, named_act, IsOveruse, AreItemsOf, AreTextsOf, WritesSome}
 use Rattle.desk_replies.proofs.WrittenTexts.{mapped_more, some_more}
 use Rattle.desk_replies.proofs.page_items.write_names.Goals as goal
 

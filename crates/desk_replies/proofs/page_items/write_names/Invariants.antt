@@ -1,9 +1,4 @@
-use Rattle.std.proofs.Common.{map, take}
-use Rattle.script_replies.specs.Accounts.{account_now}
-use Rattle.script_text.specs.Script.{named_act}
-use Rattle.desk_replies.specs.Overused.{IsOveruse}
-use Rattle.desk_replies.specs.Paged.{AreItemsOf}
-use Rattle.desk_replies.specs.Written.{AreTextsOf, WritesSome}
+use Rattle.desk_replies.proofs.Prelude.{map, take, account_now, named_act, IsOveruse, AreItemsOf, AreTextsOf, WritesSome}
 use Rattle.desk_replies.proofs.page_items.write_names.Given as goal
 
 -- the names before this one are written

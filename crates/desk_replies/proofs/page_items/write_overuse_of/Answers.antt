@@ -1,7 +1,4 @@
-use Rattle.std.proofs.Common.{codes, map}
-use Rattle.script_text.specs.Script.{named_act}
-use Rattle.desk_replies.specs.Overused.{IsOveruse}
-use Rattle.desk_replies.specs.Paged.{IsItem}
+use Rattle.desk_replies.proofs.Prelude.{codes, map, named_act, IsOveruse, IsItem}
 use Rattle.desk_replies.proofs.PageLemmas.{item_made}
 use Rattle.desk_replies.proofs.WrittenTexts.{sink_has, some_written}
 use Rattle.desk_replies.proofs.page_items.write_overuse_of.Goals as goal

@@ -1,10 +1,4 @@
-use Rattle.std.proofs.Common.{◌≡◌, ◌∙◌, ◌==◌, ℕ, List, [], ap, codes, length, not, sym}
-use Rattle.std.proofs.lemmas.Bool.{false≢true}
-use Rattle.std.specs.Result.{OnOk}
-use Rattle.desk_circuits.specs.EachText.{IsEmptyOr}
-use Rattle.desk_circuits.specs.Measured.{ShowsPresentStops}
-use Rattle.script_replies.specs.Present.{states_of}
-use Rattle.desk_replies.specs.Paged.{IsItem}
+use Rattle.desk_replies.proofs.Prelude.{◌≡◌, ◌∙◌, ◌==◌, ℕ, List, [], ap, codes, length, not, sym, false≢true, OnOk, IsEmptyOr, ShowsPresentStops, states_of, IsItem}
 use Rattle.desk_replies.proofs.PageLemmas.{item_if, not_empty, ok_has}
 use Rattle.desk_replies.proofs.WrittenTexts.{sink_has, some_written}
 use Rattle.desk_replies.proofs.page_items.write_stops_of.Goals as goal

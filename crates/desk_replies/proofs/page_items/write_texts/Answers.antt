@@ -1,7 +1,4 @@
-use Rattle.std.proofs.Common.{◌≡◌, ℕ, List, [], Some, ap, codes, sym}
-use Rattle.std.proofs.lemmas.Option.{same_Some}
-use Rattle.line_text.proofs.WritingLemmas.{all_same, part_first, part_same, part_then, writes_part, writes_same, writes_then}
-use Rattle.page.specs.Pages.{element_text}
+use Rattle.desk_replies.proofs.Prelude.{◌≡◌, ℕ, List, [], Some, ap, codes, sym, same_Some, all_same, part_first, part_same, part_then, writes_part, writes_same, writes_then, element_text}
 use Rattle.desk_replies.proofs.page_items.write_texts.Goals as goal
 
 -- the element of a sink's bytes

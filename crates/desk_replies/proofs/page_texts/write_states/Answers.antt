@@ -1,7 +1,4 @@
-use Rattle.std.proofs.Common.{◌<◌, arith, length}
-use Rattle.line_text.proofs.WritingLemmas.{writes_part}
-use Rattle.desk_replies.specs.Paged.{line_of}
-use Rattle.desk_replies.specs.States.{state_after}
+use Rattle.desk_replies.proofs.Prelude.{◌<◌, arith, length, writes_part, line_of, state_after}
 use Rattle.desk_replies.proofs.PageLemmas.{more_at, part_at}
 use Rattle.desk_replies.proofs.page_texts.write_states.Goals as goal
 

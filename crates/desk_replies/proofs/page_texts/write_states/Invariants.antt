@@ -1,8 +1,5 @@
-use Rattle.std.proofs.Common.{take}
+use Rattle.desk_replies.proofs.Prelude.{take, TakesAll, line_of, state_after}
 use Rattle.std.specs.Prelude.{flat_map}
-use Rattle.line_text.specs.Writing.{TakesAll}
-use Rattle.desk_replies.specs.Paged.{line_of}
-use Rattle.desk_replies.specs.States.{state_after}
 use Rattle.desk_replies.proofs.page_texts.write_states.Given as goal
 
 -- the lines before this one are written

@@ -1,4 +1,4 @@
-use Rattle.std.proofs.lemmas.Result.{IfOk-weaker}
+use Rattle.desk_replies.proofs.Prelude.{IfOk-weaker}
 use Rattle.desk_replies.proofs.page_tool.print_acts.Goals as goal
 
 pub returns : goal.returns

@@ -1,6 +1,4 @@
-use Rattle.std.proofs.Common.{◌∙◌, ◌-◌, ◌^◌, subst, sym}
-use Rattle.std.proofs.lemmas.Result.{IfOk-weaker}
-use Rattle.desk_common.specs.Outputs.{IsBeginning}
+use Rattle.desk_replies.proofs.Prelude.{◌∙◌, ◌-◌, ◌^◌, subst, sym, IfOk-weaker, IsBeginning}
 use Rattle.desk_replies.proofs.page_tool.run_on_script.Goals as goal
 
 pub returns-in_default : goal.returns-in_default

@@ -1,4 +1,4 @@
-use Rattle.line_text.proofs.WritingLemmas.{part_first, writes_part, writes_then}
+use Rattle.desk_replies.proofs.Prelude.{part_first, writes_part, writes_then}
 use Rattle.desk_replies.proofs.page_tool.write_device.Goals as goal
 
 pub returns-in_err-write_size : goal.returns-in_err-write_size

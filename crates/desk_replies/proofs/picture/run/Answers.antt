@@ -1,5 +1,4 @@
-use Rattle.std.proofs.Common.{inr, subst}
-use Rattle.desk_replies.specs.Pictured.{IsTextEnd}
+use Rattle.desk_replies.proofs.Prelude.{inr, subst, IsTextEnd}
 use Rattle.desk_replies.proofs.picture.run.Goals as goal
 
 pub returns-in-Ok : goal.returns-in-Ok

@@ -1,7 +1,4 @@
-use Rattle.std.proofs.Common.{◌∙◌, Ok, ap, map, sym}
-use Rattle.std.specs.Prelude.{is_some}
-use Rattle.script_replies.specs.Asking.{replies_in}
-use Rattle.script_text.specs.Script.{named_act}
+use Rattle.desk_replies.proofs.Prelude.{◌∙◌, Ok, ap, map, sym, is_some, replies_in, named_act}
 use Rattle.desk_replies.proofs.PathTexts.{shown_by}
 use Rattle.desk_replies.proofs.report.print.Goals as goal
 use Rattle.desk_replies.proofs.report.print.Goals.{in-Ok, in-Err}

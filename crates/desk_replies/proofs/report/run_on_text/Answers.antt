@@ -1,4 +1,4 @@
-use Rattle.std.proofs.lemmas.Result.{IfOk-weaker}
+use Rattle.desk_replies.proofs.Prelude.{IfOk-weaker}
 use Rattle.desk_replies.proofs.report.run_on_text.Goals as goal
 
 pub returns-in-Ok : goal.returns-in-Ok

@@ -1,6 +1,4 @@
-use Rattle.std.proofs.Common.{◌≡◌, drop, map}
-use Rattle.script_replies.specs.Accounts.{account_now}
-use Rattle.desk_replies.specs.Paths.{account_of}
+use Rattle.desk_replies.proofs.Prelude.{◌≡◌, drop, map, account_now, account_of}
 use Rattle.desk_replies.proofs.report_facts.account_of.Given as goal
 
 -- the first one is among those that are left

@@ -1,7 +1,4 @@
-use Rattle.std.proofs.Common.{◌≡◌, ◌∙◌, Some, ap, option_map, sym}
-use Rattle.std.specs.List.{slice_get}
-use Rattle.std.proofs.lemmas.Option.{slice_get-get_or}
-use Rattle.desk_replies.specs.Paths.{IsFactOf, told_accounts}
+use Rattle.desk_replies.proofs.Prelude.{◌≡◌, ◌∙◌, Some, ap, option_map, sym, slice_get, slice_get-get_or, IsFactOf, told_accounts}
 use Rattle.desk_replies.proofs.Facts.{one_added}
 use Rattle.desk_replies.proofs.report_facts.add_facts.Goals as goal
 

@@ -1,6 +1,4 @@
-use Rattle.std.proofs.Common.{◌≡◌, ◌++◌, List, option_map, take}
-use Rattle.desk_replies.specs.Paths.{AreFactsOf, told_accounts}
-use Rattle.desk_replies.specs.declared.report_facts.TenancyFacts.{TenancyFacts}
+use Rattle.desk_replies.proofs.Prelude.{◌≡◌, ◌++◌, List, option_map, take, AreFactsOf, told_accounts, TenancyFacts}
 use Rattle.desk_replies.proofs.report_facts.add_facts.Given as goal
 
 -- the tenancies before this one are added

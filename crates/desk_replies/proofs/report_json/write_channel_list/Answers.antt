@@ -1,5 +1,4 @@
-use Rattle.json_text.proofs.Tokens.{list_written, ok_then}
-use Rattle.desk_circuits.specs.Channels.{channel_json}
+use Rattle.desk_replies.proofs.Prelude.{list_written, ok_then, channel_json}
 use Rattle.desk_replies.proofs.report_json.write_channel_list.Goals as goal
 
 pub returns : goal.returns

@@ -1,9 +1,4 @@
-use Rattle.std.proofs.lemmas.Option.{slice_get-get_or}
-use Rattle.json.specs.Tree.{json_tokens}
-use Rattle.json_text.proofs.Tokens.{one_more}
-use Rattle.desk_circuits.specs.Channels.{channel_json}
-use Rattle.device_report.specs.declared.channels.ChannelDirection.TheVariants.{Across}
-use Rattle.device_report.specs.declared.channels.ChannelUse.{ChannelUse}
+use Rattle.desk_replies.proofs.Prelude.{slice_get-get_or, json_tokens, one_more, channel_json, Across, ChannelUse}
 use Rattle.desk_replies.proofs.report_json.write_channels.Goals as goal
 
 pub loop-channel-preserved : goal.loop-channel-preserved

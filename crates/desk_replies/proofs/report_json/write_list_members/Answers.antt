@@ -1,11 +1,4 @@
-use Rattle.std.proofs.Common.{ℕ, List, [], ◌∷◌, ◌++◌, codes, map, ◌∙◌, ap}
-use Rattle.device_report.specs.declared.channels.ChannelUse.{ChannelUse}
-use Rattle.json.specs.Json.{Json}
-use Rattle.json.specs.Tree.{json_tokens}
-use Rattle.json_text.specs.Values.{list_of}
-use Rattle.json_text.proofs.Tokens.{members_more, ok_then, one_member}
-use Rattle.desk_circuits.specs.Channels.{channel_json}
-use Rattle.desk_replies.specs.ReportJson.{tenancy_json, widest_json}
+use Rattle.desk_replies.proofs.Prelude.{ℕ, List, [], ◌∷◌, ◌++◌, codes, map, ◌∙◌, ap, ChannelUse, Json, json_tokens, list_of, members_more, ok_then, one_member, channel_json, tenancy_json, widest_json}
 use Rattle.desk_replies.proofs.report_json.write_list_members.Goals as goal
 
 pub returns : goal.returns

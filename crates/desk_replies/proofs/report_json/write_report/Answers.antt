@@ -1,6 +1,4 @@
-use Rattle.std.proofs.Common.{◌++◌}
-use Rattle.json_text.proofs.Tokens.{members_more, object_written, ok_then}
-use Rattle.desk_replies.specs.ReportJson.{device_members, list_members}
+use Rattle.desk_replies.proofs.Prelude.{◌++◌, members_more, object_written, ok_then, device_members, list_members}
 use Rattle.desk_replies.proofs.report_json.write_report.Goals as goal
 
 pub returns : goal.returns

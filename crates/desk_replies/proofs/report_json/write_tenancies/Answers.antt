@@ -1,9 +1,4 @@
-use Rattle.std.proofs.Common.{◌≡◌, ◌∙◌, Some, ap, sym}
-use Rattle.std.specs.List.{slice_get}
-use Rattle.std.proofs.lemmas.Option.{slice_get-get_or}
-use Rattle.json.specs.Tree.{json_tokens}
-use Rattle.json_text.proofs.Tokens.{one_more}
-use Rattle.desk_replies.specs.ReportJson.{tenancy_json}
+use Rattle.desk_replies.proofs.Prelude.{◌≡◌, ◌∙◌, Some, ap, sym, slice_get, slice_get-get_or, json_tokens, one_more, tenancy_json}
 use Rattle.desk_replies.proofs.report_json.write_tenancies.Goals as goal
 
 pub loop-one-preserved : goal.loop-one-preserved

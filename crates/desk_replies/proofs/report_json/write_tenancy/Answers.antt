@@ -1,8 +1,4 @@
-use Rattle.std.proofs.Common.{ℕ, List, [], ◌∷◌, ◌++◌, codes}
-use Rattle.json.specs.Json.{Json}
-use Rattle.json_text.proofs.Tokens.{members_more, object_written, ok_then, one_member}
-use Rattle.desk_circuits.specs.Json.{circuit_members}
-use Rattle.desk_replies.specs.ReportJson.{overuse_json, strip_members, use_members}
+use Rattle.desk_replies.proofs.Prelude.{ℕ, List, [], ◌∷◌, ◌++◌, codes, Json, members_more, object_written, ok_then, one_member, circuit_members, overuse_json, strip_members, use_members}
 use Rattle.desk_replies.proofs.report_json.write_tenancy.Goals as goal
 
 pub returns : goal.returns

@@ -1,5 +1,4 @@
-use Rattle.json_text.proofs.Tokens.{ok_then, one_member}
-use Rattle.desk_replies.specs.ReportJson.{use_json}
+use Rattle.desk_replies.proofs.Prelude.{ok_then, one_member, use_json}
 use Rattle.desk_replies.proofs.report_json.write_use.Goals as goal
 
 pub returns : goal.returns

@@ -1,7 +1,4 @@
-use Rattle.std.proofs.Common.{ℕ, List, [], ◌∷◌, ◌++◌, codes}
-use Rattle.json.specs.Json.{Json}
-use Rattle.json_text.proofs.Tokens.{members_more, ok_then}
-use Rattle.desk_replies.specs.ReportJson.{use_json}
+use Rattle.desk_replies.proofs.Prelude.{ℕ, List, [], ◌∷◌, ◌++◌, codes, Json, members_more, ok_then, use_json}
 use Rattle.desk_replies.proofs.report_json.write_use_members.Goals as goal
 
 pub returns : goal.returns

@@ -1,4 +1,4 @@
-use Rattle.std.proofs.lemmas.Result.{IfOk-weaker}
+use Rattle.desk_replies.proofs.Prelude.{IfOk-weaker}
 use Rattle.desk_replies.proofs.MoveLemmas.{moves_written}
 use Rattle.desk_replies.proofs.report_moves.print_strips.Goals as goal
 

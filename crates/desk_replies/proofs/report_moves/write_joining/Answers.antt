@@ -1,7 +1,4 @@
-use Rattle.std.proofs.Common.{ap}
-use Rattle.std.specs.List.{flat_map}
-use Rattle.line_text.proofs.WritingLemmas.{all_same, part_first, part_same, writes_part, writes_then}
-use Rattle.desk_replies.specs.Moves.{move_line}
+use Rattle.desk_replies.proofs.Prelude.{ap, flat_map, all_same, part_first, part_same, writes_part, writes_then, move_line}
 use Rattle.desk_replies.proofs.report_moves.write_joining.Goals as goal
 
 pub returns-in_err-write_moves : goal.returns-in_err-write_moves

@@ -1,6 +1,4 @@
-use Rattle.std.proofs.lemmas.Option.{slice_get-get_or}
-use Rattle.line_text.proofs.WritingLemmas.{all_loop, part_loop, writes_part}
-use Rattle.desk_replies.specs.Moves.{move_line}
+use Rattle.desk_replies.proofs.Prelude.{slice_get-get_or, all_loop, part_loop, writes_part, move_line}
 use Rattle.desk_replies.proofs.report_moves.write_moves.Goals as goal
 
 pub returns-in_err-write_move : goal.returns-in_err-write_move

@@ -1,7 +1,5 @@
-use Rattle.std.proofs.Common.{take}
+use Rattle.desk_replies.proofs.Prelude.{take, TakesAll, move_line}
 use Rattle.std.specs.Prelude.{flat_map}
-use Rattle.line_text.specs.Writing.{TakesAll}
-use Rattle.desk_replies.specs.Moves.{move_line}
 use Rattle.desk_replies.proofs.report_moves.write_moves.Given as goal
 
 -- the moves before this one are written

@@ -1,7 +1,4 @@
-use Rattle.std.proofs.Common.{codes}
-use Rattle.std.proofs.lemmas.Option.{slice_get-get_or}
-use Rattle.line_text.proofs.WritingLemmas.{all_loop, part_loop, writes_part}
-use Rattle.desk_replies.specs.Moves.{room_line}
+use Rattle.desk_replies.proofs.Prelude.{codes, slice_get-get_or, all_loop, part_loop, writes_part, room_line}
 use Rattle.desk_replies.proofs.report_moves.write_rooms.Goals as goal
 
 pub returns-in_err-write_room : goal.returns-in_err-write_room

@@ -1,7 +1,5 @@
-use Rattle.std.proofs.Common.{codes, take}
+use Rattle.desk_replies.proofs.Prelude.{codes, take, TakesAll, room_line}
 use Rattle.std.specs.Prelude.{flat_map}
-use Rattle.line_text.specs.Writing.{TakesAll}
-use Rattle.desk_replies.specs.Moves.{room_line}
 use Rattle.desk_replies.proofs.report_moves.write_rooms.Given as goal
 
 -- the gaps before this one are written

@@ -1,7 +1,4 @@
-use Rattle.std.proofs.Common.{map}
-use Rattle.script_text.specs.Script.{named_act}
-use Rattle.desk_replies.specs.Overused.{IsOveruseOf}
-use Rattle.desk_replies.specs.Paths.{told_accounts}
+use Rattle.desk_replies.proofs.Prelude.{map, named_act, IsOveruseOf, told_accounts}
 use Rattle.desk_replies.proofs.PathTexts.{told_written}
 use Rattle.desk_replies.proofs.report_paths.write_told.Goals as goal
 

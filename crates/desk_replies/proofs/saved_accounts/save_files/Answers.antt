@@ -1,10 +1,4 @@
-use Rattle.std.proofs.Common.{ap, subst, sym, ◌∙◌}
-use Rattle.std.proofs.lemmas.List.{take_all}
-use Rattle.std.proofs.lemmas.List.Folds.{flat_map-map}
-use Rattle.std.specs.List.{flat_map}
-use Rattle.desk_common.specs.Outputs.{AreAdded}
-use Rattle.desk_replies.specs.Saved.{files_of_name}
-use Rattle.script_replies.specs.Accounts.{account_now}
+use Rattle.desk_replies.proofs.Prelude.{ap, subst, sym, ◌∙◌, take_all, flat_map-map, flat_map, AreAdded, files_of_name, account_now}
 use Rattle.desk_replies.proofs.saved_accounts.save_files.Goals as goal
 
 pub returns : goal.returns

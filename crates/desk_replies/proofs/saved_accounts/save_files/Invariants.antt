@@ -1,8 +1,4 @@
-use Rattle.std.proofs.Common.{take}
-use Rattle.std.specs.List.{flat_map}
-use Rattle.desk_common.specs.Outputs.{AreAdded}
-use Rattle.desk_replies.specs.Saved.{files_of_name}
-use Rattle.script_replies.specs.Accounts.{account_now}
+use Rattle.desk_replies.proofs.Prelude.{take, flat_map, AreAdded, files_of_name, account_now}
 use Rattle.desk_replies.proofs.saved_accounts.save_files.Given as goal
 
 -- the files of the accounts before this one are written

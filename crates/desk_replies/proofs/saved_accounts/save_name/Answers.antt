@@ -1,9 +1,5 @@
-use Rattle.std.proofs.Common.{subst}
-use Rattle.desk_common.specs.Outputs.{AreAdded}
-use Rattle.desk_common.proofs.Added.{added_none}
-use Rattle.desk_replies.specs.Saved.{if_present}
+use Rattle.desk_replies.proofs.Prelude.{subst, AreAdded, added_none, if_present, account_now}
 use Rattle.desk_replies.proofs.SavedFiles.{name_added, no_utf8}
-use Rattle.script_replies.specs.Accounts.{account_now}
 use Rattle.desk_replies.proofs.saved_accounts.save_name.Goals as goal
 
 pub returns-in_default : goal.returns-in_default

@@ -1,6 +1,4 @@
-use Rattle.std.proofs.Common.{◌≡◌, ◌++◌, map, length}
-use Rattle.line_text.specs.Lines.{physical_lines}
-use Rattle.desk_replies.specs.States.{listed_state, state_after}
+use Rattle.desk_replies.proofs.Prelude.{◌≡◌, ◌++◌, map, length, physical_lines, listed_state, state_after}
 use Rattle.desk_replies.proofs.states.add_listed.Given as goal
 
 -- the lines so far, with those that are left, are all

@@ -1,5 +1,4 @@
-use Rattle.std.proofs.Common.{◌≡◌, take}
-use Rattle.desk_replies.specs.States.{last_states}
+use Rattle.desk_replies.proofs.Prelude.{◌≡◌, take, last_states}
 use Rattle.desk_replies.proofs.states.last_states.Given as goal
 
 -- the last states of those so far

@@ -1,9 +1,5 @@
-use Rattle.std.proofs.Common.{ℕ, ◌≡◌, ◌∙◌, ◌+◌, List, [], ◌++◌, length, map, drop, ap, sym, arith, append_assoc}
-use Rattle.std.proofs.lemmas.List.{append-nil, length-map}
-use Rattle.printed_replies.specs.Replies.{AnsweredLine, answered_line}
-use Rattle.script_text.specs.Script.{named_act}
-use Rattle.script_text.specs.declared.act.Act.{Act}
-use Rattle.desk_replies.specs.States.{StateAfter, state_after, states_from}
+use Rattle.desk_replies.proofs.Prelude.{ℕ, ◌≡◌, ◌∙◌, ◌+◌, List, [], ◌++◌, length, map, drop, ap, sym, arith, append_assoc, length-map, AnsweredLine, answered_line, named_act, Act, StateAfter, state_after, states_from}
+use Rattle.std.proofs.lemmas.List.{append-nil}
 use Rattle.desk_replies.proofs.StateLemmas.{no_more, states_next}
 use Rattle.desk_replies.proofs.states.states_after.Goals as goal
 

@@ -1,7 +1,4 @@
-use Rattle.std.proofs.Common.{◌≡◌, ◌++◌, drop, map}
-use Rattle.printed_replies.specs.Replies.{answered_line}
-use Rattle.script_text.specs.Script.{named_act}
-use Rattle.desk_replies.specs.States.{state_after, states_from}
+use Rattle.desk_replies.proofs.Prelude.{◌≡◌, ◌++◌, drop, map, answered_line, named_act, state_after, states_from}
 use Rattle.desk_replies.proofs.states.states_after.Given as goal
 
 -- the states so far, with those that are left, are all

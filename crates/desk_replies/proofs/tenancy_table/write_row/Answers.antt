@@ -1,4 +1,4 @@
-use Rattle.line_text.proofs.WritingLemmas.{part_first, writes_part, writes_then}
+use Rattle.desk_replies.proofs.Prelude.{part_first, writes_part, writes_then}
 use Rattle.desk_replies.proofs.tenancy_table.write_row.Goals as goal
 
 pub returns-in_err-write_fields : goal.returns-in_err-write_fields

@@ -1,8 +1,4 @@
-use Rattle.std.proofs.Common.{◌≡◌, ◌∙◌, Some, ap, sym}
-use Rattle.std.specs.List.{slice_get}
-use Rattle.std.proofs.lemmas.Option.{slice_get-get_or}
-use Rattle.line_text.proofs.WritingLemmas.{all_loop, part_loop, writes_part}
-use Rattle.desk_replies.specs.Tables.{row_text}
+use Rattle.desk_replies.proofs.Prelude.{◌≡◌, ◌∙◌, Some, ap, sym, slice_get, slice_get-get_or, all_loop, part_loop, writes_part, row_text}
 use Rattle.desk_replies.proofs.tenancy_table.write_rows.Goals as goal
 
 pub returns-in_err-write_row : goal.returns-in_err-write_row

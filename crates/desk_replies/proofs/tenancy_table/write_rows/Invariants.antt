@@ -1,7 +1,5 @@
-use Rattle.std.proofs.Common.{take}
+use Rattle.desk_replies.proofs.Prelude.{take, TakesAll, row_text}
 use Rattle.std.specs.Prelude.{flat_map}
-use Rattle.line_text.specs.Writing.{TakesAll}
-use Rattle.desk_replies.specs.Tables.{row_text}
 use Rattle.desk_replies.proofs.tenancy_table.write_rows.Given as goal
 
 -- the lines before this one are written

@@ -1,7 +1,5 @@
-use Rattle.std.proofs.Common.{ap}
+use Rattle.desk_replies.proofs.Prelude.{ap, part_first, writes_part, writes_same, writes_then, row_text}
 use Rattle.std.specs.Prelude.{flat_map}
-use Rattle.line_text.proofs.WritingLemmas.{part_first, writes_part, writes_same, writes_then}
-use Rattle.desk_replies.specs.Tables.{row_text}
 use Rattle.desk_replies.proofs.tenancy_table.write_table.Goals as goal
 
 pub returns-in_err-write_headings : goal.returns-in_err-write_headings

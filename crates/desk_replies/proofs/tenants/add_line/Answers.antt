@@ -1,4 +1,4 @@
-use Rattle.std.proofs.Common.{◌++◌, ◌∙◌, ap, arith}
+use Rattle.desk_replies.proofs.Prelude.{◌++◌, ◌∙◌, ap, arith}
 use Rattle.desk_replies.proofs.SavedFiles.{no_line, one_line}
 use Rattle.desk_replies.proofs.tenants.add_line.Goals as goal
 

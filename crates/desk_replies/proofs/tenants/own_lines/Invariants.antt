@@ -1,5 +1,4 @@
-use Rattle.std.proofs.Common.{◌≡◌, take}
-use Rattle.desk_replies.specs.Saved.{lines_at}
+use Rattle.desk_replies.proofs.Prelude.{◌≡◌, take, lines_at}
 use Rattle.desk_replies.proofs.tenants.own_lines.Given as goal
 
 -- the lines at the places before this one

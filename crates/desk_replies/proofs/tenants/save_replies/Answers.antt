@@ -1,6 +1,5 @@
-use Rattle.std.proofs.Common.{◌≡◌, Some, slice_get, subst}
-use Rattle.desk_common.specs.Outputs.{AreAdded}
-use Rattle.desk_replies.specs.Saved.{replies_by_number, replies_file}
+use Rattle.desk_replies.proofs.Prelude.{◌≡◌, Some, subst, AreAdded, replies_by_number, replies_file}
+use Rattle.std.proofs.Common.{slice_get}
 use Rattle.desk_replies.proofs.SavedFiles.{added_number, lines_added, of_value}
 use Rattle.desk_replies.proofs.tenants.save_replies.Goals as goal
 

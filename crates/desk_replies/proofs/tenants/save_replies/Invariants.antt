@@ -1,6 +1,4 @@
-use Rattle.std.specs.List.{flat_map, range_with_len}
-use Rattle.desk_common.specs.Outputs.{AreAdded}
-use Rattle.desk_replies.specs.Saved.{replies_by_number}
+use Rattle.desk_replies.proofs.Prelude.{flat_map, range_with_len, AreAdded, replies_by_number}
 use Rattle.desk_replies.proofs.tenants.save_replies.Given as goal
 
 -- the files of the names before this one are written

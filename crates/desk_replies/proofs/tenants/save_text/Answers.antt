@@ -1,6 +1,4 @@
-use Rattle.std.proofs.Common.{sym}
-use Rattle.std.proofs.lemmas.Str.{is_utf8-from_IsUtf8}
-use Rattle.desk_common.proofs.Added.{added_none}
+use Rattle.desk_replies.proofs.Prelude.{sym, is_utf8-from_IsUtf8, added_none}
 use Rattle.desk_replies.proofs.SavedFiles.{no_utf8}
 use Rattle.desk_replies.proofs.tenants.save_text.Goals as goal
 

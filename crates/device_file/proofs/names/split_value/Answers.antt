@@ -1,6 +1,4 @@
-use Rattle.std.proofs.Common.{◌≡◌, ◌+◌, ◌-◌, length, length-drop, take, drop, Some, ap, ◌∙◌, arith}
-use Rattle.std.specs.Prelude.{option_map}
-use Rattle.std.proofs.lemmas.List.{take_all}
+use Rattle.device_file.proofs.Prelude.{◌≡◌, ◌+◌, ◌-◌, length, length-drop, take, drop, Some, ap, ◌∙◌, arith, option_map, take_all}
 use Rattle.device_file.proofs.names.split_value.Goals as goal
 
 pub returns-in-Some-clause-text : goal.returns-in-Some-clause-text

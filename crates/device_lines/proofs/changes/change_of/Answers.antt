@@ -1,5 +1,4 @@
-use Rattle.std.proofs.Common.{refl}
-use Rattle.device_lines.specs.Lines.{change_in}
+use Rattle.device_lines.proofs.Prelude.{refl, change_in}
 use Rattle.device_lines.proofs.changes.change_of.Goals as goal
 
 pub returns-then-is_word : goal.returns-then-is_word

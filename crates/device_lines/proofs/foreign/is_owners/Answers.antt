@@ -1,4 +1,4 @@
-use Rattle.std.proofs.Common.{◌∙◌, Some, None}
+use Rattle.device_lines.proofs.Prelude.{◌∙◌, Some, None}
 use Rattle.device_lines.proofs.OwnerLemmas.{owner_found}
 use Rattle.device_lines.proofs.foreign.is_owners.Goals as goal
 

@@ -1,5 +1,4 @@
-use Rattle.std.proofs.Common.{refl, sym, ◌∙◌}
-use Rattle.device_lines.specs.Lines.{listed_in}
+use Rattle.device_lines.proofs.Prelude.{refl, sym, ◌∙◌, listed_in}
 use Rattle.device_lines.proofs.StepLemmas.{is_nameless, is_outside, is_shown, is_stateless}
 use Rattle.device_lines.proofs.list_line.read_tenancy.Goals as goal
 

@@ -1,5 +1,4 @@
-use Rattle.std.proofs.Common.{refl}
-use Rattle.device_lines.specs.Lines.{first_counted}
+use Rattle.device_lines.proofs.Prelude.{refl, first_counted}
 use Rattle.device_lines.proofs.owned_line.first_counted.Goals as goal
 
 pub returns-in-Some : goal.returns-in-Some

@@ -1,5 +1,4 @@
-use Rattle.std.proofs.Common.{refl}
-use Rattle.device_lines.specs.Lines.{owned_in}
+use Rattle.device_lines.proofs.Prelude.{refl, owned_in}
 use Rattle.device_lines.proofs.owned_line.read_owned.Goals as goal
 
 pub returns-in_default : goal.returns-in_default

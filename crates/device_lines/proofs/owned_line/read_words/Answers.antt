@@ -1,5 +1,4 @@
-use Rattle.std.proofs.Common.{refl}
-use Rattle.device_lines.specs.Lines.{owner_line}
+use Rattle.device_lines.proofs.Prelude.{refl, owner_line}
 use Rattle.device_lines.proofs.owned_line.read_words.Goals as goal
 
 pub returns-in_err-kind : goal.returns-in_err-kind

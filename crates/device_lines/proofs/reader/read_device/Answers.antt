@@ -1,5 +1,4 @@
-use Rattle.std.proofs.Common.{ap, sym, ◌∙◌, refl}
-use Rattle.device_lines.specs.Reading.{device_in, seen_of}
+use Rattle.device_lines.proofs.Prelude.{ap, sym, ◌∙◌, refl, device_in, seen_of}
 use Rattle.device_lines.proofs.reader.read_device.Goals as goal
 
 pub returns-in-Ok-clause-exact : goal.returns-in-Ok-clause-exact

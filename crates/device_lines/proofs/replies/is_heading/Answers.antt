@@ -1,5 +1,4 @@
-use Rattle.std.proofs.Common.{◌∙◌, ap}
-use Rattle.std.specs.Prelude.{is_some}
+use Rattle.device_lines.proofs.Prelude.{◌∙◌, ap, is_some}
 use Rattle.device_lines.proofs.ListLemmas.{some_mapped}
 use Rattle.device_lines.proofs.replies.is_heading.Goals as goal
 

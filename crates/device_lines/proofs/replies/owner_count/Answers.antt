@@ -1,5 +1,4 @@
-use Rattle.std.proofs.Common.{refl}
-use Rattle.device_lines.specs.Lines.{owner_count}
+use Rattle.device_lines.proofs.Prelude.{refl, owner_count}
 use Rattle.device_lines.proofs.replies.owner_count.Goals as goal
 
 pub returns-in_err-after_text : goal.returns-in_err-after_text

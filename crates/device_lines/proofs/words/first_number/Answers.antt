@@ -1,5 +1,4 @@
-use Rattle.std.proofs.Common.{refl}
-use Rattle.device_lines.specs.Words.{first_number}
+use Rattle.device_lines.proofs.Prelude.{refl, first_number}
 use Rattle.device_lines.proofs.words.first_number.Goals as goal
 
 pub returns-in_err-decimal_u32 : goal.returns-in_err-decimal_u32

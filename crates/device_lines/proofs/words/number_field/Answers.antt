@@ -1,5 +1,4 @@
-use Rattle.std.proofs.Common.{refl}
-use Rattle.device_lines.specs.Words.{number_field}
+use Rattle.device_lines.proofs.Prelude.{refl, number_field}
 use Rattle.device_lines.proofs.words.number_field.Goals as goal
 
 pub returns-in_err-number : goal.returns-in_err-number

@@ -1,5 +1,4 @@
-use Rattle.std.proofs.Common.{refl}
-use Rattle.device_lines.specs.Words.{word_field}
+use Rattle.device_lines.proofs.Prelude.{refl, word_field}
 use Rattle.device_lines.proofs.words.word_field.Goals as goal
 
 pub returns-in_err-after_text : goal.returns-in_err-after_text

@@ -1,4 +1,5 @@
-use Rattle.std.proofs.Common.{ℕ, ◌<◌, ◌≤◌, slice_index}
+use Rattle.fabric_planes.proofs.Prelude.{ℕ, ◌<◌, ◌≤◌}
+use Rattle.std.proofs.Common.{slice_index}
 use Rattle.fabric_planes.proofs.bound_rows.least_of_all.Given as goal
 
 abbrev pub invariant-loop-track : goal.invariant-loop-track

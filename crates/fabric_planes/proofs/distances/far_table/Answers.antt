@@ -1,7 +1,4 @@
-use Rattle.std.proofs.Common.{◌≡◌, ℕ, ◌+◌, ◌/◌, ◌%◌, ◌++◌, ◌∷◌, [], ◌∙◌, List, map, sym, ap, arith}
-use Rattle.std.specs.List.{range_with_len}
-use Rattle.std.proofs.lemmas.List.FromFn.{map-range_with_len_more}
-use Rattle.fabric_planes.specs.Differences.{far_at}
+use Rattle.fabric_planes.proofs.Prelude.{◌≡◌, ℕ, ◌+◌, ◌/◌, ◌%◌, ◌++◌, ◌∷◌, [], ◌∙◌, List, map, sym, ap, arith, range_with_len, map-range_with_len_more, far_at}
 use Rattle.fabric_planes.proofs.distances.far_table.Goals as goal
 
 pub loop-at-preserved : goal.loop-at-preserved

@@ -1,6 +1,4 @@
-use Rattle.std.proofs.Common.{◌≡◌, ◌+◌, ◌/◌, ◌%◌, map}
-use Rattle.std.specs.List.{range_with_len}
-use Rattle.fabric_planes.specs.Differences.{far_at}
+use Rattle.fabric_planes.proofs.Prelude.{◌≡◌, ◌+◌, ◌/◌, ◌%◌, map, range_with_len, far_at}
 use Rattle.fabric_planes.proofs.distances.far_table.Given as goal
 
 abbrev pub invariant-loop-at : goal.invariant-loop-at

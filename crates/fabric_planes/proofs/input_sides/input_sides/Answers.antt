@@ -1,8 +1,4 @@
-use Rattle.std.proofs.Common.{◌∙◌, ap, arith}
-use Rattle.arch_file.specs.declared.arch.Arch.{Arch}
-use Rattle.grid.specs.declared.Strip.{Strip}
-use Rattle.rr_graph.specs.declared.node.Node.{Node}
-use Rattle.rr_graph.specs.Geometry.{sides_at}
+use Rattle.fabric_planes.proofs.Prelude.{◌∙◌, ap, arith, Arch, Strip, Node, sides_at}
 use Rattle.fabric_planes.proofs.BlockInputs.{all_blocks, none_up_to, one_more}
 use Rattle.fabric_planes.proofs.input_sides.input_sides.Goals as goal
 

@@ -1,8 +1,4 @@
-use Rattle.std.proofs.Common.{◌≡◌, ◌<◌, ◌∙◌, sym, ap, arith, subst}
-use Rattle.rr_graph.specs.declared.node.Node.{Node}
-use Rattle.rr_graph.specs.Graph.{graph_of}
-use Rattle.fabric_planes.specs.Layout.{place_of}
-use Rattle.fabric_planes.specs.Tables.{IsFirstWire}
+use Rattle.fabric_planes.proofs.Prelude.{◌≡◌, ◌<◌, ◌∙◌, sym, ap, arith, subst, Node, graph_of, place_of, IsFirstWire}
 use Rattle.fabric_planes.proofs.Consecutive.{wire_low}
 use Rattle.fabric_planes.proofs.Told.{told_skip, told_more}
 use Rattle.fabric_planes.proofs.layout.firsts_of.Goals.{then-is_first_wire, else-is_first_wire}

@@ -1,4 +1,4 @@
-use Rattle.fabric_planes.specs.Tables.{AreFirstsBelow}
+use Rattle.fabric_planes.proofs.Prelude.{AreFirstsBelow}
 use Rattle.fabric_planes.proofs.layout.firsts_of.Given as goal
 
 abbrev pub invariant-loop-number : goal.invariant-loop-number

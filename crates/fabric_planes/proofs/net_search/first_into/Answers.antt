@@ -1,5 +1,4 @@
-use Rattle.fabric_planes.specs.Labels.{family_of}
-use Rattle.fabric_planes.specs.Layout.{Terminals, graph_at, labels_of}
+use Rattle.fabric_planes.proofs.Prelude.{family_of, Terminals, graph_at, labels_of}
 use Rattle.fabric_planes.proofs.net_search.first_into.Goals as goal
 
 pub returns-clause-none : goal.returns-clause-none

@@ -1,8 +1,4 @@
-use Rattle.std.proofs.Common.{ℕ, List, subst}
-use Rattle.std.specs.Prelude.{IfSome}
-use Rattle.fabric_planes.specs.Rivals.{IsHeadOf}
-use Rattle.fabric_planes.specs.Labels.{family_of}
-use Rattle.fabric_planes.specs.Layout.{Terminals, labels_of}
+use Rattle.fabric_planes.proofs.Prelude.{ℕ, List, subst, IfSome, IsHeadOf, family_of, Terminals, labels_of}
 use Rattle.fabric_planes.proofs.NetRoads.{is_track}
 use Rattle.fabric_planes.proofs.NetSearches.{nodes_within}
 use Rattle.fabric_planes.proofs.net_search.improve.Goals as goal

@@ -1,4 +1,4 @@
-use Rattle.fabric_planes.specs.Layout.{Terminals}
+use Rattle.fabric_planes.proofs.Prelude.{Terminals}
 use Rattle.fabric_planes.proofs.NetSearches.{known_in}
 use Rattle.fabric_planes.proofs.net_search.least_over.Goals as goal
 

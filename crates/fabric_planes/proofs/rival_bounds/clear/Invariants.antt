@@ -1,6 +1,4 @@
-use Rattle.std.proofs.Common.{ℕ, ◌<◌, ◌≡◌}
-use Rattle.std.specs.Prelude.{slice_index}
-use Rattle.fabric_planes.specs.Bounds.{AreLowered}
+use Rattle.fabric_planes.proofs.Prelude.{ℕ, ◌<◌, ◌≡◌, slice_index, AreLowered}
 use Rattle.fabric_planes.proofs.rival_bounds.clear.Given as goal
 
 abbrev pub invariant-loop-track : goal.invariant-loop-track

@@ -1,4 +1,4 @@
-use Rattle.fabric_planes.specs.SideBounds.{AreWiresBounded}
+use Rattle.fabric_planes.proofs.Prelude.{AreWiresBounded}
 use Rattle.fabric_planes.proofs.side_bounds.bound_wires.Given as goal
 
 abbrev pub invariant-loop-track : goal.invariant-loop-track

@@ -1,4 +1,4 @@
-use Rattle.std.proofs.Common.{◌+◌, ◌*◌, ◌≤◌, arith, get_or}
+use Rattle.fabric_planes.proofs.Prelude.{◌+◌, ◌*◌, ◌≤◌, arith, get_or}
 use Rattle.fabric_planes.proofs.Lowered.{by_four, at_index}
 use Rattle.fabric_planes.proofs.side_bounds.least_of.Goals as goal
 

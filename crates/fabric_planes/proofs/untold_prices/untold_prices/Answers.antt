@@ -1,5 +1,4 @@
-use Rattle.std.proofs.Common.{◌≡◌, ◌∙◌, ◌*◌, ap}
-use Rattle.fabric_planes.specs.Layout.{place_count}
+use Rattle.fabric_planes.proofs.Prelude.{◌≡◌, ◌∙◌, ◌*◌, ap, place_count}
 use Rattle.fabric_planes.proofs.Untold.{untold}
 use Rattle.fabric_planes.proofs.untold_prices.untold_prices.Goals as goal
 

@@ -1,4 +1,4 @@
-use Rattle.std.proofs.Common.{refl}
+use Rattle.flow_tests.proofs.Prelude.{refl}
 use Rattle.flow_tests.proofs.TwoLanes.{along_known}
 use Rattle.flow_tests.proofs.lanes.long_path.Goals as goal
 

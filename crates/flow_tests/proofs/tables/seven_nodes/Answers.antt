@@ -1,4 +1,4 @@
-use Rattle.std.proofs.Common.{length, ap}
+use Rattle.flow_tests.proofs.Prelude.{length, ap}
 use Rattle.flow_tests.proofs.Pairs.{rising_in}
 use Rattle.flow_tests.proofs.tables.seven_nodes.Goals as goal
 

@@ -1,8 +1,4 @@
-use Rattle.std.proofs.Common.{Ok, ◌∙◌, ap, subst, sym}
-use Rattle.sessions.specs.Fitting.{own_graph}
-use Rattle.operator.specs.Serving.{Stage}
-use Rattle.service_core.specs.Service.{empty_service}
-use Rattle.fpgad_run.specs.Program.{IsReplies}
+use Rattle.fpgad_run.proofs.Prelude.{Ok, ◌∙◌, ap, subst, sym, own_graph, Stage, empty_service, IsReplies}
 use Rattle.fpgad_run.proofs.SectionLemmas.{on_value}
 use Rattle.fpgad_run.proofs.Telling.{begins_own}
 use Rattle.fpgad_run.proofs.in_order.serve.Goals as goal

@@ -1,7 +1,4 @@
-use Rattle.std.proofs.Common.{refl, subst}
-use Rattle.service_core.specs.declared.device.Device.{Device}
-use Rattle.script_text.specs.Threaded.{parts_of}
-use Rattle.script_threads.specs.Served.{IsServedOnThreads}
+use Rattle.fpgad_run.proofs.Prelude.{refl, subst, Device, parts_of, IsServedOnThreads}
 use Rattle.fpgad_run.proofs.ThreadLemmas.{start_read}
 use Rattle.fpgad_run.proofs.on_threads.replies.Goals as goal
 

@@ -1,12 +1,4 @@
-use Rattle.std.proofs.Common.{◌≡◌, ◌<◌, ◌++◌, ◌∷◌, [], ◌∙◌, Some, length, slice_get, ap, sym, arith, rules}
-use Rattle.std.specs.Prelude.{map}
-use Rattle.std.proofs.lemmas.Iterator.Adapters.{YieldsList-from_vec}
-use Rattle.std.proofs.lemmas.Iterator.Consumers.{YieldsList-end, YieldsList-turn}
-use Rattle.std.proofs.lemmas.List.{map-id, map_push}
-use Rattle.operator.specs.Held.{sink_text}
-use Rattle.script_text.specs.declared.replies.SessionReplies.{SessionReplies}
-use Rattle.script_text.specs.Replies.{section_of}
-use Rattle.fpgad_run.specs.Zipped.{named_sections}
+use Rattle.fpgad_run.proofs.Prelude.{◌≡◌, ◌<◌, ◌++◌, ◌∷◌, [], ◌∙◌, Some, length, slice_get, ap, sym, arith, rules, map, YieldsList-from_vec, YieldsList-end, YieldsList-turn, map-id, map_push, sink_text, SessionReplies, section_of, named_sections}
 use Rattle.fpgad_run.proofs.SectionLemmas.{count_so_far, held_as, named_push, no_texts, section}
 use Rattle.fpgad_run.proofs.sections.add_replies.Goals as goal
 

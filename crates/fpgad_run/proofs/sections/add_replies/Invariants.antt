@@ -1,7 +1,4 @@
-use Rattle.std.proofs.Common.{◌≡◌}
-use Rattle.std.specs.Prelude.{map}
-use Rattle.script_text.specs.Replies.{section_of}
-use Rattle.fpgad_run.specs.Zipped.{named_sections}
+use Rattle.fpgad_run.proofs.Prelude.{◌≡◌, map, section_of, named_sections}
 use Rattle.fpgad_run.proofs.sections.add_replies.Given as goal
 
 -- the texts so far have their names

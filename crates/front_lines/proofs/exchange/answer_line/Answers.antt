@@ -1,7 +1,4 @@
-use Rattle.std.proofs.Common.{ap, sym, ◌∙◌}
-use Rattle.line_feed.specs.Feed.{line_of}
-use Rattle.front_lines.specs.Commands.{item_in}
-use Rattle.front_lines.specs.LinesRead.{to_come}
+use Rattle.front_lines.proofs.Prelude.{ap, sym, ◌∙◌, line_of, item_in, to_come}
 use Rattle.front_lines.proofs.TurnLemmas.{answers_nothing, answers_refusal}
 use Rattle.front_lines.proofs.exchange.answer_line.Goals as goal
 

@@ -1,6 +1,4 @@
-use Rattle.std.proofs.Common.{◌≡◌, Bool, Ok, false, rules, subst, true}
-use Rattle.line_feed.specs.Feed.{line_of}
-use Rattle.front_lines.specs.LinesRead.{ReadsOn, to_come}
+use Rattle.front_lines.proofs.Prelude.{◌≡◌, Bool, Ok, false, rules, subst, true, line_of, ReadsOn, to_come}
 use Rattle.front_lines.proofs.ReadLemmas.{and_line, and_pause}
 use Rattle.front_lines.proofs.lines_read.await_line.Goals as goal
 

@@ -1,5 +1,4 @@
-use Rattle.line_feed.specs.Feed.{line_of}
-use Rattle.front_lines.specs.LinesRead.{to_come}
+use Rattle.front_lines.proofs.Prelude.{line_of, to_come}
 use Rattle.front_lines.proofs.ReadLemmas.{Reading}
 use Rattle.front_lines.proofs.lines_read.await_line.Given as goal
 

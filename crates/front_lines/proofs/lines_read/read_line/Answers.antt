@@ -1,6 +1,4 @@
-use Rattle.std.proofs.Common.{◌≡◌, ℕ, List, [], Bool, rules, subst, sym}
-use Rattle.line_feed.specs.Feed.{ahead_of, line_of}
-use Rattle.line_feed.specs.Pieces.{TakesPiece}
+use Rattle.front_lines.proofs.Prelude.{◌≡◌, ℕ, List, [], Bool, rules, subst, sym, ahead_of, line_of, TakesPiece}
 use Rattle.front_lines.proofs.ReadLemmas.{ReadingOn, line_ends, line_goes_on, line_pauses}
 use Rattle.front_lines.proofs.lines_read.read_line.Goals as goal
 

@@ -1,4 +1,4 @@
-use Rattle.line_feed.specs.Feed.{ahead_of, line_of}
+use Rattle.front_lines.proofs.Prelude.{ahead_of, line_of}
 use Rattle.front_lines.proofs.ReadLemmas.{ReadingOn}
 use Rattle.front_lines.proofs.lines_read.read_line.Given as goal
 

@@ -1,8 +1,4 @@
-use Rattle.std.proofs.Common.{ℕ, List, subst, sym}
-use Rattle.std.specs.Io.KnownBytes.{prepend_known}
-use Rattle.line_feed.specs.Feed.{line_of}
-use Rattle.front_lines.specs.LinesRead.{HasLine, to_come}
-use Rattle.front_lines.specs.Serving.{HasReply}
+use Rattle.front_lines.proofs.Prelude.{ℕ, List, subst, sym, prepend_known, line_of, HasLine, to_come, HasReply}
 use Rattle.front_lines.proofs.ReplyLemmas.{Following, following_more, reply_ends}
 use Rattle.front_lines.proofs.service.take_reply.Goals as goal
 

@@ -1,8 +1,5 @@
-use Rattle.std.proofs.Common.{◌≡◌}
+use Rattle.front_lines.proofs.Prelude.{◌≡◌, line_of, IsKept, to_come}
 use Rattle.std.specs.Prelude.{[]}
-use Rattle.line_feed.specs.Feed.{line_of}
-use Rattle.line_feed.specs.Pieces.{IsKept}
-use Rattle.front_lines.specs.LinesRead.{to_come}
 use Rattle.front_lines.proofs.ServedLemmas.{Progress}
 use Rattle.front_lines.proofs.serving.serve_client.Given as goal
 

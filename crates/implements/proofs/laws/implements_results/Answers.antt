@@ -1,17 +1,4 @@
-use Rattle.std.proofs.Common.{List, sym, subst}
-use Rattle.ble_cluster.specs.Bles.{LogicElement}
-use Rattle.block_places.specs.Placed.{ArePlaced}
-use Rattle.blif.specs.LawfulCircuits.{IsNarrow}
-use Rattle.cluster.specs.Clusters.{PackedCircuit}
-use Rattle.cluster.specs.LawfulPackings.{IsPacked}
-use Rattle.cluster.specs.PackingLaws.{IsLawfulPacking}
-use Rattle.grid.specs.declared.Strip.{Strip}
-use Rattle.grid.specs.declared.place.Place.{Place}
-use Rattle.pathfinder.specs.LegalRoutes.{IsLegal}
-use Rattle.rr_graph.specs.declared.node.Node.{Node}
-use Rattle.implements.specs.Holding.{AreBlesOf}
-use Rattle.implements.specs.Implements.{Implements}
-use Rattle.implements.specs.LayoutOf.{layout_of}
+use Rattle.implements.proofs.Prelude.{List, sym, subst, LogicElement, ArePlaced, IsNarrow, PackedCircuit, IsPacked, IsLawfulPacking, Strip, Place, IsLegal, Node, AreBlesOf, Implements, layout_of}
 use Rattle.implements.proofs.Between.{none_shared}
 use Rattle.implements.proofs.Blocks.{all_fed, all_few, all_same}
 use Rattle.implements.proofs.Coming.{connects}

@@ -1,5 +1,4 @@
-use Rattle.std.proofs.Common.{◌≡◌, ◌++◌, rules}
-use Rattle.std.specs.Prelude.{option_to_list}
+use Rattle.job_queue.proofs.Prelude.{◌≡◌, ◌++◌, rules, option_to_list}
 use Rattle.job_queue.proofs.OneOfList.{one_of, rest_of}
 use Rattle.job_queue.proofs.handing.a_seat.Goals as goal
 

@@ -1,5 +1,4 @@
-use Rattle.std.proofs.Common.{◌≡◌, ◌++◌, take}
-use Rattle.job_state.specs.Gathered.{on_path}
+use Rattle.job_state.proofs.Prelude.{◌≡◌, ◌++◌, take, on_path}
 use Rattle.job_state.proofs.held.add_path.Given as goal
 
 abbrev pub invariant-loop-node : goal.invariant-loop-node

@@ -1,6 +1,4 @@
-use Rattle.std.proofs.Common.{arith, ◌≡◌, ◌++◌, [], ◌∙◌, ap, sym, get_or, take}
-use Rattle.std.proofs.lemmas.Option.{get_or_from_slice_get}
-use Rattle.job_state.specs.Gathered.{on_path, on_tree}
+use Rattle.job_state.proofs.Prelude.{arith, ◌≡◌, ◌++◌, [], ◌∙◌, ap, sym, get_or, take, get_or_from_slice_get, on_path, on_tree}
 use Rattle.job_state.proofs.Gathered.{gathered_more}
 use Rattle.job_state.proofs.held.add_tree.Goals as goal
 

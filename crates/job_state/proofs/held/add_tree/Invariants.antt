@@ -1,6 +1,4 @@
-use Rattle.std.proofs.Common.{◌≡◌, ◌++◌, [], take}
-use Rattle.std.specs.Prelude.{slice_index_or}
-use Rattle.job_state.specs.Gathered.{on_tree}
+use Rattle.job_state.proofs.Prelude.{◌≡◌, ◌++◌, [], take, slice_index_or, on_tree}
 use Rattle.job_state.proofs.held.add_tree.Given as goal
 
 abbrev pub invariant-loop-number : goal.invariant-loop-number

@@ -1,6 +1,4 @@
-use Rattle.std.proofs.Common.{ℕ, ◌≤◌, arith, subst, length, List}
-use Rattle.rr_graph.specs.declared.resource.Resource.{Resource}
-use Rattle.job_state.specs.RoutedCircuits.{ListsAll}
+use Rattle.job_state.proofs.Prelude.{ℕ, ◌≤◌, arith, subst, length, List, Resource, ListsAll}
 use Rattle.job_state.proofs.InOrder.{ListsBelow, lists_all, lists_more, lists_same}
 use Rattle.job_state.proofs.held.each_once.Goals as goal
 use Rattle.job_state.proofs.held.each_once.Goals.{then-index-eq0+in_ok-push, then-index-eq0-via-then-index-eq0, then-index-eq0-via-else-index-eq0+then-is_before, else-index-eq0+else-is_before}

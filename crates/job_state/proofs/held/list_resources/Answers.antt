@@ -1,10 +1,4 @@
-use Rattle.std.proofs.Common.{◌≡◌, ◌++◌, ◌∙◌, List, Result, Ok, Err, IfOk, ap, sym, subst}
-use Rattle.std.specs.List.Sorted.{IsPermutation}
-use Rattle.std.proofs.lemmas.List.Sorted.{list_any-IsPermutation}
-use Rattle.rr_graph.specs.declared.resource.Resource.{Resource}
-use Rattle.rr_graph.specs.Resources.{is_same}
-use Rattle.job_state.specs.RoutedCircuits.{ListsAll}
-use Rattle.job_state.specs.Gathered.{on_trees}
+use Rattle.job_state.proofs.Prelude.{◌≡◌, ◌++◌, ◌∙◌, List, Result, Ok, Err, IfOk, ap, sym, subst, IsPermutation, list_any-IsPermutation, Resource, is_same, ListsAll, on_trees}
 use Rattle.job_state.proofs.Sorted.{in_order}
 use Rattle.job_state.proofs.held.list_resources.Goals as goal
 

@@ -1,5 +1,4 @@
-use Rattle.std.proofs.Common.{◌≡◌, take}
-use Rattle.job_state.specs.Gathered.{on_trees}
+use Rattle.job_state.proofs.Prelude.{◌≡◌, take, on_trees}
 use Rattle.job_state.proofs.held.on_trees.Given as goal
 
 abbrev pub invariant-loop-net : goal.invariant-loop-net

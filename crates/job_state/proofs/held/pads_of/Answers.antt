@@ -1,14 +1,4 @@
-use Rattle.std.proofs.Common.{◌≡◌, ◌++◌, ◌∙◌, ap, sym, subst, length, arith}
-use Rattle.std.proofs.lemmas.Option.{get_or_from_slice_get}
-use Rattle.grid.specs.Places.{place_at}
-use Rattle.cluster.specs.declared.block.Block.TheVariants.{Cluster}
-use Rattle.cluster.specs.Blocks.{blocks_of}
-use Rattle.cluster.specs.Clusters.{PackedCircuit}
-use Rattle.grid.specs.Sizes.{IsStripSize}
-use Rattle.strip_place.specs.Anneal.{places_by_block}
-use Rattle.block_places.specs.Placed.{block_at, place_of}
-use Rattle.job_state.specs.RoutedCircuits.{AreThere, pad_of}
-use Rattle.job_state.specs.Gathered.{pads_below}
+use Rattle.job_state.proofs.Prelude.{◌≡◌, ◌++◌, ◌∙◌, ap, sym, subst, length, arith, get_or_from_slice_get, place_at, Cluster, blocks_of, PackedCircuit, IsStripSize, places_by_block, block_at, place_of, AreThere, pad_of, pads_below}
 use Rattle.job_state.proofs.Gathered.{gathered_to}
 use Rattle.job_state.proofs.Pads.{pads_there}
 use Rattle.job_state.proofs.held.pads_of.Goals as goal

@@ -1,6 +1,4 @@
-use Rattle.std.proofs.Common.{◌≡◌}
-use Rattle.strip_place.specs.Anneal.{places_by_block}
-use Rattle.job_state.specs.Gathered.{pads_below}
+use Rattle.job_state.proofs.Prelude.{◌≡◌, places_by_block, pads_below}
 use Rattle.job_state.proofs.held.pads_of.Given as goal
 
 abbrev pub invariant-loop-block : goal.invariant-loop-block

@@ -1,13 +1,4 @@
-use Rattle.std.proofs.Common.{◌≡◌, IfOk, ◌∙◌, ap, sym, subst}
-use Rattle.cluster.specs.Clusters.{PackedCircuit}
-use Rattle.grid.specs.declared.Strip.{Strip}
-use Rattle.strip_place.specs.Anneal.{PlacingUnderWay}
-use Rattle.block_places.specs.Placed.{ArePlaced}
-use Rattle.job_state.specs.RoutedCircuits.{on_strip}
-use Rattle.job_state.specs.UnderWay.{RoutingUnderWay, begun_state}
-use Rattle.job_state.specs.declared.sources.Sources.{Sources}
-use Rattle.job_state.specs.declared.work.Work.TheVariants.{Placed, Routing}
-use Rattle.job_state.specs.JobValue.{circuit_in, end_value, pass_count, placing_at, placing_sources}
+use Rattle.job_state.proofs.Prelude.{◌≡◌, IfOk, ◌∙◌, ap, sym, subst, PackedCircuit, Strip, PlacingUnderWay, ArePlaced, on_strip, RoutingUnderWay, begun_state, Sources, Placed, Routing, circuit_in, end_value, pass_count, placing_at, placing_sources}
 use Rattle.job_state.proofs.Beginnings.{placed_basis, routing_begins}
 use Rattle.job_state.proofs.NextStep.{as_value}
 use Rattle.job_state.proofs.There.{on_same_strip}

@@ -1,5 +1,4 @@
-use Rattle.std.proofs.Common.{◌≡◌, ◌≢◌, ◌<◌, ℕ, Some, slice_get}
-use Rattle.implements.specs.Layouts.{LaidBlock}
+use Rattle.layout_check.proofs.Prelude.{◌≡◌, ◌≢◌, ◌<◌, ℕ, Some, slice_get, LaidBlock}
 use Rattle.layout_check.proofs.apart.block_at.Given as goal
 
 abbrev pub invariant-loop-k : goal.invariant-loop-k

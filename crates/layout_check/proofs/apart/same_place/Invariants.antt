@@ -1,5 +1,4 @@
-use Rattle.std.proofs.Common.{◌≡◌, ◌≢◌, ◌<◌, ℕ, Some, slice_get}
-use Rattle.implements.specs.Layouts.{LaidBlock}
+use Rattle.layout_check.proofs.Prelude.{◌≡◌, ◌≢◌, ◌<◌, ℕ, Some, slice_get, LaidBlock}
 use Rattle.layout_check.proofs.apart.same_place.Given as goal
 
 abbrev pub invariant-loop-number : goal.invariant-loop-number

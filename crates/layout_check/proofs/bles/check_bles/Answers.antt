@@ -1,5 +1,4 @@
-use Rattle.implements.specs.Implements.{IsNarrowBle}
-use Rattle.implements.specs.Layouts.{IsFed}
+use Rattle.layout_check.proofs.Prelude.{IsNarrowBle, IsFed}
 use Rattle.layout_check.proofs.Matches.{all_done, all_next}
 use Rattle.layout_check.proofs.bles.check_bles.Goals as goal
 

@@ -1,7 +1,4 @@
-use Rattle.std.proofs.Common.{take}
-use Rattle.std.specs.Prelude.{All}
-use Rattle.implements.specs.Implements.{IsNarrowBle}
-use Rattle.implements.specs.Layouts.{IsFed}
+use Rattle.layout_check.proofs.Prelude.{take, All, IsNarrowBle, IsFed}
 use Rattle.layout_check.proofs.bles.check_bles.Given as goal
 
 abbrev pub invariant-loop-number : goal.invariant-loop-number

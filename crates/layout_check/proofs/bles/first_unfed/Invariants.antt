@@ -1,6 +1,4 @@
-use Rattle.std.proofs.Common.{◌≡◌, is_some, take, true}
-use Rattle.std.specs.Prelude.{All}
-use Rattle.implements.specs.Layouts.{input_net}
+use Rattle.layout_check.proofs.Prelude.{◌≡◌, is_some, take, true, All, input_net}
 use Rattle.layout_check.proofs.bles.first_unfed.Given as goal
 
 abbrev pub invariant-loop-k : goal.invariant-loop-k

@@ -1,11 +1,4 @@
-use Rattle.std.proofs.Common.{◌≡◌, List, ap, arith, length, sym, subst, ◌∙◌}
-use Rattle.std.specs.Prelude.{All}
-use Rattle.block_places.specs.Fits.{kind_of}
-use Rattle.grid.specs.declared.place.Kind.{Kind}
-use Rattle.grid.specs.declared.place.Place.{Place}
-use Rattle.grid.specs.PlaceLaws.{IsPlaceIn}
-use Rattle.implements.specs.Implements.{IsNarrowBle, ble_places}
-use Rattle.implements.specs.Layouts.{IsFed, LaidBle}
+use Rattle.layout_check.proofs.Prelude.{◌≡◌, List, ap, arith, length, sym, subst, ◌∙◌, All, kind_of, Kind, Place, IsPlaceIn, IsNarrowBle, ble_places, IsFed, LaidBle}
 use Rattle.layout_check.proofs.Sites.{place_listed, place_within}
 use Rattle.layout_check.proofs.blocks.check_block.Goals as goal
 

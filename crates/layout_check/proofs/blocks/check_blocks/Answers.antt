@@ -1,4 +1,4 @@
-use Rattle.layout_check.specs.BlockFaults.{IsBlockRight}
+use Rattle.layout_check.proofs.Prelude.{IsBlockRight}
 use Rattle.layout_check.proofs.Matches.{all_done, all_next}
 use Rattle.layout_check.proofs.blocks.check_blocks.Goals as goal
 

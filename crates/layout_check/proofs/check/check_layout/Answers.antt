@@ -1,4 +1,4 @@
-use Rattle.layout_check.specs.declared.fault.Wrong.TheVariants.{Net}
+use Rattle.layout_check.proofs.Prelude.{Net}
 use Rattle.layout_check.proofs.Decided.{connected, implemented}
 use Rattle.layout_check.proofs.Never.{never}
 use Rattle.layout_check.proofs.check.check_layout.Goals as goal

@@ -1,5 +1,4 @@
-use Rattle.std.proofs.Common.{◌≡◌, ◌++◌, take}
-use Rattle.layout_check.specs.NetBlocks.{sinks_at}
+use Rattle.layout_check.proofs.Prelude.{◌≡◌, ◌++◌, take, sinks_at}
 use Rattle.layout_check.proofs.drivers.add_sinks.Given as goal
 
 abbrev pub invariant-loop-reader : goal.invariant-loop-reader

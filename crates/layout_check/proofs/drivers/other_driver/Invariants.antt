@@ -1,5 +1,4 @@
-use Rattle.std.proofs.Common.{◌≡◌, take}
-use Rattle.std.specs.Prelude.{All}
+use Rattle.layout_check.proofs.Prelude.{◌≡◌, take, All}
 use Rattle.layout_check.proofs.drivers.other_driver.Given as goal
 
 abbrev pub invariant-loop-other : goal.invariant-loop-other

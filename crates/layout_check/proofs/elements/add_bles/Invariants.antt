@@ -1,5 +1,4 @@
-use Rattle.std.proofs.Common.{◌≡◌, ◌++◌, map, take}
-use Rattle.implements.specs.Layouts.{traced_ble}
+use Rattle.layout_check.proofs.Prelude.{◌≡◌, ◌++◌, map, take, traced_ble}
 use Rattle.layout_check.proofs.elements.add_bles.Given as goal
 
 abbrev pub invariant-loop-ble : goal.invariant-loop-ble

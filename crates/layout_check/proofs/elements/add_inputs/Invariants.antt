@@ -1,7 +1,4 @@
-use Rattle.std.proofs.Common.{◌≡◌, ◌++◌, take}
-use Rattle.std.specs.List.{flat_map}
-use Rattle.std.specs.Option.{option_to_list}
-use Rattle.implements.specs.Layouts.{input_net}
+use Rattle.layout_check.proofs.Prelude.{◌≡◌, ◌++◌, take, flat_map, option_to_list, input_net}
 use Rattle.layout_check.proofs.elements.add_inputs.Given as goal
 
 abbrev pub invariant-loop-feed : goal.invariant-loop-feed

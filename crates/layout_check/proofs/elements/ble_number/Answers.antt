@@ -1,5 +1,4 @@
-use Rattle.std.proofs.Common.{◌<◌, List, arith, length, subst, sym}
-use Rattle.implements.specs.Layouts.{LaidBle}
+use Rattle.layout_check.proofs.Prelude.{◌<◌, List, arith, length, subst, sym, LaidBle}
 use Rattle.layout_check.proofs.BlePlaces.{number_found}
 use Rattle.layout_check.proofs.elements.ble_number.Goals as goal
 

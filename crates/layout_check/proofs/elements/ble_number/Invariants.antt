@@ -1,4 +1,4 @@
-use Rattle.std.proofs.Common.{◌≡◌, ◌+◌, length, take}
+use Rattle.layout_check.proofs.Prelude.{◌≡◌, ◌+◌, length, take}
 use Rattle.layout_check.proofs.BlePlaces.{bles_in}
 use Rattle.layout_check.proofs.elements.ble_number.Given as goal
 

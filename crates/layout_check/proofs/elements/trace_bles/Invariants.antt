@@ -1,6 +1,4 @@
-use Rattle.std.proofs.Common.{◌≡◌, ◌++◌, map, take}
-use Rattle.std.specs.List.{flat_map}
-use Rattle.implements.specs.Layouts.{traced_ble}
+use Rattle.layout_check.proofs.Prelude.{◌≡◌, ◌++◌, map, take, flat_map, traced_ble}
 use Rattle.layout_check.proofs.elements.trace_bles.Given as goal
 
 abbrev pub invariant-loop-block : goal.invariant-loop-block

@@ -1,4 +1,4 @@
-use Rattle.std.proofs.Common.{◌≡◌, ◌++◌, eqb, filter, not, take}
+use Rattle.layout_check.proofs.Prelude.{◌≡◌, ◌++◌, eqb, filter, not, take}
 use Rattle.layout_check.proofs.entry.add_readers.Given as goal
 
 abbrev pub invariant-loop-reader : goal.invariant-loop-reader

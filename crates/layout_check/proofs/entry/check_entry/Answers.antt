@@ -1,13 +1,5 @@
-use Rattle.std.proofs.Common.{◌≡◌, ◌∙◌, ◌<◌, List, Some, ℕ, ap, false, length, rules, slice_get, subst, sym, true}
-use Rattle.cluster.specs.Blocks.{is_global}
-use Rattle.implements.proofs.Members.{from_get}
-use Rattle.implements.specs.Layouts.{LaidBlock}
-use Rattle.pathfinder.specs.LegalRoutes.{IsRouted}
-use Rattle.rr_graph.specs.declared.node.Node.{Node}
-use Rattle.layout_check.specs.NetBlocks.{list_at}
-use Rattle.layout_check.specs.RouteFaults.{IsPathFault}
+use Rattle.layout_check.proofs.Prelude.{◌≡◌, ◌∙◌, ◌<◌, List, Some, ℕ, ap, false, length, rules, slice_get, subst, sym, true, is_global, from_get, LaidBlock, IsRouted, Node, list_at, IsPathFault, drives, sinks_of}
 use Rattle.layout_check.proofs.Entries.{entry_laid, first_of, listed_same, never_driven, only_driver, sinks_same, two_drivers}
-use Rattle.implements.specs.Implements.{drives, sinks_of}
 use Rattle.layout_check.proofs.entry.check_entry.Goals as goal
 
 pub returns-in_default-clause-exact : goal.returns-in_default-clause-exact

@@ -1,4 +1,4 @@
-use Rattle.std.proofs.Common.{sym, ◌∙◌}
+use Rattle.layout_check.proofs.Prelude.{sym, ◌∙◌}
 use Rattle.layout_check.proofs.Entries.{control_at}
 use Rattle.layout_check.proofs.entry.is_global.Goals as goal
 

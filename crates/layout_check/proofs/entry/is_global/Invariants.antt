@@ -1,7 +1,4 @@
-use Rattle.std.proofs.Common.{◌≡◌, false, take}
-use Rattle.std.specs.List.{flat_map}
-use Rattle.std.specs.Option.{option_to_list}
-use Rattle.ble_cluster.specs.Nets.{has}
+use Rattle.layout_check.proofs.Prelude.{◌≡◌, false, take, flat_map, option_to_list, has}
 use Rattle.layout_check.proofs.entry.is_global.Given as goal
 
 abbrev pub invariant-loop-latch : goal.invariant-loop-latch

@@ -1,4 +1,4 @@
-use Rattle.std.proofs.Common.{◌≡◌, ◌<◌, ℕ, get_or}
+use Rattle.layout_check.proofs.Prelude.{◌≡◌, ◌<◌, ℕ, get_or}
 use Rattle.layout_check.proofs.entry.same_numbers.Given as goal
 
 abbrev pub invariant-loop-i : goal.invariant-loop-i

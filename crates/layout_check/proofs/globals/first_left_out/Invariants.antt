@@ -1,7 +1,4 @@
-use Rattle.std.proofs.Common.{◌≡◌, ◌<◌, ℕ, Some, slice_get, true}
-use Rattle.std.specs.Option.{option_map_or}
-use Rattle.blif.specs.declared.latches.Latch.{Latch}
-use Rattle.ble_cluster.specs.Nets.{has}
+use Rattle.layout_check.proofs.Prelude.{◌≡◌, ◌<◌, ℕ, Some, slice_get, true, option_map_or, Latch, has}
 use Rattle.layout_check.proofs.globals.first_left_out.Given as goal
 
 abbrev pub invariant-loop-k : goal.invariant-loop-k

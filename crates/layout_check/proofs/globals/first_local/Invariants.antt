@@ -1,5 +1,4 @@
-use Rattle.std.proofs.Common.{◌≡◌, ◌<◌, ℕ, get_or, true}
-use Rattle.cluster.specs.Blocks.{is_global}
+use Rattle.layout_check.proofs.Prelude.{◌≡◌, ◌<◌, ℕ, get_or, true, is_global}
 use Rattle.layout_check.proofs.globals.first_local.Given as goal
 
 abbrev pub invariant-loop-net : goal.invariant-loop-net

@@ -1,4 +1,4 @@
-use Rattle.std.proofs.Common.{arith}
+use Rattle.layout_check.proofs.Prelude.{arith}
 use Rattle.layout_check.proofs.HeldOnce.{held_all, held_told}
 use Rattle.layout_check.proofs.held.add_held.Goals as goal
 

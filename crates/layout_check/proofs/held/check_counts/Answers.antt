@@ -1,6 +1,4 @@
-use Rattle.std.proofs.Common.{List, ap, length, subst, sym}
-use Rattle.blif.specs.declared.latches.Latch.{Latch}
-use Rattle.layout_check.specs.Helds.{IsHeldFault}
+use Rattle.layout_check.proofs.Prelude.{List, ap, length, subst, sym, Latch, IsHeldFault}
 use Rattle.layout_check.proofs.HeldOnce.{bles_of_circuit, counts_told, fault_told, latch_fault, latches_within, table_fault, tables_within, within_told}
 use Rattle.layout_check.proofs.held.check_counts.Goals as goal
 

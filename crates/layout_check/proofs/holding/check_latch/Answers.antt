@@ -1,5 +1,5 @@
-use Rattle.std.proofs.Common.{sym, ◌∙◌}
-use Rattle.layout_check.specs.declared.owners.Owner.TheVariants.{Nothing, Latch as LatchOwner}
+use Rattle.layout_check.proofs.Prelude.{sym, ◌∙◌, Nothing}
+use Rattle.layout_check.specs.declared.owners.Owner.TheVariants.{Latch as LatchOwner}
 use Rattle.layout_check.proofs.LatchTold.{alone_told, pair_found, pair_told}
 use Rattle.layout_check.proofs.holding.check_latch.Goals as goal
 

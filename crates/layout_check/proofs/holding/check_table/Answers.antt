@@ -1,4 +1,4 @@
-use Rattle.std.proofs.Common.{◌≡◌, false, rules, sym, ◌∙◌}
+use Rattle.layout_check.proofs.Prelude.{◌≡◌, false, rules, sym, ◌∙◌}
 use Rattle.layout_check.proofs.BlePlaces.{get_some}
 use Rattle.layout_check.proofs.holding.check_table.Goals as goal
 

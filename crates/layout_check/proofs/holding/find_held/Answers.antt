@@ -1,4 +1,4 @@
-use Rattle.std.proofs.Common.{sym, ◌∙◌}
+use Rattle.layout_check.proofs.Prelude.{sym, ◌∙◌}
 use Rattle.layout_check.proofs.HoldsJust.{held_as_table, held_behind}
 use Rattle.layout_check.proofs.holding.find_held.Goals as goal
 

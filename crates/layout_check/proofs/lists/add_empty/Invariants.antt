@@ -1,4 +1,4 @@
-use Rattle.std.proofs.Common.{◌≡◌, [], List, ℕ, map, replicate}
+use Rattle.layout_check.proofs.Prelude.{◌≡◌, [], List, ℕ, map, replicate}
 use Rattle.layout_check.proofs.lists.add_empty.Given as goal
 
 abbrev pub invariant-loop-number : goal.invariant-loop-number

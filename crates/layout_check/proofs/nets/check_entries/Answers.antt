@@ -1,6 +1,4 @@
-use Rattle.std.proofs.Common.{◌≡◌, ◌<◌, ◌≤◌, List, Some, ap, get_or, length, sym, subst, ◌∙◌}
-use Rattle.std.proofs.lemmas.Option.{slice_get-get_or}
-use Rattle.implements.specs.Layouts.{LaidNet}
+use Rattle.layout_check.proofs.Prelude.{◌≡◌, ◌<◌, ◌≤◌, List, Some, ap, get_or, length, sym, subst, ◌∙◌, slice_get-get_or, LaidNet}
 use Rattle.layout_check.proofs.Counted.{checked_all, checked_more}
 use Rattle.layout_check.proofs.nets.check_entries.Goals as goal
 

@@ -1,5 +1,4 @@
-use Rattle.rr_graph.specs.Graph.{graph_of}
-use Rattle.layout_check.specs.TreeTests.{HasRoom}
+use Rattle.layout_check.proofs.Prelude.{graph_of, HasRoom}
 use Rattle.layout_check.proofs.Counted.{AreChecked}
 use Rattle.layout_check.proofs.nets.check_entries.Given as goal
 

@@ -1,6 +1,4 @@
-use Rattle.std.proofs.Common.{◌<◌, ◌≤◌, List, ℕ, get_or, subst}
-use Rattle.rr_graph.specs.Geometry.{capacity_of}
-use Rattle.rr_graph.specs.Graph.{graph_of}
+use Rattle.layout_check.proofs.Prelude.{◌<◌, ◌≤◌, List, ℕ, get_or, subst, capacity_of, graph_of}
 use Rattle.layout_check.proofs.Counted.{carried_all}
 use Rattle.layout_check.proofs.nets.check_with.Goals as goal
 

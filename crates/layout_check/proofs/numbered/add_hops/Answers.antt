@@ -1,5 +1,4 @@
-use Rattle.std.proofs.Common.{◌++◌, ap, arith, sym, ◌∙◌, List, ℕ}
-use Rattle.std.proofs.lemmas.List.{append-nil}
+use Rattle.layout_check.proofs.Prelude.{◌++◌, ap, arith, sym, ◌∙◌, List, ℕ, append-nil}
 use Rattle.layout_check.proofs.Numbers.{hops_all, hops_more, steps_short}
 use Rattle.layout_check.proofs.numbered.add_hops.Goals as goal
 

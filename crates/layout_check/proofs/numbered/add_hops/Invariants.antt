@@ -1,5 +1,4 @@
-use Rattle.std.proofs.Common.{◌≡◌, ◌++◌, take}
-use Rattle.pathfinder.specs.LegalRoutes.{steps_of}
+use Rattle.layout_check.proofs.Prelude.{◌≡◌, ◌++◌, take, steps_of}
 use Rattle.layout_check.proofs.numbered.add_hops.Given as goal
 
 abbrev pub invariant-loop-i : goal.invariant-loop-i

@@ -1,9 +1,4 @@
-use Rattle.std.proofs.Common.{◌≡◌, true, sym, ◌∙◌, ap, ◌++◌, ◌∷◌, []}
-use Rattle.std.proofs.lemmas.List.{get_or_default}
-use Rattle.std.proofs.lemmas.List.Elements.{All-more}
-use Rattle.rr_graph.specs.Geometry.{is_node}
-use Rattle.rr_graph.specs.Graph.{graph_of}
-use Rattle.pathfinder.specs.PlacedNets.{number_of}
+use Rattle.layout_check.proofs.Prelude.{◌≡◌, true, sym, ◌∙◌, ap, ◌++◌, ◌∷◌, [], get_or_default, All-more, is_node, graph_of, number_of}
 use Rattle.layout_check.proofs.Numbers.{its_number, map_more}
 use Rattle.layout_check.proofs.numbered.add_numbers.Goals as goal
 

@@ -1,8 +1,4 @@
-use Rattle.std.proofs.Common.{◌≡◌, ◌++◌, map, true, take}
-use Rattle.std.specs.Prelude.{All}
-use Rattle.rr_graph.specs.Geometry.{is_node}
-use Rattle.rr_graph.specs.Graph.{graph_of}
-use Rattle.pathfinder.specs.PlacedNets.{number_of}
+use Rattle.layout_check.proofs.Prelude.{◌≡◌, ◌++◌, map, true, take, All, is_node, graph_of, number_of}
 use Rattle.layout_check.proofs.numbered.add_numbers.Given as goal
 
 abbrev pub invariant-loop-node : goal.invariant-loop-node

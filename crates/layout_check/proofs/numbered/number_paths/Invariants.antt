@@ -1,5 +1,4 @@
-use Rattle.std.proofs.Common.{take}
-use Rattle.layout_check.specs.Numbered.{IsNumbered}
+use Rattle.layout_check.proofs.Prelude.{take, IsNumbered}
 use Rattle.layout_check.proofs.numbered.number_paths.Given as goal
 
 abbrev pub invariant-loop-path : goal.invariant-loop-path

@@ -1,4 +1,4 @@
-use Rattle.std.proofs.Common.{◌≡◌, arith, length}
+use Rattle.layout_check.proofs.Prelude.{◌≡◌, arith, length}
 use Rattle.layout_check.proofs.HeldOnce.{once_told}
 use Rattle.layout_check.proofs.once.check_once.Goals as goal
 

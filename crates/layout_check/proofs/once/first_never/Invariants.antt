@@ -1,4 +1,4 @@
-use Rattle.std.proofs.Common.{◌≡◌, ◌<◌, ℕ, None, get_or}
+use Rattle.layout_check.proofs.Prelude.{◌≡◌, ◌<◌, ℕ, None, get_or}
 use Rattle.layout_check.proofs.once.first_never.Given as goal
 
 abbrev pub invariant-loop-number : goal.invariant-loop-number

@@ -1,4 +1,4 @@
-use Rattle.std.proofs.Common.{◌∙◌, arith, length, sym}
+use Rattle.layout_check.proofs.Prelude.{◌∙◌, arith, length, sym}
 use Rattle.layout_check.proofs.HeldOnce.{places_all, places_more, places_same, twice_found}
 use Rattle.layout_check.proofs.once.first_twice.Goals as goal
 use Rattle.layout_check.proofs.once.first_twice.Goals.{in-Some+in_default-index, in_default}

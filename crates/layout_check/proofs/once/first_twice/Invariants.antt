@@ -1,4 +1,4 @@
-use Rattle.std.proofs.Common.{length}
+use Rattle.layout_check.proofs.Prelude.{length}
 use Rattle.layout_check.proofs.HeldOnce.{ArePlacesUpTo}
 use Rattle.layout_check.proofs.once.first_twice.Given as goal
 

@@ -1,5 +1,4 @@
-use Rattle.std.proofs.Common.{length}
-use Rattle.layout_check.specs.NetOwners.{AreOwnersUpTo}
+use Rattle.layout_check.proofs.Prelude.{length, AreOwnersUpTo}
 use Rattle.layout_check.proofs.owners.own_latches.Given as goal
 
 abbrev pub invariant-loop-number : goal.invariant-loop-number

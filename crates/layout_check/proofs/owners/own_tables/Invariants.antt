@@ -1,4 +1,4 @@
-use Rattle.layout_check.specs.NetOwners.{AreOwnersUpTo}
+use Rattle.layout_check.proofs.Prelude.{AreOwnersUpTo}
 use Rattle.layout_check.proofs.owners.own_tables.Given as goal
 
 abbrev pub invariant-loop-number : goal.invariant-loop-number

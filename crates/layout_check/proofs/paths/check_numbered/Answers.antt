@@ -1,8 +1,4 @@
-use Rattle.std.proofs.Common.{◌++◌, map, sym, ap, subst, ◌∙◌}
-use Rattle.rr_graph.specs.Graph.{graph_of}
-use Rattle.pathfinder.specs.LegalRoutes.{path_nodes}
-use Rattle.pathfinder.specs.PlacedNets.{number_of}
-use Rattle.layout_check.specs.Numbered.{AreHops, AreNodes}
+use Rattle.layout_check.proofs.Prelude.{◌++◌, map, sym, ap, subst, ◌∙◌, graph_of, path_nodes, number_of, AreHops, AreNodes}
 use Rattle.layout_check.proofs.Refute.{hops_small, numbers_small}
 use Rattle.layout_check.proofs.paths.check_numbered.Goals as goal
 

@@ -1,5 +1,4 @@
-use Rattle.std.proofs.Common.{arith}
-use Rattle.std.proofs.lemmas.List.Elements.{Contains-get_or}
+use Rattle.layout_check.proofs.Prelude.{arith, Contains-get_or}
 use Rattle.layout_check.proofs.Numbers.{item_is, on_path}
 use Rattle.layout_check.proofs.paths.first_node.Goals as goal
 

@@ -1,5 +1,4 @@
-use Rattle.std.proofs.Common.{◌≡◌, [], take}
-use Rattle.pathfinder.specs.LegalRoutes.{path_nodes}
+use Rattle.layout_check.proofs.Prelude.{◌≡◌, [], take, path_nodes}
 use Rattle.layout_check.proofs.paths.first_node.Given as goal
 
 abbrev pub invariant-loop-path : goal.invariant-loop-path

@@ -1,5 +1,4 @@
-use Rattle.std.proofs.Common.{◌+◌, ◌<◌, ℕ, ap, arith, length, min, ◌∙◌}
-use Rattle.std.proofs.lemmas.List.{get_or_default}
+use Rattle.layout_check.proofs.Prelude.{◌+◌, ◌<◌, ℕ, ap, arith, length, min, ◌∙◌, get_or_default}
 use Rattle.layout_check.proofs.ReadCounts.{counted_read}
 use Rattle.layout_check.proofs.reads.count.Goals as goal
 

@@ -1,5 +1,4 @@
-use Rattle.std.proofs.Common.{arith, sym, take}
-use Rattle.std.proofs.lemmas.List.{take_more}
+use Rattle.layout_check.proofs.Prelude.{arith, sym, take, take_more}
 use Rattle.layout_check.proofs.ReadCounts.{counts_on}
 use Rattle.layout_check.proofs.reads.count_all.Goals as goal
 

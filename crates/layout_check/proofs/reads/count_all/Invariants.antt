@@ -1,5 +1,4 @@
-use Rattle.std.proofs.Common.{take}
-use Rattle.layout_check.specs.NetOwners.{CountsOn}
+use Rattle.layout_check.proofs.Prelude.{take, CountsOn}
 use Rattle.layout_check.proofs.reads.count_all.Given as goal
 
 abbrev pub invariant-loop-net : goal.invariant-loop-net

@@ -1,7 +1,4 @@
-use Rattle.std.proofs.Common.{List, ℕ, take, arith}
-use Rattle.std.specs.List.{flat_map}
-use Rattle.std.specs.Option.{option_to_list}
-use Rattle.blif.specs.declared.latches.Latch.{Latch}
+use Rattle.layout_check.proofs.Prelude.{List, ℕ, take, arith, flat_map, option_to_list, Latch}
 use Rattle.layout_check.proofs.ReadCounts.{control_here, control_none, controls_more, counts_on, counts_on_none}
 use Rattle.layout_check.proofs.reads.count_controls.Goals as goal
 use Rattle.layout_check.proofs.reads.count_controls.Goals.{in-Some, in_default}

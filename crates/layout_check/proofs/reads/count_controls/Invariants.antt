@@ -1,7 +1,4 @@
-use Rattle.std.proofs.Common.{take}
-use Rattle.std.specs.List.{flat_map}
-use Rattle.std.specs.Option.{option_to_list}
-use Rattle.layout_check.specs.NetOwners.{CountsOn}
+use Rattle.layout_check.proofs.Prelude.{take, flat_map, option_to_list, CountsOn}
 use Rattle.layout_check.proofs.reads.count_controls.Given as goal
 
 abbrev pub invariant-loop-latch : goal.invariant-loop-latch

@@ -1,6 +1,4 @@
-use Rattle.std.proofs.Common.{sym, ap, ◌∙◌, map, take, arith}
-use Rattle.std.proofs.lemmas.List.{take_more, map_push}
-use Rattle.blif.specs.declared.latches.Latch.{Latch}
+use Rattle.layout_check.proofs.Prelude.{sym, ap, ◌∙◌, map, take, arith, take_more, map_push, Latch}
 use Rattle.layout_check.proofs.ReadCounts.{counts_on}
 use Rattle.layout_check.proofs.reads.count_latches.Goals as goal
 

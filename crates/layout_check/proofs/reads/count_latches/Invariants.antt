@@ -1,5 +1,4 @@
-use Rattle.std.proofs.Common.{map, take}
-use Rattle.layout_check.specs.NetOwners.{CountsOn}
+use Rattle.layout_check.proofs.Prelude.{map, take, CountsOn}
 use Rattle.layout_check.proofs.reads.count_latches.Given as goal
 
 abbrev pub invariant-loop-latch : goal.invariant-loop-latch

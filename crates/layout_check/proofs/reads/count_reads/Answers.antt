@@ -1,9 +1,4 @@
-use Rattle.std.proofs.Common.{[], List, length, map, refl, subst, sym, ◌++◌, ℕ}
-use Rattle.std.specs.List.{flat_map}
-use Rattle.std.specs.Option.{option_to_list}
-use Rattle.blif.specs.declared.latches.Latch.{Latch}
-use Rattle.blif.specs.LookupTables.{LookupTable}
-use Rattle.layout_check.specs.NetOwners.{AreCounts}
+use Rattle.layout_check.proofs.Prelude.{[], List, length, map, refl, subst, sym, ◌++◌, ℕ, flat_map, option_to_list, Latch, LookupTable, AreCounts}
 use Rattle.layout_check.proofs.ReadCounts.{counts_none, counts_on}
 use Rattle.layout_check.proofs.reads.count_reads.Goals as goal
 

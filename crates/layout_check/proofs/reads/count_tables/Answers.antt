@@ -1,6 +1,4 @@
-use Rattle.std.proofs.Common.{sym, ap, ◌∙◌, take, arith}
-use Rattle.std.specs.List.{flat_map}
-use Rattle.blif.specs.LookupTables.{LookupTable}
+use Rattle.layout_check.proofs.Prelude.{sym, ap, ◌∙◌, take, arith, flat_map, LookupTable}
 use Rattle.layout_check.proofs.ReadCounts.{counts_on, flat_map_push, take_place}
 use Rattle.layout_check.proofs.reads.count_tables.Goals as goal
 

@@ -1,6 +1,4 @@
-use Rattle.std.proofs.Common.{take}
-use Rattle.std.specs.List.{flat_map}
-use Rattle.layout_check.specs.NetOwners.{CountsOn}
+use Rattle.layout_check.proofs.Prelude.{take, flat_map, CountsOn}
 use Rattle.layout_check.proofs.reads.count_tables.Given as goal
 
 abbrev pub invariant-loop-number : goal.invariant-loop-number

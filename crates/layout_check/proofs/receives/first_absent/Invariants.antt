@@ -1,6 +1,4 @@
-use Rattle.std.proofs.Common.{◌≡◌, take, true}
-use Rattle.std.specs.List.{list_all}
-use Rattle.ble_cluster.specs.Nets.{has}
+use Rattle.layout_check.proofs.Prelude.{◌≡◌, take, true, list_all, has}
 use Rattle.layout_check.proofs.receives.first_absent.Given as goal
 
 abbrev pub invariant-loop-net : goal.invariant-loop-net

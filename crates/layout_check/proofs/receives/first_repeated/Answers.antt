@@ -1,4 +1,4 @@
-use Rattle.std.proofs.Common.{arith, sym, ◌∙◌}
+use Rattle.layout_check.proofs.Prelude.{arith, sym, ◌∙◌}
 use Rattle.layout_check.proofs.Receiving.{once_more, repeated}
 use Rattle.layout_check.proofs.receives.first_repeated.Goals as goal
 

@@ -1,5 +1,4 @@
-use Rattle.std.proofs.Common.{take}
-use Rattle.ble_cluster.specs.Nets.{IsOnce}
+use Rattle.layout_check.proofs.Prelude.{take, IsOnce}
 use Rattle.layout_check.proofs.receives.first_repeated.Given as goal
 
 abbrev pub invariant-loop-place : goal.invariant-loop-place

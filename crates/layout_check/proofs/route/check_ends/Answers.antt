@@ -1,5 +1,4 @@
-use Rattle.rr_graph.specs.Graph.{graph_of}
-use Rattle.layout_check.specs.declared.fault.RouteFault.TheVariants.{EndsAt, LeadsOn, NoSink}
+use Rattle.layout_check.proofs.Prelude.{graph_of, EndsAt, LeadsOn, NoSink}
 use Rattle.layout_check.proofs.Told.{at_one, ends_are, ends_at_told, leads_on_told, no_sink_told}
 use Rattle.layout_check.proofs.route.check_ends.Goals as goal
 

@@ -1,6 +1,4 @@
-use Rattle.rr_graph.specs.Graph.{graph_of}
-use Rattle.layout_check.specs.declared.fault.RouteFault.TheVariants.{NoEdge}
-use Rattle.layout_check.specs.TreeTests.{told_fault}
+use Rattle.layout_check.proofs.Prelude.{graph_of, NoEdge, told_fault}
 use Rattle.layout_check.proofs.Told.{at_fault, at_two, gap_told, hop_told}
 use Rattle.layout_check.proofs.route.check_hops.Goals as goal
 

@@ -1,5 +1,4 @@
-use Rattle.rr_graph.specs.Graph.{graph_of}
-use Rattle.layout_check.specs.declared.fault.RouteFault.TheVariants.{TwoPins}
+use Rattle.layout_check.proofs.Prelude.{graph_of, TwoPins}
 use Rattle.layout_check.proofs.Told.{at_two, no_pin_told, two_pins_told}
 use Rattle.layout_check.proofs.route.check_pins.Goals as goal
 

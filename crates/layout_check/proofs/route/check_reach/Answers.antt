@@ -1,7 +1,4 @@
-use Rattle.std.proofs.Common.{◌≡◌, false, rules}
-use Rattle.rr_graph.specs.Graph.{graph_of}
-use Rattle.layout_check.specs.declared.fault.RouteFault.TheVariants.{NotReached}
-use Rattle.layout_check.specs.Marks.{is_in}
+use Rattle.layout_check.proofs.Prelude.{◌≡◌, false, rules, graph_of, NotReached, is_in}
 use Rattle.layout_check.proofs.Told.{at_one, reached_told, source_told}
 use Rattle.layout_check.proofs.route.check_reach.Goals as goal
 

@@ -1,11 +1,7 @@
-use Rattle.rr_graph.specs.Graph.{graph_of}
-use Rattle.pathfinder.specs.LegalRoutes.{IsRoute}
-use Rattle.layout_check.specs.RouteFaults.{IsRouteFault}
-use Rattle.layout_check.specs.TreeTests.{AreEnds, IsFaultOf}
+use Rattle.layout_check.proofs.Prelude.{graph_of, IsRoute, IsRouteFault, AreEnds, IsFaultOf, ℕ}
 use Rattle.layout_check.proofs.Matches.{match_weaker}
 use Rattle.layout_check.proofs.Told.{route_told}
 use Rattle.layout_check.proofs.route.check_tree.Goals as goal
-use Rattle.std.proofs.Common.{ℕ}
 
 pub returns-in-Some-clause-exact : goal.returns-in-Some-clause-exact
 returns-in-Some-clause-exact c = λ paths ends so are. c.in-Some.ensures.exact c.args.sinks.now c.args.nodes.now paths ends so are

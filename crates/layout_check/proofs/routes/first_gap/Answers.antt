@@ -1,7 +1,4 @@
-use Rattle.std.proofs.Common.{◌≡◌, ℕ, true, get_or, arith, rules}
-use borrow.Author.Count.{below_more}
-use Rattle.rr_graph.specs.Geometry.{is_edge}
-use Rattle.rr_graph.specs.Graph.{graph_of}
+use Rattle.layout_check.proofs.Prelude.{◌≡◌, ℕ, true, get_or, arith, rules, below_more, is_edge, graph_of}
 use Rattle.layout_check.proofs.Numbers.{each_hop}
 use Rattle.layout_check.proofs.routes.first_gap.Goals as goal
 

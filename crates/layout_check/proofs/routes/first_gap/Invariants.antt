@@ -1,6 +1,4 @@
-use Rattle.std.proofs.Common.{◌≡◌, ◌<◌, ℕ, true, get_or}
-use Rattle.rr_graph.specs.Geometry.{is_edge}
-use Rattle.rr_graph.specs.Graph.{graph_of}
+use Rattle.layout_check.proofs.Prelude.{◌≡◌, ◌<◌, ℕ, true, get_or, is_edge, graph_of}
 use Rattle.layout_check.proofs.routes.first_gap.Given as goal
 
 abbrev pub invariant-loop-hop : goal.invariant-loop-hop

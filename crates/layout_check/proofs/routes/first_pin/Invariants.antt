@@ -1,6 +1,4 @@
-use Rattle.std.proofs.Common.{◌≡◌, ◌<◌, ℕ, get_or}
-use Rattle.rr_graph.specs.declared.node.NodeKind.TheVariants.{Opin}
-use Rattle.rr_graph.specs.Graph.{graph_of}
+use Rattle.layout_check.proofs.Prelude.{◌≡◌, ◌<◌, ℕ, get_or, Opin, graph_of}
 use Rattle.layout_check.proofs.routes.first_pin.Given as goal
 
 abbrev pub invariant-loop-node : goal.invariant-loop-node

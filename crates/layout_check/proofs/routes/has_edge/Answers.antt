@@ -1,4 +1,4 @@
-use Rattle.std.proofs.Common.{arith, ◌∙◌}
+use Rattle.layout_check.proofs.Prelude.{arith, ◌∙◌}
 use Rattle.layout_check.proofs.Numbers.{edge_below, edge_listed}
 use Rattle.layout_check.proofs.routes.has_edge.Goals as goal
 

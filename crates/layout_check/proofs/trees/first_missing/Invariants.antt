@@ -1,5 +1,4 @@
-use Rattle.std.proofs.Common.{◌≡◌, ◌<◌, ℕ, true, get_or}
-use Rattle.layout_check.specs.Marks.{is_in}
+use Rattle.layout_check.proofs.Prelude.{◌≡◌, ◌<◌, ℕ, true, get_or, is_in}
 use Rattle.layout_check.proofs.trees.first_missing.Given as goal
 
 abbrev pub invariant-loop-number : goal.invariant-loop-number

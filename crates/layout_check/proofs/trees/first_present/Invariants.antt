@@ -1,5 +1,4 @@
-use Rattle.std.proofs.Common.{◌≡◌, ◌<◌, ℕ, false, get_or}
-use Rattle.layout_check.specs.Marks.{is_in}
+use Rattle.layout_check.proofs.Prelude.{◌≡◌, ◌<◌, ℕ, false, get_or, is_in}
 use Rattle.layout_check.proofs.trees.first_present.Given as goal
 
 abbrev pub invariant-loop-number : goal.invariant-loop-number

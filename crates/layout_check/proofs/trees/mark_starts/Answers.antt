@@ -1,4 +1,4 @@
-use Rattle.std.proofs.Common.{arith, length}
+use Rattle.layout_check.proofs.Prelude.{arith, length}
 use Rattle.layout_check.proofs.Hops.{starts_all}
 use Rattle.layout_check.proofs.trees.mark_starts.Goals as goal
 

@@ -1,4 +1,4 @@
-use Rattle.std.proofs.Common.{length}
+use Rattle.layout_check.proofs.Prelude.{length}
 use Rattle.layout_check.proofs.Hops.{AreStarts}
 use Rattle.layout_check.proofs.trees.mark_starts.Given as goal
 

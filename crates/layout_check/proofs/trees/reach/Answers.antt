@@ -1,5 +1,4 @@
-use Rattle.std.proofs.Common.{ℕ, Bool, true, false, ◌<◌, ◌+◌, cond, not, arith, ap}
-use Rattle.std.specs.Prelude.{MatchBool, count_by}
+use Rattle.layout_check.proofs.Prelude.{ℕ, Bool, true, false, ◌<◌, ◌+◌, cond, not, arith, ap, MatchBool, count_by}
 use Rattle.layout_check.proofs.Hops.{with_root}
 use Rattle.layout_check.proofs.trees.reach.Goals as goal
 

@@ -1,5 +1,4 @@
-use Rattle.std.proofs.Common.{ℕ, length, not, cond, ◌+◌}
-use Rattle.std.specs.Prelude.{count_by}
+use Rattle.layout_check.proofs.Prelude.{ℕ, length, not, cond, ◌+◌, count_by}
 use Rattle.layout_check.proofs.Hops.{IsUnderWay}
 use Rattle.layout_check.proofs.trees.reach.Given as goal
 

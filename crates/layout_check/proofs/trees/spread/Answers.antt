@@ -1,4 +1,4 @@
-use Rattle.std.proofs.Common.{◌≡◌, Bool, arith, rules, cond, ap, ◌∙◌, sym, true}
+use Rattle.layout_check.proofs.Prelude.{◌≡◌, Bool, arith, rules, cond, ap, ◌∙◌, sym, true}
 use Rattle.layout_check.proofs.Hops.{followed_all, followed_more}
 use Rattle.layout_check.proofs.trees.spread.Goals as goal
 use Rattle.layout_check.proofs.trees.spread.Goals.{then-follow, else-follow}

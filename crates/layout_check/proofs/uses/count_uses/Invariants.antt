@@ -1,4 +1,4 @@
-use Rattle.std.proofs.Common.{length}
+use Rattle.layout_check.proofs.Prelude.{length}
 use Rattle.layout_check.proofs.Hops.{AreUsed}
 use Rattle.layout_check.proofs.uses.count_uses.Given as goal
 

@@ -1,6 +1,4 @@
-use Rattle.std.proofs.Common.{◌<◌, ◌≤◌, ℕ, get_or}
-use Rattle.rr_graph.specs.Geometry.{capacity_of}
-use Rattle.rr_graph.specs.Graph.{graph_of}
+use Rattle.layout_check.proofs.Prelude.{◌<◌, ◌≤◌, ℕ, get_or, capacity_of, graph_of}
 use Rattle.layout_check.proofs.uses.first_overused.Given as goal
 
 abbrev pub invariant-loop-k : goal.invariant-loop-k

@@ -1,7 +1,4 @@
-use Rattle.std.proofs.Common.{◌≡◌, ◌≤◌, ◌<◌, ℕ, List, Option, ap, false, length, rules, subst, sym, true, ◌∙◌}
-use Rattle.std.specs.Option.{option_map_or}
-use Rattle.arch_file.specs.declared.arch.Pin.{Pin}
-use Rattle.layout_check.specs.Marks.{is_in}
+use Rattle.layout_check.proofs.Prelude.{◌≡◌, ◌≤◌, ◌<◌, ℕ, List, Option, ap, false, length, rules, subst, sym, true, ◌∙◌, option_map_or, Pin, is_in}
 use Rattle.layout_check.proofs.Served.{all_served, one_unserved}
 use Rattle.layout_check.proofs.wanted.are_served.Goals as goal
 

@@ -1,7 +1,4 @@
-use Rattle.std.proofs.Common.{◌≡◌, ◌<◌, ℕ, true}
-use Rattle.std.specs.Option.{option_map_or}
-use Rattle.implements.specs.Layouts.{on_pin}
-use Rattle.layout_check.specs.Marks.{is_in}
+use Rattle.layout_check.proofs.Prelude.{◌≡◌, ◌<◌, ℕ, true, option_map_or, on_pin, is_in}
 use Rattle.layout_check.proofs.wanted.are_served.Given as goal
 
 abbrev pub invariant-loop-pin : goal.invariant-loop-pin

@@ -1,7 +1,4 @@
-use Rattle.std.proofs.Common.{◌≡◌, ℕ, take, true}
-use Rattle.std.specs.Prelude.{All}
-use Rattle.implements.specs.Implements.{wants}
-use Rattle.layout_check.specs.Marks.{is_in}
+use Rattle.layout_check.proofs.Prelude.{◌≡◌, ℕ, take, true, All, wants, is_in}
 use Rattle.layout_check.proofs.wanted.first_unserved.Given as goal
 
 abbrev pub invariant-loop-number : goal.invariant-loop-number

@@ -1,4 +1,4 @@
-use Rattle.std.proofs.Common.{arith, length}
+use Rattle.layout_check.proofs.Prelude.{arith, length}
 use Rattle.layout_check.proofs.Served.{entries_all}
 use Rattle.layout_check.proofs.wanted.mark_entries.Goals as goal
 

@@ -1,4 +1,4 @@
-use Rattle.std.proofs.Common.{length}
+use Rattle.layout_check.proofs.Prelude.{length}
 use Rattle.layout_check.proofs.Served.{AreEntries}
 use Rattle.layout_check.proofs.wanted.mark_entries.Given as goal
 

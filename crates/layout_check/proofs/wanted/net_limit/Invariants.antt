@@ -1,5 +1,4 @@
-use Rattle.std.proofs.Common.{◌≡◌, ◌<◌, ℕ, Some, slice_get}
-use Rattle.implements.specs.Layouts.{LaidNet}
+use Rattle.layout_check.proofs.Prelude.{◌≡◌, ◌<◌, ℕ, Some, slice_get, LaidNet}
 use Rattle.layout_check.proofs.wanted.net_limit.Given as goal
 
 abbrev pub invariant-loop-laid : goal.invariant-loop-laid

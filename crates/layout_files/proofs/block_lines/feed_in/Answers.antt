@@ -1,6 +1,4 @@
-use Rattle.std.proofs.Common.{◌∙◌, ◌++◌, ap, sym, List, ℕ}
-use Rattle.std.proofs.lemmas.Bool.Decides.{Decides-eqb}
-use Rattle.std.proofs.lemmas.Slice.Eq.{strip_prefix_is}
+use Rattle.layout_files.proofs.Prelude.{◌∙◌, ◌++◌, ap, sym, List, ℕ, Decides-eqb, strip_prefix_is}
 use Rattle.layout_files.proofs.Printing.{in_None, in_Some}
 use Rattle.layout_files.proofs.ReadingNets.{feed_ble, feed_pin}
 use Rattle.layout_files.proofs.block_lines.feed_in.Goals as goal

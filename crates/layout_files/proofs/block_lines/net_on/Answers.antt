@@ -1,6 +1,4 @@
-use Rattle.std.proofs.Common.{◌∙◌}
-use Rattle.cluster.specs.Blocks.{net_name}
-use Rattle.vpr_files.specs.NetFile.{or_open}
+use Rattle.layout_files.proofs.Prelude.{◌∙◌, net_name, or_open}
 use Rattle.layout_files.proofs.ReadingNets.{name_plain, no_net, some_net}
 use Rattle.layout_files.proofs.block_lines.net_on.Goals as goal
 

@@ -1,6 +1,4 @@
-use Rattle.std.proofs.Common.{◌∙◌, ap, refl, sym}
-use Rattle.line_text.specs.Decimal.{decimal_of}
-use Rattle.strip_files.proofs.Fronts.{decimal_is}
+use Rattle.layout_files.proofs.Prelude.{◌∙◌, ap, refl, sym, decimal_of, decimal_is}
 use Rattle.layout_files.proofs.Printing.{same_inside}
 use Rattle.layout_files.proofs.block_lines.number_in.Goals as goal
 

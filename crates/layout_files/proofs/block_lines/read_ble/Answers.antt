@@ -1,9 +1,4 @@
-use Rattle.std.proofs.Common.{◌∷◌, ◌++◌, ◌∙◌, ap, codes, decimal, refl, Some, sym, subst, length, ◌≤◌}
-use Rattle.cluster.specs.Blocks.{net_name}
-use Rattle.vpr_files.specs.NetFile.{or_open}
-use Rattle.vpr_files.specs.TextLines.{word_after_space}
-use Rattle.layout_files.specs.Cursors.{left_after}
-use Rattle.layout_files.specs.ReadingNets.{inputs_text}
+use Rattle.layout_files.proofs.Prelude.{◌∷◌, ◌++◌, ◌∙◌, ap, codes, decimal, refl, Some, sym, subst, length, ◌≤◌, net_name, or_open, word_after_space, left_after, inputs_text}
 use Rattle.layout_files.proofs.Reading.{net_plain}
 use Rattle.layout_files.proofs.ReadingNets.{inputs_stop, same_ble}
 use Rattle.layout_files.proofs.block_lines.read_ble.Goals as goal

@@ -1,11 +1,4 @@
-use Rattle.std.proofs.Common.{◌∷◌, ◌∙◌, ap, codes, length, refl, Some, arith}
-use Rattle.std.proofs.lemmas.List.{map-id}
-use Rattle.implements.specs.Layouts.{LaidBle}
-use Rattle.layout_text.specs.LayoutText.{ble_line}
-use Rattle.vpr_files.specs.TextLines.{line_of}
-use Rattle.layout_files.specs.Cursors.{left_after}
-use Rattle.layout_files.specs.Fitting.{FitsBle}
-use Rattle.layout_files.specs.ReadingNets.{ble_rest}
+use Rattle.layout_files.proofs.Prelude.{◌∷◌, ◌∙◌, ap, codes, length, refl, Some, arith, map-id, LaidBle, ble_line, line_of, left_after, FitsBle, ble_rest}
 use Rattle.layout_files.proofs.Halfway.{begun, each, last, next}
 use Rattle.layout_files.proofs.Printing.{is_here, not_here, takes_false, takes_true}
 use Rattle.layout_files.proofs.ReadingNets.{ble_read, bles_texts}

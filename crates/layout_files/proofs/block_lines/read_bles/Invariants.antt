@@ -1,11 +1,4 @@
-use Rattle.std.proofs.Common.{◌≡◌, ◌≤◌, List, ℕ, All, ◌∷◌, ◌++◌, map, Some, length}
-use Rattle.arch_file.specs.declared.arch.Arch.{Arch}
-use Rattle.blif.specs.declared.circuit.Circuit.{Circuit}
-use Rattle.implements.specs.Layouts.{LaidBle}
-use Rattle.layout_text.specs.LayoutText.{ble_line}
-use Rattle.vpr_files.specs.TextLines.{line_of, text_of}
-use Rattle.layout_files.specs.Cursors.{size}
-use Rattle.layout_files.specs.Fitting.{FitsBle, HasFileNames}
+use Rattle.layout_files.proofs.Prelude.{◌≡◌, ◌≤◌, List, ℕ, All, ◌∷◌, ◌++◌, map, Some, length, Arch, Circuit, LaidBle, ble_line, line_of, text_of, size, FitsBle, HasFileNames}
 use Rattle.layout_files.proofs.Halfway.{Halfway}
 use Rattle.layout_files.proofs.block_lines.read_bles.Given as goal
 

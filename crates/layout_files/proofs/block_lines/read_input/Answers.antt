@@ -1,7 +1,4 @@
-use Rattle.std.proofs.Common.{◌∙◌, ◌++◌, List, ap, codes, sym, append-nil}
-use Rattle.implements.specs.declared.feed.Feed.{Feed}
-use Rattle.layout_text.specs.LayoutText.{feed_or_open}
-use Rattle.layout_files.specs.Cursors.{left_after}
+use Rattle.layout_files.proofs.Prelude.{◌∙◌, ◌++◌, List, ap, codes, sym, append-nil, Feed, feed_or_open, left_after}
 use Rattle.layout_files.proofs.ReadingNets.{an_input, feed_plain, no_input}
 use Rattle.layout_files.proofs.block_lines.read_input.Goals as goal
 

@@ -1,8 +1,4 @@
-use Rattle.std.proofs.Common.{◌-◌, ◌+◌, ◌∷◌, ◌++◌, ◌∙◌, List, ap, Some, slice_get, arith}
-use Rattle.std.proofs.lemmas.List.{take_all}
-use Rattle.std.specs.Option.{option_to_list}
-use Rattle.implements.specs.declared.feed.Feed.{Feed}
-use Rattle.layout_files.specs.ReadingNets.{inputs_text}
+use Rattle.layout_files.proofs.Prelude.{◌-◌, ◌+◌, ◌∷◌, ◌++◌, ◌∙◌, List, ap, Some, slice_get, arith, take_all, option_to_list, Feed, inputs_text}
 use Rattle.layout_files.proofs.ReadingNets.{input_small, inputs_ended, inputs_more, inputs_next, inputs_stop}
 use Rattle.layout_files.proofs.block_lines.read_inputs.Goals as goal
 

@@ -1,8 +1,4 @@
-use Rattle.std.proofs.Common.{◌≡◌, ◌≤◌, ◌<◌, ◌^◌, ◌-◌, List, ℕ, All, ◌∷◌, ◌++◌, Some, take}
-use Rattle.implements.specs.declared.feed.Feed.{Feed}
-use Rattle.layout_files.specs.Cursors.{size}
-use Rattle.layout_files.specs.Fitting.{feed_number}
-use Rattle.layout_files.specs.ReadingNets.{inputs_text}
+use Rattle.layout_files.proofs.Prelude.{◌≡◌, ◌≤◌, ◌<◌, ◌^◌, ◌-◌, List, ℕ, All, ◌∷◌, ◌++◌, Some, take, Feed, size, feed_number, inputs_text}
 use Rattle.layout_files.proofs.block_lines.read_inputs.Given as goal
 
 -- the inputs before this place are read, and the words of the others are left

@@ -1,6 +1,4 @@
-use Rattle.std.proofs.Common.{◌∙◌, ap, codes, decimal}
-use Rattle.vpr_files.specs.NetFile.{or_open}
-use Rattle.layout_files.specs.Cursors.{left_after}
+use Rattle.layout_files.proofs.Prelude.{◌∙◌, ap, codes, decimal, or_open, left_after}
 use Rattle.layout_files.proofs.ReadingNets.{no_pin, pin_plain, some_pin}
 use Rattle.layout_files.proofs.block_lines.read_pin.Goals as goal
 

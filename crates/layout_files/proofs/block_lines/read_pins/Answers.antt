@@ -1,10 +1,4 @@
-use Rattle.std.proofs.Common.{◌<◌, ◌++◌, ◌∷◌, ◌∙◌, [], ℕ, Option, ap, codes, length, refl, Some, arith}
-use Rattle.std.specs.Option.{ForSome}
-use Rattle.std.proofs.lemmas.List.{map-id}
-use Rattle.cluster.specs.Blocks.{net_name}
-use Rattle.vpr_files.specs.NetFile.{or_open}
-use Rattle.vpr_files.specs.TextLines.{word_after_space}
-use Rattle.layout_files.specs.Cursors.{left_after}
+use Rattle.layout_files.proofs.Prelude.{◌<◌, ◌++◌, ◌∷◌, ◌∙◌, [], ℕ, Option, ap, codes, length, refl, Some, arith, ForSome, map-id, net_name, or_open, word_after_space, left_after}
 use Rattle.layout_files.proofs.Halfway.{begun, each, last, next, texts_plain}
 use Rattle.layout_files.proofs.Printing.{is_here, not_here, takes_false, takes_true}
 use Rattle.layout_files.proofs.ReadingNets.{pins_stop}

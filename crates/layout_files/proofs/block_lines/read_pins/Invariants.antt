@@ -1,12 +1,4 @@
-use Rattle.std.proofs.Common.{◌≡◌, ◌≤◌, ◌<◌, List, ℕ, All, Option, ◌∷◌, ◌++◌, Some, length}
-use Rattle.std.specs.List.{flat_map}
-use Rattle.std.specs.Option.{ForSome}
-use Rattle.blif.specs.declared.circuit.Circuit.{Circuit}
-use Rattle.cluster.specs.Blocks.{net_name}
-use Rattle.vpr_files.specs.NetFile.{or_open}
-use Rattle.vpr_files.specs.TextLines.{word_after_space}
-use Rattle.layout_files.specs.Cursors.{size}
-use Rattle.layout_files.specs.Fitting.{HasFileNames}
+use Rattle.layout_files.proofs.Prelude.{◌≡◌, ◌≤◌, ◌<◌, List, ℕ, All, Option, ◌∷◌, ◌++◌, Some, length, flat_map, ForSome, Circuit, net_name, or_open, word_after_space, size, HasFileNames}
 use Rattle.layout_files.proofs.Halfway.{Halfway}
 use Rattle.layout_files.proofs.block_lines.read_pins.Given as goal
 

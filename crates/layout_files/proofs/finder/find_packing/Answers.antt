@@ -1,4 +1,4 @@
-use Rattle.std.proofs.Common.{◌∙◌, ap, refl, Some, sym}
+use Rattle.layout_files.proofs.Prelude.{◌∙◌, ap, refl, Some, sym}
 use Rattle.layout_files.proofs.Finding.{given}
 use Rattle.layout_files.proofs.Lines.{net_parts}
 use Rattle.layout_files.proofs.finder.find_packing.Goals as goal

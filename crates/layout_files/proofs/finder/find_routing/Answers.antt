@@ -1,4 +1,4 @@
-use Rattle.std.proofs.Common.{◌∙◌, ap, Some, sym}
+use Rattle.layout_files.proofs.Prelude.{◌∙◌, ap, Some, sym}
 use Rattle.layout_files.proofs.Finding.{given}
 use Rattle.layout_files.proofs.Lines.{route_parts}
 use Rattle.layout_files.proofs.finder.find_routing.Goals as goal

@@ -1,5 +1,4 @@
-use Rattle.std.proofs.Common.{All, take}
-use Rattle.layout_files.specs.LayoutFiles.{IsBare}
+use Rattle.layout_files.proofs.Prelude.{All, take, IsBare}
 use Rattle.layout_files.proofs.form.are_bare.Given as goal
 
 -- those before this one have the form

@@ -1,7 +1,4 @@
-use Rattle.std.proofs.Common.{◌∙◌, All, refl, subst}
-use Rattle.std.proofs.lemmas.List.{take_all}
-use Rattle.std.proofs.lemmas.List.Elements.{All-more}
-use Rattle.layout_files.specs.LayoutFiles.{EndsAtSink}
+use Rattle.layout_files.proofs.Prelude.{◌∙◌, All, refl, subst, take_all, All-more, EndsAtSink}
 use Rattle.layout_files.proofs.form.end_at_sinks.Goals as goal
 
 pub loop-path-preserved : goal.loop-path-preserved

@@ -1,5 +1,4 @@
-use Rattle.std.proofs.Common.{All, take}
-use Rattle.layout_files.specs.LayoutFiles.{EndsAtSink}
+use Rattle.layout_files.proofs.Prelude.{All, take, EndsAtSink}
 use Rattle.layout_files.proofs.form.end_at_sinks.Given as goal
 
 -- those before this one have the form

@@ -1,8 +1,4 @@
-use Rattle.std.proofs.Common.{◌∙◌, ◌-◌, Some, ap, length, sym}
-use Rattle.rr_graph.specs.declared.node.Node.{Node}
-use Rattle.rr_graph.specs.declared.node.NodeKind.TheVariants.{Source}
-use Rattle.std.proofs.lemmas.List.Quantifiers.{position-Some}
-use Rattle.layout_files.specs.LayoutFiles.{is_sink_kind}
+use Rattle.layout_files.proofs.Prelude.{◌∙◌, ◌-◌, Some, ap, length, sym, Node, Source, position-Some, is_sink_kind}
 use Rattle.layout_files.proofs.Printing.{last_place, last_test, same_inside}
 use Rattle.layout_files.proofs.form.ends_at_sink.Goals as goal
 

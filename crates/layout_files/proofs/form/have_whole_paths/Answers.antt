@@ -1,7 +1,4 @@
-use Rattle.std.proofs.Common.{All, refl, subst}
-use Rattle.std.proofs.lemmas.List.{take_all}
-use Rattle.std.proofs.lemmas.List.Elements.{All-more}
-use Rattle.layout_files.specs.LayoutFiles.{HasWholePaths}
+use Rattle.layout_files.proofs.Prelude.{All, refl, subst, take_all, All-more, HasWholePaths}
 use Rattle.layout_files.proofs.form.have_whole_paths.Goals as goal
 
 pub loop-net-preserved : goal.loop-net-preserved

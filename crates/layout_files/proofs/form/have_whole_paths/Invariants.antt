@@ -1,5 +1,4 @@
-use Rattle.std.proofs.Common.{All, take}
-use Rattle.layout_files.specs.LayoutFiles.{HasWholePaths}
+use Rattle.layout_files.proofs.Prelude.{All, take, HasWholePaths}
 use Rattle.layout_files.proofs.form.have_whole_paths.Given as goal
 
 -- those before this one have the form

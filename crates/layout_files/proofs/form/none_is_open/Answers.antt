@@ -1,10 +1,4 @@
-use Rattle.std.proofs.Common.{◌≡◌, ◌∙◌, All, refl, ◌≢◌, false, codes, subst, sym, arith}
-use Rattle.std.proofs.lemmas.Bool.{true≢false}
-use Rattle.std.specs.Str.{bytes_eq}
-use Rattle.std.proofs.lemmas.List.{take_all}
-use Rattle.std.proofs.lemmas.List.Elements.{All-more}
-use Rattle.std.proofs.lemmas.Option.{get_or_from_slice_get, slice_get_within}
-use Rattle.std.proofs.lemmas.Slice.Eq.{bytes_eq-Decides}
+use Rattle.layout_files.proofs.Prelude.{◌≡◌, ◌∙◌, All, refl, ◌≢◌, false, codes, subst, sym, arith, true≢false, bytes_eq, take_all, All-more, get_or_from_slice_get, slice_get_within, bytes_eq-Decides}
 use Rattle.layout_files.proofs.form.none_is_open.Goals as goal
 
 pub loop-net-preserved : goal.loop-net-preserved

@@ -1,4 +1,4 @@
-use Rattle.std.proofs.Common.{◌≢◌, All, codes, take}
+use Rattle.layout_files.proofs.Prelude.{◌≢◌, All, codes, take}
 use Rattle.layout_files.proofs.form.none_is_open.Given as goal
 
 -- none of the names before this one is `open`

@@ -1,6 +1,4 @@
-use Rattle.std.proofs.Common.{◌∙◌, ap, arith}
-use Rattle.line_text.specs.Names.{with_name}
-use Rattle.std.proofs.lemmas.List.{take_all}
+use Rattle.layout_files.proofs.Prelude.{◌∙◌, ap, arith, with_name, take_all}
 use Rattle.layout_files.proofs.Reading.{name_added}
 use Rattle.layout_files.proofs.names.add_names.Goals as goal
 

@@ -1,4 +1,4 @@
-use Rattle.std.proofs.Common.{◌≡◌, ◌≢◌, AllPairs, take}
+use Rattle.layout_files.proofs.Prelude.{◌≡◌, ◌≢◌, AllPairs, take}
 use Rattle.layout_files.proofs.names.add_names.Given as goal
 
 -- those before this one are added

@@ -1,6 +1,4 @@
-use Rattle.std.proofs.Common.{◌∙◌, ℕ, List, ap, length, refl, arith}
-use Rattle.std.proofs.lemmas.Bool.Decides.{nat_tests}
-use Rattle.line_text.specs.Names.{number_of}
+use Rattle.layout_files.proofs.Prelude.{◌∙◌, ℕ, List, ap, length, refl, arith, nat_tests, number_of}
 use Rattle.layout_files.proofs.Reading.{number_is}
 use Rattle.layout_files.proofs.names.net_named.Goals as goal
 use Rattle.layout_files.proofs.names.net_named.Goals.{then-number-len-via-then-number-len, then-number-len-via-else-number-len+then-number}

@@ -1,8 +1,4 @@
-use Rattle.std.proofs.Common.{◌∙◌, ap, codes, sym}
-use Rattle.std.specs.Option.{is_some}
-use Rattle.cluster.specs.declared.block.Block.TheVariants.{Cluster}
-use Rattle.layout_text.specs.LayoutText.{laid_name}
-use Rattle.layout_files.specs.Cursors.{left_after}
+use Rattle.layout_files.proofs.Prelude.{◌∙◌, ap, codes, sym, is_some, Cluster, laid_name, left_after}
 use Rattle.layout_files.proofs.Printing.{takes_false}
 use Rattle.layout_files.proofs.Reading.{laid_plain}
 use Rattle.layout_files.proofs.ReadingNets.{block_is_cluster, same_block}

@@ -1,14 +1,4 @@
-use Rattle.std.proofs.Common.{◌≡◌, ◌+◌, ◌<◌, ◌^◌, ◌∙◌, [], ℕ, ap, length, Some, slice_get, sym, subst, arith}
-use Rattle.std.specs.Prelude.{count_by, if◌then◌else◌}
-use Rattle.std.proofs.lemmas.List.{map-id}
-use Rattle.std.proofs.lemmas.List.Sums.{count_by-le-length}
-use Rattle.std.proofs.lemmas.Option.{slice_get_within}
-use Rattle.cluster.specs.declared.block.Block.{Block}
-use Rattle.implements.specs.Layouts.{LaidBlock}
-use Rattle.layout_text.specs.LayoutText.{laid_lines}
-use Rattle.vpr_files.specs.TextLines.{text_of}
-use Rattle.layout_files.specs.Fitting.{FitsBlock, HasNumber, is_cluster}
-use Rattle.layout_files.specs.LayoutFiles.{IsBare}
+use Rattle.layout_files.proofs.Prelude.{◌≡◌, ◌+◌, ◌<◌, ◌^◌, ◌∙◌, [], ℕ, ap, length, Some, slice_get, sym, subst, arith, count_by, if◌then◌else◌, map-id, count_by-le-length, slice_get_within, Block, LaidBlock, laid_lines, text_of, FitsBlock, HasNumber, is_cluster, IsBare}
 use Rattle.layout_files.proofs.Halfway.{begun, done_is, each, last, next, not_done, nothing}
 use Rattle.layout_files.proofs.ReadingNets.{block_some, blocks_texts, count_more, place_found, same_found}
 use Rattle.layout_files.proofs.net_lines.read_blocks.Goals as goal

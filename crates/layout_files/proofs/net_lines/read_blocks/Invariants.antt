@@ -1,14 +1,4 @@
-use Rattle.std.proofs.Common.{◌≡◌, ◌<◌, ◌^◌, List, All, [], map, Some, length}
-use Rattle.std.specs.List.{flat_map}
-use Rattle.std.specs.Prelude.{count_by}
-use Rattle.arch_file.specs.declared.arch.Arch.{Arch}
-use Rattle.blif.specs.declared.circuit.Circuit.{Circuit}
-use Rattle.implements.specs.Layouts.{LaidBlock}
-use Rattle.layout_text.specs.LayoutText.{laid_lines}
-use Rattle.vpr_files.specs.TextLines.{text_of}
-use Rattle.layout_files.specs.Cursors.{size}
-use Rattle.layout_files.specs.Fitting.{AreNumbered, FitsBlock, HasFileNames, is_cluster}
-use Rattle.layout_files.specs.LayoutFiles.{IsBare}
+use Rattle.layout_files.proofs.Prelude.{◌≡◌, ◌<◌, ◌^◌, List, All, [], map, Some, length, flat_map, count_by, Arch, Circuit, LaidBlock, laid_lines, text_of, size, AreNumbered, FitsBlock, HasFileNames, is_cluster, IsBare}
 use Rattle.layout_files.proofs.Halfway.{Halfway}
 use Rattle.layout_files.proofs.net_lines.read_blocks.Given as goal
 

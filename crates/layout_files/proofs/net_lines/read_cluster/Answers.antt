@@ -1,10 +1,4 @@
-use Rattle.std.proofs.Common.{◌++◌, ◌∷◌, ◌∙◌, ap, codes, map, refl}
-use Rattle.std.specs.List.{flat_map}
-use Rattle.cluster.specs.Blocks.{net_name}
-use Rattle.layout_text.specs.LayoutText.{ble_line}
-use Rattle.vpr_files.specs.NetFile.{or_open}
-use Rattle.vpr_files.specs.TextLines.{text_of, word_after_space}
-use Rattle.layout_files.specs.Cursors.{left_after}
+use Rattle.layout_files.proofs.Prelude.{◌++◌, ◌∷◌, ◌∙◌, ap, codes, map, refl, flat_map, net_name, ble_line, or_open, text_of, word_after_space, left_after}
 use Rattle.layout_files.proofs.net_lines.read_cluster.Goals as goal
 
 pub returns-clause-read : goal.returns-clause-read

@@ -1,6 +1,4 @@
-use Rattle.std.proofs.Common.{◌∷◌, ◌∙◌, ap, codes, refl}
-use Rattle.cluster.specs.Blocks.{net_name}
-use Rattle.layout_files.specs.Cursors.{left_after}
+use Rattle.layout_files.proofs.Prelude.{◌∷◌, ◌∙◌, ap, codes, refl, net_name, left_after}
 use Rattle.layout_files.proofs.Reading.{net_plain}
 use Rattle.layout_files.proofs.net_lines.read_global.Goals as goal
 

@@ -1,9 +1,4 @@
-use Rattle.std.proofs.Common.{◌≡◌, ◌<◌, ◌==◌, ◌++◌, ◌∷◌, ◌∙◌, [], ℕ, ap, codes, length, Some, sym}
-use Rattle.std.proofs.lemmas.Bool.{eqb-true, eq-eqb, true≢false}
-use Rattle.std.proofs.lemmas.List.{map-id}
-use Rattle.cluster.specs.Blocks.{net_name}
-use Rattle.vpr_files.specs.TextLines.{line_of}
-use Rattle.layout_files.specs.Cursors.{left_after}
+use Rattle.layout_files.proofs.Prelude.{◌≡◌, ◌<◌, ◌==◌, ◌++◌, ◌∷◌, ◌∙◌, [], ℕ, ap, codes, length, Some, sym, eqb-true, eq-eqb, true≢false, map-id, net_name, line_of, left_after}
 use Rattle.layout_files.proofs.Halfway.{begun, each, last, next}
 use Rattle.layout_files.proofs.Printing.{is_here, not_here, takes_false, takes_true}
 use Rattle.layout_files.proofs.ReadingNets.{global_read, globals_done, globals_end, globals_more, globals_stop, globals_texts}

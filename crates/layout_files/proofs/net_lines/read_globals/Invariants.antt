@@ -1,10 +1,4 @@
-use Rattle.std.proofs.Common.{◌≡◌, ◌<◌, List, ℕ, All, [], ◌∷◌, ◌++◌, Some, None, length, codes}
-use Rattle.blif.specs.declared.circuit.Circuit.{Circuit}
-use Rattle.cluster.specs.Blocks.{net_name}
-use Rattle.vpr_files.specs.TextLines.{line_of, text_of}
-use Rattle.layout_files.specs.Cursors.{left_after, size}
-use Rattle.layout_files.specs.Fitting.{HasFileNames}
-use Rattle.layout_files.specs.Printing.{global_lines}
+use Rattle.layout_files.proofs.Prelude.{◌≡◌, ◌<◌, List, ℕ, All, [], ◌∷◌, ◌++◌, Some, None, length, codes, Circuit, net_name, line_of, text_of, left_after, size, HasFileNames, global_lines}
 use Rattle.layout_files.proofs.Halfway.{Halfway}
 use Rattle.layout_files.proofs.ReadingNets.{globals_end}
 use Rattle.layout_files.proofs.net_lines.read_globals.Given as goal

@@ -1,7 +1,4 @@
-use Rattle.std.specs.List.{flat_map}
-use Rattle.std.proofs.lemmas.Result.{IfOk-weaker}
-use Rattle.layout_text.specs.LayoutText.{laid_lines}
-use Rattle.vpr_files.specs.TextLines.{text_of}
+use Rattle.layout_files.proofs.Prelude.{flat_map, IfOk-weaker, laid_lines, text_of}
 use Rattle.layout_files.proofs.ReadingNets.{blocks_stop}
 use Rattle.layout_files.proofs.net_lines.read_packing.Goals as goal
 

@@ -1,9 +1,4 @@
-use Rattle.std.proofs.Common.{◌∙◌, ◌++◌, ◌∷◌, [], ℕ, List, ap, codes, decimal, slice_get}
-use Rattle.std.specs.List.{flat_map, range_with_len}
-use Rattle.vpr_files.specs.TextLines.{line_of, word_after_space}
-use Rattle.layout_text.specs.LayoutText.{ble_line, feed_or_open}
-use Rattle.vpr_files.specs.NetFile.{or_open}
-use Rattle.cluster.specs.Blocks.{net_name}
+use Rattle.layout_files.proofs.Prelude.{◌∙◌, ◌++◌, ◌∷◌, [], ℕ, List, ap, codes, decimal, slice_get, flat_map, range_with_len, line_of, word_after_space, ble_line, feed_or_open, or_open, net_name}
 use Rattle.layout_files.proofs.Lines.{ble_text}
 use Rattle.layout_files.proofs.Printing.{finish, printed_then}
 use Rattle.layout_files.proofs.net_print.print_ble.Goals as goal

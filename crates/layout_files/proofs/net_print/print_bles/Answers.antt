@@ -1,7 +1,4 @@
-use Rattle.std.proofs.Common.{◌≤◌, length, sym}
-use Rattle.std.proofs.lemmas.List.Folds.{flat_map-map}
-use Rattle.vpr_files.specs.TextLines.{line_of}
-use Rattle.layout_text.specs.LayoutText.{ble_line}
+use Rattle.layout_files.proofs.Prelude.{◌≤◌, length, sym, flat_map-map, line_of, ble_line}
 use Rattle.layout_files.proofs.Printing.{all_printed, element, one_more, printed_as}
 use Rattle.layout_files.proofs.net_print.print_bles.Goals as goal
 

@@ -1,6 +1,4 @@
-use Rattle.std.proofs.Common.{◌≤◌, length, sym}
-use Rattle.vpr_files.specs.TextLines.{line_of, text_of}
-use Rattle.layout_text.specs.LayoutText.{laid_lines}
+use Rattle.layout_files.proofs.Prelude.{◌≤◌, length, sym, line_of, text_of, laid_lines}
 use Rattle.layout_files.proofs.Lines.{flat_map-flat_map}
 use Rattle.layout_files.proofs.Printing.{all_printed, element, one_more, printed_as}
 use Rattle.layout_files.proofs.net_print.print_blocks.Goals as goal

@@ -1,8 +1,4 @@
-use Rattle.std.proofs.Common.{◌≡◌, take}
-use Rattle.std.specs.List.{flat_map}
-use Rattle.vpr_files.specs.TextLines.{text_of}
-use Rattle.layout_text.specs.LayoutText.{laid_lines}
-use Rattle.layout_files.specs.Cursors.{left_after}
+use Rattle.layout_files.proofs.Prelude.{◌≡◌, take, flat_map, text_of, laid_lines, left_after}
 use Rattle.layout_files.proofs.net_print.print_blocks.Given as goal
 
 -- those before this one are printed

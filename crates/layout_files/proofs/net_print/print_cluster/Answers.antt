@@ -1,12 +1,4 @@
-use Rattle.std.proofs.Common.{◌∙◌, ◌++◌, ◌∷◌, [], List, ap, codes, map, slice_get}
-use Rattle.std.specs.List.{flat_map}
-use Rattle.std.specs.Option.{option_map_or}
-use Rattle.implements.specs.Layouts.{LaidBle}
-use Rattle.layout_text.specs.LayoutText.{ble_line}
-use Rattle.vpr_files.specs.NetFile.{or_open}
-use Rattle.cluster.specs.Blocks.{net_name}
-use Rattle.vpr_files.specs.TextLines.{text_of, word_after_space}
-use Rattle.layout_files.specs.Printing.{cluster_lines}
+use Rattle.layout_files.proofs.Prelude.{◌∙◌, ◌++◌, ◌∷◌, [], List, ap, codes, map, slice_get, flat_map, option_map_or, LaidBle, ble_line, or_open, net_name, text_of, word_after_space, cluster_lines}
 use Rattle.layout_files.proofs.Lines.{cluster_text}
 use Rattle.layout_files.proofs.Printing.{finish, printed_then}
 use Rattle.layout_files.proofs.net_print.print_cluster.Goals as goal

@@ -1,7 +1,4 @@
-use Rattle.std.proofs.Common.{◌∙◌, ◌++◌, ℕ, List, ap, get_or, ◌∷◌, [], codes, length, sym}
-use Rattle.vpr_files.specs.TextLines.{line_of}
-use Rattle.cluster.specs.Blocks.{net_name}
-use Rattle.layout_files.specs.Cursors.{left_after}
+use Rattle.layout_files.proofs.Prelude.{◌∙◌, ◌++◌, ℕ, List, ap, get_or, ◌∷◌, [], codes, length, sym, line_of, net_name, left_after}
 use Rattle.layout_files.proofs.Lines.{globals_text}
 use Rattle.layout_files.proofs.Printing.{all_printed, finish, line_end, next_printed, some_count}
 use Rattle.layout_files.proofs.net_print.print_globals.Goals as goal

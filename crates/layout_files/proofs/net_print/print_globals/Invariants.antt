@@ -1,8 +1,4 @@
-use Rattle.std.proofs.Common.{◌≡◌, [], ◌∷◌, codes, take}
-use Rattle.std.specs.List.{flat_map}
-use Rattle.vpr_files.specs.TextLines.{line_of}
-use Rattle.cluster.specs.Blocks.{net_name}
-use Rattle.layout_files.specs.Cursors.{left_after}
+use Rattle.layout_files.proofs.Prelude.{◌≡◌, [], ◌∷◌, codes, take, flat_map, line_of, net_name, left_after}
 use Rattle.layout_files.proofs.net_print.print_globals.Given as goal
 
 -- those before this one are printed

@@ -1,10 +1,4 @@
-use Rattle.std.proofs.Common.{◌∙◌, ℕ, List, ap, slice_get, arith}
-use Rattle.std.specs.List.{range_with_len}
-use Rattle.vpr_files.specs.TextLines.{word_after_space}
-use Rattle.std.proofs.lemmas.List.FromFn.{length-range_with_len}
-use Rattle.line_text.proofs.WritingLemmas.{place_at}
-use Rattle.layout_text.specs.LayoutText.{feed_or_open}
-use Rattle.layout_files.specs.Cursors.{left_after}
+use Rattle.layout_files.proofs.Prelude.{◌∙◌, ℕ, List, ap, slice_get, arith, range_with_len, word_after_space, length-range_with_len, place_at, feed_or_open, left_after}
 use Rattle.layout_files.proofs.Printing.{all_printed, one_more}
 use Rattle.layout_files.proofs.net_print.print_inputs.Goals as goal
 

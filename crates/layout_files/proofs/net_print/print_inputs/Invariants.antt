@@ -1,8 +1,4 @@
-use Rattle.std.proofs.Common.{◌≡◌, slice_get, take}
-use Rattle.std.specs.List.{flat_map, range_with_len}
-use Rattle.vpr_files.specs.TextLines.{word_after_space}
-use Rattle.layout_text.specs.LayoutText.{feed_or_open}
-use Rattle.layout_files.specs.Cursors.{left_after}
+use Rattle.layout_files.proofs.Prelude.{◌≡◌, slice_get, take, flat_map, range_with_len, word_after_space, feed_or_open, left_after}
 use Rattle.layout_files.proofs.net_print.print_inputs.Given as goal
 
 -- those before this one are printed

@@ -1,9 +1,4 @@
-use Rattle.std.proofs.Common.{None, ◌∙◌, ◌∷◌, ℕ, List, ap, append-nil, ◌≤◌, length, sym}
-use Rattle.std.proofs.lemmas.List.Folds.{flat_map-map}
-use Rattle.vpr_files.specs.TextLines.{word_after_space}
-use Rattle.cluster.specs.Blocks.{net_name}
-use Rattle.vpr_files.specs.NetFile.{or_open}
-use Rattle.layout_files.specs.Cursors.{left_after}
+use Rattle.layout_files.proofs.Prelude.{None, ◌∙◌, ◌∷◌, ℕ, List, ap, append-nil, ◌≤◌, length, sym, flat_map-map, word_after_space, net_name, or_open, left_after}
 use Rattle.layout_files.proofs.Printing.{all_printed, next_printed, printed_as}
 use Rattle.layout_files.proofs.net_print.print_pins.Goals as goal
 

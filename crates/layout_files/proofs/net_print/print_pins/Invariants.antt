@@ -1,9 +1,4 @@
-use Rattle.std.proofs.Common.{◌≡◌, take}
-use Rattle.std.specs.List.{flat_map}
-use Rattle.vpr_files.specs.TextLines.{word_after_space}
-use Rattle.cluster.specs.Blocks.{net_name}
-use Rattle.vpr_files.specs.NetFile.{or_open}
-use Rattle.layout_files.specs.Cursors.{left_after}
+use Rattle.layout_files.proofs.Prelude.{◌≡◌, take, flat_map, word_after_space, net_name, or_open, left_after}
 use Rattle.layout_files.proofs.net_print.print_pins.Given as goal
 
 -- those before this one are printed

@@ -1,6 +1,4 @@
-use Rattle.std.proofs.Common.{◌==◌, ◌||◌, nat_lt, ◌++◌, ◌∷◌, ◌∙◌, Some, ap, codes, decimal, refl}
-use Rattle.vpr_files.specs.NodeText.{number_word}
-use Rattle.layout_files.specs.Cursors.{left_after}
+use Rattle.layout_files.proofs.Prelude.{◌==◌, ◌||◌, nat_lt, ◌++◌, ◌∷◌, ◌∙◌, Some, ap, codes, decimal, refl, number_word, left_after}
 use Rattle.layout_files.proofs.ReadingRoutes.{node_read, same_node}
 use Rattle.layout_files.proofs.node_lines.read_node.Goals as goal
 

@@ -1,7 +1,4 @@
-use Rattle.std.proofs.Common.{◌∙◌, ◌++◌, [], ap, Some, sym}
-use Rattle.layout_text.specs.LayoutText.{place_line}
-use Rattle.vpr_files.specs.TextLines.{line_of}
-use Rattle.layout_files.specs.Fitting.{IsSmallPlace}
+use Rattle.layout_files.proofs.Prelude.{◌∙◌, ◌++◌, [], ap, Some, sym, place_line, line_of, IsSmallPlace}
 use Rattle.layout_files.proofs.Halfway.{begun, each, last, next, not_done, nothing}
 use Rattle.layout_files.proofs.Reading.{line_some, place_texts}
 use Rattle.layout_files.proofs.place_lines.read_blocks.Goals as goal

@@ -1,12 +1,4 @@
-use Rattle.std.proofs.Common.{◌≡◌, All, [], Some}
-use Rattle.blif.specs.declared.circuit.Circuit.{Circuit}
-use Rattle.implements.specs.Layouts.{LaidBlock}
-use Rattle.std.proofs.Common.{List}
-use Rattle.layout_text.specs.LayoutText.{place_line}
-use Rattle.vpr_files.specs.TextLines.{line_of}
-use Rattle.layout_files.specs.Cursors.{size}
-use Rattle.layout_files.specs.Fitting.{HasFileNames, IsSmallPlace}
-use Rattle.layout_files.specs.Reading.{place_lines}
+use Rattle.layout_files.proofs.Prelude.{◌≡◌, All, [], Some, Circuit, LaidBlock, List, place_line, line_of, size, HasFileNames, IsSmallPlace, place_lines}
 use Rattle.layout_files.proofs.Halfway.{Halfway}
 use Rattle.layout_files.proofs.place_lines.read_blocks.Given as goal
 

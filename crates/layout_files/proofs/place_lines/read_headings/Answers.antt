@@ -1,5 +1,4 @@
-use Rattle.std.proofs.Common.{◌++◌, ◌∙◌, Some, ap, codes, decimal, refl, sym, append_assoc}
-use Rattle.layout_files.specs.Cursors.{left_after}
+use Rattle.layout_files.proofs.Prelude.{◌++◌, ◌∙◌, Some, ap, codes, decimal, refl, sym, append_assoc, left_after}
 use Rattle.layout_files.proofs.Lines.{place_heading}
 use Rattle.layout_files.proofs.Reading.{heading_parts, model_plain, size_parts}
 use Rattle.layout_files.proofs.place_lines.read_headings.Goals as goal

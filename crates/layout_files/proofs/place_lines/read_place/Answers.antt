@@ -1,6 +1,4 @@
-use Rattle.std.proofs.Common.{◌++◌, ◌∷◌, ◌∙◌, [], Some, ap, codes, decimal, refl, sym, append_assoc}
-use Rattle.layout_text.specs.LayoutText.{laid_name}
-use Rattle.layout_files.specs.Cursors.{left_after}
+use Rattle.layout_files.proofs.Prelude.{◌++◌, ◌∷◌, ◌∙◌, [], Some, ap, codes, decimal, refl, sym, append_assoc, laid_name, left_after}
 use Rattle.layout_files.proofs.Printing.{took}
 use Rattle.layout_files.proofs.Reading.{laid_plain, place_parts, same_place}
 use Rattle.layout_files.proofs.place_lines.read_place.Goals as goal

@@ -1,5 +1,4 @@
-use Rattle.std.proofs.lemmas.Result.{IfOk-weaker}
-use Rattle.layout_files.specs.Reading.{place_lines}
+use Rattle.layout_files.proofs.Prelude.{IfOk-weaker, place_lines}
 use Rattle.layout_files.proofs.place_lines.read_places.Goals as goal
 
 pub returns : goal.returns

@@ -1,8 +1,4 @@
-use Rattle.std.proofs.Common.{map}
-use Rattle.std.specs.List.{enumerate_from}
-use Rattle.layout_text.specs.LayoutText.{place_line, place_text}
-use Rattle.vpr_files.specs.TextLines.{text_of}
-use Rattle.layout_files.specs.Printing.{place_headings}
+use Rattle.layout_files.proofs.Prelude.{map, enumerate_from, place_line, place_text, text_of, place_headings}
 use Rattle.layout_files.proofs.Lines.{place_parts}
 use Rattle.layout_files.proofs.Printing.{finish}
 use Rattle.layout_files.proofs.place_print.print_place_text.Goals as goal

@@ -1,9 +1,4 @@
-use Rattle.std.proofs.Common.{◌≤◌, length, sym, arith}
-use Rattle.std.specs.List.{enumerate_from}
-use Rattle.std.proofs.lemmas.List.Folds.{flat_map-map}
-use Rattle.vpr_files.specs.TextLines.{line_of}
-use Rattle.layout_text.specs.LayoutText.{place_line}
-use Rattle.std.proofs.lemmas.List.FromFn.{length-enumerate_from}
+use Rattle.layout_files.proofs.Prelude.{◌≤◌, length, sym, arith, enumerate_from, flat_map-map, line_of, place_line, length-enumerate_from}
 use Rattle.layout_files.proofs.Printing.{all_printed, numbered, one_more, printed_as}
 use Rattle.layout_files.proofs.place_print.print_places.Goals as goal
 

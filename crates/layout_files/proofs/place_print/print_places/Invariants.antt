@@ -1,8 +1,4 @@
-use Rattle.std.proofs.Common.{◌≡◌, take}
-use Rattle.std.specs.List.{enumerate_from, flat_map}
-use Rattle.vpr_files.specs.TextLines.{line_of}
-use Rattle.layout_text.specs.LayoutText.{place_line}
-use Rattle.layout_files.specs.Cursors.{left_after}
+use Rattle.layout_files.proofs.Prelude.{◌≡◌, take, enumerate_from, flat_map, line_of, place_line, left_after}
 use Rattle.layout_files.proofs.place_print.print_places.Given as goal
 
 -- those before this one are printed

@@ -1,6 +1,4 @@
-use Rattle.std.proofs.Common.{◌∙◌, ap}
-use Rattle.layout_files.specs.Cursors.{left_after}
-use Rattle.layout_text.specs.LayoutText.{net_text}
+use Rattle.layout_files.proofs.Prelude.{◌∙◌, ap, left_after, net_text}
 use Rattle.layout_files.proofs.Printing.{same_outcome}
 use Rattle.layout_files.proofs.reader.compare_net.Goals as goal
 

@@ -1,6 +1,4 @@
-use Rattle.std.proofs.Common.{◌∙◌, ap}
-use Rattle.layout_files.specs.Cursors.{left_after}
-use Rattle.layout_text.specs.LayoutText.{place_text}
+use Rattle.layout_files.proofs.Prelude.{◌∙◌, ap, left_after, place_text}
 use Rattle.layout_files.proofs.Printing.{same_outcome}
 use Rattle.layout_files.proofs.reader.compare_place.Goals as goal
 

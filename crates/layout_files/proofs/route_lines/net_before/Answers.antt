@@ -1,8 +1,4 @@
-use Rattle.std.proofs.Common.{◌∙◌, ◌++◌, ap, sym}
-use Rattle.std.proofs.lemmas.Bool.Decides.{Decides-eqb}
-use Rattle.std.proofs.lemmas.Slice.Eq.{strip_suffix_is}
-use Rattle.std.proofs.lemmas.List.{append_cancel_right}
-use Rattle.cluster.specs.Blocks.{net_name}
+use Rattle.layout_files.proofs.Prelude.{◌∙◌, ◌++◌, ap, sym, Decides-eqb, strip_suffix_is, append_cancel_right, net_name}
 use Rattle.layout_files.proofs.Printing.{in_None, in_Some}
 use Rattle.layout_files.proofs.route_lines.net_before.Goals as goal
 

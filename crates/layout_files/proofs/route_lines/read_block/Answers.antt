@@ -1,5 +1,4 @@
-use Rattle.std.proofs.Common.{◌++◌, ◌∙◌, ap, codes, decimal, refl}
-use Rattle.layout_files.specs.Cursors.{left_after}
+use Rattle.layout_files.proofs.Prelude.{◌++◌, ◌∙◌, ap, codes, decimal, refl, left_after}
 use Rattle.layout_files.proofs.route_lines.read_block.Goals as goal
 
 pub returns-clause-read : goal.returns-clause-read

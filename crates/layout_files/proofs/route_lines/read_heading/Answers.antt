@@ -1,7 +1,4 @@
-use Rattle.std.proofs.Common.{ℕ, List, ◌++◌, ◌∷◌, ◌∙◌, [], Some, ap, codes, decimal, sym, append_assoc}
-use Rattle.cluster.specs.Blocks.{net_name}
-use Rattle.layout_files.specs.Cursors.{left_after}
-use Rattle.layout_files.specs.ReadingRoutes.{heading_end, name_end}
+use Rattle.layout_files.proofs.Prelude.{ℕ, List, ◌++◌, ◌∷◌, ◌∙◌, [], Some, ap, codes, decimal, sym, append_assoc, net_name, left_after, heading_end, name_end}
 use Rattle.layout_files.proofs.Printing.{took}
 use Rattle.layout_files.proofs.Reading.{net_plain, plain_append}
 use Rattle.layout_files.proofs.ReadingRoutes.{end_plain, global_read, heading_read, heading_rest, heading_split, rest_stops}

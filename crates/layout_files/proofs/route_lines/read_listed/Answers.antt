@@ -1,8 +1,4 @@
-use Rattle.std.proofs.Common.{◌∷◌, ◌∙◌, ◌<◌, ◌^◌, ℕ, ap, codes, refl, Some, arith}
-use Rattle.std.proofs.lemmas.List.{map-id}
-use Rattle.layout_text.specs.LayoutText.{block_of, laid_name, listed_line}
-use Rattle.vpr_files.specs.TextLines.{line_of}
-use Rattle.layout_files.specs.Cursors.{left_after}
+use Rattle.layout_files.proofs.Prelude.{◌∷◌, ◌∙◌, ◌<◌, ◌^◌, ℕ, ap, codes, refl, Some, arith, map-id, block_of, laid_name, listed_line, line_of, left_after}
 use Rattle.layout_files.proofs.Halfway.{begun, each, last, next}
 use Rattle.layout_files.proofs.Printing.{is_here, not_here, takes_false, takes_true}
 use Rattle.layout_files.proofs.Reading.{laid_plain}

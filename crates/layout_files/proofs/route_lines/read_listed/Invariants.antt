@@ -1,10 +1,4 @@
-use Rattle.std.proofs.Common.{◌≡◌, ◌≤◌, ◌<◌, ◌^◌, List, ℕ, All, ◌∷◌, ◌++◌, map, Some}
-use Rattle.blif.specs.declared.circuit.Circuit.{Circuit}
-use Rattle.implements.specs.Layouts.{Layout}
-use Rattle.layout_text.specs.LayoutText.{block_of, listed_line}
-use Rattle.vpr_files.specs.TextLines.{line_of, text_of}
-use Rattle.layout_files.specs.Cursors.{size}
-use Rattle.layout_files.specs.Fitting.{HasFileNames, IsSmallPlace}
+use Rattle.layout_files.proofs.Prelude.{◌≡◌, ◌≤◌, ◌<◌, ◌^◌, List, ℕ, All, ◌∷◌, ◌++◌, map, Some, Circuit, Layout, block_of, listed_line, line_of, text_of, size, HasFileNames, IsSmallPlace}
 use Rattle.layout_files.proofs.Halfway.{Halfway}
 use Rattle.layout_files.proofs.route_lines.read_listed.Given as goal
 

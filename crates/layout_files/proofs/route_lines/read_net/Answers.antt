@@ -1,5 +1,4 @@
-use Rattle.std.proofs.Common.{◌++◌, ◌∷◌, ◌∙◌, ap, Some}
-use Rattle.layout_files.specs.ReadingRoutes.{is_listed, net_rest}
+use Rattle.layout_files.proofs.Prelude.{◌++◌, ◌∷◌, ◌∙◌, ap, Some, is_listed, net_rest}
 use Rattle.layout_files.proofs.ReadingRoutes.{net_read, same_net}
 use Rattle.layout_files.proofs.route_lines.read_net.Goals as goal
 

@@ -1,10 +1,4 @@
-use Rattle.std.proofs.Common.{◌++◌, ◌∙◌, [], ap, length, Some, sym}
-use Rattle.std.proofs.lemmas.List.{map-id}
-use Rattle.implements.specs.Layouts.{LaidNet}
-use Rattle.layout_text.specs.LayoutText.{between_lines}
-use Rattle.vpr_files.specs.TextLines.{text_of}
-use Rattle.layout_files.specs.Fitting.{FitsNet}
-use Rattle.layout_files.specs.LayoutFiles.{HasWholePaths}
+use Rattle.layout_files.proofs.Prelude.{◌++◌, ◌∙◌, [], ap, length, Some, sym, map-id, LaidNet, between_lines, text_of, FitsNet, HasWholePaths}
 use Rattle.layout_files.proofs.Halfway.{begun, each, last, next, not_done, nothing}
 use Rattle.layout_files.proofs.ReadingRoutes.{net_some, nets_texts}
 use Rattle.layout_files.proofs.route_lines.read_nets.Goals as goal

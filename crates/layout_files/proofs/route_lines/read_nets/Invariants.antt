@@ -1,13 +1,4 @@
-use Rattle.std.proofs.Common.{◌≡◌, All, [], Some, length}
-use Rattle.blif.specs.declared.circuit.Circuit.{Circuit}
-use Rattle.grid.specs.declared.Strip.{Strip}
-use Rattle.implements.specs.Layouts.{Layout}
-use Rattle.layout_text.specs.LayoutText.{between_lines}
-use Rattle.vpr_files.specs.TextLines.{text_of}
-use Rattle.layout_files.specs.Cursors.{size}
-use Rattle.layout_files.specs.Fitting.{FitsNet, HasFileNames, IsSmallPlace}
-use Rattle.layout_files.specs.LayoutFiles.{HasWholePaths}
-use Rattle.layout_files.specs.ReadingRoutes.{nets_text}
+use Rattle.layout_files.proofs.Prelude.{◌≡◌, All, [], Some, length, Circuit, Strip, Layout, between_lines, text_of, size, FitsNet, HasFileNames, IsSmallPlace, HasWholePaths, nets_text}
 use Rattle.layout_files.proofs.Halfway.{Halfway}
 use Rattle.layout_files.proofs.route_lines.read_nets.Given as goal
 

@@ -1,11 +1,4 @@
-use Rattle.std.proofs.Common.{◌∷◌, ◌∙◌, [], ◌≤◌, ℕ, ap, length, Some, sym, arith}
-use Rattle.std.proofs.lemmas.Bool.Decides.{nat_tests}
-use Rattle.std.proofs.lemmas.List.{map-id}
-use Rattle.rr_graph.specs.declared.node.Node.{Node}
-use Rattle.vpr_files.specs.NodeText.{node_text_of}
-use Rattle.vpr_files.specs.TextLines.{line_of}
-use Rattle.layout_files.specs.Fitting.{IsSmallNode}
-use Rattle.layout_files.specs.LayoutFiles.{is_sink_kind}
+use Rattle.layout_files.proofs.Prelude.{◌∷◌, ◌∙◌, [], ◌≤◌, ℕ, ap, length, Some, sym, arith, nat_tests, map-id, Node, node_text_of, line_of, IsSmallNode, is_sink_kind}
 use Rattle.layout_files.proofs.Halfway.{all_of, begun, each, next_of}
 use Rattle.layout_files.proofs.ReadingRoutes.{longer, node_begins, path_some, path_texts, sink_is_last}
 use Rattle.layout_files.proofs.route_lines.read_nodes.Goals as goal

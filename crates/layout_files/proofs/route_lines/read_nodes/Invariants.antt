@@ -1,11 +1,4 @@
-use Rattle.std.proofs.Common.{◌≡◌, ◌≤◌, ◌<◌, ℕ, List, All, [], ◌∷◌, ◌++◌, Some, length}
-use Rattle.rr_graph.specs.declared.node.Node.{Node}
-use Rattle.vpr_files.specs.NodeText.{node_text_of}
-use Rattle.vpr_files.specs.TextLines.{line_of, text_of}
-use Rattle.layout_files.specs.Cursors.{size}
-use Rattle.layout_files.specs.Fitting.{IsSmallNode}
-use Rattle.layout_files.specs.LayoutFiles.{EndsAtSink}
-use Rattle.layout_files.specs.Printing.{node_lines}
+use Rattle.layout_files.proofs.Prelude.{◌≡◌, ◌≤◌, ◌<◌, ℕ, List, All, [], ◌∷◌, ◌++◌, Some, length, Node, node_text_of, line_of, text_of, size, IsSmallNode, EndsAtSink, node_lines}
 use Rattle.layout_files.proofs.Halfway.{Halfway}
 use Rattle.layout_files.proofs.route_lines.read_nodes.Given as goal
 

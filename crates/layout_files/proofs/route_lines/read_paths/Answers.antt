@@ -1,11 +1,4 @@
-use Rattle.std.proofs.Common.{◌∷◌, ◌∙◌, List, All, ap, codes, Some, sym, arith}
-use Rattle.std.proofs.lemmas.List.{map-id}
-use Rattle.rr_graph.specs.declared.node.Node.{Node}
-use Rattle.vpr_files.specs.TextLines.{text_of}
-use Rattle.layout_files.specs.Cursors.{left_after}
-use Rattle.layout_files.specs.Fitting.{IsSmallNode}
-use Rattle.layout_files.specs.LayoutFiles.{EndsAtSink}
-use Rattle.layout_files.specs.Printing.{node_lines}
+use Rattle.layout_files.proofs.Prelude.{◌∷◌, ◌∙◌, List, All, ap, codes, Some, sym, arith, map-id, Node, text_of, left_after, IsSmallNode, EndsAtSink, node_lines}
 use Rattle.layout_files.proofs.Halfway.{begun, each, last_of, next}
 use Rattle.layout_files.proofs.ReadingRoutes.{line_there, path_begins, paths_texts}
 use Rattle.layout_files.proofs.route_lines.read_paths.Goals as goal

@@ -1,5 +1,4 @@
-use Rattle.std.proofs.Common.{◌++◌, ◌∷◌, ◌∙◌, ap, Some, sym}
-use Rattle.std.proofs.lemmas.Result.{IfOk-weaker}
+use Rattle.layout_files.proofs.Prelude.{◌++◌, ◌∷◌, ◌∙◌, ap, Some, sym, IfOk-weaker}
 use Rattle.layout_files.proofs.ReadingRoutes.{rest_listed, rest_paths}
 use Rattle.layout_files.proofs.route_lines.read_rest.Goals as goal
 

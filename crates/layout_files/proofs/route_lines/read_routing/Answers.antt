@@ -1,5 +1,4 @@
-use Rattle.std.proofs.lemmas.Result.{IfOk-weaker}
-use Rattle.layout_files.specs.ReadingRoutes.{nets_text}
+use Rattle.layout_files.proofs.Prelude.{IfOk-weaker, nets_text}
 use Rattle.layout_files.proofs.route_lines.read_routing.Goals as goal
 
 pub returns : goal.returns

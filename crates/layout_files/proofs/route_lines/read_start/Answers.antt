@@ -1,5 +1,4 @@
-use Rattle.std.proofs.Common.{◌++◌, ◌∙◌, Some, ap, codes}
-use Rattle.layout_files.specs.Cursors.{left_after}
+use Rattle.layout_files.proofs.Prelude.{◌++◌, ◌∙◌, Some, ap, codes, left_after}
 use Rattle.layout_files.proofs.ReadingRoutes.{start_read}
 use Rattle.layout_files.proofs.route_lines.read_start.Goals as goal
 

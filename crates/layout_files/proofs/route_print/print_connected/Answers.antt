@@ -1,7 +1,4 @@
-use Rattle.std.proofs.Common.{◌∙◌, ◌++◌, ◌==◌, ℕ, List, ap, codes, length, map, sym}
-use Rattle.layout_text.specs.LayoutText.{block_of, listed_line}
-use Rattle.vpr_files.specs.TextLines.{text_of}
-use Rattle.layout_files.specs.Printing.{connected_text}
+use Rattle.layout_files.proofs.Prelude.{◌∙◌, ◌++◌, ◌==◌, ℕ, List, ap, codes, length, map, sym, block_of, listed_line, text_of, connected_text}
 use Rattle.layout_files.proofs.Lines.{connected_listed}
 use Rattle.layout_files.proofs.Printing.{finish}
 use Rattle.layout_files.proofs.route_print.print_connected.Goals as goal

@@ -1,8 +1,4 @@
-use Rattle.std.proofs.Common.{◌≡◌, take}
-use Rattle.std.specs.List.{flat_map}
-use Rattle.vpr_files.specs.TextLines.{line_of}
-use Rattle.layout_text.specs.LayoutText.{block_of, listed_line}
-use Rattle.layout_files.specs.Cursors.{left_after}
+use Rattle.layout_files.proofs.Prelude.{◌≡◌, take, flat_map, line_of, block_of, listed_line, left_after}
 use Rattle.layout_files.proofs.route_print.print_listed.Given as goal
 
 -- those before this one are printed

@@ -1,8 +1,5 @@
-use Rattle.std.proofs.Common.{◌++◌, ◌∷◌, [], ℕ, List, ap}
+use Rattle.layout_files.proofs.Prelude.{◌++◌, ◌∷◌, [], ℕ, List, ap, connected_text, heading_text, between_lines, text_of}
 use Rattle.layout_files.proofs.Lines.{net_printed}
-use Rattle.layout_files.specs.Printing.{connected_text, heading_text}
-use Rattle.layout_text.specs.LayoutText.{between_lines}
-use Rattle.vpr_files.specs.TextLines.{text_of}
 use Rattle.layout_files.proofs.Printing.{finish, printed_as, printed_then}
 use Rattle.layout_files.proofs.route_print.print_net.Goals as goal
 

@@ -1,9 +1,4 @@
-use Rattle.std.proofs.Common.{◌∙◌, ◌≤◌, List, get_or, ap, length, sym, arith}
-use Rattle.std.specs.List.{enumerate_from}
-use Rattle.vpr_files.specs.TextLines.{line_of, text_of}
-use Rattle.implements.specs.Layouts.{LaidNet}
-use Rattle.layout_text.specs.LayoutText.{between_lines}
-use Rattle.std.proofs.lemmas.List.FromFn.{length-enumerate_from}
+use Rattle.layout_files.proofs.Prelude.{◌∙◌, ◌≤◌, List, get_or, ap, length, sym, arith, enumerate_from, line_of, text_of, LaidNet, between_lines, length-enumerate_from}
 use Rattle.layout_files.proofs.Lines.{flat_map-flat_map}
 use Rattle.layout_files.proofs.Printing.{all_printed, numbered, one_more, printed_as}
 use Rattle.layout_files.proofs.route_print.print_nets.Goals as goal

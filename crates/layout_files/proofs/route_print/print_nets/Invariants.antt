@@ -1,8 +1,4 @@
-use Rattle.std.proofs.Common.{◌≡◌, take}
-use Rattle.std.specs.List.{enumerate_from, flat_map}
-use Rattle.vpr_files.specs.TextLines.{text_of}
-use Rattle.layout_text.specs.LayoutText.{between_lines}
-use Rattle.layout_files.specs.Cursors.{left_after}
+use Rattle.layout_files.proofs.Prelude.{◌≡◌, take, enumerate_from, flat_map, text_of, between_lines, left_after}
 use Rattle.layout_files.proofs.route_print.print_nets.Given as goal
 
 -- those before this one are printed

@@ -1,6 +1,4 @@
-use Rattle.std.proofs.Common.{◌∙◌, ◌++◌, ◌∷◌, [], ap, codes, decimal, refl}
-use Rattle.vpr_files.specs.NodeText.{node_text_of, number_word}
-use Rattle.vpr_files.proofs.FileTexts.{node_text}
+use Rattle.layout_files.proofs.Prelude.{◌∙◌, ◌++◌, ◌∷◌, [], ap, codes, decimal, refl, node_text_of, number_word, node_text}
 use Rattle.layout_files.proofs.Printing.{printed_as, printed_then}
 use Rattle.layout_files.proofs.route_print.print_node.Goals as goal
 

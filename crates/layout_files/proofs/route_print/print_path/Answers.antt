@@ -1,7 +1,4 @@
-use Rattle.std.proofs.Common.{◌≤◌, ◌∷◌, [], length, sym}
-use Rattle.std.proofs.lemmas.List.Folds.{flat_map-map}
-use Rattle.vpr_files.specs.TextLines.{line_of}
-use Rattle.vpr_files.specs.NodeText.{node_text_of}
+use Rattle.layout_files.proofs.Prelude.{◌≤◌, ◌∷◌, [], length, sym, flat_map-map, line_of, node_text_of}
 use Rattle.layout_files.proofs.Printing.{all_printed, next_printed, printed_as}
 use Rattle.layout_files.proofs.route_print.print_path.Goals as goal
 

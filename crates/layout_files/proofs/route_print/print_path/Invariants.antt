@@ -1,7 +1,4 @@
-use Rattle.std.proofs.Common.{◌≡◌, ◌++◌, [], ◌∷◌, take}
-use Rattle.std.specs.List.{flat_map}
-use Rattle.vpr_files.specs.NodeText.{node_text_of}
-use Rattle.layout_files.specs.Cursors.{left_after}
+use Rattle.layout_files.proofs.Prelude.{◌≡◌, ◌++◌, [], ◌∷◌, take, flat_map, node_text_of, left_after}
 use Rattle.layout_files.proofs.route_print.print_path.Given as goal
 
 -- those before this one are printed

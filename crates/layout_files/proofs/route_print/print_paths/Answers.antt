@@ -1,7 +1,4 @@
-use Rattle.std.proofs.Common.{◌∙◌, ◌≤◌, ap, length, sym}
-use Rattle.vpr_files.specs.TextLines.{line_of, text_of}
-use Rattle.layout_files.specs.Printing.{node_lines}
-use Rattle.layout_files.specs.Cursors.{left_after}
+use Rattle.layout_files.proofs.Prelude.{◌∙◌, ◌≤◌, ap, length, sym, line_of, text_of, node_lines, left_after}
 use Rattle.layout_files.proofs.Lines.{flat_map-flat_map}
 use Rattle.layout_files.proofs.Printing.{all_printed, element, one_more, printed_as}
 use Rattle.layout_files.proofs.route_print.print_paths.Goals as goal

@@ -1,8 +1,4 @@
-use Rattle.std.proofs.Common.{◌≡◌, take}
-use Rattle.std.specs.List.{flat_map}
-use Rattle.vpr_files.specs.TextLines.{text_of}
-use Rattle.layout_files.specs.Printing.{node_lines}
-use Rattle.layout_files.specs.Cursors.{left_after}
+use Rattle.layout_files.proofs.Prelude.{◌≡◌, take, flat_map, text_of, node_lines, left_after}
 use Rattle.layout_files.proofs.route_print.print_paths.Given as goal
 
 -- those before this one are printed

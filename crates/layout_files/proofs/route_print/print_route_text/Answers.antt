@@ -1,7 +1,4 @@
-use Rattle.std.specs.List.{enumerate_from, flat_map}
-use Rattle.layout_text.specs.LayoutText.{between_lines, route_text}
-use Rattle.vpr_files.specs.TextLines.{text_of}
-use Rattle.layout_files.specs.Printing.{route_headings}
+use Rattle.layout_files.proofs.Prelude.{enumerate_from, flat_map, between_lines, route_text, text_of, route_headings}
 use Rattle.layout_files.proofs.Lines.{route_parts}
 use Rattle.layout_files.proofs.Printing.{finish}
 use Rattle.layout_files.proofs.route_print.print_route_text.Goals as goal

@@ -1,7 +1,7 @@
 use Rattle.layout_law.proofs.Files.{files_implement}
 use Rattle.layout_law.proofs.Laws.{Laws}
 use Rattle.layout_law.proofs.Routed.{routed_implements}
-use Rattle.tenant_slot.specs.SingleUser.{run}
+use Rattle.layout_law.proofs.Prelude.{run}
 use Rattle.layout_law.proofs.law.routed_implements.Goals as goal
 
 pub returns-clause-results : goal.returns-clause-results

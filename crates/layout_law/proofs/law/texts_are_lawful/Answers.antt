@@ -1,4 +1,4 @@
-use Rattle.blif.proofs.AllTexts.{text_lawful}
+use Rattle.layout_law.proofs.Prelude.{text_lawful}
 use Rattle.layout_law.proofs.law.texts_are_lawful.Goals as goal
 
 pub returns : goal.returns

@@ -1,6 +1,4 @@
-use Rattle.std.proofs.Common.{◌≡◌, ℕ, ◌+◌, List, [], Bool, subst, sym, refl, arith, rules}
-use Rattle.line_feed.specs.Feed.{ahead_of, line_of}
-use Rattle.line_feed.specs.Pieces.{TakesPiece}
+use Rattle.line_service.proofs.Prelude.{◌≡◌, ℕ, ◌+◌, List, [], Bool, subst, sym, refl, arith, rules, ahead_of, line_of, TakesPiece}
 use Rattle.line_service.proofs.EndLemmas.{input_ends, read_fails, too_many, turn_fails}
 use Rattle.line_service.proofs.TalkLemmas.{Progress, piece_taken, progress_none, refilled, turn_taken}
 use Rattle.line_service.proofs.conversation.converse.Goals as goal

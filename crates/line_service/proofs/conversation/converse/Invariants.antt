@@ -1,4 +1,4 @@
-use Rattle.line_feed.specs.Feed.{ahead_of, line_of}
+use Rattle.line_service.proofs.Prelude.{ahead_of, line_of}
 use Rattle.line_service.proofs.TalkLemmas.{Progress}
 use Rattle.line_service.proofs.conversation.converse.Given as goal
 

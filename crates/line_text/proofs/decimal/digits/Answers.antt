@@ -1,4 +1,4 @@
-use Rattle.std.proofs.Common.{◌^◌, sym, ◌∙◌, refl, arith}
+use Rattle.line_text.proofs.Prelude.{◌^◌, sym, ◌∙◌, refl, arith}
 use Rattle.line_text.proofs.DecimalLemmas.{number_from-below, number_from-none, number_from-end}
 use Rattle.line_text.proofs.decimal.digits.Goals as goal
 

@@ -1,4 +1,4 @@
-use Rattle.std.proofs.Common.{◌≡◌, ◌^◌, ◌<◌, drop}
+use Rattle.line_text.proofs.Prelude.{◌≡◌, ◌^◌, ◌<◌, drop}
 use Rattle.line_text.proofs.DecimalLemmas.{number_from}
 use Rattle.line_text.proofs.decimal.digits.Given as goal
 

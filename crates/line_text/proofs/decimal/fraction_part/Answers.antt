@@ -1,4 +1,4 @@
-use Rattle.std.proofs.Common.{◌^◌, ◌≤◌, length, arith}
+use Rattle.line_text.proofs.Prelude.{◌^◌, ◌≤◌, length, arith}
 use Rattle.line_text.proofs.DecimalLemmas.{no_digits, no_fraction, scaled, ten_to-le}
 use Rattle.line_text.proofs.decimal.fraction_part.Goals as goal
 

@@ -1,4 +1,4 @@
-use Rattle.std.proofs.Common.{◌∙◌}
+use Rattle.line_text.proofs.Prelude.{◌∙◌}
 use Rattle.line_text.proofs.DecimalLemmas.{decimal_of-whole}
 use Rattle.line_text.proofs.decimal.whole_number.Goals as goal
 

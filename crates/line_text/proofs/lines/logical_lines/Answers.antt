@@ -1,10 +1,4 @@
-use Rattle.std.proofs.Common.{◌≡◌, ◌<◌, length, arith, ap, sym, ◌∙◌}
-use Rattle.std.specs.List.{enumerate_from}
-use Rattle.line_text.specs.Lines.{physical_lines}
-use Rattle.line_text.specs.Reader.{reading_of, open_line, line_if}
-use Rattle.line_text.specs.Reading.{Reading}
-use Rattle.std.proofs.lemmas.Bool.Decides.{nat_tests}
-use Rattle.line_text.specs.Physical.{first_line}
+use Rattle.line_text.proofs.Prelude.{◌≡◌, ◌<◌, length, arith, ap, sym, ◌∙◌, enumerate_from, physical_lines, reading_of, open_line, line_if, Reading, nat_tests, first_line}
 use Rattle.line_text.proofs.LineLemmas.{content-again}
 use Rattle.line_text.proofs.TextSteps.{gives-err, is_content-ascii, is_content-length, read_from-end, read_from-err, read_from-not_ascii, read_from-ok}
 use Rattle.line_text.proofs.RisingLines.{rises_given}

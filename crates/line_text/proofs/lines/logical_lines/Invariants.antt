@@ -1,7 +1,4 @@
-use Rattle.std.proofs.Common.{◌≡◌, ◌+◌, ◌≤◌, length}
-use Rattle.std.specs.List.{enumerate_from}
-use Rattle.line_text.specs.Lines.{lines_of, physical_lines}
-use Rattle.line_text.specs.Reader.{reading_of}
+use Rattle.line_text.proofs.Prelude.{◌≡◌, ◌+◌, ◌≤◌, length, enumerate_from, lines_of, physical_lines, reading_of}
 use Rattle.line_text.proofs.OnePass.{read_all}
 use Rattle.line_text.proofs.lines.logical_lines.Given as goal
 

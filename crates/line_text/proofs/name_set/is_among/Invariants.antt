@@ -1,6 +1,4 @@
-use Rattle.std.proofs.Common.{◌≡◌, drop}
-use Rattle.line_text.specs.Names.{has_name}
-use Rattle.line_text.specs.Words.{texts}
+use Rattle.line_text.proofs.Prelude.{◌≡◌, drop, has_name, texts}
 use Rattle.line_text.proofs.name_set.is_among.Given as goal
 
 -- no name before this index is the name

@@ -1,4 +1,4 @@
-use Rattle.std.proofs.Common.{ap, ◌∙◌, ◌∷◌}
+use Rattle.line_text.proofs.Prelude.{ap, ◌∙◌, ◌∷◌}
 use Rattle.line_text.proofs.LineLemmas.{is_content-comment, is_content-end, is_content-line, is_empty, not_ascii-other}
 use Rattle.line_text.proofs.physical_line.split_content.Goals as goal
 

@@ -1,7 +1,4 @@
-use Rattle.std.proofs.Common.{◌≡◌, ◌+◌, ◌-◌, ◌∷◌, ◌∙◌, length, take, drop, sym, arith, rules}
-use Rattle.std.proofs.lemmas.Grind.{common_steps}
-use Rattle.line_text.specs.Lines.{physical_lines}
-use Rattle.line_text.specs.Physical.{first_line, later_lines}
+use Rattle.line_text.proofs.Prelude.{◌≡◌, ◌+◌, ◌-◌, ◌∷◌, ◌∙◌, length, take, drop, sym, arith, rules, common_steps, physical_lines, first_line, later_lines}
 use Rattle.line_text.proofs.LineLemmas.{physical_lines-first}
 use Rattle.line_text.proofs.physical_line.split_line.Goals as goal
 

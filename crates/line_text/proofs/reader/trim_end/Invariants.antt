@@ -1,6 +1,4 @@
-use Rattle.std.proofs.Common.{◌≡◌, ◌+◌, ◌≤◌, length, take}
-use Rattle.std.specs.List.{suffix_len}
-use Rattle.line_text.specs.Words.{is_blank}
+use Rattle.line_text.proofs.Prelude.{◌≡◌, ◌+◌, ◌≤◌, length, take, suffix_len, is_blank}
 use Rattle.line_text.proofs.reader.trim_end.Given as goal
 
 abbrev pub invariant-loop-end : goal.invariant-loop-end

@@ -1,8 +1,4 @@
-use Rattle.std.proofs.Common.{◌≡◌, ℕ, ◌+◌, ◌-◌, ◌≤◌, List, ◌++◌, length, take, drop, sym, ap, ◌∙◌, subst, Option, arith, length-drop}
-use Rattle.std.proofs.lemmas.List.{take_rest, drop-drop}
-use Rattle.std.proofs.Math.Seq.{take-add}
-use Rattle.std.specs.Io.KnownBytes.{Appends}
-use Rattle.std.proofs.KnownBytes.{Appends-trans}
+use Rattle.line_text.proofs.Prelude.{◌≡◌, ℕ, ◌+◌, ◌-◌, ◌≤◌, List, ◌++◌, length, take, drop, sym, ap, ◌∙◌, subst, Option, arith, length-drop, take_rest, drop-drop, take-add, Appends, Appends-trans}
 use Rattle.line_text.proofs.sink.write_all.Goals as goal
 
 -- what is left after one more write

@@ -1,5 +1,4 @@
-use Rattle.std.proofs.Common.{◌≡◌, ◌≤◌, ℕ, drop, length, take}
-use Rattle.std.specs.Io.KnownBytes.{Appends}
+use Rattle.line_text.proofs.Prelude.{◌≡◌, ◌≤◌, ℕ, drop, length, take, Appends}
 use Rattle.line_text.proofs.sink.write_all.Given as goal
 
 -- the first n bytes were taken, and the others are left

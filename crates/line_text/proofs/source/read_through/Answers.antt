@@ -1,4 +1,4 @@
-use Rattle.std.proofs.Common.{◌≡◌, ℕ, zero, suc, ◌-◌, ◌<◌, Bool, true, false, arith, sym, ◌∙◌}
+use Rattle.line_text.proofs.Prelude.{◌≡◌, ℕ, zero, suc, ◌-◌, ◌<◌, Bool, true, false, arith, sym, ◌∙◌}
 use Rattle.line_text.proofs.source.read_through.Goals as goal
 
 -- a source that works has a read left

@@ -1,5 +1,4 @@
-use Rattle.std.proofs.Common.{◌≡◌, false}
-use Rattle.std.specs.Io.KnownBytes.{Consumes}
+use Rattle.line_text.proofs.Prelude.{◌≡◌, false, Consumes}
 use Rattle.line_text.proofs.source.read_through.Given as goal
 
 abbrev pub invariant-loop-count : goal.invariant-loop-count

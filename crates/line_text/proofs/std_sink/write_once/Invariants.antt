@@ -1,4 +1,4 @@
-use Rattle.std.specs.Io.KnownBytes.{Keeps}
+use Rattle.line_text.proofs.Prelude.{Keeps}
 use Rattle.line_text.proofs.std_sink.write_once.Given as goal
 
 abbrev pub invariant-loop : goal.invariant-loop

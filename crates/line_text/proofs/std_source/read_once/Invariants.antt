@@ -1,5 +1,4 @@
-use Rattle.std.proofs.Common.{◌≡◌, length}
-use Rattle.std.specs.Io.KnownBytes.{Keeps}
+use Rattle.line_text.proofs.Prelude.{◌≡◌, length, Keeps}
 use Rattle.line_text.proofs.std_source.read_once.Given as goal
 
 abbrev pub invariant-loop : goal.invariant-loop

@@ -1,6 +1,4 @@
-use Rattle.std.proofs.Common.{◌≡◌, ℕ, List, length-take, ◌<◌, ◌∷◌, [], ◌++◌, length, take, map, arith, ap, sym, ◌∙◌, append_assoc}
-use Rattle.std.proofs.lemmas.List.{map-append, take-append-le, take_all}
-use Rattle.std.proofs.lemmas.Bool.Decides.{nat_tests}
+use Rattle.line_text.proofs.Prelude.{◌≡◌, ℕ, List, length-take, ◌<◌, ◌∷◌, [], ◌++◌, length, take, map, arith, ap, sym, ◌∙◌, append_assoc, map-append, take-append-le, take_all, nat_tests}
 use Rattle.line_text.proofs.WordLemmas.{takes_word, words_of-skipped, word_start-skipped}
 use Rattle.line_text.proofs.words.append_words.Goals as goal
 

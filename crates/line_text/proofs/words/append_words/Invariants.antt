@@ -1,6 +1,4 @@
-use Rattle.std.proofs.Common.{◌≡◌, length, take, map, ◌++◌, not}
-use Rattle.std.specs.List.{position_or_len}
-use Rattle.line_text.specs.Words.{is_blank, words_of}
+use Rattle.line_text.proofs.Prelude.{◌≡◌, length, take, map, ◌++◌, not, position_or_len, is_blank, words_of}
 use Rattle.line_text.proofs.words.append_words.Given as goal
 
 abbrev pub invariant-loop-rest : goal.invariant-loop-rest

@@ -1,5 +1,4 @@
-use Rattle.std.proofs.Common.{[], ℕ, List, Bor}
-use Rattle.std.proofs.lemmas.Option.{slice_get-get_or}
+use Rattle.line_text.proofs.Prelude.{[], ℕ, List, Bor, slice_get-get_or}
 use Rattle.line_text.proofs.WritingLemmas.{part_loop, writes_part}
 use Rattle.line_text.proofs.writing.write_slices.Goals as goal
 

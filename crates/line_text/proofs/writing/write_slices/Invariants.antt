@@ -1,6 +1,4 @@
-use Rattle.std.proofs.Common.{ℕ, List, Bor, take}
-use Rattle.std.specs.List.{flat_map}
-use Rattle.line_text.specs.Writing.{TakesAll}
+use Rattle.line_text.proofs.Prelude.{ℕ, List, Bor, take, flat_map, TakesAll}
 use Rattle.line_text.proofs.writing.write_slices.Given as goal
 
 -- the parts before this one are written

@@ -1,5 +1,4 @@
-use Rattle.line_service.proofs.TalkLemmas.{answered_append}
-use Rattle.live_input.specs.Serving.{AnswersLine}
+use Rattle.live_input.proofs.Prelude.{answered_append, AnswersLine}
 use Rattle.live_input.proofs.TakenLemmas.{are_taken}
 use Rattle.live_input.proofs.law.served_law.Goals as goal
 

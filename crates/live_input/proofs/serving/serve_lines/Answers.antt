@@ -1,7 +1,4 @@
-use Rattle.std.proofs.Common.{◌≡◌}
-use Rattle.line_service.proofs.AlongLemmas.{conversation_along}
-use Rattle.live_input.specs.declared.lines.LiveLines.{LiveLines}
-use Rattle.live_input.specs.Serving.{AnswersLine, state_in}
+use Rattle.live_input.proofs.Prelude.{◌≡◌, conversation_along, LiveLines, AnswersLine, state_in}
 use Rattle.live_input.proofs.serving.serve_lines.Goals as goal
 
 pub returns-clause-conversation : goal.returns-clause-conversation

@@ -1,5 +1,4 @@
-use Rattle.std.proofs.Common.{◌≡◌, ◌+◌, ◌≤◌, length}
-use Rattle.line_text.specs.Lines.{physical_lines}
+use Rattle.live_lines.proofs.Prelude.{◌≡◌, ◌+◌, ◌≤◌, length, physical_lines}
 use Rattle.live_lines.proofs.counted.count_lines.Given as goal
 
 -- the lines so far, and those that are left

@@ -1,5 +1,4 @@
-use Rattle.std.proofs.Common.{◌≡◌, Some}
-use Rattle.std.specs.Prelude.{reverse, slice_get}
+use Rattle.live_lines.proofs.Prelude.{◌≡◌, Some, reverse, slice_get}
 use Rattle.live_lines.proofs.FigureLemmas.{name_here, rows_push}
 use Rattle.live_lines.proofs.figures.push_figures.Goals as goal
 

@@ -1,5 +1,4 @@
-use Rattle.operator.specs.Held.{sink_text}
-use Rattle.live_lines.specs.Figures.{AppendsFigures}
+use Rattle.live_lines.proofs.Prelude.{sink_text, AppendsFigures}
 use Rattle.live_lines.proofs.FigureLemmas.{names_up_to}
 use Rattle.live_lines.proofs.figures.push_figures.Given as goal
 

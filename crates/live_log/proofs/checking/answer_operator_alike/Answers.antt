@@ -1,4 +1,4 @@
-use Rattle.std.proofs.Common.{◌≡◌, [], ◌∷◌, true, codes}
+use Rattle.live_log.proofs.Prelude.{◌≡◌, [], ◌∷◌, true, codes}
 use Rattle.live_log.proofs.AlikeSteps.{alike_after}
 use Rattle.live_log.proofs.checking.answer_operator_alike.Goals as goal
 

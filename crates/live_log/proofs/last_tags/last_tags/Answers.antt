@@ -1,5 +1,4 @@
-use Rattle.std.proofs.Common.{◌∙◌}
-use Rattle.line_text.specs.Lines.{physical_lines}
+use Rattle.live_log.proofs.Prelude.{◌∙◌, physical_lines}
 use Rattle.live_log.proofs.LastSteps.{last_found}
 use Rattle.live_log.proofs.last_tags.last_tags.Goals as goal
 

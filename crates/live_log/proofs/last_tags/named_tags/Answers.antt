@@ -1,6 +1,4 @@
-use Rattle.std.proofs.Common.{◌≡◌, ◌∷◌, rules}
-use Rattle.line_text.specs.Lines.{physical_lines}
-use Rattle.line_text.specs.Words.{texts}
+use Rattle.live_log.proofs.Prelude.{◌≡◌, ◌∷◌, rules, physical_lines, texts}
 use Rattle.live_log.proofs.LastSteps.{tags_more}
 use Rattle.live_log.proofs.last_tags.named_tags.Goals as goal
 

@@ -1,8 +1,4 @@
-use Rattle.std.proofs.Common.{◌≡◌, ◌++◌, length}
-use Rattle.std.specs.List.{filter_map}
-use Rattle.line_text.specs.Lines.{physical_lines}
-use Rattle.line_text.specs.Words.{texts}
-use Rattle.live_log.specs.LastTags.{named_tag}
+use Rattle.live_log.proofs.Prelude.{◌≡◌, ◌++◌, length, filter_map, physical_lines, texts, named_tag}
 use Rattle.live_log.proofs.last_tags.named_tags.Given as goal
 
 -- with the tags of the lines that are left they are all

@@ -1,5 +1,4 @@
-use Rattle.std.proofs.Common.{ℕ, List, [], Bor}
-use Rattle.std.proofs.lemmas.Option.{slice_get-get_or}
+use Rattle.live_log.proofs.Prelude.{ℕ, List, [], Bor, slice_get-get_or}
 use Rattle.live_log.proofs.LastSteps.{newest_more}
 use Rattle.live_log.proofs.last_tags.newest_of.Goals as goal
 

@@ -1,6 +1,4 @@
-use Rattle.std.proofs.Common.{◌≡◌, ◌++◌, [], drop}
-use Rattle.line_text.specs.Words.{texts}
-use Rattle.live_log.specs.LastTags.{newest}
+use Rattle.live_log.proofs.Prelude.{◌≡◌, ◌++◌, [], drop, texts, newest}
 use Rattle.live_log.proofs.last_tags.newest_of.Given as goal
 
 -- with the newest of those that are left they are all

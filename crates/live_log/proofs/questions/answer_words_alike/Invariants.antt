@@ -1,7 +1,5 @@
-use Rattle.std.proofs.Common.{List, ℕ, drop, map}
-use Rattle.line_text.specs.Words.{texts}
+use Rattle.live_log.proofs.Prelude.{List, ℕ, drop, map, texts, line_of}
 use Rattle.live_log.proofs.AlikeSteps.{LeadsAlike}
-use Rattle.live_log.specs.Questions.{line_of}
 use Rattle.live_log.proofs.questions.answer_words_alike.Given as goal
 
 -- both services take the next line, and answered the questions so far alike

@@ -1,6 +1,5 @@
-use Rattle.std.proofs.Common.{List, ℕ, drop}
+use Rattle.live_log.proofs.Prelude.{List, ℕ, drop, questions_to}
 use Rattle.live_log.proofs.AlikeSteps.{LeadsAlike}
-use Rattle.live_log.specs.Questions.{questions_to}
 use Rattle.live_log.proofs.questions.first_differing.Given as goal
 
 -- both services take the next line, and answered the questions so far alike

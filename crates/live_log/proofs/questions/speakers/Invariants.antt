@@ -1,6 +1,4 @@
-use Rattle.std.proofs.Common.{◌≡◌, [], length}
-use Rattle.line_text.specs.Lines.{physical_lines}
-use Rattle.live_log.specs.Questions.{with_speakers}
+use Rattle.live_log.proofs.Prelude.{◌≡◌, [], length, physical_lines, with_speakers}
 use Rattle.live_log.proofs.questions.speakers.Given as goal
 
 -- with the speakers of the lines that are left they are all

@@ -1,7 +1,4 @@
-use Rattle.std.proofs.Common.{◌≡◌, ◌∷◌, [], ◌<◌, length, refl, rules, arith, ap, ◌∙◌}
-use Rattle.std.proofs.lemmas.Grind.{common_steps}
-use Rattle.line_text.specs.Lines.{physical_lines}
-use Rattle.live_log.specs.Kept.{lines_kept}
+use Rattle.live_log.proofs.Prelude.{◌≡◌, ◌∷◌, [], ◌<◌, length, refl, rules, arith, ap, ◌∙◌, common_steps, physical_lines, lines_kept}
 use Rattle.live_log.proofs.ServingSteps.{counted_if, few_if, leads_all, leads_if, none_chosen, none_left}
 use Rattle.live_log.proofs.serving.serve_kept.Goals as goal
 

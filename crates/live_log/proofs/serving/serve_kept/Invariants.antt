@@ -1,7 +1,5 @@
-use Rattle.std.proofs.Common.{◌≡◌, ℕ, ◌+◌, ◌≤◌, List, Bool, length}
-use Rattle.line_text.specs.Lines.{physical_lines}
+use Rattle.live_log.proofs.Prelude.{◌≡◌, ℕ, ◌+◌, ◌≤◌, List, Bool, length, physical_lines, lines_kept}
 use Rattle.live_log.proofs.ServingSteps.{Leads}
-use Rattle.live_log.specs.Kept.{lines_kept}
 use Rattle.live_log.proofs.serving.serve_kept.Given as goal
 
 -- the service takes the next line, and each kept line so far was counted and answered

@@ -1,9 +1,6 @@
-use Rattle.std.proofs.Common.{ℕ, ◌+◌, List, [], Bor, ap, drop, drop_of_length-le, map, arith}
-use Rattle.std.proofs.lemmas.Option.{slice_get-get_or}
-use Rattle.line_text.specs.Words.{texts}
+use Rattle.live_log.proofs.Prelude.{ℕ, ◌+◌, List, [], Bor, ap, drop, drop_of_length-le, map, arith, slice_get-get_or, texts, last_line}
 use Rattle.live_log.proofs.AlikeSteps.{drop_place}
 use Rattle.live_log.proofs.ServingSteps.{leads_all, leads_line}
-use Rattle.live_log.specs.Kept.{last_line}
 use Rattle.live_log.proofs.serving.serve_last.Goals as goal
 
 pub loop-tag-preserved : goal.loop-tag-preserved

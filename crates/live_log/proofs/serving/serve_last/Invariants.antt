@@ -1,7 +1,5 @@
-use Rattle.std.proofs.Common.{◌≡◌, ℕ, ◌+◌, List, drop, map}
-use Rattle.line_text.specs.Words.{texts}
+use Rattle.live_log.proofs.Prelude.{◌≡◌, ℕ, ◌+◌, List, drop, map, texts, last_line}
 use Rattle.live_log.proofs.ServingSteps.{Leads}
-use Rattle.live_log.specs.Kept.{last_line}
 use Rattle.live_log.proofs.serving.serve_last.Given as goal
 
 -- the service takes the next line, and each comment so far was answered

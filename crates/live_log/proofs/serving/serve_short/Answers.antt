@@ -1,9 +1,5 @@
-use Rattle.std.proofs.Common.{ℕ, List, ◌++◌, OnOk, Bor, map, subst}
-use Rattle.line_service.specs.Conversation.{AreAnswered}
-use Rattle.line_text.specs.Lines.{physical_lines}
-use Rattle.line_text.specs.Words.{texts}
+use Rattle.live_log.proofs.Prelude.{ℕ, List, ◌++◌, OnOk, Bor, map, subst, AreAnswered, physical_lines, texts, lines_kept, last_line}
 use Rattle.live_log.proofs.ServingSteps.{then_served}
-use Rattle.live_log.specs.Kept.{lines_kept, last_line}
 use Rattle.live_log.proofs.serving.serve_short.Goals as goal
 
 pub returns-clause-served : goal.returns-clause-served

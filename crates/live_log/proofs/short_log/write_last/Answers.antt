@@ -1,6 +1,4 @@
-use Rattle.std.proofs.Common.{ℕ, List, [], Bor}
-use Rattle.std.proofs.lemmas.Option.{slice_get-get_or}
-use Rattle.line_text.proofs.WritingLemmas.{all_loop_end, all_same, part_loop, part_same, writes_part}
+use Rattle.live_log.proofs.Prelude.{ℕ, List, [], Bor, slice_get-get_or, all_loop_end, all_same, part_loop, part_same, writes_part}
 use Rattle.live_log.proofs.WritingSteps.{comment, comments}
 use Rattle.live_log.proofs.short_log.write_last.Goals as goal
 

@@ -1,6 +1,4 @@
-use Rattle.std.proofs.Common.{take}
-use Rattle.std.specs.List.{flat_map}
-use Rattle.line_text.specs.Writing.{TakesAll}
+use Rattle.live_log.proofs.Prelude.{take, flat_map, TakesAll}
 use Rattle.live_log.proofs.WritingSteps.{comment}
 use Rattle.live_log.proofs.short_log.write_last.Given as goal
 

@@ -1,9 +1,6 @@
-use Rattle.std.proofs.Common.{◌≡◌, ◌∷◌, ◌<◌, ◌+◌, length, subst, refl, rules, arith}
-use Rattle.std.proofs.lemmas.Grind.{common_steps}
-use Rattle.line_text.specs.Lines.{physical_lines}
+use Rattle.live_log.proofs.Prelude.{◌≡◌, ◌∷◌, ◌<◌, ◌+◌, length, subst, refl, rules, arith, common_steps, physical_lines, NotesLine}
 use Rattle.live_log.proofs.ChoiceSteps.{chosen_ok, marks_all, marks_line, marks_none}
 use Rattle.live_log.proofs.ServingSteps.{leads_all, leads_line, leads_none, none_left, on_ok}
-use Rattle.live_log.specs.Choice.{NotesLine}
 use Rattle.live_log.proofs.shortening.flags_of.Goals as goal
 
 pub loop-rest-init : goal.loop-rest-init

@@ -1,8 +1,6 @@
-use Rattle.std.proofs.Common.{ℕ, ◌+◌, ◌≤◌, List, length}
-use Rattle.line_text.specs.Lines.{physical_lines}
+use Rattle.live_log.proofs.Prelude.{ℕ, ◌+◌, ◌≤◌, List, length, physical_lines, Mark}
 use Rattle.live_log.proofs.ChoiceSteps.{LeadsMarks}
 use Rattle.live_log.proofs.ServingSteps.{Leads}
-use Rattle.live_log.specs.declared.marks.Mark.{Mark}
 use Rattle.live_log.proofs.shortening.flags_of.Given as goal
 
 -- the service takes the next line, each line so far has its mark and was answered, and each has a

@@ -1,6 +1,4 @@
-use Rattle.std.proofs.Common.{rules, ◌∙◌, not}
-use Rattle.std.specs.Str.{bytes_eq}
-use Rattle.live_machine.specs.Held.{Held}
+use Rattle.live_machine.proofs.Prelude.{rules, ◌∙◌, not, bytes_eq, Held}
 use Rattle.live_machine.proofs.NameLemmas.{left_by, those_left}
 use Rattle.live_machine.proofs.held_names.forget.Goals as goal
 

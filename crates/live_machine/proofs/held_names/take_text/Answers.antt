@@ -1,6 +1,4 @@
-use Rattle.std.proofs.Common.{◌≡◌, ◌∙◌, get_or, Some, None, sym, ap, subst}
-use Rattle.std.specs.List.{position}
-use Rattle.live_machine.specs.Held.{Held, IsSaidText, text_of, with_held, without_name}
+use Rattle.live_machine.proofs.Prelude.{◌≡◌, ◌∙◌, get_or, Some, None, sym, ap, subst, position, Held, IsSaidText, text_of, with_held, without_name}
 use Rattle.live_machine.proofs.NameLemmas.{at_none, at_place, freed_changed, is_of, named_at}
 use Rattle.live_machine.proofs.held_names.take_text.Goals as goal
 

@@ -1,6 +1,4 @@
-use Rattle.std.proofs.Common.{◌<◌, ◌∙◌, length, sym, ap, arith}
-use Rattle.std.proofs.lemmas.Bool.Decides.{nat_tests}
-use Rattle.live_machine.specs.Held.{is_wait_item}
+use Rattle.live_machine.proofs.Prelude.{◌<◌, ◌∙◌, length, sym, ap, arith, nat_tests, is_wait_item}
 use Rattle.live_machine.proofs.ItemLemmas.{no_wait}
 use Rattle.live_machine.proofs.item_lines.is_wait_text.Goals as goal
 

@@ -1,7 +1,4 @@
-use Rattle.std.proofs.Common.{◌≡◌, ◌≤◌, ℕ, List, [], ◌++◌, length, refl, sym, subst, rules}
-use Rattle.live_lines.specs.Live.{asked_of}
-use Rattle.live_lines.specs.Live.Asked.{NoForm}
-use Rattle.live_machine.specs.Machine.{IsLine}
+use Rattle.live_machine.proofs.Prelude.{◌≡◌, ◌≤◌, ℕ, List, [], ◌++◌, length, refl, sym, subst, rules, asked_of, NoForm, IsLine}
 use Rattle.live_machine.proofs.MadeLemmas.{after_mark, if_ok, mark_alone, no_form}
 use Rattle.live_machine.proofs.made_lines.formless_line.Goals as goal
 

@@ -1,4 +1,4 @@
-use Rattle.std.proofs.Common.{◌≡◌, [], ◌∷◌, ◌++◌, codes, sym, ◌∙◌, rules}
+use Rattle.live_machine.proofs.Prelude.{◌≡◌, [], ◌∷◌, ◌++◌, codes, sym, ◌∙◌, rules}
 use Rattle.live_machine.proofs.MadeLemmas.{nomemory_is}
 use Rattle.live_machine.proofs.made_lines.is_nomemory.Goals as goal
 

@@ -1,7 +1,4 @@
-use Rattle.std.proofs.Common.{◌≡◌, codes, true, refl, sym, ap, subst, ◌∙◌, arith, rules}
-use Rattle.script_text.specs.Script.{is_name}
-use Rattle.live_lines.specs.Live.{asked_of}
-use Rattle.live_machine.specs.Machine.{IsLine}
+use Rattle.live_machine.proofs.Prelude.{◌≡◌, codes, true, refl, sym, ap, subst, ◌∙◌, arith, rules, is_name, asked_of, IsLine}
 use Rattle.live_machine.proofs.MadeLemmas.{name_in_line}
 use Rattle.live_machine.proofs.made_lines.step_line.Goals as goal
 

@@ -1,8 +1,5 @@
-use Rattle.std.proofs.Common.{◌≡◌, ap, ◌∙◌}
-use Rattle.operator.specs.OperatorText.{last_id}
+use Rattle.live_machine.proofs.Prelude.{◌≡◌, ap, ◌∙◌, last_id, Live, state_in}
 use Rattle.live_lines.specs.Live.{state_of}
-use Rattle.live_lines.specs.declared.live.Live.{Live}
-use Rattle.live_input.specs.Serving.{state_in}
 use Rattle.live_machine.proofs.RunningLemmas.{home_by}
 use Rattle.live_machine.proofs.running.is_home.Goals as goal
 

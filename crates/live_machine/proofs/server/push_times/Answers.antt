@@ -1,5 +1,4 @@
-use Rattle.std.proofs.Common.{◌≡◌, ◌++◌, List, ℕ, ap, ◌∙◌, append_assoc, rules}
-use Rattle.std.specs.List.{repeat}
+use Rattle.live_machine.proofs.Prelude.{◌≡◌, ◌++◌, List, ℕ, ap, ◌∙◌, append_assoc, rules, repeat}
 use Rattle.live_machine.proofs.LostLemmas.{repeated_more}
 use Rattle.live_machine.proofs.server.push_times.Goals as goal
 

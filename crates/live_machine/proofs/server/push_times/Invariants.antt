@@ -1,5 +1,4 @@
-use Rattle.std.proofs.Common.{◌≡◌, ◌++◌}
-use Rattle.std.specs.List.{repeat}
+use Rattle.live_machine.proofs.Prelude.{◌≡◌, ◌++◌, repeat}
 use Rattle.live_machine.proofs.server.push_times.Given as goal
 
 abbrev pub invariant-loop : goal.invariant-loop

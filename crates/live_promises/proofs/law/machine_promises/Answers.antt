@@ -1,7 +1,4 @@
-use Rattle.live_machine.specs.Account.{IsAccount}
-use Rattle.live_machine.specs.Turn.{replies_of, served_lines}
-use Rattle.live_input.specs.Serving.{begins}
-use Rattle.std.proofs.Common.{◌++◌}
+use Rattle.live_promises.proofs.Prelude.{IsAccount, replies_of, served_lines, begins, ◌++◌}
 use Rattle.live_promises.proofs.law.machine_promises.Goals as goal
 
 pub returns : goal.returns

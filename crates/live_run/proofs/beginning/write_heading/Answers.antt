@@ -1,4 +1,4 @@
-use Rattle.line_text.proofs.WritingLemmas.{part_first, part_then, writes_part, writes_then}
+use Rattle.live_run.proofs.Prelude.{part_first, part_then, writes_part, writes_then}
 use Rattle.live_run.proofs.beginning.write_heading.Goals as goal
 
 pub returns-in_err-write_sizes : goal.returns-in_err-write_sizes

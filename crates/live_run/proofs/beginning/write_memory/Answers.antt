@@ -1,9 +1,5 @@
-use Rattle.std.proofs.Common.{◌≡◌, ℕ, Bool, if◌then◌else◌, List, [], ◌∷◌, ap, subst, sym}
-use Rattle.std.proofs.lemmas.Bool.{ne_eqb}
-use Rattle.std.specs.List.{concat}
-use Rattle.std.specs.Prelude.{codes, decimal}
+use Rattle.live_run.proofs.Prelude.{◌≡◌, ℕ, Bool, if◌then◌else◌, List, [], ◌∷◌, ap, subst, sym, ne_eqb, concat, codes, decimal, memory_words}
 use Rattle.line_text.specs.Writing.{Writes}
-use Rattle.live_run.specs.Headings.{memory_words}
 use Rattle.live_run.proofs.beginning.write_memory.Goals as goal
 
 pub returns : goal.returns

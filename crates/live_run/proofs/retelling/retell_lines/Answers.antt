@@ -1,7 +1,4 @@
-use Rattle.std.proofs.Common.{List, ℕ, Ok, Err, subst, sym}
-use Rattle.line_feed.specs.Feed.{line_of}
-use Rattle.live_input.specs.Serving.{state_in}
-use Rattle.live_run.specs.Retelling.{RetellsLine}
+use Rattle.live_run.proofs.Prelude.{List, ℕ, Ok, Err, subst, sym, line_of, state_in, RetellsLine}
 use Rattle.live_run.proofs.ReadLemmas.{read_ok}
 use Rattle.live_run.proofs.RetellLemmas.{RetellsSome, some_ends, some_line, some_none, some_read, some_stops, some_whole}
 use Rattle.live_run.proofs.retelling.retell_lines.Goals as goal

@@ -1,5 +1,4 @@
-use Rattle.line_feed.specs.Feed.{ahead_of, line_of}
-use Rattle.live_input.specs.Serving.{is_ready, state_in}
+use Rattle.live_run.proofs.Prelude.{ahead_of, line_of, is_ready, state_in}
 use Rattle.live_run.proofs.RetellLemmas.{RetellsSome}
 use Rattle.live_run.proofs.retelling.retell_lines.Given as goal
 

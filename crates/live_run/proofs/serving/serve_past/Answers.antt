@@ -1,9 +1,4 @@
-use Rattle.std.proofs.Common.{Option, subst, sym}
-use Rattle.std.specs.Prelude.{is_some}
-use Rattle.live_input.specs.Serving.{state_in}
-use Rattle.live_run.specs.declared.outcome.Outcome.{Outcome}
-use Rattle.live_run.specs.Outcomes.{outcome_of}
-use Rattle.live_run.specs.Runs.{RunsFrom, past_of}
+use Rattle.live_run.proofs.Prelude.{Option, subst, sym, is_some, state_in, Outcome, outcome_of, RunsFrom, past_of}
 use Rattle.live_run.proofs.RunLemmas.{closes, goes_on, retell_fails, stops}
 use Rattle.live_run.proofs.serving.serve_past.Goals as goal
 

@@ -1,5 +1,4 @@
-use Rattle.line_service.proofs.AlongLemmas.{conversation_along}
-use Rattle.live_input.specs.Serving.{AnswersLine, state_in}
+use Rattle.live_run.proofs.Prelude.{conversation_along, AnswersLine, state_in}
 use Rattle.live_run.proofs.RunLemmas.{nothing_said}
 use Rattle.live_run.proofs.serving.talk.Goals as goal
 

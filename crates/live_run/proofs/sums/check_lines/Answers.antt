@@ -1,6 +1,4 @@
-use Rattle.std.proofs.Common.{List, ℕ, Ok, Err, subst, sym}
-use Rattle.line_feed.specs.Feed.{line_of}
-use Rattle.live_run.specs.Sums.{TakesNext}
+use Rattle.live_run.proofs.Prelude.{List, ℕ, Ok, Err, subst, sym, line_of, TakesNext}
 use Rattle.live_run.proofs.ReadLemmas.{read_ok}
 use Rattle.live_run.proofs.SumLemmas.{SumsSome, sums_end, sums_line, sums_none, sums_read, sums_unread, sums_whole}
 use Rattle.live_run.proofs.sums.check_lines.Goals as goal

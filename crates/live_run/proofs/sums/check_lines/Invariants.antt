@@ -1,4 +1,4 @@
-use Rattle.line_feed.specs.Feed.{ahead_of, line_of}
+use Rattle.live_run.proofs.Prelude.{ahead_of, line_of}
 use Rattle.live_run.proofs.SumLemmas.{SumsSome}
 use Rattle.live_run.proofs.sums.check_lines.Given as goal
 

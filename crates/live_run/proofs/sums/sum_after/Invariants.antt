@@ -1,5 +1,4 @@
-use Rattle.std.proofs.Common.{◌≡◌, take}
-use Rattle.live_run.specs.Sums.{sum_after}
+use Rattle.live_run.proofs.Prelude.{◌≡◌, take, sum_after}
 use Rattle.live_run.proofs.sums.sum_after.Given as goal
 
 -- the sum of the bytes so far

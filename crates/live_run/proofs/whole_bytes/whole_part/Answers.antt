@@ -1,6 +1,4 @@
-use Rattle.std.proofs.Common.{◌≡◌, ◌∙◌, length, take, arith, ap, sym}
-use Rattle.std.proofs.Math.Seq.{take-length}
-use Rattle.live_run.specs.WholePart.{whole_bytes}
+use Rattle.live_run.proofs.Prelude.{◌≡◌, ◌∙◌, length, take, arith, ap, sym, take-length, whole_bytes}
 use Rattle.live_run.proofs.WholeParts.{next_end, next_other, whole_within}
 use Rattle.live_run.proofs.whole_bytes.whole_part.Goals as goal
 use Rattle.live_run.proofs.whole_bytes.whole_part.Goals.{then-bytes-i-eq10, else-bytes-i-eq10}

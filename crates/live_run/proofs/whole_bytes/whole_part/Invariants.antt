@@ -1,5 +1,4 @@
-use Rattle.std.proofs.Common.{◌≡◌, take}
-use Rattle.live_run.specs.WholePart.{whole_bytes}
+use Rattle.live_run.proofs.Prelude.{◌≡◌, take, whole_bytes}
 use Rattle.live_run.proofs.whole_bytes.whole_part.Given as goal
 
 abbrev pub invariant-loop-i : goal.invariant-loop-i

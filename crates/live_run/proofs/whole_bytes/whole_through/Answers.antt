@@ -1,4 +1,4 @@
-use Rattle.std.proofs.Common.{◌≡◌, ℕ, List, length, take, arith, sym}
+use Rattle.live_run.proofs.Prelude.{◌≡◌, ℕ, List, length, take, arith, sym}
 use Rattle.live_run.proofs.WholeParts.{after_more, after_none}
 use Rattle.live_run.proofs.whole_bytes.whole_through.Goals as goal
 

@@ -1,6 +1,4 @@
-use Rattle.std.proofs.Common.{◌≡◌, ℕ, List, length}
-use Rattle.std.specs.Io.KnownBytes.{Consumes}
-use Rattle.live_run.specs.WholePart.{whole_bytes}
+use Rattle.live_run.proofs.Prelude.{◌≡◌, ℕ, List, length, Consumes, whole_bytes}
 use Rattle.live_run.proofs.whole_bytes.whole_through.Given as goal
 
 -- the bytes that were read, and how many of them are whole lines

@@ -1,9 +1,4 @@
-use Rattle.std.proofs.Common.{Option, subst, sym}
-use Rattle.std.specs.Prelude.{option_map}
-use Rattle.live_input.specs.Serving.{state_in}
-use Rattle.live_machine.specs.Parts.{machine_of}
-use Rattle.live_machine.specs.Workers.{without_workers}
-use Rattle.live_threads.specs.Ends.{Resumes}
+use Rattle.live_threads.proofs.Prelude.{Option, subst, sym, option_map, state_in, machine_of, without_workers, Resumes}
 use Rattle.live_threads.proofs.EndLemmas.{resumes_none}
 use Rattle.live_threads.proofs.opened.resume.Goals as goal
 

@@ -1,4 +1,4 @@
-use Rattle.std.proofs.Common.{inl}
+use Rattle.live_threads.proofs.Prelude.{inl}
 use Rattle.live_threads.proofs.EndLemmas.{runs_service}
 use Rattle.live_threads.proofs.TakenLemmas.{takes_none, takes_so}
 use Rattle.live_threads.proofs.opened.serve_resumed.Goals as goal

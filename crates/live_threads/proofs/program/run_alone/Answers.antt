@@ -1,4 +1,4 @@
-use Rattle.std.proofs.Common.{None}
+use Rattle.live_threads.proofs.Prelude.{None}
 use Rattle.live_threads.proofs.RunEnds.{alone}
 use Rattle.live_threads.proofs.program.run_alone.Goals as goal
 

@@ -1,4 +1,4 @@
-use Rattle.std.proofs.Common.{None}
+use Rattle.live_threads.proofs.Prelude.{None}
 use Rattle.live_threads.proofs.RunEnds.{refused}
 use Rattle.live_threads.proofs.program.run_words.Goals as goal
 

@@ -1,7 +1,4 @@
-use Rattle.std.proofs.Common.{List, ℕ, refl, subst, sym}
-use Rattle.line_feed.specs.Feed.{ahead_of}
-use Rattle.live_threads.specs.Fed.{Fed}
-use Rattle.live_threads.specs.Taken.{lines_of}
+use Rattle.live_threads.proofs.Prelude.{List, ℕ, refl, subst, sym, ahead_of, Fed, lines_of}
 use Rattle.live_threads.proofs.FedLemmas.{fed_first, fed_none, fed_read, fed_whole, read_ok}
 use Rattle.live_threads.proofs.RingLemmas.{puts_maybe, puts_none, puts_one, puts_so, same_self}
 use Rattle.live_threads.proofs.reader.feed_lines.Goals as goal

@@ -1,6 +1,4 @@
-use Rattle.std.proofs.Common.{◌≡◌, []}
-use Rattle.line_feed.specs.Feed.{ahead_of, line_of}
-use Rattle.live_threads.specs.Fed.{Fed, PutsLines}
+use Rattle.live_threads.proofs.Prelude.{◌≡◌, [], ahead_of, line_of, Fed, PutsLines}
 use Rattle.live_threads.proofs.reader.feed_lines.Given as goal
 
 -- all lines that were read are handed over

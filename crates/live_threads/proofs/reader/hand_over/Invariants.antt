@@ -1,5 +1,4 @@
-use Rattle.std.proofs.Common.{◌≡◌}
-use Rattle.rtrb.specs.Ring.{SameProducer, sent}
+use Rattle.live_threads.proofs.Prelude.{◌≡◌, SameProducer, sent}
 use Rattle.live_threads.proofs.reader.hand_over.Given as goal
 
 -- nothing was put so far

@@ -1,7 +1,4 @@
-use Rattle.std.proofs.Common.{List, ℕ, ◌++◌, ap, subst, sym, ◌∙◌}
-use Rattle.tagged_lines.specs.Tags.{with_feed}
-use Rattle.line_feed.specs.Feed.{ahead_of, line_of}
-use Rattle.live_threads.specs.Fed.{IsFed, TakesSome}
+use Rattle.live_threads.proofs.Prelude.{List, ℕ, ◌++◌, ap, subst, sym, ◌∙◌, with_feed, ahead_of, line_of, IsFed, TakesSome}
 use Rattle.live_threads.proofs.FedLemmas.{fed_more, some_fed, some_more}
 use Rattle.live_threads.proofs.reader.take_lines.Goals as goal
 

@@ -1,6 +1,4 @@
-use Rattle.std.proofs.Common.{length}
-use Rattle.line_feed.specs.Feed.{ahead_of, line_of}
-use Rattle.live_threads.specs.Fed.{IsFed, TakesSome}
+use Rattle.live_threads.proofs.Prelude.{length, ahead_of, line_of, IsFed, TakesSome}
 use Rattle.live_threads.proofs.reader.take_lines.Given as goal
 
 -- the lines so far are in the text

@@ -1,8 +1,4 @@
-use Rattle.std.proofs.Common.{◌≡◌, ℕ, List, true, rules, subst}
-use Rattle.dialogue.specs.History.{Fails}
-use Rattle.dialogue.specs.History.Event.{Told}
-use Rattle.live_run.specs.Retelling.{is_told}
-use Rattle.live_run.proofs.RetellLemmas.{part_told}
+use Rattle.live_threads.proofs.Prelude.{◌≡◌, ℕ, List, true, rules, subst, Fails, Told, is_told, part_told}
 use Rattle.live_threads.proofs.replaying.tell_reply.Goals as goal
 
 pub returns-clause-part : goal.returns-clause-part

@@ -1,11 +1,4 @@
-use Rattle.std.proofs.Common.{Option, sym, subst, ap, ◌∙◌}
-use Rattle.std.specs.Prelude.{option_map}
-use Rattle.rtrb.specs.Ring.{received}
-use Rattle.live_threads.specs.declared.opened.ServesOpened.{ServesOpened}
-use Rattle.live_threads.specs.declared.outlet.Devices.{Devices}
-use Rattle.live_threads.specs.Ends.{RunsOpened, RunsService, empty_on}
-use Rattle.live_threads.specs.Outlet.{view_of}
-use Rattle.live_threads.specs.Taken.{TakesLines}
+use Rattle.live_threads.proofs.Prelude.{Option, sym, subst, ap, ◌∙◌, option_map, received, ServesOpened, Devices, RunsOpened, RunsService, empty_on, view_of, TakesLines}
 use Rattle.live_threads.proofs.EndLemmas.{runs_input}
 use Rattle.live_threads.proofs.running.run_in.Goals as goal
 

@@ -1,6 +1,4 @@
-use Rattle.std.proofs.Common.{List, ℕ, inr, refl, subst}
-use Rattle.dialogue.specs.History.{Fails}
-use Rattle.dialogue.specs.History.Event.{Told}
+use Rattle.live_threads.proofs.Prelude.{List, ℕ, inr, refl, subst, Fails, Told}
 use Rattle.live_threads.proofs.EndLemmas.{cut_closing}
 use Rattle.live_threads.proofs.ServedLemmas.{on_err}
 use Rattle.live_threads.proofs.serving.close_texts.Goals as goal

@@ -1,6 +1,4 @@
-use Rattle.std.proofs.Common.{List, ℕ, ◌∷◌, [], subst}
-use Rattle.dialogue.specs.History.{Fails, Happens}
-use Rattle.dialogue.specs.History.Event.{Kept, Told}
+use Rattle.live_threads.proofs.Prelude.{List, ℕ, ◌∷◌, [], subst, Fails, Happens, Kept, Told}
 use Rattle.live_threads.proofs.ServedLemmas.{on_err, served_drain, stopped_log, stopped_output}
 use Rattle.live_threads.proofs.serving.deliver.Goals as goal
 

@@ -1,4 +1,4 @@
-use Rattle.std.proofs.Common.{◌<◌, length, rules}
+use Rattle.live_threads.proofs.Prelude.{◌<◌, length, rules}
 use Rattle.live_threads.proofs.LineLemmas.{first_is_line, line_left}
 use Rattle.live_threads.proofs.ServedLemmas.{on_err, some_line, some_more, some_stopped, some_stops}
 use Rattle.live_threads.proofs.serving.serve_batch.Goals as goal

@@ -1,7 +1,4 @@
-use Rattle.std.proofs.Common.{length}
-use Rattle.live_threads.specs.Taken.{cut_lines}
-use Rattle.live_machine.specs.Parts.{IsReady, machine_of}
-use Rattle.live_threads.specs.Serving.{ServesSome}
+use Rattle.live_threads.proofs.Prelude.{length, cut_lines, IsReady, machine_of, ServesSome}
 use Rattle.live_threads.proofs.serving.serve_batch.Given as goal
 
 -- the lines so far are served

@@ -1,7 +1,4 @@
-use Rattle.std.proofs.Common.{List, ℕ, subst}
-use Rattle.live_threads.specs.Taken.{cut_lines}
-use Rattle.live_machine.specs.Parts.{machine_of}
-use Rattle.live_threads.specs.Serving.{HasStopped, IsServed}
+use Rattle.live_threads.proofs.Prelude.{List, ℕ, subst, cut_lines, machine_of, HasStopped, IsServed}
 use Rattle.live_threads.proofs.ServedLemmas.{on_err, served_stops, served_then}
 use Rattle.live_threads.proofs.TakenLemmas.{takes_one}
 use Rattle.live_threads.proofs.serving.serve_lines.Goals as goal

@@ -1,6 +1,4 @@
-use Rattle.live_machine.specs.Parts.{IsReady, machine_of}
-use Rattle.live_threads.specs.Serving.{IsServed}
-use Rattle.live_threads.specs.Taken.{TakesLines}
+use Rattle.live_threads.proofs.Prelude.{IsReady, machine_of, IsServed, TakesLines}
 use Rattle.live_threads.proofs.serving.serve_lines.Given as goal
 
 -- what was taken so far is served

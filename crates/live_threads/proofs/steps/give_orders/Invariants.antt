@@ -1,5 +1,4 @@
-use Rattle.std.proofs.Common.{◌≡◌}
-use Rattle.live_machine.specs.Parts.{IsReady, machine_of}
+use Rattle.live_threads.proofs.Prelude.{◌≡◌, IsReady, machine_of}
 use Rattle.live_threads.proofs.steps.give_orders.Given as goal
 
 -- what others see of the machine stays

@@ -1,5 +1,4 @@
-use Rattle.std.proofs.Common.{[]}
-use Rattle.live_machine.specs.Parts.{machine_of}
+use Rattle.live_threads.proofs.Prelude.{[], machine_of}
 use Rattle.live_threads.proofs.ServedLemmas.{served_none, served_then}
 use Rattle.live_threads.proofs.steps.put_steps.Goals as goal
 

@@ -1,7 +1,4 @@
-use Rattle.std.proofs.Common.{[]}
-use Rattle.dialogue.specs.History.{View}
-use Rattle.live_machine.specs.Parts.{IsReady, machine_of}
-use Rattle.live_threads.specs.Serving.{IsServed}
+use Rattle.live_threads.proofs.Prelude.{[], View, IsReady, machine_of, IsServed}
 use Rattle.live_threads.proofs.steps.put_steps.Given as goal
 
 -- what came so far is put

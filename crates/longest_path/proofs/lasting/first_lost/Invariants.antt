@@ -1,5 +1,4 @@
-use Rattle.std.proofs.Common.{ℕ, ◌<◌}
-use Rattle.longest_path.specs.Lasting.{IsMarked}
+use Rattle.longest_path.proofs.Prelude.{ℕ, ◌<◌, IsMarked}
 use Rattle.longest_path.proofs.lasting.first_lost.Given as goal
 
 -- none of the nets before this one is lost

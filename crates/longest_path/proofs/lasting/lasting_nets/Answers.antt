@@ -1,8 +1,4 @@
-use Rattle.std.proofs.Common.{ℕ, ◌≡◌, ◌+◌, ◌≤◌, ◌∙◌, Bool, true, List, length, replicate, ap, subst, arith}
-use Rattle.std.specs.List.{count_by}
-use Rattle.std.proofs.lemmas.List.{length-replicate}
-use Rattle.blif.specs.LookupTables.{LookupTable}
-use Rattle.longest_path.specs.Lasting.{AreLedTo, IsFirstLost, NoneIsLost}
+use Rattle.longest_path.proofs.Prelude.{ℕ, ◌≡◌, ◌+◌, ◌≤◌, ◌∙◌, Bool, true, List, length, replicate, ap, subst, arith, count_by, length-replicate, LookupTable, AreLedTo, IsFirstLost, NoneIsLost}
 use Rattle.longest_path.proofs.Marks.{fewer, few_first, lasts, led_first, led_kept, loops_first, loops_kept, only_fewer}
 use Rattle.longest_path.proofs.lasting.lasting_nets.Goals as goal
 

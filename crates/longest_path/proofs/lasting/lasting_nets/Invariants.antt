@@ -1,6 +1,4 @@
-use Rattle.std.proofs.Common.{ℕ, ◌≡◌, ◌≤◌, ◌+◌, length}
-use Rattle.std.specs.List.{count_by}
-use Rattle.longest_path.specs.Lasting.{IsLedTo, IsMarked, IsOnLoop}
+use Rattle.longest_path.proofs.Prelude.{ℕ, ◌≡◌, ◌≤◌, ◌+◌, length, count_by, IsLedTo, IsMarked, IsOnLoop}
 use Rattle.longest_path.proofs.lasting.lasting_nets.Given as goal
 
 -- each pass took a mark away, but none of a loop, and a net to which a marked net leads is marked

@@ -1,7 +1,4 @@
-use Rattle.std.proofs.Common.{ℕ, ◌≡◌, ◌<◌, Bool, List, Some, length, arith}
-use Rattle.std.specs.List.{slice_get}
-use Rattle.blif.specs.LookupTables.{LookupTable}
-use Rattle.longest_path.specs.Lasting.{AreLedTo}
+use Rattle.longest_path.proofs.Prelude.{ℕ, ◌≡◌, ◌<◌, Bool, List, Some, length, arith, slice_get, LookupTable, AreLedTo}
 use Rattle.longest_path.proofs.Marks.{led_more, led_same}
 use Rattle.longest_path.proofs.Raising.{table_within}
 use Rattle.longest_path.proofs.lasting.led_to.Goals as goal

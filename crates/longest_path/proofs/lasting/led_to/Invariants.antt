@@ -1,4 +1,4 @@
-use Rattle.longest_path.specs.Lasting.{AreLedTo}
+use Rattle.longest_path.proofs.Prelude.{AreLedTo}
 use Rattle.longest_path.proofs.lasting.led_to.Given as goal
 
 -- the tables before this one lead to the marked nets

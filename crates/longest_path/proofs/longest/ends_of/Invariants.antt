@@ -1,4 +1,4 @@
-use Rattle.std.proofs.Common.{◌≡◌, ◌++◌, map, take}
+use Rattle.longest_path.proofs.Prelude.{◌≡◌, ◌++◌, map, take}
 use Rattle.longest_path.proofs.longest.ends_of.Given as goal
 
 abbrev pub invariant-loop-latch : goal.invariant-loop-latch

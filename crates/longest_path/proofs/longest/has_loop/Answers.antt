@@ -1,10 +1,4 @@
-use Rattle.std.proofs.Common.{ℕ, ◌≡◌, ◌∙◌, ◌<◌, List, length, get_or, ap, subst, sym, arith}
-use Rattle.std.specs.List.{All}
-use Rattle.std.proofs.lemmas.List.Elements.{All-from_get_or}
-use Rattle.std.proofs.lemmas.Option.{MatchOption-at_some}
-use Rattle.blif.specs.LawfulCircuits.{IsTableWithin}
-use Rattle.longest_path.specs.Paths.{HasLoop}
-use Rattle.longest_path.specs.Settled.{IsSettled}
+use Rattle.longest_path.proofs.Prelude.{ℕ, ◌≡◌, ◌∙◌, ◌<◌, List, length, get_or, ap, subst, sym, arith, All, All-from_get_or, MatchOption-at_some, IsTableWithin, HasLoop, IsSettled}
 use Rattle.longest_path.proofs.Ending.{no_loop}
 use Rattle.longest_path.proofs.longest.has_loop.Goals as goal
 

@@ -1,4 +1,4 @@
-use Rattle.std.proofs.Common.{ℕ, ◌≡◌, ◌<◌, length, get_or}
+use Rattle.longest_path.proofs.Prelude.{ℕ, ◌≡◌, ◌<◌, length, get_or}
 use Rattle.longest_path.proofs.longest.has_loop.Given as goal
 
 -- the nets before this one

@@ -1,13 +1,4 @@
-use Rattle.std.proofs.Common.{ℕ, ◌≡◌, ◌<◌, List, length, subst, sym, ap, arith, ◌∙◌}
-use Rattle.std.specs.List.{All}
-use Rattle.std.specs.Result.{IfOk}
-use Rattle.std.proofs.lemmas.Option.{MatchOption-at_some}
-use Rattle.blif.specs.LawfulCircuits.{IsTableWithin}
-use Rattle.blif.specs.declared.circuit.Circuit.{Circuit}
-use Rattle.longest_path.specs.declared.reach.Reach.{Reach}
-use Rattle.longest_path.specs.Ends.{IsEnd}
-use Rattle.longest_path.specs.Paths.{HasLoop, starts_of}
-use Rattle.longest_path.specs.Settled.{IsSettled}
+use Rattle.longest_path.proofs.Prelude.{ℕ, ◌≡◌, ◌<◌, List, length, subst, sym, ap, arith, ◌∙◌, All, IfOk, MatchOption-at_some, IsTableWithin, Circuit, Reach, IsEnd, HasLoop, starts_of, IsSettled}
 use Rattle.longest_path.proofs.Ending.{ends_within, if_longest, starts_within}
 use Rattle.longest_path.proofs.longest.longest_path.Goals as goal
 

@@ -1,4 +1,4 @@
-use Rattle.std.proofs.Common.{arith}
+use Rattle.longest_path.proofs.Prelude.{arith}
 use Rattle.longest_path.proofs.Looping.{no_loop_unmarked}
 use Rattle.longest_path.proofs.loops.loop_among.Goals as goal
 

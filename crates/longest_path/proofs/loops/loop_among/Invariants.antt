@@ -1,5 +1,4 @@
-use Rattle.std.proofs.Common.{ℕ, ◌≡◌, ◌<◌, false}
-use Rattle.std.specs.Prelude.{slice_index_or}
+use Rattle.longest_path.proofs.Prelude.{ℕ, ◌≡◌, ◌<◌, false, slice_index_or}
 use Rattle.longest_path.proofs.loops.loop_among.Given as goal
 
 -- none of the nets before this one is marked

@@ -1,12 +1,4 @@
-use Rattle.std.proofs.Common.{ℕ, ◌≡◌, ◌≤◌, ◌∙◌, Bool, List, [], ◌∷◌, ◌++◌, length, get_or, drop, eqb, ap, sym, subst, arith}
-use Rattle.std.specs.List.{All, IsDistinct}
-use Rattle.std.proofs.lemmas.List.Elements.{All-append, All-cons, All-nil}
-use Rattle.std.proofs.lemmas.Result.{IfOk-weaker}
-use Rattle.blif.specs.LookupTables.{LookupTable}
-use Rattle.longest_path.specs.declared.trace.StepBack.{StepBack}
-use Rattle.longest_path.specs.Lasting.{IsMarked, IsMissing, IsPlaceOf}
-use Rattle.longest_path.specs.Paths.{IsLoop}
-use Rattle.longest_path.specs.Tracing.{IsThrough}
+use Rattle.longest_path.proofs.Prelude.{ℕ, ◌≡◌, ◌≤◌, ◌∙◌, Bool, List, [], ◌∷◌, ◌++◌, length, get_or, drop, eqb, ap, sym, subst, arith, All, IsDistinct, All-append, All-cons, All-nil, IfOk-weaker, LookupTable, StepBack, IsMarked, IsMissing, IsPlaceOf, IsLoop, IsThrough}
 use Rattle.longest_path.proofs.Looping.{comes_again, differ_more, differ_none, not_more, one_longer, ways_more}
 use Rattle.longest_path.proofs.loops.loop_before.Goals as goal
 

@@ -1,8 +1,4 @@
-use Rattle.std.proofs.Common.{ℕ, ◌≡◌, ◌<◌, length, eqb, drop}
-use Rattle.std.specs.List.{All, IsDistinct}
-use Rattle.std.specs.Prelude.{slice_index_or}
-use Rattle.longest_path.specs.Lasting.{IsMarked}
-use Rattle.longest_path.specs.Tracing.{IsThrough}
+use Rattle.longest_path.proofs.Prelude.{ℕ, ◌≡◌, ◌<◌, length, eqb, drop, All, IsDistinct, slice_index_or, IsMarked, IsThrough}
 use Rattle.longest_path.proofs.loops.loop_before.Given as goal
 
 -- from this net ways lead to all nets that were passed, which differ

@@ -1,4 +1,4 @@
-use Rattle.longest_path.specs.Lasting.{IsLedTo}
+use Rattle.longest_path.proofs.Prelude.{IsLedTo}
 use Rattle.longest_path.proofs.loops.marked_back.Given as goal
 
 -- none of the tables before this one leads to the net from a marked net

@@ -1,5 +1,4 @@
-use Rattle.std.proofs.Common.{ℕ, ◌≡◌, ◌<◌}
-use Rattle.std.specs.Prelude.{slice_index_or}
+use Rattle.longest_path.proofs.Prelude.{ℕ, ◌≡◌, ◌<◌, slice_index_or}
 use Rattle.longest_path.proofs.loops.place_of.Given as goal
 
 -- the net is at none of the places before this one

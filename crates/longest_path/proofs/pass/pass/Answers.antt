@@ -1,8 +1,4 @@
-use Rattle.std.proofs.Common.{ℕ, ◌≡◌, ◌+◌, ◌<◌, ◌≤◌, List, Some, get_or, length, length-set, subst, arith, ap, ◌∙◌}
-use Rattle.std.specs.List.{slice_get}
-use Rattle.blif.specs.LookupTables.{LookupTable}
-use Rattle.longest_path.specs.declared.reach.Reach.{Reach}
-use Rattle.longest_path.specs.Reaches.{AreUnreached, IsFarthest, reach_of, steps_to}
+use Rattle.longest_path.proofs.Prelude.{ℕ, ◌≡◌, ◌+◌, ◌<◌, ◌≤◌, List, Some, get_or, length, length-set, subst, arith, ap, ◌∙◌, slice_get, LookupTable, Reach, AreUnreached, IsFarthest, reach_of, steps_to}
 use Rattle.longest_path.proofs.Raising.{table_within, looped, kept, more, farther, far_of, raises, reached_within}
 use Rattle.longest_path.proofs.pass.pass.Goals as goal
 use Rattle.longest_path.proofs.pass.pass.Goals.{in-Some+else-best-nets+then-best-index, in-Some+else-best-nets+else-best-index, in_default}

@@ -1,6 +1,4 @@
-use Rattle.std.proofs.Common.{ℕ, ◌≡◌, ◌≤◌, List, length, true, false}
-use Rattle.longest_path.specs.Passes.{IsFarther, IsPassed}
-use Rattle.longest_path.specs.Reaches.{AreFound, steps_to}
+use Rattle.longest_path.proofs.Prelude.{ℕ, ◌≡◌, ◌≤◌, List, length, true, false, IsFarther, IsPassed, AreFound, steps_to}
 use Rattle.longest_path.proofs.pass.pass.Given as goal
 
 -- the tables before this one were gone over

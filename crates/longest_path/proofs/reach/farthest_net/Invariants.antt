@@ -1,7 +1,4 @@
-use Rattle.std.proofs.Common.{ℕ, ◌≡◌, ◌<◌, ◌≤◌, get_or}
-use Rattle.std.specs.Option.{MatchOption}
-use Rattle.longest_path.specs.Paths.{IsIn}
-use Rattle.longest_path.specs.Reaches.{steps_to}
+use Rattle.longest_path.proofs.Prelude.{ℕ, ◌≡◌, ◌<◌, ◌≤◌, get_or, MatchOption, IsIn, steps_to}
 use Rattle.longest_path.proofs.reach.farthest_net.Given as goal
 
 -- the farthest of the nets before this one

@@ -1,5 +1,4 @@
-use Rattle.std.proofs.Common.{take}
-use Rattle.longest_path.specs.Reaches.{IsBegun}
+use Rattle.longest_path.proofs.Prelude.{take, IsBegun}
 use Rattle.longest_path.proofs.reach.starting_reach.Given as goal
 
 abbrev pub invariant-loop-net : goal.invariant-loop-net

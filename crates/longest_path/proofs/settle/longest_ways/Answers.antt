@@ -1,10 +1,4 @@
-use Rattle.std.proofs.Common.{◌≡◌, ◌+◌, ◌≤◌, List, length, subst, sym, arith}
-use Rattle.std.specs.List.{All}
-use Rattle.blif.specs.LawfulCircuits.{IsTableWithin}
-use Rattle.longest_path.specs.declared.reach.Reach.{Reach}
-use Rattle.longest_path.specs.Passes.{IsPassed}
-use Rattle.longest_path.specs.Settled.{IsSettled}
-use Rattle.longest_path.specs.Reaches.{steps_to}
+use Rattle.longest_path.proofs.Prelude.{◌≡◌, ◌+◌, ◌≤◌, List, length, subst, sym, arith, All, IsTableWithin, Reach, IsPassed, IsSettled, steps_to}
 use Rattle.longest_path.proofs.Raising.{not_yet, on_the_way, settled_by}
 use Rattle.longest_path.proofs.settle.longest_ways.Goals as goal
 

@@ -1,4 +1,4 @@
-use Rattle.longest_path.specs.Settled.{IsOnTheWay}
+use Rattle.longest_path.proofs.Prelude.{IsOnTheWay}
 use Rattle.longest_path.proofs.settle.longest_ways.Given as goal
 
 -- each pass before this one raised a net

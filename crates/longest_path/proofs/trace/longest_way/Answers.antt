@@ -1,7 +1,4 @@
-use Rattle.std.proofs.Common.{ℕ, ◌≡◌, ◌+◌, ◌-◌, ◌<◌, List, length, subst, sym, arith}
-use Rattle.longest_path.specs.declared.reach.Reach.{Reach}
-use Rattle.longest_path.specs.Reaches.{steps_to}
-use Rattle.longest_path.specs.Tracing.{IsThrough}
+use Rattle.longest_path.proofs.Prelude.{ℕ, ◌≡◌, ◌+◌, ◌-◌, ◌<◌, List, length, subst, sym, arith, Reach, steps_to, IsThrough}
 use Rattle.longest_path.proofs.Tracing.{longer, some_leads}
 use Rattle.longest_path.proofs.trace.longest_way.Goals as goal
 

@@ -1,6 +1,4 @@
-use Rattle.std.proofs.Common.{◌≡◌, ◌+◌, length}
-use Rattle.longest_path.specs.Reaches.{steps_to}
-use Rattle.longest_path.specs.Tracing.{IsThrough}
+use Rattle.longest_path.proofs.Prelude.{◌≡◌, ◌+◌, length, steps_to, IsThrough}
 use Rattle.longest_path.proofs.trace.longest_way.Given as goal
 
 -- the way from this net on was traced

@@ -1,4 +1,4 @@
-use Rattle.longest_path.specs.Tracing.{NoneLeads}
+use Rattle.longest_path.proofs.Prelude.{NoneLeads}
 use Rattle.longest_path.proofs.trace.step_back.Given as goal
 
 -- none of the tables before this one leads to the net

@@ -1,8 +1,4 @@
-use Rattle.std.proofs.Common.{◌≡◌, ◌+◌, ap, sym, subst, ◌∙◌, arith, IfOk}
-use Rattle.tenant_slot.specs.declared.reply.StateName.TheVariants.{Packing, Packed}
-use Rattle.one_user.specs.Outcomes.{Task, outcome_of}
-use Rattle.one_user.specs.Counting.{AreCounts}
-use Rattle.one_user.specs.Steps.{IsAt, IsPacked, state_at, task_in}
+use Rattle.one_user.proofs.Prelude.{◌≡◌, ◌+◌, ap, sym, subst, ◌∙◌, arith, IfOk, Packing, Packed, Task, outcome_of, AreCounts, IsAt, IsPacked, state_at, task_in}
 use Rattle.one_user.proofs.Asking.{Leads}
 use Rattle.one_user.proofs.Courses.{pack_leads, packing_done, task_own}
 use Rattle.one_user.proofs.counts.count_packed.Goals as goal

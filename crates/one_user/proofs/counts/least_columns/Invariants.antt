@@ -1,5 +1,4 @@
-use Rattle.std.proofs.Common.{ℕ, ◌≤◌}
-use Rattle.one_user.specs.Counting.{NoColumnsBelow}
+use Rattle.one_user.proofs.Prelude.{ℕ, ◌≤◌, NoColumnsBelow}
 use Rattle.one_user.proofs.counts.least_columns.Given as goal
 
 -- there is no room with less

@@ -1,5 +1,4 @@
-use Rattle.std.proofs.Common.{ℕ, ◌≤◌}
-use Rattle.one_user.specs.Counting.{NoRowsBelow}
+use Rattle.one_user.proofs.Prelude.{ℕ, ◌≤◌, NoRowsBelow}
 use Rattle.one_user.proofs.counts.least_rows.Given as goal
 
 -- there is no room with less

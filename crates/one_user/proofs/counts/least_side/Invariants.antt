@@ -1,5 +1,4 @@
-use Rattle.std.proofs.Common.{ℕ, ◌≤◌}
-use Rattle.one_user.specs.Counting.{NoSquareBelow}
+use Rattle.one_user.proofs.Prelude.{ℕ, ◌≤◌, NoSquareBelow}
 use Rattle.one_user.proofs.counts.least_side.Given as goal
 
 -- there is no room with less

@@ -1,10 +1,4 @@
-use Rattle.std.proofs.Common.{ℕ, List, ◌≡◌, ◌<◌, ◌∙◌, ap, length, subst, sym}
-use Rattle.rr_graph.specs.Graph.{graph_of}
-use Rattle.pathfinder.specs.Overuse.{count_over, overuse_at}
-use Rattle.pathfinder.specs.PlacedNets.{wiring_of}
-use Rattle.pathfinder.proofs.Overuses.{count_same}
-use Rattle.std.specs.List.{AllZip}
-use Rattle.one_user.specs.Crowding.{AreMostOverused, IsCrowdedNode, over_of}
+use Rattle.one_user.proofs.Prelude.{ℕ, List, ◌≡◌, ◌<◌, ◌∙◌, ap, length, subst, sym, graph_of, count_over, overuse_at, wiring_of, count_same, AllZip, AreMostOverused, IsCrowdedNode, over_of}
 use Rattle.one_user.proofs.Told.{most_same}
 use Rattle.one_user.proofs.crowding.crowded_nodes.Goals as goal
 

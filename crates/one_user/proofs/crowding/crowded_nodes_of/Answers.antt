@@ -1,8 +1,4 @@
-use Rattle.std.proofs.Common.{List, [], ◌∷◌, ◌++◌, ◌+◌, get_or, subst, sym, take}
-use Rattle.std.proofs.lemmas.List.{take_more}
-use Rattle.std.specs.List.{AllZip}
-use Rattle.one_user.specs.Crowding.{IsCrowdedNode}
-use Rattle.one_user.specs.declared.crowding.CrowdedNode.{CrowdedNode}
+use Rattle.one_user.proofs.Prelude.{List, [], ◌∷◌, ◌++◌, ◌+◌, get_or, subst, sym, take, take_more, AllZip, IsCrowdedNode, CrowdedNode}
 use Rattle.one_user.proofs.Told.{told_more}
 use Rattle.one_user.proofs.crowding.crowded_nodes_of.Goals as goal
 

@@ -1,6 +1,4 @@
-use Rattle.std.proofs.Common.{take}
-use Rattle.std.specs.List.{AllZip}
-use Rattle.one_user.specs.Crowding.{IsCrowdedNode}
+use Rattle.one_user.proofs.Prelude.{take, AllZip, IsCrowdedNode}
 use Rattle.one_user.proofs.crowding.crowded_nodes_of.Given as goal
 
 abbrev pub invariant-loop-number : goal.invariant-loop-number

@@ -1,5 +1,4 @@
-use Rattle.std.proofs.Common.{◌≡◌, ◌≤◌, ◌+◌, List, [], ◌∷◌, ◌++◌, Some, None, ap, arith, length, length-append, subst, sym}
-use Rattle.one_user.specs.Crowding.{IsNextMostOverused, over_of}
+use Rattle.one_user.proofs.Prelude.{◌≡◌, ◌≤◌, ◌+◌, List, [], ◌∷◌, ◌++◌, Some, None, ap, arith, length, length-append, subst, sym, IsNextMostOverused, over_of}
 use Rattle.one_user.proofs.Crowdings.{AreFirst, all_told, first_more, first_none, many_told}
 use Rattle.one_user.proofs.crowding.most_overused.Goals as goal
 

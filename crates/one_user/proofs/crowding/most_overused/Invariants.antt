@@ -1,5 +1,4 @@
-use Rattle.std.proofs.Common.{◌≡◌, length}
-use Rattle.one_user.specs.Crowding.{over_of}
+use Rattle.one_user.proofs.Prelude.{◌≡◌, length, over_of}
 use Rattle.one_user.proofs.Crowdings.{AreFirst}
 use Rattle.one_user.proofs.crowding.most_overused.Given as goal
 

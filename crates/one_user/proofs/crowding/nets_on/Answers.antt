@@ -1,5 +1,4 @@
-use Rattle.std.proofs.Common.{Bool, ℕ, [], Global, Vec, ap, slice_index_or, sym, ◌∙◌}
-use Rattle.pathfinder.specs.Overuse.{has_node}
+use Rattle.one_user.proofs.Prelude.{Bool, ℕ, [], Global, Vec, ap, slice_index_or, sym, ◌∙◌, has_node}
 use Rattle.one_user.proofs.Told.{no_net, one_net}
 use Rattle.one_user.proofs.crowding.nets_on.Goals as goal
 use Rattle.one_user.proofs.crowding.nets_on.Goals.{then-has_node+in_ok-push, else-has_node}

@@ -1,6 +1,5 @@
-use Rattle.std.proofs.Common.{◌≡◌, [], slice_index_or}
-use Rattle.std.specs.List.{filter, range_with_len}
-use Rattle.pathfinder.specs.Overuse.{has_node}
+use Rattle.one_user.proofs.Prelude.{◌≡◌, [], slice_index_or, range_with_len, has_node}
+use Rattle.std.specs.List.{filter}
 use Rattle.one_user.proofs.crowding.nets_on.Given as goal
 
 abbrev pub invariant-loop-net : goal.invariant-loop-net

@@ -1,6 +1,4 @@
-use Rattle.std.proofs.Common.{◌<◌}
-use Rattle.std.specs.Prelude.{IfSome}
-use Rattle.one_user.specs.Crowding.{IsNextMostOverused, over_of}
+use Rattle.one_user.proofs.Prelude.{◌<◌, IfSome, IsNextMostOverused, over_of}
 use Rattle.one_user.proofs.crowding.next_most_overused.Given as goal
 
 abbrev pub invariant-loop-node : goal.invariant-loop-node

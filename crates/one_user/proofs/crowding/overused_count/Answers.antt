@@ -1,6 +1,4 @@
-use Rattle.std.proofs.Common.{arith, ◌∙◌}
-use Rattle.pathfinder.proofs.Overuses.{counts_none, counts_one}
-use Rattle.one_user.specs.Crowding.{over_of}
+use Rattle.one_user.proofs.Prelude.{arith, ◌∙◌, counts_none, counts_one, over_of}
 use Rattle.one_user.proofs.crowding.overused_count.Goals as goal
 use Rattle.one_user.proofs.crowding.overused_count.Goals.{then-overs-node-gt0, else-overs-node-gt0}
 

@@ -1,6 +1,4 @@
-use Rattle.std.proofs.Common.{◌≡◌, ◌≤◌}
-use Rattle.pathfinder.specs.Overuse.{count_over}
-use Rattle.one_user.specs.Crowding.{over_of}
+use Rattle.one_user.proofs.Prelude.{◌≡◌, ◌≤◌, count_over, over_of}
 use Rattle.one_user.proofs.crowding.overused_count.Given as goal
 
 abbrev pub invariant-loop-node : goal.invariant-loop-node

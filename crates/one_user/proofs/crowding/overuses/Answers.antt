@@ -1,6 +1,4 @@
-use Rattle.std.proofs.Common.{arith}
-use Rattle.pathfinder.specs.Negotiation.{GaveUp}
-use Rattle.pathfinder.specs.PlacedNets.{wiring_of}
+use Rattle.one_user.proofs.Prelude.{arith, GaveUp, wiring_of}
 use Rattle.one_user.proofs.Told.{long_at}
 use Rattle.one_user.proofs.crowding.overuses.Goals as goal
 

@@ -1,6 +1,4 @@
-use Rattle.std.proofs.Common.{ℕ, ◌≡◌, ◌<◌, length, slice_index}
-use Rattle.pathfinder.specs.Overuse.{overuse_at}
-use Rattle.pathfinder.specs.PlacedNets.{wiring_of}
+use Rattle.one_user.proofs.Prelude.{ℕ, ◌≡◌, ◌<◌, length, slice_index, overuse_at, wiring_of}
 use Rattle.one_user.proofs.crowding.overuses.Given as goal
 
 abbrev pub invariant-loop-node : goal.invariant-loop-node

@@ -1,7 +1,4 @@
-use Rattle.std.proofs.Common.{ap}
-use Rattle.std.specs.List.{flat_map}
-use Rattle.line_text.proofs.WritingLemmas.{all_same, part_first, part_same, part_then, writes_part, writes_then}
-use Rattle.one_user.specs.CrowdingText.{net_word}
+use Rattle.one_user.proofs.Prelude.{ap, flat_map, all_same, part_first, part_same, part_then, writes_part, writes_then, net_word}
 use Rattle.one_user.proofs.crowding_text.write_crowded.Goals as goal
 
 pub returns-in_err-write_node : goal.returns-in_err-write_node

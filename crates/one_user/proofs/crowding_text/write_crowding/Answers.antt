@@ -1,7 +1,4 @@
-use Rattle.std.proofs.Common.{ap}
-use Rattle.std.specs.List.{flat_map}
-use Rattle.line_text.proofs.WritingLemmas.{part_first, writes_part, writes_same, writes_then}
-use Rattle.one_user.specs.CrowdingText.{crowded_line}
+use Rattle.one_user.proofs.Prelude.{ap, flat_map, part_first, writes_part, writes_same, writes_then, crowded_line}
 use Rattle.one_user.proofs.crowding_text.write_crowding.Goals as goal
 
 pub returns-in_err-write_overused : goal.returns-in_err-write_overused

@@ -1,6 +1,4 @@
-use Rattle.std.proofs.lemmas.Option.{slice_get-get_or}
-use Rattle.line_text.proofs.WritingLemmas.{part_loop, writes_part}
-use Rattle.one_user.specs.CrowdingText.{net_word}
+use Rattle.one_user.proofs.Prelude.{slice_get-get_or, part_loop, writes_part, net_word}
 use Rattle.one_user.proofs.crowding_text.write_nets.Goals as goal
 
 pub returns-in_err-write_net : goal.returns-in_err-write_net

@@ -1,8 +1,4 @@
-use Rattle.std.proofs.Common.{◌≡◌, ◌∙◌, Some, ap, sym}
-use Rattle.std.specs.List.{slice_get}
-use Rattle.std.proofs.lemmas.Option.{slice_get-get_or}
-use Rattle.line_text.proofs.WritingLemmas.{all_loop, part_loop, writes_part}
-use Rattle.one_user.specs.CrowdingText.{crowded_line}
+use Rattle.one_user.proofs.Prelude.{◌≡◌, ◌∙◌, Some, ap, sym, slice_get, slice_get-get_or, all_loop, part_loop, writes_part, crowded_line}
 use Rattle.one_user.proofs.crowding_text.write_nodes.Goals as goal
 
 pub returns-in_err-write_crowded : goal.returns-in_err-write_crowded

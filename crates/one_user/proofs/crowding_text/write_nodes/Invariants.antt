@@ -1,7 +1,4 @@
-use Rattle.std.proofs.Common.{take}
-use Rattle.std.specs.List.{flat_map}
-use Rattle.line_text.specs.Writing.{TakesAll}
-use Rattle.one_user.specs.CrowdingText.{crowded_line}
+use Rattle.one_user.proofs.Prelude.{take, flat_map, TakesAll, crowded_line}
 use Rattle.one_user.proofs.crowding_text.write_nodes.Given as goal
 
 -- the lines before this one are written

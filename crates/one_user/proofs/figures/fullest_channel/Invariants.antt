@@ -1,4 +1,4 @@
-use Rattle.std.proofs.Common.{◌≤◌}
+use Rattle.one_user.proofs.Prelude.{◌≤◌}
 use Rattle.one_user.proofs.figures.fullest_channel.Given as goal
 
 abbrev pub invariant-loop-number : goal.invariant-loop-number

@@ -1,5 +1,4 @@
-use Rattle.std.proofs.Common.{ap, ◌∙◌, min}
-use Rattle.one_user.specs.declared.least.FirstTry.{FirstTry}
+use Rattle.one_user.proofs.Prelude.{ap, ◌∙◌, min, FirstTry}
 use Rattle.one_user.proofs.TooFew.{first_is}
 use Rattle.one_user.proofs.least.first_try.Goals as goal
 

@@ -1,5 +1,4 @@
-use Rattle.std.proofs.Common.{subst, arith}
-use Rattle.one_user.specs.Tracks.{IsTry}
+use Rattle.one_user.proofs.Prelude.{subst, arith, IsTry}
 use Rattle.one_user.proofs.Upward.{unrouted_more}
 use Rattle.one_user.proofs.least.least_for.Goals as goal
 

@@ -1,6 +1,4 @@
-use Rattle.std.proofs.Common.{◌+◌, ◌≤◌}
-use Rattle.arch_file.specs.declared.arch.TheConstants.{MAX_TRACKS}
-use Rattle.one_user.specs.Tracks.{AreUnroutedBelow}
+use Rattle.one_user.proofs.Prelude.{◌+◌, ◌≤◌, MAX_TRACKS, AreUnroutedBelow}
 use Rattle.one_user.proofs.least.least_for.Given as goal
 
 abbrev pub invariant-loop-tracks : goal.invariant-loop-tracks

@@ -1,4 +1,4 @@
-use Rattle.std.proofs.Common.{subst}
+use Rattle.one_user.proofs.Prelude.{subst}
 use Rattle.cluster.specs.LawfulPackings.{IsPacked}
 use Rattle.one_user.proofs.TooFew.{unrouted_below}
 use Rattle.one_user.proofs.least.too_few_below.Goals as goal

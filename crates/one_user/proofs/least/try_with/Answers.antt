@@ -1,6 +1,4 @@
-use Rattle.std.proofs.Common.{ap, subst, sym, ◌∙◌}
-use Rattle.rr_graph.specs.Graph.{Basis}
-use Rattle.one_user.specs.PlacedRuns.{IsRunOn}
+use Rattle.one_user.proofs.Prelude.{ap, subst, sym, ◌∙◌, Basis, IsRunOn}
 use Rattle.one_user.proofs.OtherTracks.{is_try, strip_is}
 use Rattle.one_user.proofs.least.try_with.Goals as goal
 

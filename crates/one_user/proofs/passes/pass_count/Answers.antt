@@ -1,4 +1,4 @@
-use Rattle.std.proofs.Common.{◌*◌, ◌/◌, ◌<◌, sym, subst, ap, ◌∙◌, arith}
+use Rattle.one_user.proofs.Prelude.{◌*◌, ◌/◌, ◌<◌, sym, subst, ap, ◌∙◌, arith}
 use Rattle.one_user.proofs.Coolings.{first_temperature, next_temperature, passes_are, still_warm}
 use Rattle.one_user.proofs.passes.pass_count.Goals as goal
 

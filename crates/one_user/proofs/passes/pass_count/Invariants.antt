@@ -1,5 +1,4 @@
-use Rattle.std.proofs.Common.{ℕ, ◌≡◌, ◌+◌, ◌<◌, ◌≤◌}
-use Rattle.strip_place.specs.Anneal.{temperature_at}
+use Rattle.one_user.proofs.Prelude.{ℕ, ◌≡◌, ◌+◌, ◌<◌, ◌≤◌, temperature_at}
 use Rattle.one_user.proofs.passes.pass_count.Given as goal
 
 abbrev pub invariant-loop-passes : goal.invariant-loop-passes

@@ -1,4 +1,4 @@
-use Rattle.std.proofs.Common.{◌*◌, ◌/◌, sym, ap, ◌∙◌, arith}
+use Rattle.one_user.proofs.Prelude.{◌*◌, ◌/◌, sym, ap, ◌∙◌, arith}
 use Rattle.one_user.proofs.Coolings.{first_temperature, next_temperature}
 use Rattle.one_user.proofs.passes.temperature_after.Goals as goal
 

@@ -1,5 +1,4 @@
-use Rattle.std.proofs.Common.{◌≡◌, ◌≤◌}
-use Rattle.strip_place.specs.Anneal.{temperature_at}
+use Rattle.one_user.proofs.Prelude.{◌≡◌, ◌≤◌, temperature_at}
 use Rattle.one_user.proofs.passes.temperature_after.Given as goal
 
 abbrev pub invariant-loop-pass : goal.invariant-loop-pass

@@ -1,6 +1,4 @@
-use Rattle.std.proofs.Common.{◌∙◌, ap, sym}
-use Rattle.pin_file.specs.Reading.{pins_read}
-use Rattle.rr_graph.specs.Graph.{Basis}
+use Rattle.one_user.proofs.Prelude.{◌∙◌, ap, sym, pins_read, Basis}
 use Rattle.one_user.proofs.PinnedRuns.{same_strip}
 use Rattle.one_user.proofs.pinned.device_with.Goals as goal
 

@@ -1,7 +1,4 @@
-use Rattle.std.proofs.Common.{Option, subst, arith}
-use Rattle.pin_file.specs.Reading.{pins_read}
-use Rattle.one_user.specs.Pinned.{IsTryOn}
-use Rattle.one_user.specs.declared.outcome.Run.{Run}
+use Rattle.one_user.proofs.Prelude.{Option, subst, arith, pins_read, IsTryOn, Run}
 use Rattle.one_user.proofs.PinnedRuns.{none_tried, one_tried, whole_limit}
 use Rattle.one_user.proofs.pinned.least_on.Goals as goal
 

@@ -1,4 +1,4 @@
-use Rattle.std.proofs.Common.{sym, ◌∙◌}
+use Rattle.one_user.proofs.Prelude.{sym, ◌∙◌}
 use Rattle.one_user.proofs.LastPass.{last_pass}
 use Rattle.one_user.proofs.placing.make_passes.Goals as goal
 

@@ -1,5 +1,4 @@
-use Rattle.std.proofs.Common.{ℕ, ◌≡◌, ◌≤◌, false}
-use Rattle.strip_place.specs.Anneal.{is_past_last}
+use Rattle.one_user.proofs.Prelude.{ℕ, ◌≡◌, ◌≤◌, false, is_past_last}
 use Rattle.one_user.proofs.placing.make_passes.Given as goal
 
 abbrev pub invariant-loop-pass : goal.invariant-loop-pass

@@ -1,5 +1,4 @@
-use Rattle.std.proofs.Common.{arith}
-use Rattle.job_state.proofs.FewSteps.{few_steps}
+use Rattle.one_user.proofs.Prelude.{arith, few_steps}
 use Rattle.one_user.proofs.placing.pack.Goals as goal
 
 pub unreachable-requires : goal.unreachable-requires

@@ -1,5 +1,4 @@
-use Rattle.std.proofs.Common.{◌≡◌, ◌<◌}
-use Rattle.cluster.specs.Clusters.{packing_steps}
+use Rattle.one_user.proofs.Prelude.{◌≡◌, ◌<◌, packing_steps}
 use Rattle.one_user.proofs.placing.pack.Given as goal
 
 abbrev pub invariant-loop-made : goal.invariant-loop-made

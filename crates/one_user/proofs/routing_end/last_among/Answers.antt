@@ -1,7 +1,4 @@
-use Rattle.std.proofs.Common.{◌+◌, ap, arith, rules, sym}
-use Rattle.job_state.proofs.Iterations.{ends_by_thirty}
-use Rattle.pathfinder.specs.Negotiation.{Routed}
-use Rattle.pathfinder.specs.PlacedNets.{wiring_of}
+use Rattle.one_user.proofs.Prelude.{◌+◌, ap, arith, rules, sym, ends_by_thirty, Routed, wiring_of}
 use Rattle.one_user.proofs.routing_end.last_among.Goals as goal
 
 pub returns-in-Ok : goal.returns-in-Ok

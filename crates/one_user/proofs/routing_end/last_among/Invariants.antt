@@ -1,7 +1,4 @@
-use Rattle.std.proofs.Common.{◌≡◌}
-use Rattle.pathfinder.specs.Negotiation.{More}
-use Rattle.pathfinder.specs.PlacedNets.{nets_to_route, wiring_of}
-use Rattle.pathfinder.specs.Routings.{IsAfter}
+use Rattle.one_user.proofs.Prelude.{◌≡◌, More, nets_to_route, wiring_of, IsAfter}
 use Rattle.one_user.proofs.routing_end.last_among.Given as goal
 
 abbrev pub invariant-loop-iteration : goal.invariant-loop-iteration

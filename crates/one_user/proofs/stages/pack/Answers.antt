@@ -1,12 +1,4 @@
-use Rattle.std.proofs.Common.{◌≡◌, ◌+◌, ap, sym, subst, ◌∙◌, arith, IfOk}
-use Rattle.std.specs.Prelude.{IfSome}
-use Rattle.rr_graph.specs.Graph.{Basis}
-use Rattle.tenant_slot.specs.declared.reply.StateName.TheVariants.{Packing, Packed}
-use Rattle.one_user.specs.Figures.{HasFigures}
-use Rattle.one_user.specs.Outcomes.{Task, outcome_of}
-use Rattle.one_user.specs.Counting.{AreCounts}
-use Rattle.one_user.specs.Steps.{IsAt, IsPacked, state_at, task_in}
-use Rattle.one_user.specs.declared.outcome.Run.{Run}
+use Rattle.one_user.proofs.Prelude.{◌≡◌, ◌+◌, ap, sym, subst, ◌∙◌, arith, IfOk, IfSome, Basis, Packing, Packed, HasFigures, Task, outcome_of, AreCounts, IsAt, IsPacked, state_at, task_in, Run}
 use Rattle.one_user.proofs.Asking.{Leads}
 use Rattle.one_user.proofs.Courses.{pack_leads, packing_done, task_own}
 use Rattle.one_user.proofs.stages.pack.Goals as goal

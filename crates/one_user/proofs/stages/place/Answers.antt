@@ -1,12 +1,5 @@
-use Rattle.std.proofs.Common.{◌≡◌, ◌+◌, ap, sym, subst, ◌∙◌, arith, IfOk}
-use Rattle.std.specs.Prelude.{IfSome}
-use Rattle.rr_graph.specs.Graph.{Basis}
+use Rattle.one_user.proofs.Prelude.{◌≡◌, ◌+◌, ap, sym, subst, ◌∙◌, arith, IfOk, IfSome, Basis, HasFigures, Task, outcome_of, AreCounts, IsPlaced, state_at, task_in, Run}
 use Rattle.tenant_slot.specs.declared.reply.StateName.TheVariants.{Placing}
-use Rattle.one_user.specs.Figures.{HasFigures}
-use Rattle.one_user.specs.Outcomes.{Task, outcome_of}
-use Rattle.one_user.specs.Counting.{AreCounts}
-use Rattle.one_user.specs.Steps.{IsPlaced, state_at, task_in}
-use Rattle.one_user.specs.declared.outcome.Run.{Run}
 use Rattle.one_user.proofs.Asking.{Leads}
 use Rattle.one_user.proofs.Courses.{at_self, place_leads, placed_own, placing_done}
 use Rattle.one_user.proofs.stages.place.Goals as goal

@@ -1,19 +1,5 @@
-use Rattle.std.proofs.Common.{◌≡◌, ◌+◌, None, ap, sym, subst, ◌∙◌, arith, refl}
+use Rattle.one_user.proofs.Prelude.{◌≡◌, ◌+◌, None, ap, sym, subst, ◌∙◌, arith, refl, packed_of, end_value, Basis, has, ResourceUse, failure_of, answer_to, SlotState, Status, Command as Asked, product, wires_there, routing_of, HasRouted, IsLeft, ending_in, task_in}
 use Rattle.std.specs.Prelude.{length}
-use Rattle.cluster.specs.Clusters.{packed_of}
-use Rattle.job_state.specs.JobValue.{end_value}
-use Rattle.rr_graph.specs.Graph.{Basis}
-use Rattle.rr_graph.specs.Resources.{has}
-use Rattle.device_report.specs.declared.tenancies.ResourceUse.{ResourceUse}
-use Rattle.tenant_slot.specs.Results.{failure_of}
-use Rattle.tenant_slot.specs.SingleUser.{answer_to}
-use Rattle.tenant_slot.specs.Slot.{SlotState}
-use Rattle.tenant_slot.specs.declared.command.Command.TheVariants.{Status}
-use Rattle.tenant_slot.specs.declared.event.Event.TheVariants.{Command as Asked}
-use Rattle.one_user.specs.Figures.{product, wires_there}
-use Rattle.one_user.specs.Outcomes.{routing_of}
-use Rattle.one_user.specs.Service.{HasRouted}
-use Rattle.one_user.specs.Steps.{IsLeft, ending_in, task_in}
 use Rattle.one_user.proofs.Courses.{route_leads, routing_done}
 use Rattle.one_user.proofs.Routings.{has_routed, left_is, none_failed, routed_files, routed_held, routed_loaded, same_left, share_of, some_ending, some_text}
 use Rattle.one_user.proofs.stages.route.Goals as goal

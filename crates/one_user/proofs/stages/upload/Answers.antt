@@ -1,8 +1,4 @@
-use Rattle.std.proofs.Common.{◌≡◌, ap, sym, subst, ◌∙◌, arith}
-use Rattle.tenant_slot.specs.Slot.{SlotState}
-use Rattle.tenant_slot.specs.declared.reply.StateName.TheVariants.{Loaded}
-use Rattle.one_user.specs.Outcomes.{Task}
-use Rattle.one_user.specs.Steps.{IsAt, IsLoaded, device_of, state_at, task_in}
+use Rattle.one_user.proofs.Prelude.{◌≡◌, ap, sym, subst, ◌∙◌, arith, SlotState, Loaded, Task, IsAt, IsLoaded, device_of, state_at, task_in}
 use Rattle.one_user.proofs.Asking.{Leads}
 use Rattle.one_user.proofs.Courses.{at_own, loaded_own, upload_leads}
 use Rattle.one_user.proofs.stages.upload.Goals as goal

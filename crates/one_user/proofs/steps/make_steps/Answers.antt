@@ -1,8 +1,4 @@
-use Rattle.std.proofs.Common.{sym, ap, subst, ◌∙◌, arith}
-use Rattle.std.specs.Prelude.{IsSome}
-use Rattle.tenant_slot.specs.SingleUser.{kind_that_runs}
-use Rattle.tenant_slot.specs.Slot.{SlotState}
-use Rattle.one_user.specs.Steps.{device_of}
+use Rattle.one_user.proofs.Prelude.{sym, ap, subst, ◌∙◌, arith, IsSome, kind_that_runs, SlotState, device_of}
 use Rattle.one_user.proofs.Running.{first_state, step_ends, step_goes_on}
 use Rattle.one_user.proofs.steps.make_steps.Goals as goal
 

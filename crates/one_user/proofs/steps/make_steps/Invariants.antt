@@ -1,5 +1,4 @@
-use Rattle.std.proofs.Common.{◌≡◌, ◌≤◌}
-use Rattle.one_user.specs.Steps.{slot_in}
+use Rattle.one_user.proofs.Prelude.{◌≡◌, ◌≤◌, slot_in}
 use Rattle.one_user.proofs.Running.{state_after}
 use Rattle.one_user.proofs.steps.make_steps.Given as goal
 

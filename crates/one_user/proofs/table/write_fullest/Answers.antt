@@ -1,6 +1,4 @@
-use Rattle.std.proofs.Common.{sym, subst}
-use Rattle.line_text.specs.Writing.{Writes}
-use Rattle.one_user.specs.Lines.{fullest_line}
+use Rattle.one_user.proofs.Prelude.{sym, subst, Writes, fullest_line}
 use Rattle.one_user.proofs.table.write_fullest.Goals as goal
 
 pub returns-in-Some : goal.returns-in-Some

@@ -1,4 +1,4 @@
-use Rattle.line_text.proofs.WritingLemmas.{part_first, writes_part, writes_then}
+use Rattle.one_user.proofs.Prelude.{part_first, writes_part, writes_then}
 use Rattle.one_user.proofs.table.write_named.Goals as goal
 
 pub returns-in_err-write_parts : goal.returns-in_err-write_parts

@@ -1,4 +1,4 @@
-use Rattle.operator.specs.Ids.{newest_first}
+use Rattle.operator.proofs.Prelude.{newest_first}
 use Rattle.operator.proofs.OperatorLemmas.{AreLastIds-insert, newest_first-push}
 use Rattle.operator.proofs.operator.note.Goals as goal
 

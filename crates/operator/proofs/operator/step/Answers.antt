@@ -1,7 +1,4 @@
-use Rattle.std.proofs.Common.{ℕ, ◌≡◌, ◌+◌, ◌++◌, arith, rules, subst}
-use Rattle.operator.specs.Held.{sink_text}
-use Rattle.operator.specs.OperatorText.{outcome_text}
-use Rattle.operator.specs.Operators.{Steps}
+use Rattle.operator.proofs.Prelude.{ℕ, ◌≡◌, ◌+◌, ◌++◌, arith, rules, subst, sink_text, outcome_text, Steps}
 use Rattle.operator.proofs.OperatorLemmas.{on_err}
 use Rattle.operator.proofs.Stepping.{steps_more, steps_none, tries_more}
 use Rattle.operator.proofs.operator.step.Goals as goal

@@ -1,5 +1,4 @@
-use Rattle.operator.specs.Held.{sink_text}
-use Rattle.operator.specs.Operators.{Steps}
+use Rattle.operator.proofs.Prelude.{sink_text, Steps}
 use Rattle.operator.proofs.operator.step.Given as goal
 
 -- the steps so far

@@ -1,7 +1,4 @@
-use Rattle.std.proofs.Common.{◌≡◌, ◌++◌, take}
-use Rattle.std.specs.List.{flat_map}
-use Rattle.operator.specs.Held.{sink_text}
-use Rattle.operator.specs.OwnersText.{owned_text}
+use Rattle.operator.proofs.Prelude.{◌≡◌, ◌++◌, take, flat_map, sink_text, owned_text}
 use Rattle.operator.proofs.owners.push_each.Given as goal
 
 -- the lines of the resources before this one

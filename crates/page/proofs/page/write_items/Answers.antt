@@ -1,6 +1,4 @@
-use Rattle.std.proofs.lemmas.Option.{slice_get-get_or}
-use Rattle.line_text.proofs.WritingLemmas.{all_loop, part_loop, writes_part}
-use Rattle.page.specs.Pages.{item_text}
+use Rattle.page.proofs.Prelude.{slice_get-get_or, all_loop, part_loop, writes_part, item_text}
 use Rattle.page.proofs.page.write_items.Goals as goal
 
 pub returns-in_err-write_item : goal.returns-in_err-write_item

@@ -1,7 +1,5 @@
-use Rattle.std.proofs.Common.{take}
+use Rattle.page.proofs.Prelude.{take, TakesAll, item_text}
 use Rattle.std.specs.Prelude.{flat_map}
-use Rattle.line_text.specs.Writing.{TakesAll}
-use Rattle.page.specs.Pages.{item_text}
 use Rattle.page.proofs.page.write_items.Given as goal
 
 -- the items before this one are written

@@ -1,7 +1,4 @@
-use Rattle.std.proofs.Common.{ap}
-use Rattle.std.specs.List.{flat_map}
-use Rattle.line_text.proofs.WritingLemmas.{part_first, writes_part, writes_same, writes_then}
-use Rattle.page.specs.Shown.{escape_of}
+use Rattle.page.proofs.Prelude.{ap, flat_map, part_first, writes_part, writes_same, writes_then, escape_of}
 use Rattle.page.proofs.page.write_kind.Goals as goal
 
 pub returns-in_err-write_parts : goal.returns-in_err-write_parts

@@ -1,4 +1,4 @@
-use Rattle.line_text.proofs.WritingLemmas.{part_first, part_then, writes_part, writes_then}
+use Rattle.page.proofs.Prelude.{part_first, part_then, writes_part, writes_then}
 use Rattle.page.proofs.page.write_start.Goals as goal
 
 pub returns-in_err-write_kind : goal.returns-in_err-write_kind

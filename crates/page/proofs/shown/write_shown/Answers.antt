@@ -1,6 +1,4 @@
-use Rattle.std.proofs.lemmas.Option.{slice_get-get_or}
-use Rattle.line_text.proofs.WritingLemmas.{part_loop, writes_part}
-use Rattle.page.specs.Shown.{escape_of}
+use Rattle.page.proofs.Prelude.{slice_get-get_or, part_loop, writes_part, escape_of}
 use Rattle.page.proofs.shown.write_shown.Goals as goal
 
 pub returns-in_err-write_byte : goal.returns-in_err-write_byte

@@ -1,7 +1,4 @@
-use Rattle.std.proofs.Common.{take}
-use Rattle.std.specs.List.{flat_map}
-use Rattle.line_text.specs.Writing.{TakesAll}
-use Rattle.page.specs.Shown.{escape_of}
+use Rattle.page.proofs.Prelude.{take, flat_map, TakesAll, escape_of}
 use Rattle.page.proofs.shown.write_shown.Given as goal
 
 -- the bytes before this one are written

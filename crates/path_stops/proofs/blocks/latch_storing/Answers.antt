@@ -1,8 +1,4 @@
-use Rattle.std.proofs.Common.{◌≡◌, ◌==◌, ◌∙◌, Some, None, sym, ap, rules, tests, option_map}
-use Rattle.std.specs.Prelude.{find}
-use Rattle.std.proofs.lemmas.Iterator.{YieldsList-from_slice}
-use Rattle.std.proofs.lemmas.Iterator.Search.{find_from_yields_List}
-use Rattle.blif.specs.declared.latches.Latch.{Latch}
+use Rattle.path_stops.proofs.Prelude.{◌≡◌, ◌==◌, ◌∙◌, Some, None, sym, ap, rules, tests, option_map, find, YieldsList-from_slice, find_from_yields_List, Latch}
 use Rattle.path_stops.proofs.blocks.latch_storing.Goals as goal
 
 pub returns-in-Some : goal.returns-in-Some

@@ -1,8 +1,4 @@
-use Rattle.std.proofs.Common.{List, [], ◌∷◌, ◌++◌, ◌+◌, subst, sym, take}
-use Rattle.std.proofs.lemmas.List.{take_more}
-use Rattle.std.specs.List.{AllZip}
-use Rattle.path_stops.specs.Measured.{IsMeasured}
-use Rattle.path_stops.specs.declared.measured.MeasuredStop.{MeasuredStop}
+use Rattle.path_stops.proofs.Prelude.{List, [], ◌∷◌, ◌++◌, ◌+◌, subst, sym, take, take_more, AllZip, IsMeasured, MeasuredStop}
 use Rattle.path_stops.proofs.Zipped.{zip_more}
 use Rattle.path_stops.proofs.measured.measured_stops.Goals as goal
 

@@ -1,6 +1,4 @@
-use Rattle.std.proofs.Common.{take}
-use Rattle.std.specs.List.{AllZip}
-use Rattle.path_stops.specs.Measured.{IsMeasured}
+use Rattle.path_stops.proofs.Prelude.{take, AllZip, IsMeasured}
 use Rattle.path_stops.proofs.measured.measured_stops.Given as goal
 
 -- the stops before this one

@@ -1,5 +1,4 @@
-use Rattle.std.proofs.Common.{◌≡◌, ◌++◌, eqb, filter, map, take}
-use Rattle.path_stops.specs.Stops.{latch_stop}
+use Rattle.path_stops.proofs.Prelude.{◌≡◌, ◌++◌, eqb, filter, map, take, latch_stop}
 use Rattle.path_stops.proofs.stops.add_latches.Given as goal
 
 -- the latches before this one that store the net

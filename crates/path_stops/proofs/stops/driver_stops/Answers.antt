@@ -1,8 +1,4 @@
-use Rattle.std.proofs.Common.{ℕ, ◌∙◌, List, [], ◌∷◌, ◌++◌, ap, map, sym, zero-add}
-use Rattle.std.specs.List.{range_with_len}
-use Rattle.std.proofs.lemmas.List.FromFn.{map-range_with_len_more}
-use Rattle.path_stops.specs.Stops.{stop_at}
-use Rattle.path_stops.specs.declared.stops.PathStop.{PathStop}
+use Rattle.path_stops.proofs.Prelude.{ℕ, ◌∙◌, List, [], ◌∷◌, ◌++◌, ap, map, sym, zero-add, range_with_len, map-range_with_len_more, stop_at, PathStop}
 use Rattle.path_stops.proofs.stops.driver_stops.Goals as goal
 
 pub loop-place-preserved : goal.loop-place-preserved

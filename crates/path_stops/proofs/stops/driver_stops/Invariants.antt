@@ -1,6 +1,4 @@
-use Rattle.std.proofs.Common.{◌≡◌, ◌+◌, length, map, take}
-use Rattle.std.specs.List.{range_with_len}
-use Rattle.path_stops.specs.Stops.{stop_at}
+use Rattle.path_stops.proofs.Prelude.{◌≡◌, ◌+◌, length, map, take, range_with_len, stop_at}
 use Rattle.path_stops.proofs.stops.driver_stops.Given as goal
 
 -- the stops before this one

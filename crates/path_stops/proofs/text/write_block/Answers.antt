@@ -1,6 +1,4 @@
-use Rattle.std.proofs.Common.{sym, subst}
-use Rattle.line_text.specs.Writing.{Writes}
-use Rattle.path_stops.specs.Text.{text_by}
+use Rattle.path_stops.proofs.Prelude.{sym, subst, Writes, text_by}
 use Rattle.path_stops.proofs.text.write_block.Goals as goal
 
 pub returns-in-Cluster : goal.returns-in-Cluster

@@ -1,4 +1,4 @@
-use Rattle.line_text.proofs.WritingLemmas.{part_first, part_then, writes_part, writes_then}
+use Rattle.path_stops.proofs.Prelude.{part_first, part_then, writes_part, writes_then}
 use Rattle.path_stops.proofs.text.write_stop.Goals as goal
 
 pub returns-in_err-write_way : goal.returns-in_err-write_way

@@ -1,6 +1,4 @@
-use Rattle.std.proofs.lemmas.Option.{slice_get-get_or}
-use Rattle.line_text.proofs.WritingLemmas.{part_loop, writes_part}
-use Rattle.path_stops.specs.Text.{stop_text}
+use Rattle.path_stops.proofs.Prelude.{slice_get-get_or, part_loop, writes_part, stop_text}
 use Rattle.path_stops.proofs.text.write_stops.Goals as goal
 
 pub returns-in_err-write_stop : goal.returns-in_err-write_stop

@@ -1,7 +1,4 @@
-use Rattle.std.proofs.Common.{take}
-use Rattle.std.specs.List.{flat_map}
-use Rattle.line_text.specs.Writing.{TakesAll}
-use Rattle.path_stops.specs.Text.{stop_text}
+use Rattle.path_stops.proofs.Prelude.{take, flat_map, TakesAll, stop_text}
 use Rattle.path_stops.proofs.text.write_stops.Given as goal
 
 -- the stops before this one are written

@@ -1,6 +1,4 @@
-use Rattle.std.proofs.Common.{sym, subst}
-use Rattle.line_text.specs.Writing.{Writes}
-use Rattle.path_stops.specs.Text.{way_line}
+use Rattle.path_stops.proofs.Prelude.{sym, subst, Writes, way_line}
 use Rattle.path_stops.proofs.text.write_way.Goals as goal
 
 pub returns-in-Some : goal.returns-in-Some

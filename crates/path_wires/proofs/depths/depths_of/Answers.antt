@@ -1,6 +1,4 @@
-use Rattle.std.proofs.Common.{ℕ, ◌≡◌, ◌+◌, ◌∙◌, List, length, ap, sym, subst, arith}
-use Rattle.strip_files.specs.declared.route_node.RouteNode.{RouteNode}
-use Rattle.path_wires.specs.Wires.{AreSmall, AreUpTo, depth_at}
+use Rattle.path_wires.proofs.Prelude.{ℕ, ◌≡◌, ◌+◌, ◌∙◌, List, length, ap, sym, subst, arith, RouteNode, AreSmall, AreUpTo, depth_at}
 use Rattle.path_wires.proofs.Along.{small_more, up_to_more}
 use Rattle.path_wires.proofs.depths.depths_of.Goals as goal
 

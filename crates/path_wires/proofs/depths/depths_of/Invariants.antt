@@ -1,5 +1,4 @@
-use Rattle.std.proofs.Common.{◌≡◌, length}
-use Rattle.path_wires.specs.Wires.{AreSmall, AreUpTo}
+use Rattle.path_wires.proofs.Prelude.{◌≡◌, length, AreSmall, AreUpTo}
 use Rattle.path_wires.proofs.depths.depths_of.Given as goal
 
 -- the nodes before this one

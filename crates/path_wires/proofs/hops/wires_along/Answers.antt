@@ -1,4 +1,4 @@
-use Rattle.std.proofs.Common.{◌∙◌, sym}
+use Rattle.path_wires.proofs.Prelude.{◌∙◌, sym}
 use Rattle.path_wires.proofs.Counts.{counts_next}
 use Rattle.path_wires.proofs.hops.wires_along.Goals as goal
 

@@ -1,6 +1,4 @@
-use Rattle.std.proofs.Common.{ℕ, ◌≡◌, ◌^◌, ◌-◌, List, min, take}
-use Rattle.std.specs.List.{sum}
-use Rattle.path_wires.specs.Wires.{AreCounts}
+use Rattle.path_wires.proofs.Prelude.{ℕ, ◌≡◌, ◌^◌, ◌-◌, List, min, take, sum, AreCounts}
 use Rattle.path_wires.proofs.hops.wires_along.Given as goal
 
 -- the hops before this one

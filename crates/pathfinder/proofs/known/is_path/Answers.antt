@@ -1,4 +1,4 @@
-use Rattle.std.proofs.Common.{◌∙◌, ◌-◌, length, get_or, arith, sym}
+use Rattle.pathfinder.proofs.Prelude.{◌∙◌, ◌-◌, length, get_or, arith, sym}
 use Rattle.pathfinder.proofs.Steps.{any_true}
 use Rattle.pathfinder.proofs.Ways.{path_from}
 use Rattle.pathfinder.proofs.known.is_path.Goals as goal

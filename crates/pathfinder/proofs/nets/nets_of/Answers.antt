@@ -1,10 +1,4 @@
-use Rattle.std.proofs.Common.{◌≡◌, ◌∙◌, ◌++◌, ◌∷◌, [], ap, subst, get_or, arith, ◌<◌, length, List, map, sym}
-use Rattle.std.proofs.lemmas.List.{take_all}
-use Rattle.std.proofs.lemmas.Option.{get_or_from_slice_get}
-use Rattle.cluster.specs.Blocks.{BlockNet, block_nets}
-use Rattle.cluster.specs.PackingLaws.{IsBlockNet}
-use Rattle.pathfinder.specs.Wiring.{Net}
-use Rattle.pathfinder.specs.PlacedNets.{net_to_route, nets_to_route}
+use Rattle.pathfinder.proofs.Prelude.{◌≡◌, ◌∙◌, ◌++◌, ◌∷◌, [], ap, subst, get_or, arith, ◌<◌, length, List, map, sym, take_all, get_or_from_slice_get, BlockNet, block_nets, IsBlockNet, Net, net_to_route, nets_to_route}
 use Rattle.pathfinder.proofs.Lists.{map_more}
 use Rattle.pathfinder.proofs.nets.nets_of.Goals as goal
 

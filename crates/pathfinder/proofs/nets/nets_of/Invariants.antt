@@ -1,6 +1,4 @@
-use Rattle.std.proofs.Common.{◌≡◌, map, take}
-use Rattle.cluster.specs.Blocks.{block_nets}
-use Rattle.pathfinder.specs.PlacedNets.{net_to_route}
+use Rattle.pathfinder.proofs.Prelude.{◌≡◌, map, take, block_nets, net_to_route}
 use Rattle.pathfinder.proofs.nets.nets_of.Given as goal
 
 abbrev pub invariant-loop-number : goal.invariant-loop-number

@@ -1,5 +1,4 @@
-use Rattle.std.proofs.Common.{sym}
-use Rattle.rr_graph.specs.Graph.{graph_of}
+use Rattle.pathfinder.proofs.Prelude.{sym, graph_of}
 use Rattle.pathfinder.proofs.NodeNumbers.{number_found}
 use Rattle.pathfinder.proofs.nets.number_of.Goals as goal
 

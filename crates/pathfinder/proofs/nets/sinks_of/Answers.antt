@@ -1,8 +1,4 @@
-use Rattle.std.proofs.Common.{◌∙◌, ◌++◌, ◌∷◌, [], ap}
-use Rattle.rr_graph.specs.Graph.{graph_of}
-use Rattle.block_places.specs.Placed.{block_at, place_of}
-use Rattle.pathfinder.specs.PlacedNets.{number_of}
-use Rattle.pathfinder.specs.Terminals.{sink_at}
+use Rattle.pathfinder.proofs.Prelude.{◌∙◌, ◌++◌, ◌∷◌, [], ap, graph_of, block_at, place_of, number_of, sink_at}
 use Rattle.pathfinder.proofs.Lists.{map_more}
 use Rattle.pathfinder.proofs.nets.sinks_of.Goals as goal
 

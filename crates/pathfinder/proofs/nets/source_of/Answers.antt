@@ -1,12 +1,4 @@
-use Rattle.std.proofs.Common.{◌≡◌, ◌∙◌, ap, subst, sym, true}
-use Rattle.std.proofs.lemmas.Option.{get_or_from_slice_get}
-use Rattle.cluster.specs.declared.block.Block.TheVariants.{Cluster}
-use Rattle.cluster.specs.Blocks.{blocks_of}
-use Rattle.rr_graph.specs.Geometry.{is_node}
-use Rattle.rr_graph.specs.Graph.{graph_of}
-use Rattle.block_places.specs.Placed.{block_at, place_of}
-use Rattle.pathfinder.specs.PlacedNets.{number_of}
-use Rattle.pathfinder.specs.Terminals.{source_at}
+use Rattle.pathfinder.proofs.Prelude.{◌≡◌, ◌∙◌, ap, subst, sym, true, get_or_from_slice_get, Cluster, blocks_of, is_node, graph_of, block_at, place_of, number_of, source_at}
 use Rattle.pathfinder.proofs.PlacedTerminals.{block_source}
 use Rattle.pathfinder.proofs.nets.source_of.Goals as goal
 

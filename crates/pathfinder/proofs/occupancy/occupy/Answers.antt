@@ -1,4 +1,4 @@
-use Rattle.std.proofs.Common.{arith, get_or}
+use Rattle.pathfinder.proofs.Prelude.{arith, get_or}
 use Rattle.pathfinder.proofs.Counts.{times-before}
 use Rattle.pathfinder.proofs.occupancy.occupy.Goals as goal
 

@@ -1,6 +1,5 @@
-use Rattle.std.proofs.Common.{◌≡◌, ◌+◌, ℕ, length, take}
+use Rattle.pathfinder.proofs.Prelude.{◌≡◌, ◌+◌, ℕ, length, take, times_in}
 use Rattle.std.specs.Prelude.{slice_index}
-use Rattle.pathfinder.specs.Tables.{times_in}
 use Rattle.pathfinder.proofs.occupancy.occupy.Given as goal
 
 abbrev pub invariant-loop-node : goal.invariant-loop-node

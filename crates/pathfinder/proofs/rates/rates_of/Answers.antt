@@ -1,8 +1,5 @@
+use Rattle.pathfinder.proofs.Prelude.{refl, ◌+◌, ◌∙◌, ap, subst, sym, Node, capacity_of, AreRatesBelow}
 use Rattle.std.specs.Prelude.{slice_index}
-use Rattle.std.proofs.Common.{refl, ◌+◌, ◌∙◌, ap, subst, sym}
-use Rattle.rr_graph.specs.declared.node.Node.{Node}
-use Rattle.rr_graph.specs.Geometry.{capacity_of}
-use Rattle.pathfinder.specs.Rates.{AreRatesBelow}
 use Rattle.pathfinder.proofs.NodeRates.{rates_more}
 use Rattle.pathfinder.proofs.rates.rates_of.Goals as goal
 

@@ -1,4 +1,4 @@
-use Rattle.pathfinder.specs.Rates.{AreRatesBelow}
+use Rattle.pathfinder.proofs.Prelude.{AreRatesBelow}
 use Rattle.pathfinder.proofs.rates.rates_of.Given as goal
 
 abbrev pub invariant-loop-node : goal.invariant-loop-node

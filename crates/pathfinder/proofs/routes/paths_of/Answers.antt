@@ -1,6 +1,4 @@
-use Rattle.std.proofs.Common.{◌∙◌, [], ap, arith, map, sym}
-use Rattle.std.proofs.lemmas.Option.{get_or_from_slice_get}
-use Rattle.rr_graph.specs.Graph.{graph_of}
+use Rattle.pathfinder.proofs.Prelude.{◌∙◌, [], ap, arith, map, sym, get_or_from_slice_get, graph_of}
 use Rattle.pathfinder.proofs.Lists.{shown_more}
 use Rattle.pathfinder.proofs.routes.paths_of.Goals as goal
 

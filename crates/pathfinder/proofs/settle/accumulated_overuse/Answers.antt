@@ -1,6 +1,5 @@
-use Rattle.std.proofs.Common.{◌-◌, ◌+◌, ◌∙◌, ap, arith}
+use Rattle.pathfinder.proofs.Prelude.{◌-◌, ◌+◌, ◌∙◌, ap, arith, wiring_of}
 use Rattle.std.specs.Prelude.{slice_index}
-use Rattle.pathfinder.specs.PlacedNets.{wiring_of}
 use Rattle.pathfinder.proofs.Settled.{is_risen, no_rate}
 use Rattle.pathfinder.proofs.settle.accumulated_overuse.Goals as goal
 

@@ -1,6 +1,5 @@
-use Rattle.std.proofs.Common.{◌≡◌, ◌≤◌, ◌<◌, ◌+◌, ◌-◌, ℕ, length}
-use Rattle.std.specs.Prelude.{slice_index, slice_index_or}
-use Rattle.pathfinder.specs.declared.rate.NodeCost.{NodeCost}
+use Rattle.pathfinder.proofs.Prelude.{◌≡◌, ◌≤◌, ◌<◌, ◌+◌, ◌-◌, ℕ, length, slice_index_or, NodeCost}
+use Rattle.std.specs.Prelude.{slice_index}
 use Rattle.pathfinder.proofs.settle.accumulated_overuse.Given as goal
 
 abbrev pub invariant-loop-node : goal.invariant-loop-node

@@ -1,9 +1,4 @@
-use Rattle.std.proofs.Common.{◌≡◌, ◌+◌, [], List, Result, Err, drop, ap, sym, ◌∙◌, arith}
-use Rattle.std.proofs.lemmas.List.{map_push}
-use Rattle.pin_file.specs.PinFiles.{Pin, pins_after}
-use Rattle.pin_file.specs.Reading.{pin_read, pins_read}
-use Rattle.pin_file.specs.declared.fault.PinFileFault.{PinFileFault}
-use Rattle.pin_file.specs.declared.fault.PinFileFault.TheVariants.{NotAPin}
+use Rattle.pin_file.proofs.Prelude.{◌≡◌, ◌+◌, [], List, Result, Err, drop, ap, sym, ◌∙◌, arith, map_push, Pin, pins_after, pin_read, pins_read, PinFileFault, NotAPin}
 use Rattle.pin_file.proofs.Steps.{none_left, one_refused, one_taken}
 use Rattle.pin_file.proofs.reader.pins_of.Goals as goal
 

@@ -1,6 +1,4 @@
-use Rattle.std.proofs.Common.{◌≡◌, [], drop}
-use Rattle.pin_file.specs.PinFiles.{pins_after}
-use Rattle.pin_file.specs.Reading.{pins_read}
+use Rattle.pin_file.proofs.Prelude.{◌≡◌, [], drop, pins_after, pins_read}
 use Rattle.pin_file.proofs.reader.pins_of.Given as goal
 
 -- the lines that are left go on from the pins so far

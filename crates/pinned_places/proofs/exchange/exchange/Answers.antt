@@ -1,6 +1,4 @@
-use Rattle.std.proofs.Common.{refl}
-use Rattle.grid.specs.Places.{place_at}
-use Rattle.strip_place.specs.Pass.{place_after}
+use Rattle.pinned_places.proofs.Prelude.{refl, place_at, place_after}
 use Rattle.pinned_places.proofs.Steps.{replaced_all, replaced_more}
 use Rattle.pinned_places.proofs.exchange.exchange.Goals as goal
 

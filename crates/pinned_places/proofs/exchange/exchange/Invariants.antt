@@ -1,4 +1,4 @@
-use Rattle.strip_place.specs.Pass.{place_after}
+use Rattle.pinned_places.proofs.Prelude.{place_after}
 use Rattle.pinned_places.proofs.Steps.{IsReplaced}
 use Rattle.pinned_places.proofs.exchange.exchange.Given as goal
 

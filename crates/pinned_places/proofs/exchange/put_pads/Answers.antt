@@ -1,9 +1,4 @@
-use Rattle.std.proofs.Common.{◌≡◌, ◌+◌, ◌∙◌, ap, sym, drop, get_or, length, arith, map}
-use Rattle.std.proofs.lemmas.List.{get_or_default, length-map}
-use Rattle.block_places.specs.Placed.{place_of}
-use Rattle.grid.specs.Places.{place_at}
-use Rattle.strip_place.specs.Pass.{place_after}
-use Rattle.pinned_places.specs.Exchanges.{with_pad, with_pads}
+use Rattle.pinned_places.proofs.Prelude.{◌≡◌, ◌+◌, ◌∙◌, ap, sym, drop, get_or, length, arith, map, get_or_default, length-map, place_of, place_at, place_after, with_pad, with_pads}
 use Rattle.pinned_places.proofs.Steps.{no_pads, pad_gone}
 use Rattle.pinned_places.proofs.exchange.put_pads.Goals as goal
 

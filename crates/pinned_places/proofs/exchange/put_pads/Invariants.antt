@@ -1,5 +1,4 @@
-use Rattle.std.proofs.Common.{◌≡◌, drop, length}
-use Rattle.pinned_places.specs.Exchanges.{with_pads}
+use Rattle.pinned_places.proofs.Prelude.{◌≡◌, drop, length, with_pads}
 use Rattle.pinned_places.proofs.exchange.put_pads.Given as goal
 
 -- the pads that are left go on from these places

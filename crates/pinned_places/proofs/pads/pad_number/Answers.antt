@@ -1,9 +1,4 @@
-use Rattle.std.proofs.Common.{◌≡◌, ◌∙◌, sym, arith, length}
-use Rattle.std.proofs.lemmas.List.{length-map}
-use Rattle.cluster.specs.Blocks.{blocks_of}
-use Rattle.cluster.specs.Keys.{key_of, keys_of}
-use Rattle.cluster.specs.declared.block.Block.TheVariants.{Cluster}
-use Rattle.pinned_places.specs.Pads.{is_pad_named}
+use Rattle.pinned_places.proofs.Prelude.{◌≡◌, ◌∙◌, sym, arith, length, length-map, blocks_of, key_of, keys_of, Cluster, is_pad_named}
 use Rattle.pinned_places.proofs.Named.{first_at, nowhere}
 use Rattle.pinned_places.proofs.pads.pad_number.Goals as goal
 

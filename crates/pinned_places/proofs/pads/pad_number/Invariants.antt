@@ -1,5 +1,4 @@
-use Rattle.cluster.specs.Keys.{keys_of}
-use Rattle.pinned_places.specs.Pads.{is_pad_named}
+use Rattle.pinned_places.proofs.Prelude.{keys_of, is_pad_named}
 use Rattle.pinned_places.proofs.Named.{NoneBefore}
 use Rattle.pinned_places.proofs.pads.pad_number.Given as goal
 

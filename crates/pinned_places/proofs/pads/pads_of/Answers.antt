@@ -1,8 +1,4 @@
-use Rattle.std.proofs.Common.{◌≡◌, ◌+◌, ◌∙◌, List, ap, sym, drop, length, arith}
-use Rattle.std.proofs.lemmas.List.{length-map}
-use Rattle.pin_file.specs.Reading.{pin_read, pins_read}
-use Rattle.pinned_places.specs.Pads.{pads_after}
-use Rattle.pinned_places.specs.declared.pads.FixedPad.{FixedPad}
+use Rattle.pinned_places.proofs.Prelude.{◌≡◌, ◌+◌, ◌∙◌, List, ap, sym, drop, length, arith, length-map, pin_read, pins_read, pads_after, FixedPad}
 use Rattle.pinned_places.proofs.Steps.{no_pins, pin_met, pin_refused}
 use Rattle.pinned_places.proofs.pads.pads_of.Goals as goal
 

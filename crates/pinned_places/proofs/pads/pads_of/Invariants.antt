@@ -1,6 +1,4 @@
-use Rattle.std.proofs.Common.{◌≡◌, [], drop}
-use Rattle.pin_file.specs.Reading.{pins_read}
-use Rattle.pinned_places.specs.Pads.{pads_after}
+use Rattle.pinned_places.proofs.Prelude.{◌≡◌, [], drop, pins_read, pads_after}
 use Rattle.pinned_places.proofs.pads.pads_of.Given as goal
 
 -- the pins that are left go on from the pads so far

@@ -1,10 +1,4 @@
-use Rattle.std.proofs.Common.{◌≡◌, ◌∙◌, Option, Some, None, option_map, refl, rules, tests}
-use Rattle.std.specs.Prelude.{find}
-use Rattle.std.specs.Option.{option_copied}
-use Rattle.std.proofs.lemmas.Iterator.{YieldsList-from_slice}
-use Rattle.std.proofs.lemmas.Iterator.Search.{find_from_yields_List}
-use Rattle.block_places.specs.Placed.{is_same_place}
-use Rattle.pinned_places.specs.declared.pads.FixedPad.{FixedPad}
+use Rattle.pinned_places.proofs.Prelude.{◌≡◌, ◌∙◌, Option, Some, None, option_map, refl, rules, tests, find, option_copied, YieldsList-from_slice, find_from_yields_List, is_same_place, FixedPad}
 use Rattle.pinned_places.proofs.Named.{copied}
 use Rattle.pinned_places.proofs.pads.same_place.Goals as goal
 

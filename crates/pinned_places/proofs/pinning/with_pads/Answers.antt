@@ -1,16 +1,4 @@
-use Rattle.std.proofs.Common.{◌≡◌, ◌≢◌, ◌∙◌, refl, subst}
-use Rattle.std.specs.Prelude.{AllPairs, Contains}
-use Rattle.cluster.specs.Clusters.{PackedCircuit}
-use Rattle.cluster.specs.Keys.{keys_of}
-use Rattle.grid.specs.Places.{places_of}
-use Rattle.grid.specs.Sizes.{IsStripSize}
-use Rattle.grid.specs.declared.Strip.{Strip}
-use Rattle.grid.specs.declared.place.Kind.TheVariants.{Logic, Pad}
-use Rattle.grid.specs.declared.place.Place.{Place}
-use Rattle.block_places.specs.Placed.{ArePlaced}
-use Rattle.pin_file.specs.Reading.{pins_read}
-use Rattle.strip_place.specs.Anneal.{places_by_block}
-use Rattle.pinned_places.specs.Exchanges.{with_pads}
+use Rattle.pinned_places.proofs.Prelude.{◌≡◌, ◌≢◌, ◌∙◌, refl, subst, AllPairs, Contains, PackedCircuit, keys_of, places_of, IsStripSize, Strip, Logic, Pad, Place, ArePlaced, pins_read, places_by_block, with_pads}
 use Rattle.pinned_places.proofs.AllExchanged.{lawful_pads, pinned_placed, pinned_so}
 use Rattle.pinned_places.proofs.pinning.with_pads.Goals as goal
 

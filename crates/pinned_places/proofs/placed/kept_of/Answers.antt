@@ -1,12 +1,4 @@
-use Rattle.std.proofs.Common.{◌≡◌, ◌≢◌, ◌∙◌, ◌<◌, length, get_or, slice_get, arith, ap, subst, sym}
-use Rattle.std.specs.Prelude.{AllPairs}
-use Rattle.std.specs.List.{zip}
-use Rattle.std.proofs.lemmas.Option.{slice_get-get_or}
-use Rattle.cluster.specs.Clusters.{PackedCircuit}
-use Rattle.cluster.specs.Blocks.{blocks_of}
-use Rattle.cluster.specs.Keys.{keys_of}
-use Rattle.kept_places.specs.Table.{entries_of}
-use Rattle.strip_place.proofs.Keeping.{gathered, gathered_all, kept_exact}
+use Rattle.pinned_places.proofs.Prelude.{◌≡◌, ◌≢◌, ◌∙◌, ◌<◌, length, get_or, slice_get, arith, ap, subst, sym, AllPairs, zip, slice_get-get_or, PackedCircuit, blocks_of, keys_of, entries_of, gathered, gathered_all, kept_exact}
 use Rattle.pinned_places.proofs.Started.{keys_distinct}
 use Rattle.pinned_places.proofs.placed.kept_of.Goals as goal
 

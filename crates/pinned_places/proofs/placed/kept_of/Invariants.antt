@@ -1,7 +1,4 @@
-use Rattle.std.proofs.Common.{◌≡◌, take}
-use Rattle.std.specs.List.{zip}
-use Rattle.cluster.specs.Keys.{keys_of}
-use Rattle.kept_places.specs.Table.{entries_of}
+use Rattle.pinned_places.proofs.Prelude.{◌≡◌, take, zip, keys_of, entries_of}
 use Rattle.pinned_places.proofs.placed.kept_of.Given as goal
 
 abbrev pub invariant-loop-block : goal.invariant-loop-block

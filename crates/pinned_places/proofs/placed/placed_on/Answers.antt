@@ -1,11 +1,4 @@
-use Rattle.std.proofs.Common.{◌≡◌, ◌∙◌, ap, sym, subst}
-use Rattle.std.specs.List.{zip}
-use Rattle.cluster.specs.Clusters.{PackedCircuit}
-use Rattle.cluster.specs.Keys.{keys_of}
-use Rattle.grid.specs.declared.Strip.{Strip}
-use Rattle.kept_places.specs.Kept.{KeptPlaces, in_order}
-use Rattle.strip_place.specs.Keeping.{AreKeptOn}
-use Rattle.strip_place.proofs.Keeping.{placed_kept}
+use Rattle.pinned_places.proofs.Prelude.{◌≡◌, ◌∙◌, ap, sym, subst, zip, PackedCircuit, keys_of, Strip, KeptPlaces, in_order, AreKeptOn, placed_kept}
 use Rattle.pinned_places.proofs.Started.{started_as}
 use Rattle.pinned_places.proofs.placed.placed_on.Goals as goal
 

@@ -1,5 +1,4 @@
-use Rattle.std.proofs.Common.{ℕ, arith, sym, subst}
-use Rattle.plane_search.specs.Planes.{HoldsNothingLess}
+use Rattle.plane_search.proofs.Prelude.{ℕ, arith, sym, subst, HoldsNothingLess}
 use Rattle.plane_search.proofs.Rankings.{out_by_bound, out_by_rivals}
 use Rattle.plane_search.proofs.ranking.may_improve.Goals as goal
 

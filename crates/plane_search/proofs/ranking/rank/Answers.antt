@@ -1,4 +1,4 @@
-use Rattle.std.proofs.Common.{◌<◌, ◌≤◌, refl, arith}
+use Rattle.plane_search.proofs.Prelude.{◌<◌, ◌≤◌, refl, arith}
 use Rattle.plane_search.proofs.Rankings.{ranked_first, ranked_in, ranked_out, ranked_sorted}
 use Rattle.plane_search.proofs.ranking.rank.Goals as goal
 use Rattle.plane_search.proofs.ranking.rank.Goals.{then-may_improve+in_ok-push, else-may_improve}

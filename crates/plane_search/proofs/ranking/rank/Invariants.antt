@@ -1,5 +1,4 @@
-use Rattle.plane_search.specs.Planes.{HoldsNothingLess}
-use Rattle.plane_search.specs.Ranking.{tracks_in, AreRanked}
+use Rattle.plane_search.proofs.Prelude.{HoldsNothingLess, tracks_in, AreRanked}
 use Rattle.plane_search.proofs.ranking.rank.Given as goal
 
 abbrev pub invariant-loop-track : goal.invariant-loop-track

@@ -1,4 +1,4 @@
-use Rattle.std.proofs.Common.{◌<◌, ◌≤◌, refl, arith}
+use Rattle.plane_search.proofs.Prelude.{◌<◌, ◌≤◌, refl, arith}
 use Rattle.plane_search.proofs.Rankings.{ranked_first, ranked_in, ranked_sorted}
 use Rattle.plane_search.proofs.ranking.rank_all.Goals as goal
 

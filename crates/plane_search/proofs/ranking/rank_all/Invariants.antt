@@ -1,4 +1,4 @@
-use Rattle.plane_search.specs.Ranking.{tracks_in, AreRanked}
+use Rattle.plane_search.proofs.Prelude.{tracks_in, AreRanked}
 use Rattle.plane_search.proofs.ranking.rank_all.Given as goal
 
 abbrev pub invariant-loop-track : goal.invariant-loop-track

@@ -1,6 +1,4 @@
-use Rattle.std.proofs.Common.{◌≢◌, ℕ, get_or, arith, ◌∙◌, sym, subst}
-use Rattle.std.specs.List.{Contains}
-use Rattle.plane_search.specs.Starts.{places_of}
+use Rattle.plane_search.proofs.Prelude.{◌≢◌, ℕ, get_or, arith, ◌∙◌, sym, subst, Contains, places_of}
 use Rattle.plane_search.proofs.Members.{at_index, below_next}
 use Rattle.plane_search.proofs.Starting.{no_start, place_at, place_among, as_many}
 use Rattle.plane_search.proofs.search.is_start.Goals as goal

@@ -1,5 +1,4 @@
-use Rattle.std.proofs.Common.{◌≢◌, ℕ, ◌<◌, get_or}
-use Rattle.plane_search.specs.Starts.{places_of}
+use Rattle.plane_search.proofs.Prelude.{◌≢◌, ℕ, ◌<◌, get_or, places_of}
 use Rattle.plane_search.proofs.search.is_start.Given as goal
 
 abbrev pub invariant-loop-start : goal.invariant-loop-start

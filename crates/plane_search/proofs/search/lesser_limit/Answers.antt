@@ -1,4 +1,4 @@
-use Rattle.std.proofs.Common.{arith}
+use Rattle.plane_search.proofs.Prelude.{arith}
 use Rattle.plane_search.proofs.Bests.{dearer, no_tie}
 use Rattle.plane_search.proofs.search.lesser_limit.Goals as goal
 

@@ -1,4 +1,4 @@
-use Rattle.std.proofs.Common.{arith, ap, length}
+use Rattle.plane_search.proofs.Prelude.{arith, ap, length}
 use Rattle.plane_search.proofs.Members.{numbered_more}
 use Rattle.plane_search.proofs.search.number_nodes.Goals as goal
 

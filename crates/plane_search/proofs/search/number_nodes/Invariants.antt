@@ -1,4 +1,4 @@
-use Rattle.std.proofs.Common.{◌≡◌, ◌++◌, map, take, drop}
+use Rattle.plane_search.proofs.Prelude.{◌≡◌, ◌++◌, map, take, drop}
 use Rattle.plane_search.proofs.search.number_nodes.Given as goal
 
 abbrev pub invariant-loop-node : goal.invariant-loop-node

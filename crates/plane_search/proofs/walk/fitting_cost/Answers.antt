@@ -1,4 +1,4 @@
-use Rattle.std.proofs.Common.{arith, inr}
+use Rattle.plane_search.proofs.Prelude.{arith, inr}
 use Rattle.plane_search.proofs.walk.fitting_cost.Goals as goal
 
 pub overflow_add-cost : goal.overflow_add-cost

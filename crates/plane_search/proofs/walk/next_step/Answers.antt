@@ -1,7 +1,4 @@
-use Rattle.std.proofs.Common.{ℕ, ◌+◌, length, get_or, arith, inl, inr, ap, sym, subst}
-use Rattle.std.proofs.lemmas.List.{length-map}
-use Rattle.std.proofs.lemmas.Bool.{cases_eq}
-use Rattle.plane_search.specs.Walk.{IsUnfit}
+use Rattle.plane_search.proofs.Prelude.{ℕ, ◌+◌, length, get_or, arith, inl, inr, ap, sym, subst, length-map, cases_eq, IsUnfit}
 use Rattle.plane_search.proofs.Members.{listed_end, past_listed}
 use Rattle.plane_search.proofs.Starting.{rising_ends}
 use Rattle.plane_search.proofs.Walking.{end_within}

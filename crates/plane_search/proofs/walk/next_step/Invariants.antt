@@ -1,5 +1,4 @@
-use Rattle.std.proofs.Common.{length, ◌-◌, ◌≤◌}
-use Rattle.plane_search.specs.Walk.{AreUnfit}
+use Rattle.plane_search.proofs.Prelude.{length, ◌-◌, ◌≤◌, AreUnfit}
 use Rattle.plane_search.proofs.walk.next_step.Given as goal
 
 abbrev pub invariant-loop-edge : goal.invariant-loop-edge

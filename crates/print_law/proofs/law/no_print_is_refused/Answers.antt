@@ -1,4 +1,4 @@
-use Rattle.tenant_slot.specs.SingleUser.{run}
+use Rattle.print_law.proofs.Prelude.{run}
 use Rattle.print_law.proofs.Tools.{not_refused}
 use Rattle.print_law.proofs.law.no_print_is_refused.Goals as goal
 

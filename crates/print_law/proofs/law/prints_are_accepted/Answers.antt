@@ -1,4 +1,4 @@
-use Rattle.tenant_slot.specs.SingleUser.{run}
+use Rattle.print_law.proofs.Prelude.{run}
 use Rattle.print_law.proofs.Verdicts.{accepted}
 use Rattle.print_law.proofs.law.prints_are_accepted.Goals as goal
 

@@ -1,5 +1,4 @@
-use Rattle.layout_law.proofs.Laws.{Laws}
-use Rattle.pathfinder.specs.Growth.{LeastPathLaws}
+use Rattle.print_law.proofs.Prelude.{Laws, LeastPathLaws}
 use Rattle.print_law.proofs.Filed.{always_filed}
 use Rattle.print_law.proofs.Names.{names_plain}
 use Rattle.print_law.proofs.law.prints_are_filed.Goals as goal

@@ -1,5 +1,4 @@
-use Rattle.std.proofs.lemmas.Slice.Eq.{strip_prefix_is}
-use Rattle.std.proofs.lemmas.Bool.Decides.{Decides-eqb}
+use Rattle.printed_replies.proofs.Prelude.{strip_prefix_is, Decides-eqb}
 use Rattle.printed_replies.proofs.BehindLemmas.{behind-found}
 use Rattle.printed_replies.proofs.length.after_prefix.Goals as goal
 

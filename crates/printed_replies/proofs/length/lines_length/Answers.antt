@@ -1,6 +1,4 @@
-use Rattle.std.proofs.Common.{◌≡◌, ◌≤◌, ◌+◌, ◌-◌, suc, Some, length, option_map, ap, ◌∙◌, arith, rules}
-use Rattle.std.proofs.lemmas.List.{length-drop}
-use Rattle.printed_replies.specs.Lengths.{line_length, lines_length}
+use Rattle.printed_replies.proofs.Prelude.{◌≡◌, ◌≤◌, ◌+◌, ◌-◌, suc, Some, length, option_map, ap, ◌∙◌, arith, rules, length-drop, line_length, lines_length}
 use Rattle.printed_replies.proofs.LengthLemmas.{line_more}
 use Rattle.printed_replies.proofs.length.lines_length.Goals as goal
 

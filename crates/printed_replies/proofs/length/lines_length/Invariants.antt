@@ -1,5 +1,4 @@
-use Rattle.std.proofs.Common.{◌≡◌, ◌+◌, ◌-◌, ◌≤◌, length, option_map}
-use Rattle.printed_replies.specs.Lengths.{lines_length}
+use Rattle.printed_replies.proofs.Prelude.{◌≡◌, ◌+◌, ◌-◌, ◌≤◌, length, option_map, lines_length}
 use Rattle.printed_replies.proofs.length.lines_length.Given as goal
 
 -- the lines so far and the remaining ones are all lines

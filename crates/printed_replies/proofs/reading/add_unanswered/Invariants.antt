@@ -1,6 +1,4 @@
-use Rattle.std.proofs.Common.{◌≡◌, take, map}
-use Rattle.printed_replies.specs.Parts.{answered_lines}
-use Rattle.printed_replies.specs.Replies.{asked_line, without_reply}
+use Rattle.printed_replies.proofs.Prelude.{◌≡◌, take, map, answered_lines, asked_line, without_reply}
 use Rattle.printed_replies.proofs.reading.add_unanswered.Given as goal
 
 -- the lines so far

@@ -1,5 +1,4 @@
-use Rattle.std.proofs.Common.{◌≡◌, ◌∙◌, Some, None, option_map, ap, codes, rules}
-use Rattle.printed_replies.specs.Lengths.{after_prefix}
+use Rattle.printed_replies.proofs.Prelude.{◌≡◌, ◌∙◌, Some, None, option_map, ap, codes, rules, after_prefix}
 use Rattle.printed_replies.proofs.BehindLemmas.{heading_none, heading_some}
 use Rattle.printed_replies.proofs.reading.after_words.Goals as goal
 

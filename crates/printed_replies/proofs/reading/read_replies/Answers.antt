@@ -1,7 +1,4 @@
-use Rattle.std.proofs.Common.{◌∙◌, List, map, ap, sym, subst}
-use Rattle.printed_replies.specs.Printing.{asked_in}
-use Rattle.printed_replies.specs.Replies.{AskedLine, asked_line}
-use Rattle.printed_replies.specs.Sections.{AreSections}
+use Rattle.printed_replies.proofs.Prelude.{◌∙◌, List, map, ap, sym, subst, asked_in, AskedLine, asked_line, AreSections}
 use Rattle.printed_replies.proofs.SectionLemmas.{asked_again}
 use Rattle.printed_replies.proofs.reading.read_replies.Goals as goal
 

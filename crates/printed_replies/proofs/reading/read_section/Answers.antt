@@ -1,7 +1,4 @@
-use Rattle.std.proofs.Common.{◌≡◌, ◌<◌, ◌≤◌, ◌+◌, length, get_or, Ok, Err, ap, refl, sym, ◌∙◌, arith, rules}
-use Rattle.std.proofs.lemmas.List.{drop_all}
-use Rattle.printed_replies.specs.Parts.{answered_lines, rest_at, speaker_of}
-use Rattle.printed_replies.specs.Replies.{and_then, answered_line, lines_read, reply_read}
+use Rattle.printed_replies.proofs.Prelude.{◌≡◌, ◌<◌, ◌≤◌, ◌+◌, length, get_or, Ok, Err, ap, refl, sym, ◌∙◌, arith, rules, drop_all, answered_lines, rest_at, speaker_of, and_then, answered_line, lines_read, reply_read}
 use Rattle.printed_replies.proofs.SectionLemmas.{index_within, read_next, read_stops, reads_at, reads_own, same_asked}
 use Rattle.printed_replies.proofs.reading.read_section.Goals as goal
 

@@ -1,7 +1,4 @@
-use Rattle.std.proofs.Common.{◌≡◌, ◌≤◌, ◌-◌, length, drop}
-use Rattle.printed_replies.specs.Parts.{answered_lines, rest_at, speaker_of}
-use Rattle.printed_replies.specs.Printing.{asked_in}
-use Rattle.printed_replies.specs.Replies.{section_read}
+use Rattle.printed_replies.proofs.Prelude.{◌≡◌, ◌≤◌, ◌-◌, length, drop, answered_lines, rest_at, speaker_of, asked_in, section_read}
 use Rattle.printed_replies.proofs.SectionLemmas.{reads_at}
 use Rattle.printed_replies.proofs.reading.read_section.Given as goal
 

@@ -1,8 +1,4 @@
-use Rattle.std.proofs.Common.{◌≡◌, ◌<◌, length, Ok, Err, Some, slice_get, sym, ◌∙◌, ap, arith, rules}
-use Rattle.printed_replies.specs.Parts.{answered_lines, rest_at}
-use Rattle.printed_replies.specs.Replies.{section_read}
-use Rattle.printed_replies.specs.Sections.{places_of}
-use Rattle.printed_replies.specs.Printing.{asked_in}
+use Rattle.printed_replies.proofs.Prelude.{◌≡◌, ◌<◌, length, Ok, Err, Some, slice_get, sym, ◌∙◌, ap, arith, rules, answered_lines, rest_at, section_read, places_of, asked_in}
 use Rattle.printed_replies.proofs.ReadLemmas.{section_is_not, section_is_read}
 use Rattle.printed_replies.proofs.SectionLemmas.{session_at}
 use Rattle.printed_replies.proofs.reading.read_sections.Goals as goal

@@ -1,7 +1,4 @@
-use Rattle.std.proofs.Common.{◌≡◌, ◌≤◌, ◌-◌, length, drop}
-use Rattle.printed_replies.specs.Parts.{answered_lines}
-use Rattle.printed_replies.specs.Printing.{asked_in}
-use Rattle.printed_replies.specs.Replies.{read_from, sections_read}
+use Rattle.printed_replies.proofs.Prelude.{◌≡◌, ◌≤◌, ◌-◌, length, drop, answered_lines, asked_in, read_from, sections_read}
 use Rattle.printed_replies.proofs.reading.read_sections.Given as goal
 
 -- reading the remaining sections gives the result of reading all

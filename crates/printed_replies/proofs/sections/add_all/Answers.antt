@@ -1,6 +1,4 @@
-use Rattle.std.proofs.Common.{rules, ◌<◌, ◌++◌, [], ◌∷◌, List, ℕ, length, map, replicate, set, get_or, ap, ◌∙◌, sym}
-use Rattle.line_text.specs.Names.{number_of}
-use Rattle.printed_replies.specs.Replies.{asked_line}
+use Rattle.printed_replies.proofs.Prelude.{rules, ◌<◌, ◌++◌, [], ◌∷◌, List, ℕ, length, map, replicate, set, get_or, ap, ◌∙◌, sym, number_of, asked_line}
 use Rattle.printed_replies.proofs.SectionLemmas.{none_yet, operator_more, operator_stays, session_more, sessions_stay}
 use Rattle.printed_replies.proofs.sections.add_all.Goals as goal
 use Rattle.printed_replies.proofs.sections.add_all.Goals.{in-None+in_ok-push-in-None, in-Some+in_ok-add_place-in-Some}

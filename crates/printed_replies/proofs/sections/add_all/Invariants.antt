@@ -1,6 +1,4 @@
-use Rattle.std.proofs.Common.{◌≡◌, Some, None, map, take}
-use Rattle.printed_replies.specs.Replies.{asked_line}
-use Rattle.printed_replies.specs.Sections.{places_of}
+use Rattle.printed_replies.proofs.Prelude.{◌≡◌, Some, None, map, take, asked_line, places_of}
 use Rattle.printed_replies.proofs.sections.add_all.Given as goal
 
 -- the places of the lines so far

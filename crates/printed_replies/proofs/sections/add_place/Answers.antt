@@ -1,4 +1,4 @@
-use Rattle.std.proofs.Common.{rules, ◌<◌, length}
+use Rattle.printed_replies.proofs.Prelude.{rules, ◌<◌, length}
 use Rattle.printed_replies.proofs.SectionLemmas.{place_added}
 use Rattle.printed_replies.proofs.sections.add_place.Goals as goal
 

@@ -1,5 +1,4 @@
-use Rattle.std.proofs.Common.{◌≡◌, take, map}
-use Rattle.printed_replies.specs.Replies.{asked_line, names_of}
+use Rattle.printed_replies.proofs.Prelude.{◌≡◌, take, map, asked_line, names_of}
 use Rattle.printed_replies.proofs.sections.names_of.Given as goal
 
 -- the names so far

@@ -1,6 +1,4 @@
-use Rattle.std.proofs.Common.{◌≡◌, ◌+◌, ◌*◌, subst, arith}
-use Rattle.rr_graph.specs.Node.{rank_of}
-use Rattle.rr_graph.specs.Column.{AreFirsts, Separates}
+use Rattle.rr_graph.proofs.Prelude.{◌≡◌, ◌+◌, ◌*◌, subst, arith, rank_of, AreFirsts, Separates}
 use Rattle.rr_graph.proofs.Tracks.{firsts_push}
 use Rattle.rr_graph.proofs.column.add_firsts.Goals as goal
 

@@ -1,6 +1,4 @@
-use Rattle.std.proofs.Common.{◌+◌, ◌*◌}
-use Rattle.rr_graph.specs.Node.{rank_of}
-use Rattle.rr_graph.specs.Column.{AreFirsts}
+use Rattle.rr_graph.proofs.Prelude.{◌+◌, ◌*◌, rank_of, AreFirsts}
 use Rattle.rr_graph.proofs.column.add_firsts.Given as goal
 
 abbrev pub invariant-loop-y : goal.invariant-loop-y

@@ -1,8 +1,4 @@
-use Rattle.std.proofs.Common.{◌≡◌, ◌+◌, ◌-◌, ◌*◌, map, ap, ◌∙◌, ℕ}
-use Rattle.rr_graph.specs.declared.table.Table.{Table}
-use Rattle.rr_graph.specs.Numbering.{column_count}
-use Rattle.rr_graph.specs.Table.{row_of}
-use Rattle.rr_graph.specs.Fabric.{base_of, beside_of, shift_of, table_by, table_of, with_width}
+use Rattle.rr_graph.proofs.Prelude.{◌≡◌, ◌+◌, ◌-◌, ◌*◌, map, ap, ◌∙◌, ℕ, Table, column_count, row_of, base_of, beside_of, shift_of, table_by, table_of, with_width}
 use Rattle.rr_graph.proofs.part.row_from.Goals as goal
 
 pub overflow_sub-node : goal.overflow_sub-node

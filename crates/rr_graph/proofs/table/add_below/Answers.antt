@@ -1,6 +1,4 @@
-use Rattle.std.proofs.Common.{ℕ, Bool}
-use Rattle.std.specs.Prelude.{nat_lt}
-use Rattle.std.proofs.lemmas.Bool.{le-ltb, lt-ltb}
+use Rattle.rr_graph.proofs.Prelude.{ℕ, Bool, nat_lt, le-ltb, lt-ltb}
 use Rattle.rr_graph.proofs.Tables.{filter_more, filter_less, filter_all}
 use Rattle.rr_graph.proofs.table.add_below.Goals as goal
 use Rattle.rr_graph.proofs.table.add_below.Goals.{then-j-end+in_ok-push, else-j-end}

@@ -1,5 +1,4 @@
-use Rattle.std.proofs.Common.{◌≡◌, ◌++◌, take}
-use Rattle.std.specs.Prelude.{filter, nat_lt}
+use Rattle.rr_graph.proofs.Prelude.{◌≡◌, ◌++◌, take, filter, nat_lt}
 use Rattle.rr_graph.proofs.table.add_below.Given as goal
 
 abbrev pub invariant-loop-j : goal.invariant-loop-j

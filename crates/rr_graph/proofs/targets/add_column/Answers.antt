@@ -1,7 +1,4 @@
-use Rattle.std.proofs.Common.{◌≡◌, ◌*◌, arith, sym, subst}
-use Rattle.rr_graph.specs.Numbering.{column_count}
-use Rattle.rr_graph.specs.Table.{IsRowBelow, IsRowAt}
-use Rattle.std.proofs.lemmas.Result.{on_ok_weaker}
+use Rattle.rr_graph.proofs.Prelude.{◌≡◌, ◌*◌, arith, sym, subst, column_count, IsRowBelow, IsRowAt, on_ok_weaker}
 use Rattle.rr_graph.proofs.Rows.{column_begins, column_zero, column_ends}
 use Rattle.rr_graph.proofs.targets.add_column.Goals as goal
 use Rattle.rr_graph.proofs.targets.add_column.Goals.{then-x-gt0+in_ok-add_kind+in_ok-add_kind-2+in_ok-add_kind-3+in_ok-add_kind-4+in_ok-add_kind-5, else-x-gt0}

@@ -1,4 +1,4 @@
-use Rattle.std.proofs.Common.{arith}
+use Rattle.rr_graph.proofs.Prelude.{arith}
 use Rattle.rr_graph.proofs.Rows.{row_begins, row_ends}
 use Rattle.rr_graph.proofs.targets.add_row.Goals as goal
 

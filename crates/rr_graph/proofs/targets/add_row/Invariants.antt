@@ -1,6 +1,4 @@
-use Rattle.std.proofs.Common.{◌*◌}
-use Rattle.rr_graph.specs.Numbering.{column_count}
-use Rattle.rr_graph.specs.Table.{IsRowBelow}
+use Rattle.rr_graph.proofs.Prelude.{◌*◌, column_count, IsRowBelow}
 use Rattle.rr_graph.proofs.targets.add_row.Given as goal
 
 abbrev pub invariant-loop-x : goal.invariant-loop-x

@@ -1,8 +1,4 @@
-use Rattle.std.proofs.Common.{◌≡◌, ◌<◌, ◌-◌, ◌^◌, Some, length, sym, subst, rules}
-use Rattle.script_text.specs.Script.{named_act}
-use Rattle.script_replies.specs.Accounts.{name_in}
-use Rattle.script_replies.specs.Usage.{IsWithin}
-use Rattle.script_replies.specs.declared.accounts.Account.{Account}
+use Rattle.script_replies.proofs.Prelude.{◌≡◌, ◌<◌, ◌-◌, ◌^◌, Some, length, sym, subst, rules, named_act, name_in, IsWithin, Account}
 use Rattle.script_replies.proofs.AccountLemmas.{is_updated, within_at}
 use Rattle.script_replies.proofs.accounts.add_act.Goals as goal
 

@@ -1,8 +1,4 @@
-use Rattle.std.proofs.Common.{◌≡◌, ◌∙◌, length, map, ap, arith}
-use Rattle.std.proofs.lemmas.List.{length-map}
-use Rattle.printed_replies.specs.Replies.{answered_line}
-use Rattle.script_text.specs.Script.{named_act}
-use Rattle.script_replies.specs.Accounts.{account_now, account_of}
+use Rattle.script_replies.proofs.Prelude.{◌≡◌, ◌∙◌, length, map, ap, arith, length-map, answered_line, named_act, account_now, account_of}
 use Rattle.script_replies.proofs.AccountLemmas.{accounts_within, add_next, all_added, none_yet}
 use Rattle.script_replies.proofs.accounts.add_acts.Goals as goal
 

@@ -1,7 +1,4 @@
-use Rattle.std.proofs.Common.{◌≡◌, map}
-use Rattle.printed_replies.specs.Replies.{answered_line}
-use Rattle.script_text.specs.Script.{named_act}
-use Rattle.script_replies.specs.Accounts.{account_now}
+use Rattle.script_replies.proofs.Prelude.{◌≡◌, map, answered_line, named_act, account_now}
 use Rattle.script_replies.proofs.AccountLemmas.{account_at}
 use Rattle.script_replies.proofs.accounts.add_acts.Given as goal
 

@@ -1,6 +1,4 @@
-use Rattle.std.proofs.Common.{◌≡◌, ◌∙◌, ap, map, rules}
-use Rattle.script_replies.specs.Accounts.{account_now, no_account}
-use Rattle.script_replies.specs.declared.accounts.Account.{Account}
+use Rattle.script_replies.proofs.Prelude.{◌≡◌, ◌∙◌, ap, map, rules, account_now, no_account, Account}
 use Rattle.script_replies.proofs.AccountLemmas.{one_more_name}
 use Rattle.script_replies.proofs.accounts.add_empty.Goals as goal
 

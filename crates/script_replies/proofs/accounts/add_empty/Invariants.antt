@@ -1,5 +1,4 @@
-use Rattle.std.proofs.Common.{◌≡◌, map, take}
-use Rattle.script_replies.specs.Accounts.{account_now, no_account}
+use Rattle.script_replies.proofs.Prelude.{◌≡◌, map, take, account_now, no_account}
 use Rattle.script_replies.proofs.accounts.add_empty.Given as goal
 
 -- the names so far

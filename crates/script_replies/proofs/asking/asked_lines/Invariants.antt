@@ -1,7 +1,4 @@
-use Rattle.std.proofs.Common.{◌≡◌, take, map}
-use Rattle.printed_replies.specs.Replies.{asked_line}
-use Rattle.script_text.specs.Script.{named_act}
-use Rattle.script_replies.specs.Asking.{asked_of}
+use Rattle.script_replies.proofs.Prelude.{◌≡◌, take, map, asked_line, named_act, asked_of}
 use Rattle.script_replies.proofs.asking.asked_lines.Given as goal
 
 -- the lines so far

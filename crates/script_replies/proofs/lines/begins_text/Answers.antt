@@ -1,8 +1,4 @@
-use Rattle.std.proofs.Common.{◌≡◌, ◌∙◌, ap, drop, rules}
-use Rattle.std.proofs.lemmas.List.{drop-drop}
-use Rattle.std.specs.List.{after_first}
-use Rattle.line_text.specs.Words.{is_blank}
-use Rattle.script_replies.specs.ScriptLines.{begins_text_by, first_word, rest_after}
+use Rattle.script_replies.proofs.Prelude.{◌≡◌, ◌∙◌, ap, drop, rules, drop-drop, after_first, is_blank, begins_text_by, first_word, rest_after}
 use Rattle.script_replies.proofs.lines.begins_text.Goals as goal
 
 pub returns : goal.returns

@@ -1,5 +1,4 @@
-use Rattle.std.proofs.Common.{◌≡◌, ◌∙◌, ap, rules}
-use Rattle.script_replies.specs.ScriptLines.{first_word, is_skipped_by}
+use Rattle.script_replies.proofs.Prelude.{◌≡◌, ◌∙◌, ap, rules, first_word, is_skipped_by}
 use Rattle.script_replies.proofs.lines.is_skipped.Goals as goal
 
 pub returns : goal.returns

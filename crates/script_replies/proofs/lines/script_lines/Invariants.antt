@@ -1,6 +1,4 @@
-use Rattle.std.proofs.Common.{◌≡◌, ◌+◌, ◌<◌, ◌^◌, ◌++◌, length, map}
-use Rattle.line_text.specs.Lines.{physical_lines}
-use Rattle.script_replies.specs.ScriptLines.{asked_from, lines_asked, numbered}
+use Rattle.script_replies.proofs.Prelude.{◌≡◌, ◌+◌, ◌<◌, ◌^◌, ◌++◌, length, map, physical_lines, asked_from, lines_asked, numbered}
 use Rattle.script_replies.proofs.lines.script_lines.Given as goal
 
 -- the lines so far and those of the rest are all lines

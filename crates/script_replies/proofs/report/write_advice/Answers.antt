@@ -1,5 +1,4 @@
-use Rattle.std.proofs.Common.{◌≡◌, ℕ, List, Bor, Option, Some, None, refl}
-use Rattle.std.specs.Option.{option_map_or, unwrap_or}
+use Rattle.script_replies.proofs.Prelude.{◌≡◌, ℕ, List, Bor, Option, Some, None, refl, option_map_or, unwrap_or}
 use Rattle.script_replies.proofs.report.write_advice.Goals as goal
 
 -- a text, or another one if it is missing

@@ -1,4 +1,4 @@
-use Rattle.line_text.proofs.WritingLemmas.{part_first, part_then, writes_part, writes_then}
+use Rattle.script_replies.proofs.Prelude.{part_first, part_then, writes_part, writes_then}
 use Rattle.script_replies.proofs.report.write_line.Goals as goal
 
 pub returns-in_err-write_asked : goal.returns-in_err-write_asked

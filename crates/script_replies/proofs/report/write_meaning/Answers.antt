@@ -1,4 +1,4 @@
-use Rattle.line_text.proofs.WritingLemmas.{part_first, writes_part, writes_then}
+use Rattle.script_replies.proofs.Prelude.{part_first, writes_part, writes_then}
 use Rattle.script_replies.proofs.report.write_meaning.Goals as goal
 
 pub returns-in_err-write_advice : goal.returns-in_err-write_advice

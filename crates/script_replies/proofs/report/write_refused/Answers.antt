@@ -1,6 +1,4 @@
-use Rattle.std.proofs.lemmas.Option.{slice_get-get_or}
-use Rattle.line_text.proofs.WritingLemmas.{all_loop, part_loop, writes_part}
-use Rattle.script_replies.specs.Told.{refused_text}
+use Rattle.script_replies.proofs.Prelude.{slice_get-get_or, all_loop, part_loop, writes_part, refused_text}
 use Rattle.script_replies.proofs.report.write_refused.Goals as goal
 
 pub returns-in_err-write_if_refused : goal.returns-in_err-write_if_refused

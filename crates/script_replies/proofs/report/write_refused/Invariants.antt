@@ -1,7 +1,4 @@
-use Rattle.std.proofs.Common.{take}
-use Rattle.std.specs.Prelude.{flat_map}
-use Rattle.line_text.specs.Writing.{TakesAll}
-use Rattle.script_replies.specs.Told.{refused_text}
+use Rattle.script_replies.proofs.Prelude.{take, flat_map, TakesAll, refused_text}
 use Rattle.script_replies.proofs.report.write_refused.Given as goal
 
 -- the lines before this one are written

@@ -1,7 +1,4 @@
-use Rattle.std.proofs.Common.{take}
-use Rattle.std.specs.Prelude.{flat_map}
-use Rattle.line_text.specs.Writing.{TakesAll}
-use Rattle.script_replies.specs.Told.{told_text}
+use Rattle.script_replies.proofs.Prelude.{take, flat_map, TakesAll, told_text}
 use Rattle.script_replies.proofs.report.write_told.Given as goal
 
 -- the lines before this one are written

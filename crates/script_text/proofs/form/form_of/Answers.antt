@@ -1,8 +1,4 @@
-use Rattle.std.proofs.Common.{◌≡◌, drop, ap, ◌∙◌, rules}
-use Rattle.std.proofs.lemmas.List.{drop-drop}
-use Rattle.std.specs.List.{before_first, after_first}
-use Rattle.line_text.specs.Words.{is_blank}
-use Rattle.script_text.specs.Script.{form_in, without_blanks}
+use Rattle.script_text.proofs.Prelude.{◌≡◌, drop, ap, ◌∙◌, rules, drop-drop, before_first, after_first, is_blank, form_in, without_blanks}
 use Rattle.script_text.proofs.form.form_of.Goals as goal
 
 pub returns : goal.returns

@@ -1,8 +1,4 @@
-use Rattle.std.proofs.Common.{◌≡◌, ◌≤◌, ◌∙◌, ◌++◌, Some, ap, get_or, slice_get, length, sym, arith, rules}
-use Rattle.std.proofs.lemmas.Option.{slice_get-get_or}
-use Rattle.std.proofs.lemmas.List.Folds.{flat_map-map}
-use Rattle.line_text.proofs.WritingLemmas.{all_loop, all_loop_end, all_same, part_loop, part_same, writes_part}
-use Rattle.script_text.specs.Replies.{heading, section_of, section_text}
+use Rattle.script_text.proofs.Prelude.{◌≡◌, ◌≤◌, ◌∙◌, ◌++◌, Some, ap, get_or, slice_get, length, sym, arith, rules, slice_get-get_or, flat_map-map, all_loop, all_loop_end, all_same, part_loop, part_same, writes_part, heading, section_of, section_text}
 use Rattle.script_text.proofs.replies.write_sections.Goals as goal
 
 pub returns-in_err-write_section : goal.returns-in_err-write_section

@@ -1,7 +1,4 @@
-use Rattle.std.proofs.Common.{take}
-use Rattle.std.specs.List.{flat_map}
-use Rattle.line_text.specs.Writing.{TakesAll}
-use Rattle.script_text.specs.Replies.{section_of, section_text}
+use Rattle.script_text.proofs.Prelude.{take, flat_map, TakesAll, section_of, section_text}
 use Rattle.script_text.proofs.replies.write_sections.Given as goal
 
 -- the sections before this one are written

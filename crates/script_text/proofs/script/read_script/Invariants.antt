@@ -1,6 +1,4 @@
-use Rattle.std.proofs.Common.{◌≡◌, ◌+◌, ◌≤◌, length}
-use Rattle.script_text.specs.Reading.{comes_to}
-use Rattle.script_text.specs.Script.{script_of}
+use Rattle.script_text.proofs.Prelude.{◌≡◌, ◌+◌, ◌≤◌, length, comes_to, script_of}
 use Rattle.script_text.proofs.script.read_script.Given as goal
 
 -- the acts so far, and those of the remaining lines, are those of the script

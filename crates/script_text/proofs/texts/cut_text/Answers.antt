@@ -1,6 +1,4 @@
-use Rattle.std.proofs.Common.{◌≡◌, ◌∷◌, ◌<◌, length, false, rules}
-use Rattle.line_text.specs.Lines.{physical_lines}
-use Rattle.sessions.specs.Items.{ends_text}
+use Rattle.script_text.proofs.Prelude.{◌≡◌, ◌∷◌, ◌<◌, length, false, rules, physical_lines, ends_text}
 use Rattle.script_text.proofs.Walked.{first_of, shorter, walked_more}
 use Rattle.script_text.proofs.texts.cut_text.Goals as goal
 

@@ -1,4 +1,4 @@
-use Rattle.std.proofs.Common.{length}
+use Rattle.script_text.proofs.Prelude.{length}
 use Rattle.script_text.proofs.Walked.{Walked}
 use Rattle.script_text.proofs.texts.cut_text.Given as goal
 

@@ -1,8 +1,4 @@
-use Rattle.std.proofs.Common.{◌≡◌, ◌++◌, ◌∷◌, [], length, sym, ap, ◌∙◌, append-nil, rules}
-use Rattle.line_text.specs.Lines.{physical_lines}
-use Rattle.sessions.specs.Items.{kept_part, without_cr}
-use Rattle.std.specs.List.{flat_map}
-use Rattle.sessions.proofs.KeptLemmas.{kept-all}
+use Rattle.script_text.proofs.Prelude.{◌≡◌, ◌++◌, ◌∷◌, [], length, sym, ap, ◌∙◌, append-nil, rules, physical_lines, kept_part, without_cr, flat_map, kept-all}
 use Rattle.script_text.proofs.LineLemmas.{ended_line, kept-short, kept_line, no_cr, no_lines, without_crs-none}
 use Rattle.script_text.proofs.texts.kept_text.Goals as goal
 

@@ -1,6 +1,4 @@
-use Rattle.std.proofs.Common.{◌≡◌, ◌++◌, ◌≤◌, length, vec_len}
-use Rattle.sessions.specs.Items.{kept_part}
-use Rattle.script_text.specs.Cuts.{without_crs}
+use Rattle.script_text.proofs.Prelude.{◌≡◌, ◌++◌, ◌≤◌, length, vec_len, kept_part, without_crs}
 use Rattle.script_text.proofs.texts.kept_text.Given as goal
 
 -- the text so far, and the remaining lines, are all of it

@@ -1,7 +1,4 @@
-use Rattle.std.proofs.Common.{rules, ◌≡◌, ◌∙◌, length, sym, ap}
-use Rattle.std.specs.Prelude.{Ok}
-use Rattle.script_text.specs.Threaded.{parts_of, threaded_from, threaded_of}
-use Rattle.script_text.specs.Threads.{heard_by, parts_read}
+use Rattle.script_text.proofs.Prelude.{rules, ◌≡◌, ◌∙◌, length, sym, ap, Ok, parts_of, threaded_from, threaded_of, heard_by, parts_read}
 use Rattle.script_text.proofs.ApartLemmas.{script-apart}
 use Rattle.script_text.proofs.LineLemmas.{no_lines}
 use Rattle.script_text.proofs.threaded.read_threaded.Goals as goal

@@ -1,8 +1,4 @@
-use Rattle.std.proofs.Common.{◌≡◌, ◌+◌, ◌≤◌, length}
-use Rattle.line_text.specs.Lines.{physical_lines}
-use Rattle.script_text.specs.Names.{AreNamed}
-use Rattle.script_text.specs.Threaded.{threaded_from, threaded_of}
-use Rattle.script_text.specs.Threads.{heard_by}
+use Rattle.script_text.proofs.Prelude.{◌≡◌, ◌+◌, ◌≤◌, length, physical_lines, AreNamed, threaded_from, threaded_of, heard_by}
 use Rattle.script_text.proofs.threaded.read_threaded.Given as goal
 
 -- what is read so far, with the remaining lines, results in the script's parts

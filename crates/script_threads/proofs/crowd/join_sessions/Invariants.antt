@@ -1,7 +1,4 @@
-use Rattle.std.proofs.Common.{◌≡◌}
-use Rattle.std.specs.Prelude.{IfSome, map}
-use Rattle.script_threads.specs.Parts.{started_by}
-use Rattle.script_threads.specs.Sessions.{asked_in}
+use Rattle.script_threads.proofs.Prelude.{◌≡◌, IfSome, map, started_by, asked_in}
 use Rattle.script_threads.proofs.crowd.join_sessions.Given as goal
 
 -- the parts so far are those of the sessions so far

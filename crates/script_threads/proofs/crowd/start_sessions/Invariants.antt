@@ -1,6 +1,4 @@
-use Rattle.std.proofs.Common.{◌≡◌, ◌++◌}
-use Rattle.std.specs.Prelude.{All, IsTrue, map}
-use Rattle.script_threads.specs.Parts.{started_by}
+use Rattle.script_threads.proofs.Prelude.{◌≡◌, ◌++◌, All, IsTrue, map, started_by}
 use Rattle.script_threads.proofs.crowd.start_sessions.Given as goal
 
 -- the sessions so far are started

@@ -1,9 +1,4 @@
-use Rattle.std.proofs.Common.{◌≢◌, ap, length, subst, sym, ◌∙◌}
-use Rattle.std.specs.Prelude.{All, AllPairs}
-use Rattle.service_core.specs.Service.{ServiceState}
-use Rattle.settling.specs.Settling.{AreAllCalls, SettledState}
-use Rattle.script_threads.specs.Parts.{AreFullNotes}
-use Rattle.script_threads.specs.Refusals.{NoneLate}
+use Rattle.script_threads.proofs.Prelude.{◌≢◌, ap, length, subst, sym, ◌∙◌, All, AllPairs, ServiceState, AreAllCalls, SettledState, AreFullNotes, NoneLate}
 use Rattle.script_threads.proofs.FinishLemmas.{full_notes}
 use Rattle.script_threads.proofs.finish.settle_answers.Goals as goal
 

@@ -1,5 +1,4 @@
-use Rattle.std.specs.Prelude.{map}
-use Rattle.script_text.specs.Replies.{section_of}
+use Rattle.script_threads.proofs.Prelude.{map, section_of}
 use Rattle.script_threads.proofs.OneRunLemmas.{all_full}
 use Rattle.script_threads.proofs.law.full_stays.Goals as goal
 

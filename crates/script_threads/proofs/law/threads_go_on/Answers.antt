@@ -1,5 +1,4 @@
-use Rattle.std.specs.Prelude.{map}
-use Rattle.script_text.specs.Replies.{section_of}
+use Rattle.script_threads.proofs.Prelude.{map, section_of}
 use Rattle.script_threads.proofs.OneRunLemmas.{goes_on}
 use Rattle.script_threads.proofs.law.threads_go_on.Goals as goal
 

@@ -1,4 +1,4 @@
-use Rattle.std.proofs.Common.{◌≡◌, length, rules}
+use Rattle.script_threads.proofs.Prelude.{◌≡◌, length, rules}
 use Rattle.script_threads.proofs.LeftLemmas.{all_made, keeps_count, none_made, one_more}
 use Rattle.script_threads.proofs.left_jobs.end_jobs.Goals as goal
 

@@ -1,4 +1,4 @@
-use Rattle.script_threads.specs.Left.{HaveMadeSteps}
+use Rattle.script_threads.proofs.Prelude.{HaveMadeSteps}
 use Rattle.script_threads.proofs.left_jobs.end_jobs.Given as goal
 
 -- the jobs of the tenancies so far have ended

@@ -1,12 +1,4 @@
-use Rattle.std.proofs.Common.{◌≡◌, ◌∙◌, ℕ, List, ap, sym, subst, rules}
-use Rattle.std.specs.Prelude.{map}
-use Rattle.std.proofs.lemmas.Iterator.Adapters.{YieldsList-from_vec}
-use Rattle.std.proofs.lemmas.Iterator.Consumers.{YieldsList-end}
-use Rattle.std.proofs.lemmas.List.{map-id, map_push}
-use Rattle.operator.specs.Held.{sink_text}
-use Rattle.script_text.specs.declared.operator_line.OperatorLine.{OperatorLine}
-use Rattle.script_text.specs.Script.{named_operator}
-use Rattle.script_threads.specs.Lines.{RepliesEach, stage}
+use Rattle.script_threads.proofs.Prelude.{◌≡◌, ◌∙◌, ℕ, List, ap, sym, subst, rules, map, YieldsList-from_vec, YieldsList-end, map-id, map_push, sink_text, OperatorLine, named_operator, RepliesEach, stage}
 use Rattle.script_threads.proofs.LineLemmas.{replies_more}
 use Rattle.script_threads.proofs.operator_lines.serve_each.Goals as goal
 

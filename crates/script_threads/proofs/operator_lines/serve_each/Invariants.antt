@@ -1,7 +1,4 @@
-use Rattle.std.specs.Prelude.{map}
-use Rattle.operator.specs.Held.{sink_text}
-use Rattle.script_text.specs.Script.{named_operator}
-use Rattle.script_threads.specs.Lines.{RepliesEach, stage}
+use Rattle.script_threads.proofs.Prelude.{map, sink_text, named_operator, RepliesEach, stage}
 use Rattle.script_threads.proofs.operator_lines.serve_each.Given as goal
 
 -- the lines so far are served

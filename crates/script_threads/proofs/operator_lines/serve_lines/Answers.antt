@@ -1,10 +1,4 @@
-use Rattle.std.proofs.Common.{refl, subst, sym, ◌∙◌}
-use Rattle.std.specs.Prelude.{map, OnOk}
-use Rattle.operator.specs.Held.{sink_text}
-use Rattle.operator.specs.HeldJobs.{HeldList}
-use Rattle.operator.proofs.OperatorLemmas.{on_ok}
-use Rattle.script_text.specs.Script.{named_operator}
-use Rattle.script_threads.specs.Lines.{RepliesEach, stage}
+use Rattle.script_threads.proofs.Prelude.{refl, subst, sym, ◌∙◌, map, OnOk, sink_text, HeldList, on_ok, named_operator, RepliesEach, stage}
 use Rattle.script_threads.proofs.LineLemmas.{gives_keep}
 use Rattle.script_threads.proofs.operator_lines.serve_lines.Goals as goal
 

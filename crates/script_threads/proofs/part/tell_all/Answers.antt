@@ -1,6 +1,4 @@
-use Rattle.std.proofs.Common.{◌≡◌, ◌++◌, ◌∙◌, ap, sym, rules}
-use Rattle.operator.specs.Held.{sink_text}
-use Rattle.script_threads.specs.Sessions.{evicted_line}
+use Rattle.script_threads.proofs.Prelude.{◌≡◌, ◌++◌, ◌∙◌, ap, sym, rules, sink_text, evicted_line}
 use Rattle.script_threads.proofs.PartLemmas.{told_push}
 use Rattle.script_threads.proofs.part.tell_all.Goals as goal
 

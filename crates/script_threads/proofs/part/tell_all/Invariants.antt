@@ -1,7 +1,4 @@
-use Rattle.std.proofs.Common.{◌≡◌}
-use Rattle.std.specs.List.{flat_map}
-use Rattle.operator.specs.Held.{sink_text}
-use Rattle.script_threads.specs.Sessions.{evicted_line}
+use Rattle.script_threads.proofs.Prelude.{◌≡◌, flat_map, sink_text, evicted_line}
 use Rattle.script_threads.proofs.part.tell_all.Given as goal
 
 -- the items so far are answered

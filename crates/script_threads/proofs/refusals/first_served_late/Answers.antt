@@ -1,8 +1,4 @@
-use Rattle.std.proofs.Common.{rules, ◌≡◌, ◌<◌, ℕ, List, length, get_or, false, subst, sym, take, ap, ◌∙◌}
-use Rattle.std.proofs.Math.Seq.{take-length}
-use Rattle.std.proofs.lemmas.List.Elements.{All-more}
-use Rattle.transcripts.specs.Transcripts.{TranscriptState}
-use Rattle.script_threads.specs.Refusals.{NoneLate, places_in, served_late}
+use Rattle.script_threads.proofs.Prelude.{rules, ◌≡◌, ◌<◌, ℕ, List, length, get_or, false, subst, sym, take, ap, ◌∙◌, take-length, All-more, TranscriptState, NoneLate, places_in, served_late}
 use Rattle.script_threads.proofs.refusals.first_served_late.Goals as goal
 
 pub loop-i-preserved : goal.loop-i-preserved

@@ -1,6 +1,4 @@
-use Rattle.std.proofs.Common.{take}
-use Rattle.std.specs.Prelude.{All}
-use Rattle.script_threads.specs.Refusals.{NoneLate}
+use Rattle.script_threads.proofs.Prelude.{take, All, NoneLate}
 use Rattle.script_threads.proofs.refusals.first_served_late.Given as goal
 
 -- the transcripts so far

@@ -1,7 +1,4 @@
-use Rattle.std.proofs.Common.{rules, ◌≡◌, ◌<◌, ◌+◌, ℕ, List, length, get_or, true, false, sym, ap, ◌∙◌, drop}
-use Rattle.std.specs.Prelude.{◌&&◌}
-use Rattle.transcripts.specs.declared.item.Item.{Item}
-use Rattle.script_threads.specs.Refusals.{is_receipt, places_in, served_late}
+use Rattle.script_threads.proofs.Prelude.{rules, ◌≡◌, ◌<◌, ◌+◌, ℕ, List, length, get_or, true, false, sym, ap, ◌∙◌, drop, ◌&&◌, Item, is_receipt, places_in, served_late}
 use Rattle.script_threads.proofs.RefusalLemmas.{at_end, at_late, at_next}
 use Rattle.script_threads.proofs.refusals.is_served_late.Goals as goal
 

@@ -1,5 +1,4 @@
-use Rattle.std.proofs.Common.{◌≡◌, drop, false}
-use Rattle.script_threads.specs.Refusals.{places_in, served_late}
+use Rattle.script_threads.proofs.Prelude.{◌≡◌, drop, false, places_in, served_late}
 use Rattle.script_threads.proofs.refusals.is_served_late.Given as goal
 
 -- it depends on the items from here on

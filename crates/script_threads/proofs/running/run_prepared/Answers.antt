@@ -1,6 +1,4 @@
-use Rattle.std.proofs.Common.{◌∙◌}
-use Rattle.std.specs.Prelude.{map}
-use Rattle.script_text.specs.Replies.{section_of}
+use Rattle.script_threads.proofs.Prelude.{◌∙◌, map, section_of}
 use Rattle.script_threads.proofs.RanLemmas.{sessions_ran}
 use Rattle.script_threads.proofs.ServeLemmas.{on_value}
 use Rattle.script_threads.proofs.running.run_prepared.Goals as goal

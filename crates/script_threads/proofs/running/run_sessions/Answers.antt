@@ -1,5 +1,4 @@
-use Rattle.std.proofs.Common.{length, sym, subst}
-use Rattle.script_threads.specs.Seats.{AreFree}
+use Rattle.script_threads.proofs.Prelude.{length, sym, subst, AreFree}
 use Rattle.script_threads.proofs.SeatLemmas.{none_given}
 use Rattle.script_threads.proofs.running.run_sessions.Goals as goal
 

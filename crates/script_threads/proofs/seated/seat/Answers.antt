@@ -1,5 +1,4 @@
-use Rattle.std.proofs.Common.{ℕ, subst}
-use Rattle.script_threads.specs.Seats.{GivesOneLease}
+use Rattle.script_threads.proofs.Prelude.{ℕ, subst, GivesOneLease}
 use Rattle.script_threads.proofs.SeatLemmas.{lease_gives}
 use Rattle.script_threads.proofs.seated.seat.Goals as goal
 

@@ -1,12 +1,4 @@
-use Rattle.std.proofs.Common.{◌≡◌, ◌∙◌, ◌++◌, ◌∷◌, [], ℕ, List, true, ap, sym, subst, rules}
-use Rattle.std.specs.Prelude.{map}
-use Rattle.std.proofs.lemmas.Iterator.Adapters.{YieldsList-from_vec}
-use Rattle.std.proofs.lemmas.Iterator.Consumers.{YieldsList-so_far, YieldsList-turn}
-use Rattle.std.proofs.lemmas.List.{map_push}
-use Rattle.script_text.specs.Threaded.{Said, said_by}
-use Rattle.shared_core.specs.CoreState.{is_leased}
-use Rattle.script_threads.specs.Seats.{HasSeat}
-use Rattle.script_threads.specs.Sessions.{asked_of}
+use Rattle.script_threads.proofs.Prelude.{◌≡◌, ◌∙◌, ◌++◌, ◌∷◌, [], ℕ, List, true, ap, sym, subst, rules, map, YieldsList-from_vec, YieldsList-so_far, YieldsList-turn, map_push, Said, said_by, is_leased, HasSeat, asked_of}
 use Rattle.script_threads.proofs.SeatLemmas.{free_at, seated_more}
 use Rattle.script_threads.proofs.seated.seat_all.Goals as goal
 

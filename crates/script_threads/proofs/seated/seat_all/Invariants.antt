@@ -1,9 +1,4 @@
-use Rattle.std.proofs.Common.{◌≡◌, ℕ, true}
-use Rattle.std.specs.Prelude.{map}
-use Rattle.script_text.specs.Threaded.{said_by}
-use Rattle.shared_core.specs.CoreState.{is_leased}
-use Rattle.script_threads.specs.Seats.{HasSeat}
-use Rattle.script_threads.specs.Sessions.{asked_of}
+use Rattle.script_threads.proofs.Prelude.{◌≡◌, ℕ, true, map, said_by, is_leased, HasSeat, asked_of}
 use Rattle.script_threads.proofs.seated.seat_all.Given as goal
 
 -- the sessions so far are seated, and no other lease was given

@@ -1,4 +1,4 @@
-use Rattle.std.proofs.Common.{◌≡◌}
+use Rattle.script_threads.proofs.Prelude.{◌≡◌}
 use Rattle.script_threads.proofs.seated.shares.Given as goal
 
 -- the number of shares that were given so far

@@ -1,4 +1,4 @@
-use Rattle.std.proofs.Common.{true}
+use Rattle.script_threads.proofs.Prelude.{true}
 use Rattle.script_threads.proofs.serving.serve_sessions.Given as goal
 
 abbrev pub ghosts-run_sessions-C-Ledger : goal.ghosts-run_sessions-C-Ledger

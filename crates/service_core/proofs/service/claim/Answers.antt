@@ -1,7 +1,4 @@
-use Rattle.std.proofs.Common.{sym, subst}
-use Rattle.tenant_slot.specs.RoutedSet.{routed_set}
-use Rattle.service_core.specs.History.{state_of}
-use Rattle.service_core.specs.Kept.{TakesUp}
+use Rattle.service_core.proofs.Prelude.{sym, subst, routed_set, state_of, TakesUp}
 use Rattle.service_core.proofs.Booking.{claimed_held, free_held, stand_in}
 use Rattle.service_core.proofs.service.claim.Goals as goal
 

@@ -1,8 +1,4 @@
-use Rattle.std.proofs.Common.{sym, subst}
-use Rattle.rr_graph.specs.Resources.{moved_resource}
-use Rattle.std.proofs.Common.{map}
-use Rattle.tenant_slot.specs.RoutedSet.{routed_set}
-use Rattle.service_core.specs.Tenancy.{GivesUp}
+use Rattle.service_core.proofs.Prelude.{sym, subst, moved_resource, map, routed_set, GivesUp}
 use Rattle.service_core.proofs.Booking.{released_held, stand_in}
 use Rattle.service_core.proofs.tenancy.give_up.Goals as goal
 

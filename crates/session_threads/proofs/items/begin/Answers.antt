@@ -1,5 +1,4 @@
-use Rattle.std.proofs.Common.{◌≡◌, true, ◌∙◌, rules, sym}
-use Rattle.session_threads.specs.Outcomes.{is_item}
+use Rattle.session_threads.proofs.Prelude.{◌≡◌, true, ◌∙◌, rules, sym, is_item}
 use Rattle.session_threads.proofs.OutcomeLemmas.{item_line}
 use Rattle.session_threads.proofs.items.begin.Goals as goal
 

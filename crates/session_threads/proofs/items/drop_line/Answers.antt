@@ -1,4 +1,4 @@
-use Rattle.std.proofs.Common.{◌∙◌, sym}
+use Rattle.session_threads.proofs.Prelude.{◌∙◌, sym}
 use Rattle.session_threads.proofs.OutcomeLemmas.{lost_ends, lost_goes_on}
 use Rattle.session_threads.proofs.items.drop_line.Goals as goal
 

@@ -1,4 +1,4 @@
-use Rattle.std.proofs.Common.{◌∙◌, sym}
+use Rattle.session_threads.proofs.Prelude.{◌∙◌, sym}
 use Rattle.session_threads.proofs.OutcomeLemmas.{text_ends, text_goes_on, text_lost, text_unserved}
 use Rattle.session_threads.proofs.items.go_on.Goals as goal
 

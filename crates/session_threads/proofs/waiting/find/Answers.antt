@@ -1,5 +1,4 @@
-use Rattle.std.proofs.Common.{Some, ap, false, sym, ◌∙◌}
-use Rattle.shared_core.specs.CoreState.{CoreState, with_mark}
+use Rattle.session_threads.proofs.Prelude.{Some, ap, false, sym, ◌∙◌, CoreState, with_mark}
 use Rattle.session_threads.proofs.WaitingLemmas.{mark_back}
 use Rattle.session_threads.proofs.waiting.find.Goals as goal
 

@@ -1,8 +1,5 @@
-use Rattle.std.proofs.Common.{◌≡◌}
-use Rattle.tenant_slot.specs.declared.command.Command.TheVariants.{Status}
-use Rattle.transcripts.specs.Transcripts.{Enters}
+use Rattle.session_threads.proofs.Prelude.{◌≡◌, Status, Enters, found_in}
 use Rattle.session_threads.specs.declared.waiting.Found.TheVariants.{Ended}
-use Rattle.session_threads.specs.Waiting.{found_in}
 use Rattle.session_threads.proofs.WaitingLemmas.{wait_notes}
 use Rattle.session_threads.proofs.waiting.wait_turn.Goals as goal
 

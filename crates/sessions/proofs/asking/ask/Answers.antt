@@ -1,8 +1,4 @@
-use Rattle.std.proofs.Common.{[], ◌∷◌, Err, inl, refl}
-use Rattle.tenant_slot.specs.declared.command.Command.TheVariants.{Status}
-use Rattle.service_core.specs.declared.not_served.NotServed.TheVariants.{NoMemory}
-use Rattle.service_core.specs.Run.Call.{Tenant}
-use Rattle.sessions.specs.declared.told.Answer.TheVariants.{Served}
+use Rattle.sessions.proofs.Prelude.{[], ◌∷◌, Err, inl, refl, Status, NoMemory, Tenant, Served}
 use Rattle.sessions.proofs.CommandLemmas.{command_asks, command_runs}
 use Rattle.sessions.proofs.StepLemmas.{ends_as_status, ends_without_memory, wait_asks}
 use Rattle.sessions.proofs.WaitLemmas.{wait_leaves}

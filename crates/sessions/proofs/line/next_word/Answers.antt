@@ -1,5 +1,4 @@
-use Rattle.std.proofs.Common.{◌≡◌, ◌<◌, length, arith}
-use Rattle.std.proofs.lemmas.Bool.Decides.{nat_tests}
+use Rattle.sessions.proofs.Prelude.{◌≡◌, ◌<◌, length, arith, nat_tests}
 use Rattle.sessions.proofs.WordLemmas.{a_word, no_word}
 use Rattle.sessions.proofs.line.next_word.Goals as goal
 

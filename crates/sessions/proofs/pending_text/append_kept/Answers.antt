@@ -1,5 +1,4 @@
-use Rattle.std.proofs.Common.{◌≤◌, ◌-◌, length, arith, rules}
-use Rattle.std.proofs.lemmas.Grind.{common_steps}
+use Rattle.sessions.proofs.Prelude.{◌≤◌, ◌-◌, length, arith, rules, common_steps}
 use Rattle.sessions.proofs.KeptLemmas.{kept-whole, kept-part}
 use Rattle.sessions.proofs.pending_text.append_kept.Goals as goal
 

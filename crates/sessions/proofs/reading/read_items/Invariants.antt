@@ -1,7 +1,4 @@
-use Rattle.std.proofs.Common.{◌≡◌, ◌++◌, length}
-use Rattle.line_text.specs.Lines.{physical_lines}
-use Rattle.sessions.specs.Items.{items_of}
-use Rattle.sessions.specs.Reading.{items_to_come}
+use Rattle.sessions.proofs.Prelude.{◌≡◌, ◌++◌, length, physical_lines, items_of, items_to_come}
 use Rattle.sessions.proofs.reading.read_items.Given as goal
 
 -- the items so far, with those of the lines that are left, are those of the input

@@ -1,5 +1,4 @@
-use Rattle.std.proofs.Common.{◌∷◌, Some}
-use Rattle.service_core.specs.Run.Call.{Take}
+use Rattle.sessions.proofs.Prelude.{◌∷◌, Some, Take}
 use Rattle.sessions.proofs.Counted.{taken_next}
 use Rattle.sessions.proofs.Fitting.{none_never, taken_fits}
 use Rattle.sessions.proofs.StepLemmas.{take_happens, taken}

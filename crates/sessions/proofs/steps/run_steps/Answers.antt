@@ -1,5 +1,4 @@
-use Rattle.std.specs.List.{flat_map}
-use Rattle.sessions.specs.Steps.{MadeStep}
+use Rattle.sessions.proofs.Prelude.{flat_map, MadeStep}
 use Rattle.sessions.proofs.Counted.{step_counts}
 use Rattle.sessions.proofs.Fitting.{own_after}
 use Rattle.sessions.proofs.StepLemmas.{ends_unrecorded, made_ends, made_more}

@@ -1,9 +1,5 @@
-use Rattle.std.proofs.Common.{◌∙◌, ◌∷◌, [], ap, refl, Ok, Err, inl, inr, true, subst, sym}
-use Rattle.std.specs.declared.alloc.AllocError.{AllocError}
-use Rattle.job_state.specs.declared.step.JobStep.{JobStep}
+use Rattle.sessions.proofs.Prelude.{◌∙◌, ◌∷◌, [], ap, refl, Ok, Err, inl, inr, true, subst, sym, AllocError, JobStep, IsOriginIn, Put, GiveBack}
 use Rattle.service_core.specs.declared.put_reply.PutReply.TheVariants.{Recorded, Full, Gone}
-use Rattle.service_core.specs.Calls.{IsOriginIn}
-use Rattle.service_core.specs.Run.Call.{Put, GiveBack}
 use Rattle.sessions.proofs.StepLemmas.{back_runs, given_runs, put_runs}
 use Rattle.sessions.proofs.steps.step_and_put_from.Goals as goal
 

@@ -1,5 +1,4 @@
-use Rattle.std.proofs.Common.{◌∙◌, ap, sym}
-use Rattle.strips.specs.Plan.{offset_of}
+use Rattle.sessions.proofs.Prelude.{◌∙◌, ap, sym, offset_of}
 use Rattle.sessions.proofs.Fitting.{stands_somewhere, window_made}
 use Rattle.sessions.proofs.steps.window_of.Goals as goal
 

@@ -1,8 +1,4 @@
-use Rattle.std.proofs.Common.{rules, ◌≡◌, ◌<◌, ℕ, List, length, get_or, Some, take}
-use Rattle.std.specs.Prelude.{slice_get}
-use Rattle.std.proofs.Math.Seq.{take-length}
-use Rattle.transcripts.specs.Transcripts.{TranscriptState}
-use Rattle.settling.specs.Settling.{has_id}
+use Rattle.settling.proofs.Prelude.{rules, ◌≡◌, ◌<◌, ℕ, List, length, get_or, Some, take, slice_get, take-length, TranscriptState, has_id}
 use Rattle.settling.proofs.Claims.{all-next, at_index, first-bad}
 use Rattle.settling.proofs.comparing.first_mismatch.Goals as goal
 

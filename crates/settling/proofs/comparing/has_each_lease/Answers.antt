@@ -1,9 +1,4 @@
-use Rattle.std.proofs.Common.{arith, ◌≡◌, ◌<◌, ◌≤◌, length, true, false, refl, ap}
-use Rattle.std.specs.Prelude.{nat_lt}
-use Rattle.std.proofs.lemmas.Bool.Decides.{nat_tests}
-use Rattle.shared_core.specs.CoreState.{given_in, is_leased}
-use Rattle.shared_core.proofs.Marks.{marked_of-past, marked_of-zero}
-use Rattle.settling.specs.Settling.{has_id}
+use Rattle.settling.proofs.Prelude.{arith, ◌≡◌, ◌<◌, ◌≤◌, length, true, false, refl, ap, nat_lt, nat_tests, given_in, is_leased, marked_of-past, marked_of-zero, has_id}
 use Rattle.settling.proofs.comparing.has_each_lease.Goals as goal
 
 pub loop-index-init : goal.loop-index-init

@@ -1,6 +1,4 @@
-use Rattle.std.proofs.Common.{◌≡◌, ◌≤◌, ℕ, true}
-use Rattle.shared_core.specs.CoreState.{is_leased}
-use Rattle.settling.specs.Settling.{has_id}
+use Rattle.settling.proofs.Prelude.{◌≡◌, ◌≤◌, ℕ, true, is_leased, has_id}
 use Rattle.settling.proofs.comparing.has_each_lease.Given as goal
 
 abbrev pub invariant-loop-index : goal.invariant-loop-index

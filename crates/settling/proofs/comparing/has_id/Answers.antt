@@ -1,7 +1,4 @@
-use Rattle.std.proofs.Common.{rules, arith, ◌≡◌, ◌<◌, List, length, get_or, false, eqb, Some, sym, take}
-use Rattle.std.specs.Prelude.{slice_get}
-use Rattle.std.proofs.lemmas.Bool.Decides.{nat_tests}
-use Rattle.transcripts.specs.Transcripts.{TranscriptState}
+use Rattle.settling.proofs.Prelude.{rules, arith, ◌≡◌, ◌<◌, List, length, get_or, false, eqb, Some, sym, take, slice_get, nat_tests, TranscriptState}
 use Rattle.settling.proofs.Claims.{at_index, take-next}
 use Rattle.settling.proofs.Totals.{has_id-here, has_id-push}
 use Rattle.settling.proofs.comparing.has_id.Goals as goal

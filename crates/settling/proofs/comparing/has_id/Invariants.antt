@@ -1,5 +1,4 @@
-use Rattle.std.proofs.Common.{◌≡◌, false, take}
-use Rattle.settling.specs.Settling.{has_id}
+use Rattle.settling.proofs.Prelude.{◌≡◌, false, take, has_id}
 use Rattle.settling.proofs.comparing.has_id.Given as goal
 
 abbrev pub invariant-loop-i : goal.invariant-loop-i

@@ -1,9 +1,4 @@
-use Rattle.std.proofs.Common.{rules, ◌≡◌, ◌<◌, ℕ, List, length, get_or, false, true, Some, None, sym, take, ap, ◌∙◌}
-use Rattle.std.specs.Prelude.{slice_get}
-use Rattle.service_core.specs.Receipt.{Receipted}
-use Rattle.transcripts.specs.declared.item.Item.{Item}
-use Rattle.transcripts.specs.Transcripts.{receipt_in, receipts_of}
-use Rattle.settling.specs.Settling.{IsBorneOut}
+use Rattle.settling.proofs.Prelude.{rules, ◌≡◌, ◌<◌, ℕ, List, length, get_or, false, true, Some, None, sym, take, ap, ◌∙◌, slice_get, Receipted, Item, receipt_in, receipts_of, IsBorneOut}
 use Rattle.settling.proofs.Claims.{at_index, bad-next, good-next, next_place, next_place-push, no_receipt_in, receipts-next, receipts-same}
 use Rattle.settling.proofs.comparing.mismatch_in.Goals as goal
 

@@ -1,7 +1,4 @@
-use Rattle.std.proofs.Common.{◌≡◌, take}
-use Rattle.std.specs.Prelude.{All}
-use Rattle.transcripts.specs.Transcripts.{receipts_of}
-use Rattle.settling.specs.Settling.{IsBorneOut, claims_in}
+use Rattle.settling.proofs.Prelude.{◌≡◌, take, All, receipts_of, IsBorneOut, claims_in}
 use Rattle.settling.proofs.Claims.{next_place}
 use Rattle.settling.proofs.comparing.mismatch_in.Given as goal
 

@@ -1,6 +1,4 @@
-use Rattle.std.proofs.Common.{rules, arith, ◌≡◌, ◌+◌, ◌++◌, ◌∷◌, [], length, length-append}
-use Rattle.transcripts.specs.Transcripts.{TranscriptState, receipts_of}
-use Rattle.settling.specs.Settling.{receipts_in}
+use Rattle.settling.proofs.Prelude.{rules, arith, ◌≡◌, ◌+◌, ◌++◌, ◌∷◌, [], length, length-append, TranscriptState, receipts_of, receipts_in}
 use Rattle.settling.proofs.Totals.{receipts_in-push}
 use Rattle.settling.proofs.counting.merge_leases.Goals as goal
 

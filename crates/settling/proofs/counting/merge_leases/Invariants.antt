@@ -1,5 +1,4 @@
-use Rattle.std.proofs.Common.{◌≡◌, ◌+◌, length}
-use Rattle.settling.specs.Settling.{receipts_in}
+use Rattle.settling.proofs.Prelude.{◌≡◌, ◌+◌, length, receipts_in}
 use Rattle.settling.proofs.counting.merge_leases.Given as goal
 
 abbrev pub invariant-loop-transcript : goal.invariant-loop-transcript

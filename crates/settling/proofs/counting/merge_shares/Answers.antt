@@ -1,6 +1,4 @@
-use Rattle.std.proofs.Common.{rules, arith, ◌≡◌, ◌+◌, ◌++◌, ◌∷◌, [], length, length-append}
-use Rattle.settling.specs.Settling.{puts_counted}
-use Rattle.shared_core.specs.CoreState.{ShareState}
+use Rattle.settling.proofs.Prelude.{rules, arith, ◌≡◌, ◌+◌, ◌++◌, ◌∷◌, [], length, length-append, puts_counted, ShareState}
 use Rattle.settling.proofs.Totals.{puts_counted-push}
 use Rattle.settling.proofs.counting.merge_shares.Goals as goal
 

@@ -1,5 +1,4 @@
-use Rattle.std.proofs.Common.{◌≡◌, ◌+◌, length}
-use Rattle.settling.specs.Settling.{puts_counted}
+use Rattle.settling.proofs.Prelude.{◌≡◌, ◌+◌, length, puts_counted}
 use Rattle.settling.proofs.counting.merge_shares.Given as goal
 
 abbrev pub invariant-loop-share : goal.invariant-loop-share

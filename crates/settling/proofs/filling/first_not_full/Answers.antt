@@ -1,8 +1,4 @@
-use Rattle.std.proofs.Common.{rules, ◌≡◌, ◌<◌, ℕ, List, length, get_or, subst, take}
-use Rattle.std.proofs.Math.Seq.{take-length}
-use Rattle.std.proofs.lemmas.List.Elements.{All-more}
-use Rattle.transcripts.specs.Transcripts.{TranscriptState}
-use Rattle.settling.specs.Settling.{IsFullIfTold}
+use Rattle.settling.proofs.Prelude.{rules, ◌≡◌, ◌<◌, ℕ, List, length, get_or, subst, take, take-length, All-more, TranscriptState, IsFullIfTold}
 use Rattle.settling.proofs.filling.first_not_full.Goals as goal
 
 pub loop-i-preserved : goal.loop-i-preserved

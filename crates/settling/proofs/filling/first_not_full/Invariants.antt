@@ -1,6 +1,4 @@
-use Rattle.std.proofs.Common.{take}
-use Rattle.std.specs.Prelude.{All}
-use Rattle.settling.specs.Settling.{IsFullIfTold}
+use Rattle.settling.proofs.Prelude.{take, All, IsFullIfTold}
 use Rattle.settling.proofs.filling.first_not_full.Given as goal
 
 -- the transcripts so far

@@ -1,8 +1,4 @@
-use Rattle.std.proofs.Common.{◌≡◌, ℕ, ap, ◌∙◌, Some}
-use Rattle.std.specs.Prelude.{All, is_some, slice_get}
-use Rattle.service_core.specs.Service.{journal_of}
-use Rattle.transcripts.specs.declared.item.Item.{Item}
-use Rattle.settling.specs.Settling.{TellsFull}
+use Rattle.settling.proofs.Prelude.{◌≡◌, ℕ, ap, ◌∙◌, Some, All, is_some, slice_get, journal_of, Item, TellsFull}
 use Rattle.settling.proofs.FullJournals.{copied, decides, none_told}
 use Rattle.settling.proofs.filling.is_full_if_told.Goals as goal
 

@@ -1,6 +1,4 @@
-use Rattle.std.proofs.Common.{take}
-use Rattle.std.specs.Prelude.{All}
-use Rattle.settling.specs.Settling.{TellsFull}
+use Rattle.settling.proofs.Prelude.{take, All, TellsFull}
 use Rattle.settling.proofs.filling.is_told_full.Given as goal
 
 -- none of the items so far

@@ -1,7 +1,4 @@
-use Rattle.std.proofs.Common.{rules, ◌≡◌, ◌+◌, length, sym, ap, ◌∙◌}
-use Rattle.std.specs.Prelude.{All}
-use Rattle.shared_core.specs.CoreState.{CoreState}
-use Rattle.settling.specs.Settling.{AreAllThere, IsBorneOut, IsFullIfTold, claims_of}
+use Rattle.settling.proofs.Prelude.{rules, ◌≡◌, ◌+◌, length, sym, ap, ◌∙◌, All, CoreState, AreAllThere, IsBorneOut, IsFullIfTold, claims_of}
 use Rattle.settling.proofs.Agreeing.{settled}
 use Rattle.settling.proofs.AllCalls.{all_calls}
 use Rattle.settling.proofs.Totals.{enough}

@@ -1,4 +1,4 @@
-use Rattle.std.proofs.Common.{arith, ◌∙◌}
+use Rattle.shared_core.proofs.Prelude.{arith, ◌∙◌}
 use Rattle.shared_core.proofs.Wrapped.{puts_in-take}
 use Rattle.shared_core.proofs.wrapping.count_puts.Goals as goal
 

@@ -1,5 +1,4 @@
-use Rattle.std.proofs.Common.{◌≡◌, ◌+◌, take}
-use Rattle.shared_core.specs.CoreState.{puts_in}
+use Rattle.shared_core.proofs.Prelude.{◌≡◌, ◌+◌, take, puts_in}
 use Rattle.shared_core.proofs.wrapping.count_puts.Given as goal
 
 abbrev pub invariant-loop-index : goal.invariant-loop-index

@@ -1,8 +1,4 @@
-use Rattle.std.proofs.Common.{rules, arith, ◌≡◌, ◌+◌, Some, take, ◌∙◌}
-use Rattle.std.specs.Prelude.{slice_get}
-use Rattle.service_core.specs.declared.entry.Entry.{Entry}
-use Rattle.service_core.specs.Service.{journal_of}
-use Rattle.shared_core.specs.CoreState.{puts_among}
+use Rattle.shared_core.proofs.Prelude.{rules, arith, ◌≡◌, ◌+◌, Some, take, ◌∙◌, slice_get, Entry, journal_of, puts_among}
 use Rattle.shared_core.proofs.Wrapped.{none_past, puts_among-all, puts_among-take}
 use Rattle.shared_core.proofs.wrapping.count_puts_of.Goals as goal
 

@@ -1,6 +1,4 @@
-use Rattle.std.proofs.Common.{◌≡◌, ◌+◌, take}
-use Rattle.service_core.specs.Service.{journal_of}
-use Rattle.shared_core.specs.CoreState.{puts_among}
+use Rattle.shared_core.proofs.Prelude.{◌≡◌, ◌+◌, take, journal_of, puts_among}
 use Rattle.shared_core.proofs.wrapping.count_puts_of.Given as goal
 
 abbrev pub invariant-loop-place : goal.invariant-loop-place

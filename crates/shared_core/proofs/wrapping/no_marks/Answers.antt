@@ -1,5 +1,4 @@
-use Rattle.std.proofs.Common.{rules, ◌≡◌, ◌++◌, ◌∷◌, [], sym, ◌∙◌, ap}
-use Rattle.shared_core.specs.CoreState.{no_marks}
+use Rattle.shared_core.proofs.Prelude.{rules, ◌≡◌, ◌++◌, ◌∷◌, [], sym, ◌∙◌, ap, no_marks}
 use Rattle.shared_core.proofs.Wrapped.{replicate-push}
 use Rattle.shared_core.proofs.wrapping.no_marks.Goals as goal
 

@@ -1,5 +1,4 @@
-use Rattle.std.proofs.Common.{◌≡◌, replicate}
-use Rattle.shared_core.specs.CoreState.{no_marks}
+use Rattle.shared_core.proofs.Prelude.{◌≡◌, replicate, no_marks}
 use Rattle.shared_core.proofs.wrapping.no_marks.Given as goal
 
 abbrev pub invariant-loop-id : goal.invariant-loop-id

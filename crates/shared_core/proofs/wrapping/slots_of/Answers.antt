@@ -1,8 +1,4 @@
-use Rattle.std.proofs.Common.{arith, ◌≡◌, ◌+◌, ℕ, List, length, false, sym, ap, ◌∙◌, refl, replicate}
-use Rattle.std.specs.Prelude.{is_some}
-use Rattle.service_core.specs.History.{History, state_of}
-use Rattle.service_core.specs.Service.{live_of}
-use Rattle.shared_core.specs.CoreState.{AreSlotted, is_live}
+use Rattle.shared_core.proofs.Prelude.{arith, ◌≡◌, ◌+◌, ℕ, List, length, false, sym, ap, ◌∙◌, refl, replicate, is_some, History, state_of, live_of, AreSlotted, is_live}
 use Rattle.shared_core.proofs.Holders.{AreSlotted-none, AreSlotted-same}
 use Rattle.shared_core.proofs.Kept.{has_strip, is_some-map, nobody}
 use Rattle.shared_core.proofs.Wrapped.{live_upto, slotted_dead, slotted_live, upto_all, upto_none}

@@ -1,5 +1,4 @@
-use Rattle.std.proofs.Common.{◌≡◌, false, replicate}
-use Rattle.shared_core.specs.CoreState.{AreSlotted}
+use Rattle.shared_core.proofs.Prelude.{◌≡◌, false, replicate, AreSlotted}
 use Rattle.shared_core.proofs.Wrapped.{live_upto}
 use Rattle.shared_core.proofs.wrapping.slots_of.Given as goal
 

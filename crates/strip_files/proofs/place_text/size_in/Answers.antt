@@ -1,8 +1,4 @@
-use Rattle.std.proofs.Common.{arith, ◌≡◌, ◌∙◌, ◌≤◌, ℕ, Option, Some, None, IfSome, IfNone, ap, sym}
-use Rattle.std.proofs.lemmas.Bool.{true≢false}
-use Rattle.grid.specs.declared.TheConstants.{MAX_COLUMNS, MAX_ROWS}
-use Rattle.strip_files.specs.SizeLines.{HasSize, IsWithin}
-use Rattle.strip_files.specs.declared.size.StripSize.{StripSize}
+use Rattle.strip_files.proofs.Prelude.{arith, ◌≡◌, ◌∙◌, ◌≤◌, ℕ, Option, Some, None, IfSome, IfNone, ap, sym, true≢false, MAX_COLUMNS, MAX_ROWS, HasSize, IsWithin, StripSize}
 use Rattle.strip_files.proofs.place_text.size_in.Goals as goal
 
 size_told : (found : Option StripSize) (m n columns rows : ℕ) → m ≡ columns → n ≡ rows → IsWithin columns rows → IfSome found (λ size. (size.columns ≡ m) × (size.rows ≡ n))

@@ -1,4 +1,4 @@
-use Rattle.std.proofs.Common.{◌≡◌, ◌∙◌, Bool, ◌&&◌, ℕ, true, refl, sym, append-nil, codes, decimal, arith, ◌++◌}
+use Rattle.strip_files.proofs.Prelude.{◌≡◌, ◌∙◌, Bool, ◌&&◌, ℕ, true, refl, sym, append-nil, codes, decimal, arith, ◌++◌}
 use Rattle.strip_files.proofs.Fronts.{number_taken, text_taken}
 use Rattle.strip_files.proofs.place_text.size_words.Goals as goal
 

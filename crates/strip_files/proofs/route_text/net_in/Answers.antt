@@ -1,8 +1,4 @@
-use Rattle.std.proofs.Common.{◌∙◌, ◌++◌, ap, sym}
-use Rattle.std.proofs.lemmas.Bool.Decides.{Decides-eqb}
-use Rattle.std.proofs.lemmas.Slice.Eq.{strip_suffix_is}
-use Rattle.std.specs.List.{before_first}
-use Rattle.text_parts.specs.PartEnds.{is_no_digit}
+use Rattle.strip_files.proofs.Prelude.{◌∙◌, ◌++◌, ap, sym, Decides-eqb, strip_suffix_is, before_first, is_no_digit}
 use Rattle.strip_files.proofs.Nets.{net_line, some_at}
 use Rattle.strip_files.proofs.route_text.net_in.Goals as goal
 

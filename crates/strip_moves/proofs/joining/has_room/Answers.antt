@@ -1,10 +1,4 @@
-use Rattle.std.proofs.Common.{◌≡◌, ◌+◌, ◌<◌, ◌≤◌, length, arith, ◌∙◌, sym, ap}
-use Rattle.std.proofs.lemmas.Bool.Decides.{nat_tests}
-use Rattle.std.proofs.lemmas.List.Elements.{All-same}
-use Rattle.strips.specs.declared.layout.TheConstants.{MAX_STRIPS}
-use Rattle.strips.specs.declared.placed_strip.PlacedStrip.{PlacedStrip}
-use Rattle.strips.specs.Plan.{AreApart, Plan}
-use Rattle.strips.proofs.Laid.{IsParted-with}
+use Rattle.strip_moves.proofs.Prelude.{◌≡◌, ◌+◌, ◌<◌, ◌≤◌, length, arith, ◌∙◌, sym, ap, nat_tests, All-same, MAX_STRIPS, PlacedStrip, AreApart, Plan, IsParted-with}
 use Rattle.strip_moves.proofs.Rooms.{apart_from_all}
 use Rattle.strip_moves.proofs.joining.has_room.Goals as goal
 

@@ -1,5 +1,4 @@
-use Rattle.std.proofs.Common.{◌≡◌, ap, arith}
-use Rattle.strips.specs.Plan.{Plan}
+use Rattle.strip_moves.proofs.Prelude.{◌≡◌, ap, arith, Plan}
 use Rattle.strip_moves.proofs.AcceptedMoves.{same_columns}
 use Rattle.strip_moves.proofs.joining.joining_moves.Goals as goal
 

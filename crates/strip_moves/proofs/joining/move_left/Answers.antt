@@ -1,4 +1,4 @@
-use Rattle.std.proofs.Common.{sym, ◌∙◌, arith}
+use Rattle.strip_moves.proofs.Prelude.{sym, ◌∙◌, arith}
 use Rattle.strip_moves.proofs.Settling.{goes_on}
 use Rattle.strip_moves.proofs.joining.move_left.Goals as goal
 

@@ -1,5 +1,4 @@
-use Rattle.std.proofs.Common.{◌≡◌}
-use Rattle.strip_moves.specs.Moves.{CannotMove}
+use Rattle.strip_moves.proofs.Prelude.{◌≡◌, CannotMove}
 use Rattle.strip_moves.proofs.joining.move_left.Given as goal
 
 -- nothing is moved so far, and no lower offset is accepted

@@ -1,4 +1,4 @@
-use Rattle.std.proofs.Common.{arith}
+use Rattle.strip_moves.proofs.Prelude.{arith}
 use Rattle.strip_moves.proofs.AcceptedMoves.{accepted_push}
 use Rattle.strip_moves.proofs.Settling.{all_leftmost}
 use Rattle.strip_moves.proofs.joining.moves_on.Goals as goal

@@ -1,5 +1,4 @@
-use Rattle.strip_moves.specs.Moves.{AreAccepted}
-use Rattle.strip_moves.specs.Settled.{IsSettled}
+use Rattle.strip_moves.proofs.Prelude.{AreAccepted, IsSettled}
 use Rattle.strip_moves.proofs.joining.moves_on.Given as goal
 
 -- the moves so far are accepted, and the strips before this offset are moved

@@ -1,8 +1,4 @@
-use Rattle.std.proofs.Common.{◌∙◌, get_or, refl, sym, subst}
-use Rattle.std.proofs.lemmas.Bool.{true≢false}
-use Rattle.strips.proofs.Laid.{IsLaidOut-with}
-use Rattle.strips.specs.Plan.{HasRoomFor, IsLaidOut, Plan}
-use Rattle.strips.specs.declared.placed_strip.PlacedStrip.{PlacedStrip}
+use Rattle.strip_moves.proofs.Prelude.{◌∙◌, get_or, refl, sym, subst, true≢false, IsLaidOut-with, HasRoomFor, IsLaidOut, Plan, PlacedStrip}
 use Rattle.strip_moves.proofs.Rooms.{has_room_at, plan_more}
 use Rattle.strip_moves.proofs.joining.plan_of.Goals as goal
 

@@ -1,5 +1,4 @@
-use Rattle.std.proofs.Common.{◌≡◌, take}
-use Rattle.strips.specs.Plan.{IsLaidOut}
+use Rattle.strip_moves.proofs.Prelude.{◌≡◌, take, IsLaidOut}
 use Rattle.strip_moves.proofs.joining.plan_of.Given as goal
 
 -- the plan has the strips so far

@@ -1,5 +1,4 @@
-use Rattle.std.proofs.Common.{◌≢◌, ◌<◌, ℕ, get_or}
-use Rattle.strips.specs.declared.placed_strip.PlacedStrip.{PlacedStrip}
+use Rattle.strip_moves.proofs.Prelude.{◌≢◌, ◌<◌, ℕ, get_or, PlacedStrip}
 use Rattle.strip_moves.proofs.joining.strip_at.Given as goal
 
 -- no strip so far is at the offset

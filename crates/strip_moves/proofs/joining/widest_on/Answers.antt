@@ -1,7 +1,4 @@
-use Rattle.std.proofs.Common.{◌≡◌, ◌+◌, ◌-◌, ◌<◌, length, arith, inl, inr, subst}
-use Rattle.std.proofs.lemmas.Bool.{cases_lt}
-use Rattle.std.proofs.lemmas.Bool.Decides.{nat_tests}
-use Rattle.strips.specs.Plan.{FitsAt}
+use Rattle.strip_moves.proofs.Prelude.{◌≡◌, ◌+◌, ◌-◌, ◌<◌, length, arith, inl, inr, subst, cases_lt, nat_tests, FitsAt}
 use Rattle.strip_moves.proofs.joining.widest_on.Goals as goal
 
 pub returns-in-Some : goal.returns-in-Some

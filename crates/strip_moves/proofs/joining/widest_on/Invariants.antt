@@ -1,5 +1,4 @@
-use Rattle.std.proofs.Common.{ℕ, ◌+◌, ◌<◌}
-use Rattle.device_report.specs.Widest.{IsAdmittedAt}
+use Rattle.strip_moves.proofs.Prelude.{ℕ, ◌+◌, ◌<◌, IsAdmittedAt}
 use Rattle.strip_moves.proofs.joining.widest_on.Given as goal
 
 -- no wider strip is admitted

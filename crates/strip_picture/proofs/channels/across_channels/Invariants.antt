@@ -1,8 +1,4 @@
-use Rattle.std.proofs.Common.{◌≡◌, ◌+◌, ◌/◌, ◌%◌, List, map}
-use Rattle.std.specs.List.{range_with_len}
-use Rattle.picture_lines.specs.declared.lattice.Direction.TheVariants.{Across}
-use Rattle.strip_files.specs.declared.route_node.RouteNode.{RouteNode}
-use Rattle.strip_picture.specs.Channels.{HasTracks, use_of}
+use Rattle.strip_picture.proofs.Prelude.{◌≡◌, ◌+◌, ◌/◌, ◌%◌, List, map, range_with_len, Across, RouteNode, HasTracks, use_of}
 use Rattle.strip_picture.proofs.channels.across_channels.Given as goal
 
 -- the channels before this one are in the list

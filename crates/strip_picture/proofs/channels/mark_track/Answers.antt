@@ -1,6 +1,4 @@
-use Rattle.std.proofs.Common.{◌++◌, ◌∷◌, [], ℕ, List, sym, subst}
-use Rattle.strip_files.specs.declared.route_node.RouteNode.{RouteNode}
-use Rattle.strip_picture.specs.Channels.{HasTracks}
+use Rattle.strip_picture.proofs.Prelude.{◌++◌, ◌∷◌, [], ℕ, List, sym, subst, RouteNode, HasTracks}
 use Rattle.strip_picture.proofs.Tracks.{marked_wire}
 use Rattle.strip_picture.proofs.channels.mark_track.Goals as goal
 

@@ -1,10 +1,4 @@
-use Rattle.std.proofs.Common.{◌≡◌, ◌∙◌, ◌+◌, ◌*◌, ◌/◌, ◌%◌, ◌++◌, ◌∷◌, [], ℕ, List, map, ap, sym, arith, zero-add}
-use Rattle.std.specs.List.{range_with_len}
-use Rattle.std.proofs.lemmas.List.FromFn.{map-range_with_len_more}
-use Rattle.picture_lines.specs.declared.lattice.Direction.TheVariants.{Up}
-use Rattle.strip_files.specs.declared.size.StripSize.{StripSize}
-use Rattle.strip_picture.specs.declared.channels.ChannelTracks.{ChannelTracks}
-use Rattle.strip_picture.specs.Channels.{use_of}
+use Rattle.strip_picture.proofs.Prelude.{◌≡◌, ◌∙◌, ◌+◌, ◌*◌, ◌/◌, ◌%◌, ◌++◌, ◌∷◌, [], ℕ, List, map, ap, sym, arith, zero-add, range_with_len, map-range_with_len_more, Up, StripSize, ChannelTracks, use_of}
 use Rattle.strip_picture.proofs.channels.up_channels.Goals as goal
 
 pub loop-number-preserved : goal.loop-number-preserved

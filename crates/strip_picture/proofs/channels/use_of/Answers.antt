@@ -1,5 +1,4 @@
-use Rattle.std.proofs.Common.{ℕ, ap}
-use Rattle.strip_picture.specs.declared.channels.ChannelTracks.{ChannelTracks}
+use Rattle.strip_picture.proofs.Prelude.{ℕ, ap, ChannelTracks}
 use Rattle.strip_picture.proofs.channels.use_of.Goals as goal
 
 pub returns : goal.returns

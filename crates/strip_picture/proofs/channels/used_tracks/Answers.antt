@@ -1,7 +1,4 @@
-use Rattle.std.proofs.Common.{◌≡◌, ◌∙◌, ◌+◌, ◌++◌, ◌∷◌, [], ℕ, List, take, ap, sym, subst}
-use Rattle.std.proofs.lemmas.List.{take_more}
-use Rattle.strip_files.specs.declared.route_node.RouteNode.{RouteNode}
-use Rattle.strip_picture.specs.Channels.{HasTracks}
+use Rattle.strip_picture.proofs.Prelude.{◌≡◌, ◌∙◌, ◌+◌, ◌++◌, ◌∷◌, [], ℕ, List, take, ap, sym, subst, take_more, RouteNode, HasTracks}
 use Rattle.strip_picture.proofs.channels.used_tracks.Goals as goal
 
 pub loop-read-preserved : goal.loop-read-preserved

@@ -1,5 +1,4 @@
-use Rattle.std.proofs.Common.{take}
-use Rattle.strip_picture.specs.Channels.{HasTracks}
+use Rattle.strip_picture.proofs.Prelude.{take, HasTracks}
 use Rattle.strip_picture.proofs.channels.used_tracks.Given as goal
 
 abbrev pub invariant-loop-read : goal.invariant-loop-read

@@ -1,8 +1,4 @@
-use Rattle.std.proofs.Common.{◌≡◌, ◌∙◌, Bool, ap}
-use Rattle.line_text.proofs.WritingLemmas.{writes_same}
-use Rattle.picture_lines.specs.declared.lattice.Lattice.{Lattice}
-use Rattle.strip_picture.specs.declared.channels.ChannelTracks.{ChannelTracks}
-use Rattle.strip_picture.specs.Numbers.{goes_across, goes_up, middle, number_text, text_at}
+use Rattle.strip_picture.proofs.Prelude.{◌≡◌, ◌∙◌, Bool, ap, writes_same, Lattice, ChannelTracks, goes_across, goes_up, middle, number_text, text_at}
 use Rattle.strip_picture.proofs.heat.write_number.Goals as goal
 
 pub returns : goal.returns

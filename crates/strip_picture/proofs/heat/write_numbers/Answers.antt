@@ -1,8 +1,4 @@
-use Rattle.std.proofs.lemmas.Option.{slice_get-get_or}
-use Rattle.line_text.proofs.WritingLemmas.{all_loop, part_loop, writes_part}
-use Rattle.picture_lines.specs.declared.lattice.Direction.TheVariants.{Across}
-use Rattle.strip_picture.specs.declared.channels.ChannelTracks.{ChannelTracks}
-use Rattle.strip_picture.specs.Numbers.{number_text}
+use Rattle.strip_picture.proofs.Prelude.{slice_get-get_or, all_loop, part_loop, writes_part, Across, ChannelTracks, number_text}
 use Rattle.strip_picture.proofs.heat.write_numbers.Goals as goal
 
 -- the channel for an index beyond the list

@@ -1,7 +1,4 @@
-use Rattle.std.proofs.Common.{take}
-use Rattle.std.specs.List.{flat_map}
-use Rattle.line_text.specs.Writing.{TakesAll}
-use Rattle.strip_picture.specs.Numbers.{number_text}
+use Rattle.strip_picture.proofs.Prelude.{take, flat_map, TakesAll, number_text}
 use Rattle.strip_picture.proofs.heat.write_numbers.Given as goal
 
 -- the numbers before this one are written

@@ -1,8 +1,4 @@
-use Rattle.std.proofs.Common.{◌≡◌, ◌+◌, ◌-◌, ◌*◌, ◌<◌, ◌≤◌, [], arith, get_or, length, refl}
-use Rattle.std.proofs.lemmas.Option.{get_or_from_slice_get}
-use Rattle.strip_place.specs.Nets.{net_at}
-use Rattle.strip_place.specs.Boxes.{IsFollowed, IsRenewed, box_at, half_of, near_of}
-use Rattle.strip_place.specs.Sides.{sum_of}
+use Rattle.strip_place.proofs.Prelude.{◌≡◌, ◌+◌, ◌-◌, ◌*◌, ◌<◌, ◌≤◌, [], arith, get_or, length, refl, get_or_from_slice_get, net_at, IsFollowed, IsRenewed, box_at, half_of, near_of, sum_of}
 use Rattle.strip_place.proofs.Following.{later}
 use Rattle.strip_place.proofs.Lengths.{box_sum}
 use Rattle.strip_place.proofs.Swaps.{renewed_more}

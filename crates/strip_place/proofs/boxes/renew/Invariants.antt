@@ -1,5 +1,4 @@
-use Rattle.std.proofs.Common.{◌+◌, ◌-◌, ◌*◌, ◌≤◌}
-use Rattle.strip_place.specs.Boxes.{AreRenewed}
+use Rattle.strip_place.proofs.Prelude.{◌+◌, ◌-◌, ◌*◌, ◌≤◌, AreRenewed}
 use Rattle.strip_place.proofs.boxes.renew.Given as goal
 
 abbrev pub invariant-loop-number : goal.invariant-loop-number

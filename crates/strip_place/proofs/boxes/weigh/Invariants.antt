@@ -1,5 +1,4 @@
-use Rattle.std.proofs.Common.{◌≡◌, ◌+◌, ◌*◌, ◌≤◌, take}
-use Rattle.strip_place.specs.Boxes.{boxed_length, length_after}
+use Rattle.strip_place.proofs.Prelude.{◌≡◌, ◌+◌, ◌*◌, ◌≤◌, take, boxed_length, length_after}
 use Rattle.strip_place.proofs.boxes.weigh.Given as goal
 
 abbrev pub invariant-loop-number : goal.invariant-loop-number

@@ -1,6 +1,4 @@
-use Rattle.std.proofs.Common.{◌≡◌, ◌*◌, ◌≤◌, take}
-use Rattle.std.specs.Prelude.{sum_by}
-use Rattle.strip_place.specs.Boxes.{half_of}
+use Rattle.strip_place.proofs.Prelude.{◌≡◌, ◌*◌, ◌≤◌, take, sum_by, half_of}
 use Rattle.strip_place.proofs.boxes.whole_length.Given as goal
 
 abbrev pub invariant-loop-found : goal.invariant-loop-found

@@ -1,6 +1,4 @@
-use Rattle.std.proofs.Common.{◌≡◌, ◌≤◌, [], length, arith, rules}
-use Rattle.std.proofs.lemmas.Option.{get_or_from_slice_get}
-use Rattle.strip_place.specs.Nets.{net_at}
+use Rattle.strip_place.proofs.Prelude.{◌≡◌, ◌≤◌, [], length, arith, rules, get_or_from_slice_get, net_at}
 use Rattle.strip_place.proofs.Listed.{copied_more, copied_none}
 use Rattle.strip_place.proofs.lists.copy_rows.Goals as goal
 

@@ -1,4 +1,4 @@
-use Rattle.strip_place.specs.Lists.{AreCopied}
+use Rattle.strip_place.proofs.Prelude.{AreCopied}
 use Rattle.strip_place.proofs.lists.copy_rows.Given as goal
 
 abbrev pub invariant-loop-number : goal.invariant-loop-number

@@ -1,11 +1,4 @@
-use Rattle.std.proofs.Common.{◌≡◌, ◌+◌, ◌<◌, ◌++◌, ◌∷◌, [], List, length, map, take, get_or, arith, ap, sym, ◌∙◌}
-use Rattle.std.proofs.lemmas.List.{append_assoc, map_more}
-use Rattle.std.proofs.lemmas.Option.{get_or_from_slice_get}
-use Rattle.grid.specs.declared.place.Place.{Place}
-use Rattle.grid.specs.Listed.{places_in_order}
-use Rattle.grid.specs.PlaceLaws.{IsPlaceIn}
-use Rattle.strip_place.specs.Points.{Point}
-use Rattle.strip_place.specs.Boards.{spot_of}
+use Rattle.strip_place.proofs.Prelude.{◌≡◌, ◌+◌, ◌<◌, ◌++◌, ◌∷◌, [], List, length, map, take, get_or, arith, ap, sym, ◌∙◌, append_assoc, map_more, get_or_from_slice_get, Place, places_in_order, IsPlaceIn, Point, spot_of}
 use Rattle.strip_place.proofs.Starts.{row_small}
 use Rattle.strip_place.proofs.start.add_spots.Goals as goal
 

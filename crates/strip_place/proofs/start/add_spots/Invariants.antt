@@ -1,6 +1,4 @@
-use Rattle.std.proofs.Common.{◌≡◌, ◌++◌, map, take}
-use Rattle.grid.specs.Listed.{places_in_order}
-use Rattle.strip_place.specs.Boards.{spot_of}
+use Rattle.strip_place.proofs.Prelude.{◌≡◌, ◌++◌, map, take, places_in_order, spot_of}
 use Rattle.strip_place.proofs.start.add_spots.Given as goal
 
 abbrev pub invariant-loop-number : goal.invariant-loop-number

@@ -1,13 +1,6 @@
-use Rattle.std.proofs.Common.{ℕ, ◌≡◌, ◌+◌, ◌<◌, ◌++◌, ◌∷◌, [], ◌∙◌, List, Option, length, take, get_or, map, arith, ap, sym}
-use Rattle.std.specs.Prelude.{option_map}
-use Rattle.std.proofs.lemmas.List.{length-map, map_more, take_all}
-use Rattle.std.proofs.lemmas.Option.{get_or_from_slice_get, slice_get_within}
-use Rattle.cluster.specs.Blocks.{blocks_of}
+use Rattle.strip_place.proofs.Prelude.{ℕ, ◌≡◌, ◌+◌, ◌<◌, ◌++◌, ◌∷◌, [], ◌∙◌, List, Option, length, take, get_or, map, arith, ap, sym, option_map, length-map, map_more, take_all, get_or_from_slice_get, slice_get_within, blocks_of, BlockKey, keys_of, kept_place, site_of}
 use Rattle.cluster.specs.Keys as in_packed
-use Rattle.cluster.specs.Keys.{BlockKey, keys_of}
-use Rattle.kept_places.specs.Kept.{kept_place}
 use Rattle.kept_places.specs.Table.{key_of}
-use Rattle.strip_place.specs.KeptSites.{site_of}
 use Rattle.strip_place.proofs.start.kept_by_block.Goals as goal
 
 pub loop-block-preserved : goal.loop-block-preserved

@@ -1,8 +1,4 @@
-use Rattle.std.proofs.Common.{◌≡◌, map, take}
-use Rattle.std.specs.Prelude.{option_map}
-use Rattle.cluster.specs.Keys.{BlockKey, keys_of}
-use Rattle.kept_places.specs.Kept.{kept_place}
-use Rattle.strip_place.specs.KeptSites.{site_of}
+use Rattle.strip_place.proofs.Prelude.{◌≡◌, map, take, option_map, BlockKey, keys_of, kept_place, site_of}
 use Rattle.strip_place.proofs.start.kept_by_block.Given as goal
 
 abbrev pub invariant-loop-block : goal.invariant-loop-block

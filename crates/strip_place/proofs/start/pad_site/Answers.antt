@@ -1,10 +1,5 @@
-use Rattle.std.proofs.Common.{◌≡◌, ◌∙◌, List, Some, length, slice_get, ap, arith, sym}
+use Rattle.strip_place.proofs.Prelude.{◌≡◌, ◌∙◌, List, Some, length, slice_get, ap, arith, sym, Place, Pad, places_of, IsStripSize, first_site}
 use Rattle.cluster.specs.declared.block.BlockKind.TheVariants as block
-use Rattle.grid.specs.declared.place.Place.{Place}
-use Rattle.grid.specs.declared.place.Kind.TheVariants.{Pad}
-use Rattle.grid.specs.Places.{places_of}
-use Rattle.grid.specs.Sizes.{IsStripSize}
-use Rattle.strip_place.specs.Sites.{first_site}
 use Rattle.strip_place.proofs.KeptSites.{site_is}
 use Rattle.strip_place.proofs.start.pad_site.Goals as goal
 

@@ -1,7 +1,4 @@
-use Rattle.std.proofs.Common.{◌<◌, ◌++◌, ◌∷◌, [], List, length, map, take, get_or, arith, ap, sym, ◌∙◌}
-use Rattle.std.proofs.lemmas.List.{get_or_read, map_push, take_all, take_more}
-use Rattle.strip_place.specs.Points.{Point}
-use Rattle.strip_place.specs.Wiring.{no_point, point_at}
+use Rattle.strip_place.proofs.Prelude.{◌<◌, ◌++◌, ◌∷◌, [], List, length, map, take, get_or, arith, ap, sym, ◌∙◌, get_or_read, map_push, take_all, take_more, Point, no_point, point_at}
 use Rattle.strip_place.proofs.start.points_at.Goals as goal
 
 pub loop-site-preserved : goal.loop-site-preserved

@@ -1,5 +1,4 @@
-use Rattle.std.proofs.Common.{◌≡◌, map, take}
-use Rattle.strip_place.specs.Wiring.{point_at}
+use Rattle.strip_place.proofs.Prelude.{◌≡◌, map, take, point_at}
 use Rattle.strip_place.proofs.start.points_at.Given as goal
 
 abbrev pub invariant-loop-site : goal.invariant-loop-site

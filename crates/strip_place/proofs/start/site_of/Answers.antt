@@ -1,9 +1,5 @@
-use Rattle.std.proofs.Common.{◌≡◌, ◌∙◌, List, Some, slice_get, ap, arith, sym}
+use Rattle.strip_place.proofs.Prelude.{◌≡◌, ◌∙◌, List, Some, slice_get, ap, arith, sym, Place, Logic, places_of, IsStripSize}
 use Rattle.cluster.specs.declared.block.BlockKind.TheVariants as block
-use Rattle.grid.specs.declared.place.Place.{Place}
-use Rattle.grid.specs.declared.place.Kind.TheVariants.{Logic}
-use Rattle.grid.specs.Places.{places_of}
-use Rattle.grid.specs.Sizes.{IsStripSize}
 use Rattle.strip_place.proofs.KeptSites.{site_is}
 use Rattle.strip_place.proofs.start.site_of.Goals as goal
 

@@ -1,12 +1,4 @@
-use Rattle.std.proofs.Common.{◌≡◌, List, ◌++◌, map, ap, sym, ◌∙◌}
-use Rattle.std.proofs.lemmas.List.{map-append}
-use Rattle.grid.specs.declared.place.Place.{Place}
-use Rattle.grid.specs.declared.place.Kind.TheVariants.{Logic, Pad}
-use Rattle.grid.specs.Places.{places_of}
-use Rattle.grid.specs.Listed.{places_in_order}
-use Rattle.strip_place.specs.Points.{Point}
-use Rattle.strip_place.specs.Sites.{sites_of}
-use Rattle.strip_place.specs.Boards.{spot_of}
+use Rattle.strip_place.proofs.Prelude.{◌≡◌, List, ◌++◌, map, ap, sym, ◌∙◌, map-append, Place, Logic, Pad, places_of, places_in_order, Point, sites_of, spot_of}
 use Rattle.strip_place.proofs.start.spots_of.Goals as goal
 
 pub returns : goal.returns

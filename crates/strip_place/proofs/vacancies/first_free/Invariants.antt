@@ -1,4 +1,4 @@
-use Rattle.std.proofs.Common.{length, ◌-◌}
+use Rattle.strip_place.proofs.Prelude.{length, ◌-◌}
 use Rattle.strip_place.proofs.Marks.{IsSearching}
 use Rattle.strip_place.proofs.vacancies.first_free.Given as goal
 

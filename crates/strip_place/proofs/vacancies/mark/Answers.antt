@@ -1,5 +1,4 @@
-use Rattle.std.proofs.Common.{◌+◌, ◌∙◌, Bool, List, None, drop, ap, sym}
-use Rattle.strip_place.specs.Vacancies.{mark_at, marks_with}
+use Rattle.strip_place.proofs.Prelude.{◌+◌, ◌∙◌, Bool, List, None, drop, ap, sym, mark_at, marks_with}
 use Rattle.strip_place.proofs.Marks.{marked_all, marked_more}
 use Rattle.strip_place.proofs.vacancies.mark.Goals as goal
 use Rattle.strip_place.proofs.vacancies.mark.Goals.{in-Some, in_default}

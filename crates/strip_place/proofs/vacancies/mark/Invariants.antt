@@ -1,5 +1,4 @@
-use Rattle.std.proofs.Common.{◌≡◌, drop}
-use Rattle.strip_place.specs.Vacancies.{marks_with}
+use Rattle.strip_place.proofs.Prelude.{◌≡◌, drop, marks_with}
 use Rattle.strip_place.proofs.vacancies.mark.Given as goal
 
 abbrev pub invariant-loop-site : goal.invariant-loop-site

@@ -1,7 +1,4 @@
-use Rattle.std.proofs.Common.{◌≡◌, ◌<◌, [], length, arith}
-use Rattle.std.proofs.lemmas.Option.{get_or_from_slice_get}
-use Rattle.strip_place.specs.Nets.{net_at}
-use Rattle.strip_place.specs.Boxes.{IsBox}
+use Rattle.strip_place.proofs.Prelude.{◌≡◌, ◌<◌, [], length, arith, get_or_from_slice_get, net_at, IsBox}
 use Rattle.strip_place.proofs.Swaps.{boxes_all, boxes_more, boxes_none}
 use Rattle.strip_place.proofs.wires.boxes_of.Goals as goal
 

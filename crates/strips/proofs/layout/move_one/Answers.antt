@@ -1,9 +1,4 @@
-use Rattle.std.proofs.Common.{◌∙◌, ◌<◌, ap, arith, get_or, length}
-use Rattle.std.specs.Prelude.{slice_set}
-use Rattle.std.proofs.lemmas.List.{get_or_default}
-use Rattle.std.proofs.lemmas.List.Edits.{map_over_more}
-use Rattle.strips.specs.declared.placed_strip.PlacedStrip.{PlacedStrip}
-use Rattle.strips.specs.Plan.{moved_strip}
+use Rattle.strips.proofs.Prelude.{◌∙◌, ◌<◌, ap, arith, get_or, length, slice_set, get_or_default, map_over_more, PlacedStrip, moved_strip}
 use Rattle.strips.proofs.layout.move_one.Goals as goal
 
 pub loop-place-preserved : goal.loop-place-preserved

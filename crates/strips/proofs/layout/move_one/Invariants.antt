@@ -1,5 +1,4 @@
-use Rattle.std.proofs.Common.{◌≡◌, ◌++◌, drop, map, take}
-use Rattle.strips.specs.Plan.{moved_strip}
+use Rattle.strips.proofs.Prelude.{◌≡◌, ◌++◌, drop, map, take, moved_strip}
 use Rattle.strips.proofs.layout.move_one.Given as goal
 
 -- the strips visited so far are moved

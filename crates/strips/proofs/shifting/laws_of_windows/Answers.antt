@@ -1,5 +1,4 @@
-use Rattle.std.proofs.Common.{refl, arith}
-use Rattle.strips.specs.Windows.{moved_back, strip_of_width}
+use Rattle.strips.proofs.Prelude.{refl, arith, moved_back, strip_of_width}
 use Rattle.strips.proofs.Windows.{node_there, pair_within, pair_leaves, beside_outside, windows_apart}
 use Rattle.strips.proofs.shifting.laws_of_windows.Goals as goal
 

@@ -1,6 +1,4 @@
-use Rattle.std.proofs.Common.{◌≡◌, ◌∷◌, rules}
-use Rattle.line_text.specs.Lines.{physical_lines}
-use Rattle.line_text.proofs.WritingLemmas.{writes_part}
+use Rattle.tagged_lines.proofs.Prelude.{◌≡◌, ◌∷◌, rules, physical_lines, writes_part}
 use Rattle.tagged_lines.proofs.WritingSteps.{written_all, written_more, written_none, written_part}
 use Rattle.tagged_lines.proofs.writing.write_tagged.Goals as goal
 

@@ -1,4 +1,4 @@
-use Rattle.std.proofs.Common.{length}
+use Rattle.tagged_lines.proofs.Prelude.{length}
 use Rattle.tagged_lines.proofs.WritingSteps.{Written}
 use Rattle.tagged_lines.proofs.writing.write_tagged.Given as goal
 

@@ -1,4 +1,4 @@
-use Rattle.line_text.proofs.WritingLemmas.{writes_then}
+use Rattle.tagged_lines.proofs.Prelude.{writes_then}
 use Rattle.tagged_lines.proofs.writing.write_with_end.Goals as goal
 
 pub returns : goal.returns

@@ -1,6 +1,4 @@
-use Rattle.std.proofs.Common.{◌≡◌, ◌+◌, ◌≤◌, length}
-use Rattle.line_text.specs.Lines.{physical_lines}
-use Rattle.tenancy_script.specs.Faults.{fault_from, text_fault}
+use Rattle.tenancy_script.proofs.Prelude.{◌≡◌, ◌+◌, ◌≤◌, length, physical_lines, fault_from, text_fault}
 use Rattle.tenancy_script.proofs.fault.text_fault.Given as goal
 
 -- no line so far has a fault, and the others are checked against the number of bytes that may still

@@ -1,4 +1,4 @@
-use Rattle.std.proofs.Common.{◌<◌, length, rules}
+use Rattle.tenancy_script.proofs.Prelude.{◌<◌, length, rules}
 use Rattle.tenancy_script.proofs.TextLemmas.{ended_at}
 use Rattle.tenancy_script.proofs.printing.is_ended.Goals as goal
 

@@ -1,5 +1,4 @@
-use Rattle.std.proofs.Common.{◌+◌, ◌-◌, subst, sym}
-use Rattle.track_bound.specs.Busiest.{IsBusiest}
+use Rattle.track_bound.proofs.Prelude.{◌+◌, ◌-◌, subst, sym, IsBusiest}
 use Rattle.track_bound.proofs.Loops.{keeps, takes}
 use Rattle.track_bound.proofs.crossing.busiest_column.Goals as goal
 use Rattle.track_bound.proofs.crossing.busiest_column.Goals.{then-crossing-busiest, else-crossing-busiest}

@@ -1,5 +1,4 @@
-use Rattle.std.proofs.Common.{◌-◌}
-use Rattle.track_bound.specs.Busiest.{IsBusiest}
+use Rattle.track_bound.proofs.Prelude.{◌-◌, IsBusiest}
 use Rattle.track_bound.proofs.crossing.busiest_column.Given as goal
 
 abbrev pub invariant-loop-column : goal.invariant-loop-column

@@ -1,7 +1,4 @@
-use Rattle.std.proofs.Common.{◌≡◌, false, take}
-use Rattle.std.specs.List.{list_any}
-use Rattle.block_places.specs.Placed.{place_of}
-use Rattle.track_bound.specs.Crossings.{is_between}
+use Rattle.track_bound.proofs.Prelude.{◌≡◌, false, take, list_any, place_of, is_between}
 use Rattle.track_bound.proofs.crossing.crosses.Given as goal
 
 abbrev pub invariant-loop-reader : goal.invariant-loop-reader

@@ -1,6 +1,4 @@
-use Rattle.std.proofs.Common.{◌≡◌, ◌+◌, arith, ap}
-use Rattle.cluster.specs.Blocks.{BlockNet, block_nets}
-use Rattle.track_bound.specs.Crossings.{crosses_column}
+use Rattle.track_bound.proofs.Prelude.{◌≡◌, ◌+◌, arith, ap, BlockNet, block_nets, crosses_column}
 use Rattle.track_bound.proofs.Loops.{counted, one_if}
 use Rattle.track_bound.proofs.crossing.crossing_at.Goals as goal
 use Rattle.track_bound.proofs.crossing.crossing_at.Goals.{then-crosses, else-crosses}

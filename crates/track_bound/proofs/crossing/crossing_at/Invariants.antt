@@ -1,7 +1,4 @@
-use Rattle.std.proofs.Common.{◌≡◌, take}
-use Rattle.std.specs.Prelude.{count_by}
-use Rattle.cluster.specs.Blocks.{block_nets}
-use Rattle.track_bound.specs.Crossings.{crosses_column}
+use Rattle.track_bound.proofs.Prelude.{◌≡◌, take, count_by, block_nets, crosses_column}
 use Rattle.track_bound.proofs.crossing.crossing_at.Given as goal
 
 abbrev pub invariant-loop-number : goal.invariant-loop-number

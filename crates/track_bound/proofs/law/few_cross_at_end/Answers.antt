@@ -1,8 +1,4 @@
-use Rattle.pathfinder.proofs.PlacedTerminals.{are_nets}
-use Rattle.pathfinder.specs.Negotiation.{routed_after}
-use Rattle.pathfinder.specs.PlacedNets.{nets_to_route, wiring_of}
-use Rattle.pathfinder.specs.Routings.{routes_by_node}
-use Rattle.rr_graph.specs.Graph.{graph_of}
+use Rattle.track_bound.proofs.Prelude.{are_nets, routed_after, nets_to_route, wiring_of, routes_by_node, graph_of}
 use Rattle.track_bound.proofs.law.few_cross_at_end.Goals as goal
 
 pub returns : goal.returns

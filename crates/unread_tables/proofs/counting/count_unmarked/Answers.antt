@@ -1,6 +1,4 @@
-use Rattle.std.proofs.Common.{◌≡◌, ◌∙◌, Bool, List, Some, false, get_or, not, sym, arith}
-use Rattle.std.specs.List.{slice_get}
-use Rattle.blif.specs.LookupTables.{LookupTable}
+use Rattle.unread_tables.proofs.Prelude.{◌≡◌, ◌∙◌, Bool, List, Some, false, get_or, not, sym, arith, slice_get, LookupTable}
 use Rattle.unread_tables.proofs.Marking.{count_no, count_yes}
 use Rattle.unread_tables.proofs.counting.count_unmarked.Goals as goal
 use Rattle.unread_tables.proofs.counting.count_unmarked.Goals.{then-is_unmarked, else-is_unmarked}

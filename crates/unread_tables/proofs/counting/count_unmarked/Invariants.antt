@@ -1,5 +1,4 @@
-use Rattle.std.proofs.Common.{◌≡◌, ◌≤◌, count_by, false, not, slice_index_or, take}
-use Rattle.blif.specs.LookupTables.{LookupTable}
+use Rattle.unread_tables.proofs.Prelude.{◌≡◌, ◌≤◌, count_by, false, not, slice_index_or, take, LookupTable}
 use Rattle.unread_tables.proofs.counting.count_unmarked.Given as goal
 
 -- the tables before this one were counted

@@ -1,5 +1,4 @@
-use Rattle.std.proofs.Common.{take}
-use Rattle.unread_tables.specs.Unread.{AreMarks}
+use Rattle.unread_tables.proofs.Prelude.{take, AreMarks}
 use Rattle.unread_tables.proofs.counting.marks_of.Given as goal
 
 -- the nets before this one are marked

@@ -1,8 +1,4 @@
-use Rattle.std.proofs.Common.{ℕ, ◌∙◌, ◌<◌, Bool, List, false, get_or, length, not, count_by, ap, sym, subst}
-use Rattle.std.specs.List.{All}
-use Rattle.blif.specs.LookupTables.{LookupTable}
-use Rattle.blif.specs.declared.circuit.Circuit.{Circuit}
-use Rattle.unread_tables.specs.Unread.{AreMarks, read_nets}
+use Rattle.unread_tables.proofs.Prelude.{ℕ, ◌∙◌, ◌<◌, Bool, List, false, get_or, length, not, count_by, ap, sym, subst, All, LookupTable, Circuit, AreMarks, read_nets}
 use Rattle.unread_tables.proofs.Marking.{reads_within, unread_is}
 use Rattle.unread_tables.proofs.counting.unread_tables.Goals as goal
 

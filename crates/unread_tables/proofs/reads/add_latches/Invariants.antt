@@ -1,5 +1,4 @@
-use Rattle.std.proofs.Common.{◌≡◌, ◌++◌, flat_map, take}
-use Rattle.unread_tables.specs.Unread.{reads_of}
+use Rattle.unread_tables.proofs.Prelude.{◌≡◌, ◌++◌, flat_map, take, reads_of}
 use Rattle.unread_tables.proofs.reads.add_latches.Given as goal
 
 -- the nets of the latches before this one were added

@@ -1,4 +1,4 @@
-use Rattle.blif.specs.LookupTables.{LookupTable}
+use Rattle.unread_tables.proofs.Prelude.{LookupTable}
 use Rattle.unread_tables.proofs.Marking.{add_more}
 use Rattle.unread_tables.proofs.reads.add_tables.Goals as goal
 

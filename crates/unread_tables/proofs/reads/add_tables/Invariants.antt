@@ -1,5 +1,4 @@
-use Rattle.std.proofs.Common.{◌≡◌, ◌++◌, flat_map, take}
-use Rattle.blif.specs.LookupTables.{LookupTable}
+use Rattle.unread_tables.proofs.Prelude.{◌≡◌, ◌++◌, flat_map, take, LookupTable}
 use Rattle.unread_tables.proofs.reads.add_tables.Given as goal
 
 -- the nets of the tables before this one were added

@@ -1,6 +1,4 @@
-use Rattle.std.proofs.Common.{◌≡◌, ◌∙◌, sym, slice_get, Some, arith}
-use Rattle.std.proofs.lemmas.List.{nil_from_length}
-use Rattle.cluster.specs.Blocks.{net_name}
+use Rattle.vpr_files.proofs.Prelude.{◌≡◌, ◌∙◌, sym, slice_get, Some, arith, nil_from_length, net_name}
 use Rattle.vpr_files.proofs.ClusterLemmas.{by_circuit, element, no_seed, seed_is}
 use Rattle.vpr_files.proofs.net_file.cluster_name.Goals as goal
 

@@ -1,11 +1,4 @@
-use Rattle.std.proofs.Common.{sym}
-use Rattle.std.specs.List.{flat_map}
-use Rattle.std.proofs.lemmas.Grind.{flat_map-append}
-use Rattle.cluster.specs.Blocks.{blocks_of}
-use Rattle.vpr_files.specs.TextLines.{line_of, text_of}
-use Rattle.vpr_files.specs.NetFile.{block_lines, net_text_of}
-use Rattle.vpr_files.specs.FileParts.{global_lines}
-use Rattle.line_text.proofs.WritingLemmas.{part_first, part_same, writes_part, writes_same, writes_then}
+use Rattle.vpr_files.proofs.Prelude.{sym, flat_map, flat_map-append, blocks_of, line_of, text_of, block_lines, net_text_of, global_lines, part_first, part_same, writes_part, writes_same, writes_then}
 use Rattle.vpr_files.proofs.net_file.net_text.Goals as goal
 
 pub returns-in_err-write_globals : goal.returns-in_err-write_globals

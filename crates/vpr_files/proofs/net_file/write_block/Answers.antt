@@ -1,11 +1,6 @@
-use Rattle.std.proofs.Common.{◌∙◌, sym, ap}
-use Rattle.cluster.specs.declared.block.Block.{Block}
-use Rattle.cluster.specs.Blocks.{net_name}
-use Rattle.vpr_files.specs.TextLines.{text_of}
-use Rattle.vpr_files.specs.NetFile.{block_lines}
+use Rattle.vpr_files.proofs.Prelude.{◌∙◌, sym, ap, Block, net_name, text_of, block_lines, writes_same}
 use Rattle.vpr_files.proofs.ClusterLemmas.{by_circuit}
 use Rattle.vpr_files.proofs.TextLemmas.{input_text, output_text}
-use Rattle.line_text.proofs.WritingLemmas.{writes_same}
 use Rattle.vpr_files.proofs.net_file.write_block.Goals as goal
 
 pub returns-in-InputPad : goal.returns-in-InputPad

@@ -1,10 +1,6 @@
-use Rattle.std.proofs.Common.{◌≤◌, length, sym, arith}
-use Rattle.cluster.specs.Blocks.{blocks_of}
-use Rattle.vpr_files.specs.TextLines.{line_of, text_of}
-use Rattle.vpr_files.specs.NetFile.{block_lines}
+use Rattle.vpr_files.proofs.Prelude.{◌≤◌, length, sym, arith, blocks_of, line_of, text_of, block_lines, all_loop, all_loop_end, all_same, part_loop, part_same, writes_part}
 use Rattle.vpr_files.proofs.ClusterLemmas.{block_is_there}
 use Rattle.vpr_files.proofs.TextLemmas.{flat_map-flat_map}
-use Rattle.line_text.proofs.WritingLemmas.{all_loop, all_loop_end, all_same, part_loop, part_same, writes_part}
 use Rattle.vpr_files.proofs.net_file.write_blocks.Goals as goal
 
 pub write_block-requires : goal.write_block-requires

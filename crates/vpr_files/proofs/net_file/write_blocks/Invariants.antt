@@ -1,9 +1,4 @@
-use Rattle.std.proofs.Common.{take}
-use Rattle.std.specs.List.{flat_map}
-use Rattle.cluster.specs.Blocks.{blocks_of}
-use Rattle.vpr_files.specs.TextLines.{text_of}
-use Rattle.vpr_files.specs.NetFile.{block_lines}
-use Rattle.line_text.specs.Writing.{TakesAll}
+use Rattle.vpr_files.proofs.Prelude.{take, flat_map, blocks_of, text_of, block_lines, TakesAll}
 use Rattle.vpr_files.proofs.net_file.write_blocks.Given as goal
 
 -- the blocks before this one are written

@@ -1,6 +1,5 @@
-use Rattle.std.proofs.Common.{◌∷◌, ◌++◌, []}
+use Rattle.vpr_files.proofs.Prelude.{◌∷◌, ◌++◌, [], part_first, part_same, part_then, writes_part, writes_same, writes_then}
 use Rattle.vpr_files.proofs.TextLemmas.{cluster_text, elements_text, pins_text}
-use Rattle.line_text.proofs.WritingLemmas.{part_first, part_same, part_then, writes_part, writes_same, writes_then}
 use Rattle.vpr_files.proofs.net_file.write_cluster.Goals as goal
 
 pub returns-in_err-write_slices : goal.returns-in_err-write_slices

@@ -1,12 +1,5 @@
-use Rattle.std.proofs.Common.{◌≡◌, ◌∙◌, ◌≤◌, Some, ap, length, get_or, sym, arith}
-use Rattle.std.proofs.lemmas.List.Folds.{flat_map-map}
-use Rattle.std.proofs.lemmas.Option.{slice_get-get_or}
-use Rattle.cluster.specs.Bles.{bles_of}
-use Rattle.cluster.specs.Blocks.{elements_in}
-use Rattle.vpr_files.specs.TextLines.{line_of}
-use Rattle.vpr_files.specs.NetFile.{element_line}
+use Rattle.vpr_files.proofs.Prelude.{◌≡◌, ◌∙◌, ◌≤◌, Some, ap, length, get_or, sym, arith, flat_map-map, slice_get-get_or, bles_of, elements_in, line_of, element_line, all_loop, all_loop_end, all_same, part_loop, part_same, writes_part}
 use Rattle.vpr_files.proofs.ClusterLemmas.{element, element_count, element_in_at, element_is}
-use Rattle.line_text.proofs.WritingLemmas.{all_loop, all_loop_end, all_same, part_loop, part_same, writes_part}
 use Rattle.vpr_files.proofs.net_file.write_elements.Goals as goal
 
 pub returns-in_err-write_element : goal.returns-in_err-write_element

@@ -1,9 +1,4 @@
-use Rattle.std.proofs.Common.{take}
-use Rattle.std.specs.List.{flat_map}
-use Rattle.cluster.specs.Blocks.{elements_in}
-use Rattle.vpr_files.specs.TextLines.{line_of}
-use Rattle.vpr_files.specs.NetFile.{element_line}
-use Rattle.line_text.specs.Writing.{TakesAll}
+use Rattle.vpr_files.proofs.Prelude.{take, flat_map, elements_in, line_of, element_line, TakesAll}
 use Rattle.vpr_files.proofs.net_file.write_elements.Given as goal
 
 -- the lines of the BLEs before this one are written

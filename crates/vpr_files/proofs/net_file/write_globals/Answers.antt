@@ -1,11 +1,6 @@
-use Rattle.std.proofs.Common.{◌≡◌, ◌∙◌, ◌≤◌, ℕ, Bool, ◌||◌, List, [], ◌∷◌, ◌++◌, length, take, ◌+◌, sym, ap, arith, append-nil}
-use Rattle.std.proofs.lemmas.List.{take_all}
-use Rattle.std.specs.List.{flat_map, list_any}
-use Rattle.cluster.specs.Blocks.{BlockNet, block_nets, net_name}
-use Rattle.vpr_files.specs.TextLines.{line_of}
+use Rattle.vpr_files.proofs.Prelude.{◌≡◌, ◌∙◌, ◌≤◌, ℕ, Bool, ◌||◌, List, [], ◌∷◌, ◌++◌, length, take, ◌+◌, sym, ap, arith, append-nil, take_all, flat_map, list_any, BlockNet, block_nets, net_name, line_of, all_found, all_loop, all_loop_end, all_none, all_same, part_first, part_loop, part_same, writes_part, writes_same, writes_then}
 use Rattle.vpr_files.proofs.ClusterLemmas.{by_circuit}
 use Rattle.vpr_files.proofs.Globals.{global_line, global_line_text, global_text, globals_text, some_false, some_more, some_true, told}
-use Rattle.line_text.proofs.WritingLemmas.{all_found, all_loop, all_loop_end, all_none, all_same, part_first, part_loop, part_same, writes_part, writes_same, writes_then}
 use Rattle.vpr_files.proofs.net_file.write_globals.Goals as goal
 use Rattle.vpr_files.proofs.net_file.write_globals.Goals.{then-net+in_ok-write_slices, else-net}
 

@@ -1,7 +1,4 @@
-use Rattle.std.proofs.Common.{◌≡◌, take}
-use Rattle.std.specs.List.{flat_map, list_any}
-use Rattle.cluster.specs.Blocks.{BlockNet, block_nets}
-use Rattle.line_text.specs.Writing.{TakesAll}
+use Rattle.vpr_files.proofs.Prelude.{◌≡◌, take, flat_map, list_any, BlockNet, block_nets, TakesAll}
 use Rattle.vpr_files.proofs.Globals.{global_text}
 use Rattle.vpr_files.proofs.net_file.write_globals.Given as goal
 

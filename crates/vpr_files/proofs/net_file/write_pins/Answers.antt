@@ -1,11 +1,5 @@
-use Rattle.std.proofs.Common.{◌≡◌, ◌∙◌, ◌≤◌, length, sym, ap, arith}
-use Rattle.std.proofs.lemmas.List.Folds.{flat_map-map}
-use Rattle.arch_file.specs.declared.arch.Arch.{Arch}
-use Rattle.cluster.specs.Blocks.{net_name, pins_of}
-use Rattle.vpr_files.specs.TextLines.{word_after_space}
-use Rattle.vpr_files.specs.NetFile.{or_open}
+use Rattle.vpr_files.proofs.Prelude.{◌≡◌, ◌∙◌, ◌≤◌, length, sym, ap, arith, flat_map-map, Arch, net_name, pins_of, word_after_space, or_open, all_loop, all_loop_end, all_same, part_loop, part_same, writes_part}
 use Rattle.vpr_files.proofs.ClusterLemmas.{by_circuit, pin_count}
-use Rattle.line_text.proofs.WritingLemmas.{all_loop, all_loop_end, all_same, part_loop, part_same, writes_part}
 use Rattle.vpr_files.proofs.net_file.write_pins.Goals as goal
 
 pub returns-in_err-write_word : goal.returns-in_err-write_word

@@ -1,9 +1,4 @@
-use Rattle.std.proofs.Common.{take}
-use Rattle.std.specs.List.{flat_map}
-use Rattle.cluster.specs.Blocks.{net_name, pins_of}
-use Rattle.vpr_files.specs.TextLines.{word_after_space}
-use Rattle.vpr_files.specs.NetFile.{or_open}
-use Rattle.line_text.specs.Writing.{TakesAll}
+use Rattle.vpr_files.proofs.Prelude.{take, flat_map, net_name, pins_of, word_after_space, or_open, TakesAll}
 use Rattle.vpr_files.proofs.net_file.write_pins.Given as goal
 
 -- the words of the pins before this one are written

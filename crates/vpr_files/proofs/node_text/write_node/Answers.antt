@@ -1,7 +1,5 @@
-use Rattle.std.proofs.Common.{◌∙◌, ◌++◌, ap, codes}
-use Rattle.vpr_files.specs.NodeText.{number_word}
+use Rattle.vpr_files.proofs.Prelude.{◌∙◌, ◌++◌, ap, codes, number_word, writes_same}
 use Rattle.vpr_files.proofs.FileTexts.{node_text}
-use Rattle.line_text.proofs.WritingLemmas.{writes_same}
 use Rattle.vpr_files.proofs.node_text.write_node.Goals as goal
 
 pub returns : goal.returns

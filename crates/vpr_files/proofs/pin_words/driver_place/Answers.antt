@@ -1,9 +1,4 @@
-use Rattle.std.proofs.Common.{◌≡◌, ◌==◌, length, get_or, arith, eq-eqb}
-use Rattle.std.proofs.lemmas.Bool.{ne_eqb}
-use Rattle.std.proofs.lemmas.Option.{slice_get-get_or}
-use Rattle.cluster.specs.Clusters.{outputs_of}
-use Rattle.cluster.specs.Blocks.{elements_in}
-use Rattle.vpr_files.specs.NetFile.{driver_place}
+use Rattle.vpr_files.proofs.Prelude.{◌≡◌, ◌==◌, length, get_or, arith, eq-eqb, ne_eqb, slice_get-get_or, outputs_of, elements_in, driver_place}
 use Rattle.vpr_files.proofs.Searches.{search_none, search_miss, search_hit, search_end}
 use Rattle.vpr_files.proofs.ClusterLemmas.{element, member_is_ble, output_at, output_count}
 use Rattle.vpr_files.proofs.pin_words.driver_place.Goals as goal

@@ -1,8 +1,4 @@
-use Rattle.std.proofs.Common.{◌≡◌, ◌==◌, drop}
-use Rattle.std.specs.List.{position_from}
-use Rattle.cluster.specs.Clusters.{outputs_of}
-use Rattle.cluster.specs.Blocks.{elements_in}
-use Rattle.vpr_files.specs.NetFile.{driver_place}
+use Rattle.vpr_files.proofs.Prelude.{◌≡◌, ◌==◌, drop, position_from, outputs_of, elements_in, driver_place}
 use Rattle.vpr_files.proofs.pin_words.driver_place.Given as goal
 
 -- the BLEs before this one don't drive the net

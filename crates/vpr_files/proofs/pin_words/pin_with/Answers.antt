@@ -1,12 +1,4 @@
-use Rattle.std.proofs.Common.{◌≡◌, ◌∙◌, ℕ, Bool, true, false, ◌&&◌, ◌<◌, List, length, sym, ap, Some, None, Option, slice_get, get_or, arith, refl}
-use Rattle.std.specs.List.{zip}
-use Rattle.std.proofs.lemmas.Option.{slice_get-get_or, slice_get_within}
-use Rattle.arch_file.specs.declared.arch.Arch.{Arch}
-use Rattle.arch_file.specs.declared.arch.Pin.{Pin}
-use Rattle.arch_file.specs.declared.arch.PinClass.TheVariants.{Input}
-use Rattle.cluster.specs.Blocks.{is_same_class, pins_of}
-use Rattle.cluster.specs.Clusters.{PackedCircuit}
-use Rattle.vpr_files.specs.NetFile.{pin_with}
+use Rattle.vpr_files.proofs.Prelude.{◌≡◌, ◌∙◌, ℕ, Bool, true, false, ◌&&◌, ◌<◌, List, length, sym, ap, Some, None, Option, slice_get, get_or, arith, refl, zip, slice_get-get_or, slice_get_within, Arch, Pin, Input, is_same_class, pins_of, PackedCircuit, pin_with}
 use Rattle.vpr_files.proofs.Searches.{search_none, search_miss, search_hit, search_end}
 use Rattle.vpr_files.proofs.ClusterLemmas.{carried_is, class_is, is_on, pin_at, pin_count, zip_count}
 use Rattle.vpr_files.proofs.pin_words.pin_with.Goals as goal

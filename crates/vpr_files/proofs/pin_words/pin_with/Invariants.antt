@@ -1,8 +1,4 @@
-use Rattle.std.proofs.Common.{◌≡◌, ℕ, ◌&&◌, drop, Option}
-use Rattle.std.specs.List.{position_from, zip}
-use Rattle.arch_file.specs.declared.arch.Pin.{Pin}
-use Rattle.cluster.specs.Blocks.{is_same_class, pins_of}
-use Rattle.vpr_files.specs.NetFile.{pin_with}
+use Rattle.vpr_files.proofs.Prelude.{◌≡◌, ℕ, ◌&&◌, drop, Option, position_from, zip, Pin, is_same_class, pins_of, pin_with}
 use Rattle.vpr_files.proofs.ClusterLemmas.{is_on}
 use Rattle.vpr_files.proofs.pin_words.pin_with.Given as goal
 

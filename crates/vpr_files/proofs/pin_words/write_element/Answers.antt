@@ -1,11 +1,6 @@
-use Rattle.std.proofs.Common.{◌∷◌, ◌++◌, [], refl, decimal, option_and_then}
-use Rattle.arch_file.specs.declared.arch.PinClass.TheVariants.{Output, Clock}
-use Rattle.cluster.specs.Blocks.{net_name}
-use Rattle.vpr_files.specs.TextLines.{word_after_space}
-use Rattle.vpr_files.specs.NetFile.{or_open, pin_with}
+use Rattle.vpr_files.proofs.Prelude.{◌∷◌, ◌++◌, [], refl, decimal, option_and_then, Output, Clock, net_name, word_after_space, or_open, pin_with, part_first, part_same, part_then, writes_part, writes_same, writes_then}
 use Rattle.vpr_files.proofs.ClusterLemmas.{by_circuit, element}
 use Rattle.vpr_files.proofs.TextLemmas.{element_text, inputs_text}
-use Rattle.line_text.proofs.WritingLemmas.{part_first, part_same, part_then, writes_part, writes_same, writes_then}
 use Rattle.vpr_files.proofs.pin_words.write_element.Goals as goal
 
 pub returns-in_err-write_slices : goal.returns-in_err-write_slices

@@ -1,10 +1,5 @@
-use Rattle.std.proofs.Common.{◌≡◌, ◌<◌, slice_get, ap, arith}
-use Rattle.arch_file.specs.declared.arch.Arch.{Arch}
-use Rattle.vpr_files.specs.TextLines.{word_after_space}
-use Rattle.vpr_files.specs.NetFile.{input_word, or_open}
-use Rattle.line_text.proofs.WritingLemmas.{all_loop, all_range_end, all_same, part_loop, part_same, place_at, writes_part}
+use Rattle.vpr_files.proofs.Prelude.{◌≡◌, ◌<◌, slice_get, ap, arith, Arch, word_after_space, input_word, or_open, all_loop, all_range_end, all_same, part_loop, part_same, place_at, writes_part, range_with_len}
 use Rattle.vpr_files.proofs.pin_words.write_inputs.Goals as goal
-use Rattle.std.specs.List.{range_with_len}
 
 pub returns-in_err-write_input : goal.returns-in_err-write_input
 returns-in_err-write_input g c =

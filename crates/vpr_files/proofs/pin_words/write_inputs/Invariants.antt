@@ -1,8 +1,4 @@
-use Rattle.std.proofs.Common.{take, slice_get}
-use Rattle.std.specs.List.{flat_map, range_with_len}
-use Rattle.vpr_files.specs.TextLines.{word_after_space}
-use Rattle.vpr_files.specs.NetFile.{input_word, or_open}
-use Rattle.line_text.specs.Writing.{TakesAll}
+use Rattle.vpr_files.proofs.Prelude.{take, slice_get, flat_map, range_with_len, word_after_space, input_word, or_open, TakesAll}
 use Rattle.vpr_files.proofs.pin_words.write_inputs.Given as goal
 
 -- the words of the inputs before this one are written

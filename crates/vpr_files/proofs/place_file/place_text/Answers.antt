@@ -1,11 +1,5 @@
-use Rattle.std.proofs.Common.{sym}
-use Rattle.std.proofs.lemmas.Grind.{flat_map-append}
-use Rattle.strip_place.specs.Anneal.{places_by_block}
-use Rattle.vpr_files.specs.TextLines.{line_of, text_of}
-use Rattle.vpr_files.specs.PlaceFile.{place_text_of}
-use Rattle.vpr_files.specs.FileParts.{place_headings, placed_lines}
+use Rattle.vpr_files.proofs.Prelude.{sym, flat_map-append, places_by_block, line_of, text_of, place_text_of, place_headings, placed_lines, all_same, part_first, part_same, writes_part, writes_same, writes_then}
 use Rattle.vpr_files.proofs.FileTexts.{headings_found}
-use Rattle.line_text.proofs.WritingLemmas.{all_same, part_first, part_same, writes_part, writes_same, writes_then}
 use Rattle.vpr_files.proofs.place_file.place_text.Goals as goal
 
 pub returns-in_err-write_headings : goal.returns-in_err-write_headings

@@ -1,7 +1,5 @@
-use Rattle.std.proofs.Common.{◌∙◌, ap}
-use Rattle.blif.specs.declared.circuit.Circuit.{Circuit}
+use Rattle.vpr_files.proofs.Prelude.{◌∙◌, ap, Circuit, writes_same}
 use Rattle.vpr_files.proofs.FileTexts.{place_headings_text}
-use Rattle.line_text.proofs.WritingLemmas.{writes_same}
 use Rattle.vpr_files.proofs.place_file.write_headings.Goals as goal
 
 pub returns : goal.returns

@@ -1,15 +1,4 @@
-use Rattle.std.proofs.Common.{◌≡◌, ◌∙◌, ◌<◌, ◌≤◌, ℕ, List, length, sym, ap, arith}
-use Rattle.std.specs.List.{range_with_len}
-use Rattle.std.proofs.lemmas.List.Folds.{flat_map-map}
-use Rattle.cluster.specs.Blocks.{blocks_of}
-use Rattle.cluster.specs.Clusters.{PackedCircuit}
-use Rattle.grid.specs.declared.place.Place.{Place}
-use Rattle.strip_place.specs.Anneal.{places_by_block}
-use Rattle.block_places.specs.Placed.{place_of}
-use Rattle.vpr_files.specs.PlaceFile.{placed_line}
-use Rattle.vpr_files.specs.TextLines.{line_of}
-use Rattle.vpr_files.proofs.FileTexts.{at_its_place}
-use Rattle.line_text.proofs.WritingLemmas.{all_loop, all_range_end, all_same, part_loop, part_same, place_at, writes_part}
+use Rattle.vpr_files.proofs.Prelude.{◌≡◌, ◌∙◌, ◌<◌, ◌≤◌, ℕ, List, length, sym, ap, arith, range_with_len, flat_map-map, blocks_of, PackedCircuit, Place, places_by_block, place_of, placed_line, line_of, all_loop, all_range_end, all_same, part_loop, part_same, place_at, writes_part}
 use Rattle.vpr_files.proofs.place_file.write_places.Goals as goal
 
 -- the line of a block
@@ -26,7 +15,7 @@ returns-in_err-write_place g c =
     writes_part c.from_residual.result c.from_residual.ensures.0
     (part_same
     (part_loop (λ one. line packed one (place_of places one)) (range_with_len 0 (length (blocks_of packed))) block block (place_at (length (blocks_of packed)) block within) c.loop-block.invariant
-    (part_same c.in_err-write_place.ensures (at_its_place line packed c.packed-in-loop-block.result.now places block c.place_of.result c.packed-in-loop-block.ensures c.place_of.ensures)))
+    c.in_err-write_place.ensures)
     (sym (flat_map-map line_of (λ one. placed_line packed one (place_of places one)) (range_with_len 0 (length (blocks_of packed))))))
 
 pub loop-block-preserved : goal.loop-block-preserved
@@ -37,7 +26,7 @@ loop-block-preserved g c =
     let count : c.block_count-block-end.result ≡ length (blocks_of packed) = c.block_count-block-end.ensures ∙ ap (λ (p : PackedCircuit). length (blocks_of p)) c.packed.ensures in
     let within : block < length (blocks_of packed) = (let t = c.loop-block-test.true in omega (arith, t, count)) in
     all_loop (λ one. line packed one (place_of places one)) (range_with_len 0 (length (blocks_of packed))) block block (place_at (length (blocks_of packed)) block within) c.loop-block.invariant
-    (all_same c.in_ok-write_place.ensures (at_its_place line packed c.packed-in-loop-block.result.now places block c.place_of.result c.packed-in-loop-block.ensures c.place_of.ensures))
+    c.in_ok-write_place.ensures
 
 pub returns : goal.returns
 returns g c =

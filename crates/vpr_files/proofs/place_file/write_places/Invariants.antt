@@ -1,11 +1,4 @@
-use Rattle.std.proofs.Common.{length, take}
-use Rattle.std.specs.List.{flat_map, range_with_len}
-use Rattle.cluster.specs.Blocks.{blocks_of}
-use Rattle.strip_place.specs.Anneal.{places_by_block}
-use Rattle.block_places.specs.Placed.{place_of}
-use Rattle.vpr_files.specs.PlaceFile.{placed_line}
-use Rattle.vpr_files.specs.TextLines.{line_of}
-use Rattle.line_text.specs.Writing.{TakesAll}
+use Rattle.vpr_files.proofs.Prelude.{length, take, flat_map, range_with_len, blocks_of, places_by_block, place_of, placed_line, line_of, TakesAll}
 use Rattle.vpr_files.proofs.place_file.write_places.Given as goal
 
 -- the lines of the blocks before this one are written

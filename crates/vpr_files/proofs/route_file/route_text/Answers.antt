@@ -1,11 +1,4 @@
-use Rattle.std.proofs.Common.{ap, sym}
-use Rattle.std.proofs.lemmas.Grind.{flat_map-append}
-use Rattle.grid.specs.declared.Strip.{Strip}
-use Rattle.strip_place.specs.Anneal.{places_by_block}
-use Rattle.vpr_files.specs.TextLines.{line_of, text_of}
-use Rattle.vpr_files.specs.RouteFile.{route_text_of}
-use Rattle.vpr_files.specs.FileParts.{route_headings, routed_lines}
-use Rattle.line_text.proofs.WritingLemmas.{all_same, part_first, part_same, writes_part, writes_same, writes_then}
+use Rattle.vpr_files.proofs.Prelude.{ap, sym, flat_map-append, Strip, places_by_block, line_of, text_of, route_text_of, route_headings, routed_lines, all_same, part_first, part_same, writes_part, writes_same, writes_then}
 use Rattle.vpr_files.proofs.route_file.route_text.Goals as goal
 
 pub returns-in_err-write_headings : goal.returns-in_err-write_headings

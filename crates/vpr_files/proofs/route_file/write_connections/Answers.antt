@@ -1,13 +1,5 @@
-use Rattle.std.proofs.Common.{◌≡◌, ◌∙◌, [], Some, map, slice_get, slice_index_or, ap, sym}
-use Rattle.std.specs.List.{flat_map}
-use Rattle.cluster.specs.Blocks.{block_nets}
-use Rattle.cluster.specs.Clusters.{PackedCircuit}
-use Rattle.grid.specs.declared.Strip.{Strip}
-use Rattle.strip_place.specs.Anneal.{places_by_block}
-use Rattle.vpr_files.specs.FileParts.{node_line}
-use Rattle.vpr_files.specs.TextLines.{text_of}
+use Rattle.vpr_files.proofs.Prelude.{◌≡◌, ◌∙◌, [], Some, map, slice_get, slice_index_or, ap, sym, flat_map, block_nets, PackedCircuit, Strip, places_by_block, node_line, text_of, writes_same}
 use Rattle.vpr_files.proofs.FileTexts.{global_connections, local_connections, net_value}
-use Rattle.line_text.proofs.WritingLemmas.{writes_same}
 use Rattle.vpr_files.proofs.route_file.write_connections.Goals as goal
 
 pub returns-then-net : goal.returns-then-net

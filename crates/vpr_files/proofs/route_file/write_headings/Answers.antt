@@ -1,6 +1,5 @@
-use Rattle.std.proofs.Common.{◌∙◌}
+use Rattle.vpr_files.proofs.Prelude.{◌∙◌, writes_same}
 use Rattle.vpr_files.proofs.FileTexts.{route_headings_text}
-use Rattle.line_text.proofs.WritingLemmas.{writes_same}
 use Rattle.vpr_files.proofs.route_file.write_headings.Goals as goal
 
 pub returns : goal.returns

@@ -1,10 +1,5 @@
-use Rattle.std.proofs.Common.{[], ◌∷◌, ◌++◌, slice_index_or}
-use Rattle.cluster.specs.Blocks.{net_name}
-use Rattle.strip_place.specs.Anneal.{places_by_block}
-use Rattle.vpr_files.specs.FileParts.{connections, net_heading, numbered_net}
-use Rattle.vpr_files.specs.TextLines.{text_of}
+use Rattle.vpr_files.proofs.Prelude.{[], ◌∷◌, ◌++◌, slice_index_or, net_name, places_by_block, connections, net_heading, numbered_net, text_of, all_same, part_first, part_same, part_then, writes_part, writes_same, writes_then}
 use Rattle.vpr_files.proofs.FileTexts.{heading_found, net_text, net_value}
-use Rattle.line_text.proofs.WritingLemmas.{all_same, part_first, part_same, part_then, writes_part, writes_same, writes_then}
 use Rattle.vpr_files.proofs.route_file.write_net.Goals as goal
 
 pub returns-in_err-write_net_heading : goal.returns-in_err-write_net_heading

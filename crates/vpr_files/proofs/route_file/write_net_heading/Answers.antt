@@ -1,6 +1,5 @@
-use Rattle.std.proofs.Common.{◌∙◌}
+use Rattle.vpr_files.proofs.Prelude.{◌∙◌, writes_same}
 use Rattle.vpr_files.proofs.FileTexts.{global_heading_text, local_heading_text}
-use Rattle.line_text.proofs.WritingLemmas.{writes_same}
 use Rattle.vpr_files.proofs.route_file.write_net_heading.Goals as goal
 
 pub returns-then-global : goal.returns-then-global

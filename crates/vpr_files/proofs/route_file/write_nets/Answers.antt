@@ -1,16 +1,5 @@
-use Rattle.std.proofs.Common.{◌≡◌, ◌∙◌, ◌<◌, ◌≤◌, ℕ, List, [], length, slice_get, slice_index_or, Some, false, sym, ap, arith, zero-add}
-use Rattle.std.specs.List.{enumerate_from}
-use Rattle.std.proofs.lemmas.List.FromFn.{get_or-enumerate_from, length-enumerate_from}
-use Rattle.std.proofs.lemmas.Option.{slice_get-get_or}
-use Rattle.cluster.specs.Blocks.{BlockNet, block_nets}
-use Rattle.cluster.specs.Clusters.{PackedCircuit}
-use Rattle.rr_graph.specs.declared.node.Node.{Node}
-use Rattle.strip_place.specs.Anneal.{PlacingUnderWay, places_by_block}
-use Rattle.vpr_files.specs.FileParts.{numbered_net}
-use Rattle.vpr_files.specs.RouteFile.{net_lines}
-use Rattle.vpr_files.specs.TextLines.{line_of, text_of}
+use Rattle.vpr_files.proofs.Prelude.{◌≡◌, ◌∙◌, ◌<◌, ◌≤◌, ℕ, List, [], length, slice_get, slice_index_or, Some, false, sym, ap, arith, zero-add, enumerate_from, get_or-enumerate_from, length-enumerate_from, slice_get-get_or, BlockNet, block_nets, PackedCircuit, Node, PlacingUnderWay, places_by_block, numbered_net, net_lines, line_of, text_of, all_loop, all_loop_end, all_same, part_loop, part_same, writes_part}
 use Rattle.vpr_files.proofs.TextLemmas.{flat_map-flat_map}
-use Rattle.line_text.proofs.WritingLemmas.{all_loop, all_loop_end, all_same, part_loop, part_same, writes_part}
 use Rattle.vpr_files.proofs.route_file.write_nets.Goals as goal
 
 -- the lines of a net with its number

@@ -1,10 +1,4 @@
-use Rattle.std.proofs.Common.{[], slice_index_or, take}
-use Rattle.std.specs.List.{enumerate_from, flat_map}
-use Rattle.cluster.specs.Blocks.{block_nets}
-use Rattle.strip_place.specs.Anneal.{places_by_block}
-use Rattle.vpr_files.specs.RouteFile.{net_lines}
-use Rattle.vpr_files.specs.TextLines.{text_of}
-use Rattle.line_text.specs.Writing.{TakesAll}
+use Rattle.vpr_files.proofs.Prelude.{[], slice_index_or, take, enumerate_from, flat_map, block_nets, places_by_block, net_lines, text_of, TakesAll}
 use Rattle.vpr_files.proofs.route_file.write_nets.Given as goal
 
 -- the lines of the nets before this one are written

@@ -1,5 +1,4 @@
-use Rattle.std.proofs.Common.{◌∷◌, []}
-use Rattle.line_text.proofs.WritingLemmas.{writes_then}
+use Rattle.vpr_files.proofs.Prelude.{◌∷◌, [], writes_then}
 use Rattle.vpr_files.proofs.route_file.write_node_line.Goals as goal
 
 pub returns : goal.returns

@@ -1,11 +1,4 @@
-use Rattle.std.proofs.Common.{◌≤◌, length, sym, arith}
-use Rattle.std.proofs.lemmas.List.Folds.{flat_map-map}
-use Rattle.std.proofs.lemmas.Option.{slice_get-get_or}
-use Rattle.rr_graph.specs.declared.node.Node.{Node}
-use Rattle.rr_graph.specs.declared.node.NodeKind.TheVariants.{Source}
-use Rattle.vpr_files.specs.FileParts.{node_line}
-use Rattle.vpr_files.specs.TextLines.{line_of}
-use Rattle.line_text.proofs.WritingLemmas.{all_loop_end, all_same, part_loop, part_same, writes_part}
+use Rattle.vpr_files.proofs.Prelude.{◌≤◌, length, sym, arith, flat_map-map, slice_get-get_or, Node, Source, node_line, line_of, all_loop_end, all_same, part_loop, part_same, writes_part}
 use Rattle.vpr_files.proofs.route_file.write_path.Goals as goal
 
 pub returns-in_err-write_node_line : goal.returns-in_err-write_node_line

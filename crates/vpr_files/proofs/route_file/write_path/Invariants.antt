@@ -1,8 +1,4 @@
-use Rattle.std.proofs.Common.{take}
-use Rattle.std.specs.List.{flat_map}
-use Rattle.vpr_files.specs.FileParts.{node_line}
-use Rattle.vpr_files.specs.TextLines.{line_of}
-use Rattle.line_text.specs.Writing.{TakesAll}
+use Rattle.vpr_files.proofs.Prelude.{take, flat_map, node_line, line_of, TakesAll}
 use Rattle.vpr_files.proofs.route_file.write_path.Given as goal
 
 -- the nodes before this one are written

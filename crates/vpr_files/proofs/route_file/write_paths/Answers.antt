@@ -1,8 +1,5 @@
-use Rattle.std.proofs.Common.{◌≤◌, [], length, map, slice_index_or, sym, arith}
-use Rattle.vpr_files.specs.FileParts.{node_line}
-use Rattle.vpr_files.specs.TextLines.{line_of, text_of}
+use Rattle.vpr_files.proofs.Prelude.{◌≤◌, [], length, map, slice_index_or, sym, arith, node_line, line_of, text_of, all_loop, all_loop_end, all_same, part_loop, part_same, writes_part}
 use Rattle.vpr_files.proofs.TextLemmas.{flat_map-flat_map}
-use Rattle.line_text.proofs.WritingLemmas.{all_loop, all_loop_end, all_same, part_loop, part_same, writes_part}
 use Rattle.vpr_files.proofs.route_file.write_paths.Goals as goal
 
 pub returns-in_err-write_path : goal.returns-in_err-write_path

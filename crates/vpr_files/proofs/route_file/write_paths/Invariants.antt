@@ -1,8 +1,4 @@
-use Rattle.std.proofs.Common.{[], map, slice_index_or, take}
-use Rattle.std.specs.List.{flat_map}
-use Rattle.vpr_files.specs.FileParts.{node_line}
-use Rattle.vpr_files.specs.TextLines.{text_of}
-use Rattle.line_text.specs.Writing.{TakesAll}
+use Rattle.vpr_files.proofs.Prelude.{[], map, slice_index_or, take, flat_map, node_line, text_of, TakesAll}
 use Rattle.vpr_files.proofs.route_file.write_paths.Given as goal
 
 -- the paths before this one are written

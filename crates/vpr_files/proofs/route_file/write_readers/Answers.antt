@@ -1,14 +1,4 @@
-use Rattle.std.proofs.Common.{◌≤◌, ℕ, List, get_or, length, sym, arith}
-use Rattle.std.proofs.lemmas.List.Folds.{flat_map-map}
-use Rattle.std.proofs.lemmas.Option.{slice_get-get_or}
-use Rattle.cluster.specs.Clusters.{PackedCircuit}
-use Rattle.grid.specs.declared.place.Place.{Place}
-use Rattle.strip_place.specs.Anneal.{places_by_block}
-use Rattle.block_places.specs.Placed.{place_of}
-use Rattle.vpr_files.specs.RouteFile.{connected_line}
-use Rattle.vpr_files.specs.TextLines.{line_of}
-use Rattle.vpr_files.proofs.FileTexts.{at_its_place}
-use Rattle.line_text.proofs.WritingLemmas.{all_loop, all_loop_end, all_same, part_loop, part_same, writes_part}
+use Rattle.vpr_files.proofs.Prelude.{◌≤◌, ℕ, List, get_or, length, sym, arith, flat_map-map, slice_get-get_or, PackedCircuit, Place, places_by_block, place_of, connected_line, line_of, all_loop, all_loop_end, all_same, part_loop, part_same, writes_part}
 use Rattle.vpr_files.proofs.route_file.write_readers.Goals as goal
 
 -- the line of a block
@@ -25,7 +15,7 @@ returns-in_err-write_block g c =
     writes_part c.from_residual.result c.from_residual.ensures.0
     (part_same
     (part_loop (λ one. line packed one (place_of places one)) readers at block (slice_get-get_or readers at 0 c.loop-reader-test.true) c.loop-reader.invariant
-    (part_same c.in_err-write_block.ensures (at_its_place line packed c.packed.result.now places block c.place_of.result c.packed.ensures c.place_of.ensures)))
+    c.in_err-write_block.ensures)
     (sym (flat_map-map line_of (λ one. connected_line packed one (place_of places one)) readers)))
 
 pub loop-reader-preserved : goal.loop-reader-preserved
@@ -36,7 +26,7 @@ loop-reader-preserved g c =
     let at = c.loop-reader.reader-index in
     let block = get_or readers at 0 in
     all_loop (λ one. line packed one (place_of places one)) readers at block (slice_get-get_or readers at 0 c.loop-reader-test.true) c.loop-reader.invariant
-    (all_same c.in_ok-write_block.ensures (at_its_place line packed c.packed.result.now places block c.place_of.result c.packed.ensures c.place_of.ensures))
+    c.in_ok-write_block.ensures
 
 pub returns : goal.returns
 returns g c =

@@ -1,10 +1,4 @@
-use Rattle.std.proofs.Common.{take}
-use Rattle.std.specs.List.{flat_map}
-use Rattle.strip_place.specs.Anneal.{places_by_block}
-use Rattle.block_places.specs.Placed.{place_of}
-use Rattle.vpr_files.specs.RouteFile.{connected_line}
-use Rattle.vpr_files.specs.TextLines.{line_of}
-use Rattle.line_text.specs.Writing.{TakesAll}
+use Rattle.vpr_files.proofs.Prelude.{take, flat_map, places_by_block, place_of, connected_line, line_of, TakesAll}
 use Rattle.vpr_files.proofs.route_file.write_readers.Given as goal
 
 -- the lines of the readers before this one are written

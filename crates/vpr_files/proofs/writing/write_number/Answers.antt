@@ -1,5 +1,4 @@
-use Rattle.std.proofs.Common.{◌∙◌, ◌++◌, ap, append-nil}
-use Rattle.line_text.proofs.WritingLemmas.{writes_same}
+use Rattle.vpr_files.proofs.Prelude.{◌∙◌, ◌++◌, ap, append-nil, writes_same}
 use Rattle.vpr_files.proofs.writing.write_number.Goals as goal
 
 pub returns : goal.returns

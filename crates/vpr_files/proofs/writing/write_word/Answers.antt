@@ -1,5 +1,4 @@
-use Rattle.std.proofs.Common.{append-nil}
-use Rattle.line_text.proofs.WritingLemmas.{writes_same}
+use Rattle.vpr_files.proofs.Prelude.{append-nil, writes_same}
 use Rattle.vpr_files.proofs.writing.write_word.Goals as goal
 
 pub returns : goal.returns

@@ -1,5 +1,5 @@
+use Rattle.workers_law.proofs.Prelude.{section_of}
 use Rattle.std.specs.Prelude.{map}
-use Rattle.script_text.specs.Replies.{section_of}
 use Rattle.workers_law.proofs.WithWorkers.{same_with}
 use Rattle.workers_law.proofs.law.same_with_workers.Goals as goal
 

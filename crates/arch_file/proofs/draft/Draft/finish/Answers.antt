@@ -1,5 +1,4 @@
-use Rattle.std.proofs.Common.{◌∙◌, false, slice_index_or, sym}
-use Rattle.arch_file.specs.Ranks.{rank_of}
+use Rattle.arch_file.proofs.Prelude.{◌∙◌, false, slice_index_or, sym, rank_of}
 use Rattle.arch_file.proofs.EndLemmas.{draft_arch, end_faults-missing}
 use Rattle.arch_file.proofs.draft.Draft.finish.Goals as goal
 

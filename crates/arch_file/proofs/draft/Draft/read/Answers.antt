@@ -1,4 +1,4 @@
-use Rattle.std.proofs.Common.{sym}
+use Rattle.arch_file.proofs.Prelude.{sym}
 use Rattle.arch_file.proofs.ReadLemmas.{reads_empty, reads_keyword, reads_unread}
 use Rattle.arch_file.proofs.draft.Draft.read.Goals as goal
 

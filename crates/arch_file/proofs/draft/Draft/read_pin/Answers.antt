@@ -1,4 +1,4 @@
-use Rattle.arch_file.specs.ArchFaults.{pins_of}
+use Rattle.arch_file.proofs.Prelude.{pins_of}
 use Rattle.arch_file.proofs.ReadLemmas.{reads_pin}
 use Rattle.arch_file.proofs.draft.Draft.read_pin.Goals as goal
 

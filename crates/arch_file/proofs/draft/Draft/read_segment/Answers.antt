@@ -1,5 +1,4 @@
-use Rattle.std.proofs.Common.{◌∙◌, ap, sym}
-use Rattle.arch_file.specs.Segment.{segment_faults}
+use Rattle.arch_file.proofs.Prelude.{◌∙◌, ap, sym, segment_faults}
 use Rattle.arch_file.proofs.ReadLemmas.{reads_segment}
 use Rattle.arch_file.proofs.draft.Draft.read_segment.Goals as goal
 

@@ -1,5 +1,4 @@
-use Rattle.std.proofs.Common.{◌∙◌, sym, ap, true}
-use Rattle.arch_file.specs.Readings.{least_kind}
+use Rattle.arch_file.proofs.Prelude.{◌∙◌, sym, ap, true, least_kind}
 use Rattle.arch_file.proofs.LineLemmas.{keyword_faults-value, repeated_first}
 use Rattle.arch_file.proofs.ReadLemmas.{reads_value}
 use Rattle.arch_file.proofs.draft.Draft.read_value.Goals as goal

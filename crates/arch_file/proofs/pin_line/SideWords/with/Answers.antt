@@ -1,5 +1,4 @@
-use Rattle.std.proofs.Common.{◌≡◌, codes, sym}
-use Rattle.std.proofs.lemmas.Slice.Eq.{bytes_eq-Decides}
+use Rattle.arch_file.proofs.Prelude.{◌≡◌, codes, sym, bytes_eq-Decides}
 use Rattle.arch_file.proofs.SideLemmas.{Shows-top, Shows-bottom, Shows-left, Shows-right, Shows-global}
 use Rattle.arch_file.proofs.pin_line.SideWords.with.Goals as goal
 

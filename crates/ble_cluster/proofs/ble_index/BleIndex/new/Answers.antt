@@ -1,8 +1,4 @@
-use Rattle.std.proofs.Common.{◌≡◌, length, ap, ◌∙◌}
-use Rattle.std.proofs.lemmas.List.{length-map}
-use Rattle.std.proofs.lemmas.List.FromFn.{length-range_with_len}
-use Rattle.std.specs.List.{range_with_len}
-use Rattle.rows.specs.ByKey.{items_with}
+use Rattle.ble_cluster.proofs.Prelude.{◌≡◌, length, ap, ◌∙◌, length-map, length-range_with_len, range_with_len, items_with}
 use Rattle.ble_cluster.proofs.ElementLemmas.{elements_are, pairs_within}
 use Rattle.ble_cluster.proofs.ble_index.BleIndex.new.Goals as goal
 

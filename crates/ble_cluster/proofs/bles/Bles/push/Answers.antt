@@ -1,6 +1,4 @@
-use Rattle.std.proofs.Common.{arith, rules}
-use Rattle.std.proofs.lemmas.Grind.{common_steps}
-use Rattle.ble_cluster.specs.Nets.{distinct_nets}
+use Rattle.ble_cluster.proofs.Prelude.{arith, rules, common_steps, distinct_nets}
 use Rattle.ble_cluster.proofs.FlatElements.{bles_push}
 use Rattle.ble_cluster.proofs.bles.Bles.push.Goals as goal
 

@@ -1,4 +1,4 @@
-use Rattle.ble_cluster.specs.Bles.{bles_of}
+use Rattle.ble_cluster.proofs.Prelude.{bles_of}
 use Rattle.ble_cluster.proofs.bles.Bles.push_all.Goals as goal
 
 pub returns : goal.returns

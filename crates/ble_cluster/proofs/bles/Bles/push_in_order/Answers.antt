@@ -1,4 +1,4 @@
-use Rattle.std.proofs.Common.{arith, ◌∙◌}
+use Rattle.ble_cluster.proofs.Prelude.{arith, ◌∙◌}
 use Rattle.ble_cluster.proofs.Within.{table_at_place}
 use Rattle.ble_cluster.proofs.LineOrder.{table_added}
 use Rattle.ble_cluster.proofs.bles.Bles.push_in_order.Goals as goal

@@ -1,5 +1,4 @@
-use Rattle.std.proofs.Common.{◌≡◌, ◌++◌, drop}
-use Rattle.ble_cluster.specs.Bles.{in_line_order}
+use Rattle.ble_cluster.proofs.Prelude.{◌≡◌, ◌++◌, drop, in_line_order}
 use Rattle.ble_cluster.proofs.bles.Bles.push_in_order.Given as goal
 
 -- adding the remaining tables and latches results in the old BLEs and those of all tables and

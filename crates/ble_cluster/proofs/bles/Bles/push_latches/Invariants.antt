@@ -1,5 +1,4 @@
-use Rattle.std.proofs.Common.{◌≡◌, ◌++◌, take, map}
-use Rattle.ble_cluster.specs.Bles.{element_of_latch}
+use Rattle.ble_cluster.proofs.Prelude.{◌≡◌, ◌++◌, take, map, element_of_latch}
 use Rattle.ble_cluster.proofs.bles.Bles.push_latches.Given as goal
 
 -- the latches so far are appended to the old BLEs

@@ -1,4 +1,4 @@
-use Rattle.std.proofs.Common.{arith, sym, ◌∙◌, true, false}
+use Rattle.ble_cluster.proofs.Prelude.{arith, sym, ◌∙◌, true, false}
 use Rattle.ble_cluster.proofs.ChoosingLemmas.{IsAmongFirst, best_small, best_step, touched_shares}
 use Rattle.ble_cluster.proofs.candidates.Candidates.best_touched.Goals as goal
 use Rattle.ble_cluster.proofs.candidates.Candidates.best_touched.Goals.{then-prefers, else-prefers}

@@ -1,4 +1,4 @@
-use Rattle.ble_cluster.specs.Choosing.{IsBest}
+use Rattle.ble_cluster.proofs.Prelude.{IsBest}
 use Rattle.ble_cluster.proofs.ChoosingLemmas.{IsAmongFirst}
 use Rattle.ble_cluster.proofs.candidates.Candidates.best_touched.Given as goal
 

@@ -1,5 +1,4 @@
-use Rattle.std.proofs.Common.{length, subst, arith}
-use Rattle.ble_cluster.specs.FirstFree.{AreAbove}
+use Rattle.ble_cluster.proofs.Prelude.{length, subst, arith, AreAbove}
 use Rattle.ble_cluster.proofs.Untouched.{passed_over}
 use Rattle.ble_cluster.proofs.candidates.Candidates.first_fitting.Goals as goal
 

@@ -1,5 +1,4 @@
-use Rattle.std.proofs.Common.{arith, refl}
-use Rattle.std.proofs.lemmas.Bool.Decides.{nat_tests}
+use Rattle.ble_cluster.proofs.Prelude.{arith, refl, nat_tests}
 use Rattle.ble_cluster.proofs.GrowingLemmas.{fits_is}
 use Rattle.ble_cluster.proofs.candidates.Candidates.fits.Goals as goal
 

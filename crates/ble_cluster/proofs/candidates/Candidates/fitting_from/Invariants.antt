@@ -1,5 +1,4 @@
-use Rattle.std.proofs.Common.{◌≡◌, ◌<◌, ℕ, false}
-use Rattle.ble_cluster.specs.Choosing.{is_candidate}
+use Rattle.ble_cluster.proofs.Prelude.{◌≡◌, ◌<◌, ℕ, false, is_candidate}
 use Rattle.ble_cluster.proofs.candidates.Candidates.fitting_from.Given as goal
 
 abbrev pub invariant-loop-number : goal.invariant-loop-number

@@ -1,4 +1,4 @@
-use Rattle.std.proofs.Common.{sym, arith}
+use Rattle.ble_cluster.proofs.Prelude.{sym, arith}
 use Rattle.ble_cluster.proofs.ChoosingLemmas.{next_best, next_first, next_none}
 use Rattle.ble_cluster.proofs.Untouched.{full_refuses}
 use Rattle.ble_cluster.proofs.candidates.Candidates.next_member.Goals as goal

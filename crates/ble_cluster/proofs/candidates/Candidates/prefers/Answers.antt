@@ -1,4 +1,4 @@
-use Rattle.std.proofs.Common.{arith}
+use Rattle.ble_cluster.proofs.Prelude.{arith}
 use Rattle.ble_cluster.proofs.candidates.Candidates.prefers.Goals as goal
 
 pub beats-requires : goal.beats-requires

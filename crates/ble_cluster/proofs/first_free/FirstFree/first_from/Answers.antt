@@ -1,4 +1,4 @@
-use Rattle.std.proofs.Common.{◌∙◌, arith, sym}
+use Rattle.ble_cluster.proofs.Prelude.{◌∙◌, arith, sym}
 use Rattle.ble_cluster.proofs.FreeNumbers.{above_more, least_here, none_within}
 use Rattle.ble_cluster.proofs.first_free.FirstFree.first_from.Goals as goal
 

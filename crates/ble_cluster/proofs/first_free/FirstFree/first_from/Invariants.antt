@@ -1,4 +1,4 @@
-use Rattle.ble_cluster.specs.FirstFree.{AreAbove}
+use Rattle.ble_cluster.proofs.Prelude.{AreAbove}
 use Rattle.ble_cluster.proofs.first_free.FirstFree.first_from.Given as goal
 
 abbrev pub invariant-loop-number : goal.invariant-loop-number

@@ -1,5 +1,4 @@
-use Rattle.std.proofs.Common.{◌∙◌, sym, subst, arith}
-use Rattle.ble_cluster.specs.FirstFree.{IsFirstWithin}
+use Rattle.ble_cluster.proofs.Prelude.{◌∙◌, sym, subst, arith, IsFirstWithin}
 use Rattle.ble_cluster.proofs.FreeNumbers.{from_next, lowest_here, none_free}
 use Rattle.ble_cluster.proofs.first_free.FirstFree.lowest_free.Goals as goal
 

@@ -1,5 +1,4 @@
-use Rattle.std.proofs.Common.{◌≡◌}
-use Rattle.ble_cluster.specs.FirstFree.{IsFirstFree}
+use Rattle.ble_cluster.proofs.Prelude.{◌≡◌, IsFirstFree}
 use Rattle.ble_cluster.proofs.FreeNumbers.{AreFrom}
 use Rattle.ble_cluster.proofs.first_free.FirstFree.lowest_free.Given as goal
 

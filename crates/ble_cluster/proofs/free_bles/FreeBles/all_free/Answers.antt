@@ -1,8 +1,4 @@
-use Rattle.std.proofs.Common.{◌≡◌, ◌∙◌, false, length, replicate, ap, refl, subst, sym}
-use Rattle.std.proofs.lemmas.List.{length-replicate}
-use Rattle.std.proofs.lemmas.List.Elements.{All-nil}
-use Rattle.ble_cluster.specs.FirstFree.{IsFirstFree, IsLowest}
-use Rattle.ble_cluster.specs.FreeBles.{free_in}
+use Rattle.ble_cluster.proofs.Prelude.{◌≡◌, ◌∙◌, false, length, replicate, ap, refl, subst, sym, length-replicate, All-nil, IsFirstFree, IsLowest, free_in}
 use Rattle.ble_cluster.proofs.Choosing.{free_at_first}
 use Rattle.ble_cluster.proofs.SeedLemmas.{seed_is}
 use Rattle.ble_cluster.proofs.free_bles.FreeBles.all_free.Goals as goal

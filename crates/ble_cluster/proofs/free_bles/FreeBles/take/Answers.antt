@@ -1,5 +1,4 @@
-use Rattle.std.proofs.Common.{◌∙◌, subst}
-use Rattle.ble_cluster.specs.FirstFree.{IsFirstFree, IsKept, IsLowest}
+use Rattle.ble_cluster.proofs.Prelude.{◌∙◌, subst, IsFirstFree, IsKept, IsLowest}
 use Rattle.ble_cluster.proofs.SeedLemmas.{seeded_on, written}
 use Rattle.ble_cluster.proofs.free_bles.FreeBles.take.Goals as goal
 

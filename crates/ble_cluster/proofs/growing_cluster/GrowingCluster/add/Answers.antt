@@ -1,9 +1,4 @@
-use Rattle.std.proofs.Common.{◌≡◌, ◌++◌, [], ◌∷◌, refl, sym, ap, ◌∙◌}
-use Rattle.ble_cluster.specs.declared.growing_cluster.GrowingCluster.{GrowingCluster}
-use Rattle.ble_cluster.specs.Bles.{LogicElement, element_at}
-use Rattle.ble_cluster.specs.Nets.{with_nets}
-use Rattle.ble_cluster.specs.NetSets.{with_net}
-use Rattle.ble_cluster.specs.GrowingCluster.{later_clock}
+use Rattle.ble_cluster.proofs.Prelude.{◌≡◌, ◌++◌, [], ◌∷◌, refl, sym, ap, ◌∙◌, GrowingCluster, LogicElement, element_at, with_nets, with_net, later_clock}
 use Rattle.ble_cluster.proofs.GrowingLemmas.{clock_is, element_is, growth_more, old_told}
 use Rattle.ble_cluster.proofs.growing_cluster.GrowingCluster.add.Goals as goal
 

@@ -1,7 +1,4 @@
-use Rattle.std.proofs.Common.{◌≡◌, ◌<◌, ◌∙◌, ap, sym, subst, IfOk, length, arith}
-use Rattle.std.specs.Result.{is_ok}
-use Rattle.ble_cluster.specs.Clusters.{cluster_of, input_count_at}
-use Rattle.ble_cluster.specs.FreeBles.{free_in}
+use Rattle.ble_cluster.proofs.Prelude.{◌≡◌, ◌<◌, ◌∙◌, ap, sym, subst, IfOk, length, arith, is_ok, cluster_of, input_count_at, free_in}
 use Rattle.ble_cluster.proofs.Fitting.{cluster_is, fits_alone, none_free}
 use Rattle.ble_cluster.proofs.Filling.{all_filled, alone}
 use Rattle.ble_cluster.proofs.SeedLemmas.{seed_within}

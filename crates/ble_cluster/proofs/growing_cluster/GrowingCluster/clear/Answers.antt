@@ -1,4 +1,4 @@
-use Rattle.std.proofs.Common.{arith, refl, ap, ◌∙◌}
+use Rattle.ble_cluster.proofs.Prelude.{arith, refl, ap, ◌∙◌}
 use Rattle.ble_cluster.proofs.GrowingLemmas.{growth_none}
 use Rattle.ble_cluster.proofs.growing_cluster.GrowingCluster.clear.Goals as goal
 

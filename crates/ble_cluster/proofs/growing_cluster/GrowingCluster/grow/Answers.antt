@@ -1,6 +1,4 @@
-use Rattle.std.proofs.Common.{◌≡◌, ◌<◌, ◌∙◌, IfOk, length, sym, subst, arith}
-use Rattle.std.specs.Result.{is_ok}
-use Rattle.ble_cluster.specs.FreeBles.{free_in}
+use Rattle.ble_cluster.proofs.Prelude.{◌≡◌, ◌<◌, ◌∙◌, IfOk, length, sym, subst, arith, is_ok, free_in}
 use Rattle.ble_cluster.proofs.Choosing.{grown_full}
 use Rattle.ble_cluster.proofs.Filling.{all_filled, filled}
 use Rattle.ble_cluster.proofs.FreeNumbers.{found_on}

@@ -1,8 +1,4 @@
-use Rattle.std.proofs.Common.{◌≡◌}
-use Rattle.ble_cluster.specs.Clusters.{members_after}
-use Rattle.ble_cluster.specs.FirstFree.{IsFirstFree}
-use Rattle.ble_cluster.specs.FreeBles.{free_in}
-use Rattle.ble_cluster.specs.GrowingCluster.{IsGrowingCluster, IsRoomFor}
+use Rattle.ble_cluster.proofs.Prelude.{◌≡◌, members_after, IsFirstFree, free_in, IsGrowingCluster, IsRoomFor}
 use Rattle.ble_cluster.proofs.growing_cluster.GrowingCluster.grow.Given as goal
 
 -- the members after this number of additions

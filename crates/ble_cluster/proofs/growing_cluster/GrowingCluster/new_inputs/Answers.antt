@@ -1,6 +1,4 @@
-use Rattle.std.proofs.Common.{arith, length-take, take}
-use Rattle.std.proofs.lemmas.List.Sums.{length-filter, count_by-le-length}
-use Rattle.ble_cluster.specs.GrowingCluster.{is_new_input}
+use Rattle.ble_cluster.proofs.Prelude.{arith, length-take, take, length-filter, count_by-le-length, is_new_input}
 use Rattle.ble_cluster.proofs.growing_cluster.GrowingCluster.new_inputs.Goals as goal
 
 pub overflow_add-count : goal.overflow_add-count

@@ -1,5 +1,4 @@
-use Rattle.std.proofs.Common.{◌≡◌, length, take}
-use Rattle.ble_cluster.specs.GrowingCluster.{new_inputs_of}
+use Rattle.ble_cluster.proofs.Prelude.{◌≡◌, length, take, new_inputs_of}
 use Rattle.ble_cluster.proofs.growing_cluster.GrowingCluster.new_inputs.Given as goal
 
 abbrev pub invariant-loop-net : goal.invariant-loop-net

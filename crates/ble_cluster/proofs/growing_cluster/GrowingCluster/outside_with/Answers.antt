@@ -1,4 +1,4 @@
-use Rattle.std.proofs.Common.{◌∙◌, arith, true, false, refl, sym}
+use Rattle.ble_cluster.proofs.Prelude.{◌∙◌, arith, true, false, refl, sym}
 use Rattle.ble_cluster.proofs.ElementLemmas.{inputs_once}
 use Rattle.ble_cluster.proofs.GrowingLemmas.{new_few, outside_of}
 use Rattle.ble_cluster.proofs.growing_cluster.GrowingCluster.outside_with.Goals as goal

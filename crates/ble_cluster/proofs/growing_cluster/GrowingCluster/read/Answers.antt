@@ -1,6 +1,4 @@
-use Rattle.std.proofs.Common.{◌≡◌, ◌++◌, ap, ◌∙◌}
-use Rattle.ble_cluster.specs.declared.growing_cluster.GrowingCluster.{GrowingCluster}
-use Rattle.ble_cluster.specs.NetSets.{NetsAmong, with_net}
+use Rattle.ble_cluster.proofs.Prelude.{◌≡◌, ◌++◌, ap, ◌∙◌, GrowingCluster, NetsAmong, with_net}
 use Rattle.ble_cluster.proofs.GrowingLemmas.{reads_has, told_more}
 use Rattle.ble_cluster.proofs.growing_cluster.GrowingCluster.read.Goals as goal
 

@@ -1,4 +1,4 @@
-use Rattle.std.proofs.Common.{arith}
+use Rattle.ble_cluster.proofs.Prelude.{arith}
 use Rattle.ble_cluster.proofs.GrowingLemmas.{reads_on}
 use Rattle.ble_cluster.proofs.growing_cluster.GrowingCluster.read_all.Goals as goal
 

@@ -1,6 +1,4 @@
-use Rattle.std.proofs.Common.{◌≡◌, take}
-use Rattle.ble_cluster.specs.Nets.{with_nets}
-use Rattle.ble_cluster.specs.GrowingCluster.{IsRoomFor, IsTold}
+use Rattle.ble_cluster.proofs.Prelude.{◌≡◌, take, with_nets, IsRoomFor, IsTold}
 use Rattle.ble_cluster.proofs.growing_cluster.GrowingCluster.read_all.Given as goal
 
 abbrev pub invariant-loop-net : goal.invariant-loop-net

@@ -1,5 +1,4 @@
-use Rattle.std.proofs.Common.{◌≡◌, drop}
-use Rattle.ble_cluster.specs.Nets.{with_nets}
+use Rattle.ble_cluster.proofs.Prelude.{◌≡◌, drop, with_nets}
 use Rattle.ble_cluster.proofs.net_set.NetSet.insert_all.Given as goal
 
 abbrev pub invariant-loop-net : goal.invariant-loop-net

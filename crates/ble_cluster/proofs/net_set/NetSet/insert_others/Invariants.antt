@@ -1,6 +1,5 @@
-use Rattle.std.proofs.Common.{◌≡◌, drop, not}
+use Rattle.ble_cluster.proofs.Prelude.{◌≡◌, drop, not, has, with_nets}
 use Rattle.std.specs.List.{filter}
-use Rattle.ble_cluster.specs.Nets.{has, with_nets}
 use Rattle.ble_cluster.proofs.net_set.NetSet.insert_others.Given as goal
 
 abbrev pub invariant-loop-net : goal.invariant-loop-net

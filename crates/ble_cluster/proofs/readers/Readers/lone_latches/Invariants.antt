@@ -1,5 +1,4 @@
-use Rattle.std.proofs.Common.{◌≡◌, take, filter}
-use Rattle.ble_cluster.specs.Bles.{stands_alone}
+use Rattle.ble_cluster.proofs.Prelude.{◌≡◌, take, filter, stands_alone}
 use Rattle.ble_cluster.proofs.readers.Readers.lone_latches.Given as goal
 
 -- those of the latches so far that are not joined with a table

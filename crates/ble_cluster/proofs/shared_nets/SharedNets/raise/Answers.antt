@@ -1,4 +1,4 @@
-use Rattle.std.proofs.Common.{arith}
+use Rattle.ble_cluster.proofs.Prelude.{arith}
 use Rattle.ble_cluster.proofs.Raising.{once_before, raised_more}
 use Rattle.ble_cluster.proofs.shared_nets.SharedNets.raise.Goals as goal
 

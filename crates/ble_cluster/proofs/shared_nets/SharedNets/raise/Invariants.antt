@@ -1,5 +1,4 @@
-use Rattle.std.proofs.Common.{take}
-use Rattle.ble_cluster.specs.SharedNets.{AreRaised}
+use Rattle.ble_cluster.proofs.Prelude.{take, AreRaised}
 use Rattle.ble_cluster.proofs.shared_nets.SharedNets.raise.Given as goal
 
 abbrev pub invariant-loop-number : goal.invariant-loop-number

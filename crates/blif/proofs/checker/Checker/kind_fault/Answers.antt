@@ -1,5 +1,4 @@
-use Rattle.std.proofs.Common.{◌∙◌, ap, sym}
-use Rattle.line_text.specs.Lines.{JoinedLine}
+use Rattle.blif.proofs.Prelude.{◌∙◌, ap, sym, JoinedLine}
 use Rattle.blif.proofs.checker.Checker.kind_fault.Goals as goal
 
 pub returns-in-Clock-clause-least : goal.returns-in-Clock-clause-least

@@ -1,5 +1,4 @@
-use Rattle.std.proofs.Common.{◌++◌, ◌∙◌, [], ap, sym}
-use Rattle.blif.specs.Names.{has_name}
+use Rattle.blif.proofs.Prelude.{◌++◌, ◌∙◌, [], ap, sym, has_name}
 use Rattle.blif.proofs.Numbered.{net_there, number_within, driven_here, undriven_here}
 use Rattle.blif.proofs.driven.Driven.first_undriven.Goals as goal
 

@@ -1,6 +1,4 @@
-use Rattle.std.proofs.Common.{◌≡◌, ◌++◌, drop}
-use Rattle.blif.specs.Names.{first_of, texts}
-use Rattle.blif.specs.Repeats.{undriven_names}
+use Rattle.blif.proofs.Prelude.{◌≡◌, ◌++◌, drop, first_of, texts, undriven_names}
 use Rattle.blif.proofs.driven.Driven.first_undriven.Given as goal
 
 -- the nets so far are driven

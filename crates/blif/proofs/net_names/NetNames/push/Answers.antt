@@ -1,5 +1,4 @@
-use Rattle.std.proofs.Common.{arith, rules}
-use Rattle.std.proofs.lemmas.Grind.{common_steps}
+use Rattle.blif.proofs.Prelude.{arith, rules, common_steps}
 use Rattle.blif.proofs.Growing.{parts_push}
 use Rattle.blif.proofs.net_names.NetNames.push.Goals as goal
 

@@ -1,4 +1,4 @@
-use Rattle.std.proofs.Common.{arith, rules, ap, List, ℕ, length}
+use Rattle.cluster.proofs.Prelude.{arith, rules, ap, List, ℕ, length}
 use Rattle.cluster.proofs.FlatNets.{nets_push}
 use Rattle.cluster.proofs.block_nets.BlockNets.push.Goals as goal
 

@@ -1,8 +1,4 @@
-use Rattle.std.proofs.Common.{ℕ, ◌≡◌, ◌∙◌, All, List, ap, subst, sym}
-use Rattle.ble_cluster.specs.NetSets.{NetsAmong}
-use Rattle.ble_cluster.specs.Bles.{LogicElement}
-use Rattle.ble_cluster.specs.Clusters.{elements_at}
-use Rattle.cluster.specs.ClusterPins.{IsElementWithin}
+use Rattle.cluster.proofs.Prelude.{ℕ, ◌≡◌, ◌∙◌, All, List, ap, subst, sym, NetsAmong, LogicElement, elements_at, IsElementWithin}
 use Rattle.cluster.proofs.NetLists.{inputs_gathered}
 use Rattle.cluster.proofs.cluster_sets.ClusterSets.gather.Goals as goal
 

@@ -1,5 +1,4 @@
-use Rattle.std.proofs.Common.{◌∙◌, List, ap, eqb, length, nat_lt, not, sym, ℕ}
-use Rattle.cluster.specs.NetUses.{other_readers}
+use Rattle.cluster.proofs.Prelude.{◌∙◌, List, ap, eqb, length, nat_lt, not, sym, ℕ, other_readers}
 use Rattle.cluster.proofs.NetLaws.{second_test, some_left}
 use Rattle.cluster.proofs.net_uses.NetUses.leaves.Goals as goal
 

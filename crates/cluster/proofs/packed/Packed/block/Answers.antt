@@ -1,7 +1,4 @@
-use Rattle.std.proofs.Common.{◌∙◌, List, ap, arith, length, ℕ}
-use Rattle.blif.specs.declared.circuit.Circuit.{Circuit}
-use Rattle.cluster.specs.Clusters.{PackedCircuit}
-use Rattle.cluster.specs.Blocks.{blocks_of}
+use Rattle.cluster.proofs.Prelude.{◌∙◌, List, ap, arith, length, ℕ, Circuit, PackedCircuit, blocks_of}
 use Rattle.cluster.proofs.FewBlocks.{few_blocks}
 use Rattle.cluster.proofs.PackedLaws.{length-blocks_of, input_pad_at, output_pad_at, cluster_at}
 use Rattle.cluster.proofs.packed.Packed.block.Goals as goal

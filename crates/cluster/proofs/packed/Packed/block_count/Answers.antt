@@ -1,5 +1,4 @@
-use Rattle.std.proofs.Common.{arith, ◌+◌, ap, length}
-use Rattle.cluster.specs.Clusters.{PackedCircuit}
+use Rattle.cluster.proofs.Prelude.{arith, ◌+◌, ap, length, PackedCircuit}
 use Rattle.cluster.proofs.FewBlocks.{few_blocks}
 use Rattle.cluster.proofs.PackedLaws.{length-blocks_of}
 use Rattle.cluster.proofs.packed.Packed.block_count.Goals as goal

@@ -1,7 +1,5 @@
-use Rattle.std.proofs.Common.{◌∙◌, ℕ, List, Option, Some, ap, sym}
-use Rattle.cluster.specs.declared.block.Block.TheVariants.{InputPad, OutputPad, Cluster}
+use Rattle.cluster.proofs.Prelude.{◌∙◌, ℕ, List, Option, Some, ap, sym, InputPad, OutputPad, Cluster, BlockKey}
 use Rattle.cluster.specs.declared.block.BlockKind.TheVariants as kind
-use Rattle.cluster.specs.Keys.{BlockKey}
 use Rattle.cluster.proofs.Keys.{block_there, key_at}
 use Rattle.cluster.proofs.packed.Packed.key.Goals as goal
 

@@ -1,6 +1,4 @@
-use Rattle.std.proofs.Common.{◌≡◌, ◌∙◌, ◌+◌, ap, arith, length, sym}
-use Rattle.cluster.specs.Clusters.{PackedCircuit}
-use Rattle.cluster.specs.ClusterPins.{cluster_block}
+use Rattle.cluster.proofs.Prelude.{◌≡◌, ◌∙◌, ◌+◌, ap, arith, length, sym, PackedCircuit, cluster_block}
 use Rattle.cluster.proofs.FewBlocks.{few_blocks}
 use Rattle.cluster.proofs.PackedLaws.{output_leaves, output_stays}
 use Rattle.cluster.proofs.TableLaws.{ble_within, leaves_told}

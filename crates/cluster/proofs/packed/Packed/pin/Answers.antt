@@ -1,9 +1,4 @@
-use Rattle.std.proofs.Common.{◌∙◌, List, ap, arith, length, ℕ, sym, false, get_or}
-use Rattle.arch_file.specs.declared.arch.Arch.{Arch}
-use Rattle.arch_file.specs.declared.arch.Pin.{Pin}
-use Rattle.arch_file.specs.declared.arch.PinClass.TheVariants.{Input, Output, Clock}
-use Rattle.cluster.specs.Clusters.{PackedCircuit}
-use Rattle.cluster.specs.Blocks.{net_on_pin}
+use Rattle.cluster.proofs.Prelude.{◌∙◌, List, ap, arith, length, ℕ, sym, false, get_or, Arch, Pin, Input, Output, Clock, PackedCircuit, net_on_pin}
 use Rattle.cluster.proofs.PackedLaws.{pin_at, input_entry, clock_entry, length-pin_ranks}
 use Rattle.cluster.proofs.packed.Packed.pin.Goals as goal
 

@@ -1,7 +1,4 @@
-use Rattle.std.proofs.Common.{◌≡◌, ◌∙◌, ◌<◌, [], length, arith, ap, sym, subst}
-use Rattle.cluster.specs.Clusters.{PackedCircuit}
-use Rattle.cluster.specs.declared.block.Block.TheVariants.{Cluster}
-use Rattle.cluster.specs.Blocks.{block_name, net_name}
+use Rattle.cluster.proofs.Prelude.{◌≡◌, ◌∙◌, ◌<◌, [], length, arith, ap, sym, subst, PackedCircuit, Cluster, block_name, net_name}
 use Rattle.cluster.proofs.Keys.{seed_drives, seed_named, seed_nets_inside}
 use Rattle.cluster.proofs.packed.Packed.seed_output.Goals as goal
 

@@ -1,7 +1,4 @@
-use Rattle.std.proofs.Common.{◌<◌, All, List, subst, sym, length, refl, []}
-use Rattle.ble_cluster.specs.Bles.{LogicElement}
-use Rattle.cluster.specs.ClusterPins.{IsElementWithin}
-use Rattle.cluster.specs.NetUses.{input_nets}
+use Rattle.cluster.proofs.Prelude.{◌<◌, All, List, subst, sym, length, refl, [], LogicElement, IsElementWithin, input_nets}
 use Rattle.cluster.proofs.FewBlocks.{elements_within, few_blocks}
 use Rattle.cluster.proofs.TableLaws.{tables_made}
 use Rattle.cluster.proofs.packed_tables.PackedTables.new.Goals as goal

@@ -1,5 +1,4 @@
-use Rattle.std.proofs.Common.{◌∙◌, ap, refl, sym}
-use Rattle.ble_cluster.specs.Bles.{bles_of}
+use Rattle.cluster.proofs.Prelude.{◌∙◌, ap, refl, sym, bles_of}
 use Rattle.cluster.proofs.Going.{ends, ends_lawful, fit_among, goes_further, none_left, stepped}
 use Rattle.cluster.proofs.packing.Packing.next.Goals as goal
 

@@ -1,7 +1,4 @@
-use Rattle.std.proofs.Common.{◌∙◌, ap, length}
-use Rattle.std.specs.List.{range_with_len}
-use Rattle.ble_cluster.specs.Bles.{bles_of}
-use Rattle.ble_cluster.proofs.Elements.{elements_lawful}
+use Rattle.cluster.proofs.Prelude.{◌∙◌, ap, length, range_with_len, bles_of, elements_lawful}
 use Rattle.cluster.proofs.Going.{begins}
 use Rattle.cluster.proofs.Members.{few_bles}
 use Rattle.cluster.proofs.packing.Packing.start.Goals as goal

@@ -1,5 +1,4 @@
-use Rattle.std.proofs.Common.{◌≡◌, ℕ, List, length, arith, ap, subst}
-use Rattle.cluster.specs.ClusterPins.{TellReaders}
+use Rattle.cluster.proofs.Prelude.{◌≡◌, ℕ, List, length, arith, ap, subst, TellReaders}
 use Rattle.cluster.proofs.ReaderLists.{gathered_more}
 use Rattle.cluster.proofs.pin_nets.Gathered.add_with.Goals as goal
 

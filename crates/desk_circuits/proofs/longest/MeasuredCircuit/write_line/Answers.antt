@@ -1,6 +1,4 @@
-use Rattle.std.proofs.Common.{subst, sym}
-use Rattle.line_text.specs.Writing.{Writes}
-use Rattle.desk_circuits.specs.PathLines.{longest_text}
+use Rattle.desk_circuits.proofs.Prelude.{subst, sym, Writes, longest_text}
 use Rattle.desk_circuits.proofs.longest.MeasuredCircuit.write_line.Goals as goal
 
 pub returns-in-Path : goal.returns-in-Path

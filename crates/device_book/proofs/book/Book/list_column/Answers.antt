@@ -1,7 +1,4 @@
-use Rattle.std.proofs.Common.{◌≡◌, ◌+◌, ◌*◌, ◌≤◌, ◌∙◌, sym, ap, subst, Some, None, get_or, arith}
-use Rattle.std.proofs.lemmas.List.{get_or_read}
-use Rattle.device_book.specs.Columns.{ListsPlaces, column_size}
-use Rattle.device_book.specs.Owners.{Owners}
+use Rattle.device_book.proofs.Prelude.{◌≡◌, ◌+◌, ◌*◌, ◌≤◌, ◌∙◌, sym, ap, subst, Some, None, get_or, arith, get_or_read, ListsPlaces, column_size, Owners}
 use Rattle.device_book.proofs.Columns.{column_place}
 use Rattle.device_book.proofs.Listing.{lists_free, lists_owned, no_owner}
 use Rattle.device_book.proofs.book.Book.list_column.Goals as goal

@@ -1,4 +1,4 @@
-use Rattle.device_book.specs.Columns.{ListsPlaces}
+use Rattle.device_book.proofs.Prelude.{ListsPlaces}
 use Rattle.device_book.proofs.book.Book.list_column.Given as goal
 
 abbrev pub invariant-loop-place : goal.invariant-loop-place

@@ -1,4 +1,4 @@
-use Rattle.std.proofs.Common.{rules}
+use Rattle.device_book.proofs.Prelude.{rules}
 use Rattle.device_book.proofs.Columns.{whole_nobody}
 use Rattle.device_book.proofs.book.Book.new.Goals as goal
 

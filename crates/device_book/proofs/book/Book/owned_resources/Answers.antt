@@ -1,7 +1,4 @@
-use Rattle.std.proofs.Common.{◌≡◌, ◌+◌, ◌≤◌, ◌∙◌, sym, ap, subst, get_or, arith}
-use Rattle.std.proofs.lemmas.List.{get_or_read}
-use Rattle.device_book.specs.Columns.{ListsBefore}
-use Rattle.device_book.specs.Owners.{Owners}
+use Rattle.device_book.proofs.Prelude.{◌≡◌, ◌+◌, ◌≤◌, ◌∙◌, sym, ap, subst, get_or, arith, get_or_read, ListsBefore, Owners}
 use Rattle.device_book.proofs.Listing.{lists_all, lists_free_column}
 use Rattle.device_book.proofs.book.Book.owned_resources.Goals as goal
 use Rattle.device_book.proofs.book.Book.owned_resources.Goals.{then-index-gt0+in_ok-list_column, else-index-gt0}

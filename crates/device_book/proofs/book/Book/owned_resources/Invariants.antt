@@ -1,4 +1,4 @@
-use Rattle.device_book.specs.Columns.{ListsBefore}
+use Rattle.device_book.proofs.Prelude.{ListsBefore}
 use Rattle.device_book.proofs.book.Book.owned_resources.Given as goal
 
 abbrev pub invariant-loop-column : goal.invariant-loop-column

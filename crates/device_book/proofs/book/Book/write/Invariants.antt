@@ -1,6 +1,4 @@
-use Rattle.std.proofs.Common.{map, take}
-use Rattle.rr_graph.specs.Resources.{moved_resource}
-use Rattle.device_book.specs.Owners.{AreOwned}
+use Rattle.device_book.proofs.Prelude.{map, take, moved_resource, AreOwned}
 use Rattle.device_book.proofs.book.Book.write.Given as goal
 
 -- the resources written so far have the owner

@@ -1,7 +1,4 @@
-use Rattle.std.proofs.Common.{◌≡◌, [], ◌∷◌, true, sym, subst, arith}
-use Rattle.std.proofs.Math.ListN.{set}
-use Rattle.rr_graph.specs.declared.resource.Resource.{Resource}
-use Rattle.device_book.specs.Owners.{AreOwned, Owners, in_book}
+use Rattle.device_book.proofs.Prelude.{◌≡◌, [], ◌∷◌, true, sym, subst, arith, set, Resource, AreOwned, Owners, in_book}
 use Rattle.device_book.proofs.Columns.{count_fits, counted_anew, sees}
 use Rattle.device_book.proofs.Places.{write_one}
 use Rattle.device_book.proofs.book.Book.write_one.Goals as goal

@@ -1,8 +1,4 @@
-use Rattle.std.proofs.Common.{sym, ◌∙◌, rules, tests}
-use Rattle.std.specs.Str.{bytes_eq}
-use Rattle.std.proofs.lemmas.Iterator.{YieldsList-from_slice}
-use Rattle.std.proofs.lemmas.Iterator.Search.{any_from_yields_List}
-use Rattle.device_file.specs.Reading.{given_of}
+use Rattle.device_file.proofs.Prelude.{sym, ◌∙◌, rules, tests, bytes_eq, YieldsList-from_slice, any_from_yields_List, given_of}
 use Rattle.device_file.proofs.Steps.{any-map}
 use Rattle.device_file.proofs.reader.Reader.is_given.Goals as goal
 

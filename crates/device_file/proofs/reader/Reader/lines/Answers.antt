@@ -1,9 +1,4 @@
-use Rattle.std.proofs.Common.{◌≡◌, ◌+◌, ◌≤◌, ◌<◌, ◌==◌, ℕ, List, [], ◌∷◌, length, length-drop, ap, sym, subst, ◌∙◌, rules, arith}
-use Rattle.std.specs.List.{position_or_len}
-use Rattle.std.proofs.lemmas.List.{nil_from_length}
-use Rattle.line_text.specs.Lines.{physical_lines}
-use Rattle.device_file.specs.DeviceFiles.{lines_read}
-use Rattle.device_file.specs.Reading.{read_of}
+use Rattle.device_file.proofs.Prelude.{◌≡◌, ◌+◌, ◌≤◌, ◌<◌, ◌==◌, ℕ, List, [], ◌∷◌, length, length-drop, ap, sym, subst, ◌∙◌, rules, arith, position_or_len, nil_from_length, physical_lines, lines_read, read_of}
 use Rattle.device_file.proofs.Steps.{line_refused, line_taken, no_lines, same_error}
 use Rattle.device_file.proofs.reader.Reader.lines.Goals as goal
 

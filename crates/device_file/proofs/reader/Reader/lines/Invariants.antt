@@ -1,7 +1,4 @@
-use Rattle.std.proofs.Common.{◌≡◌, ◌+◌, ◌≤◌, length}
-use Rattle.line_text.specs.Lines.{physical_lines}
-use Rattle.device_file.specs.DeviceFiles.{lines_read}
-use Rattle.device_file.specs.Reading.{read_of}
+use Rattle.device_file.proofs.Prelude.{◌≡◌, ◌+◌, ◌≤◌, length, physical_lines, lines_read, read_of}
 use Rattle.device_file.proofs.reader.Reader.lines.Given as goal
 
 -- the lines that are left go on from what was read

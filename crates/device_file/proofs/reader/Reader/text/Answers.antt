@@ -1,8 +1,4 @@
-use Rattle.std.proofs.Common.{◌≡◌, ap, ◌∙◌, subst, sym, ℕ, List, Option, Some, None, Ok, refl}
-use Rattle.std.specs.Prelude.{option_map}
-use Rattle.line_text.specs.Lines.{physical_lines}
-use Rattle.device_file.specs.DeviceFiles.{Read, all_values, lines_read, values_at_end, values_in}
-use Rattle.device_file.specs.Reading.{IsError, read_of, unfinished_of}
+use Rattle.device_file.proofs.Prelude.{◌≡◌, ap, ◌∙◌, subst, sym, ℕ, List, Option, Some, None, Ok, refl, option_map, physical_lines, Read, all_values, lines_read, values_at_end, values_in, IsError, read_of, unfinished_of}
 use Rattle.device_file.proofs.Steps.{at_end, same_error, value_missing}
 use Rattle.device_file.proofs.reader.Reader.text.Goals as goal
 

@@ -1,9 +1,4 @@
-use Rattle.std.proofs.Common.{◌≡◌, ◌+◌, ◌<◌, ◌≤◌, ℕ, List, [], ◌∷◌, length, drop, map, get_or, ap, sym, ◌∙◌, arith}
-use Rattle.std.proofs.lemmas.List.{at_drop_more, drop_all}
-use Rattle.std.proofs.lemmas.Bool.Decides.{nat_tests}
-use Rattle.line_text.specs.Words.{texts}
-use Rattle.device_file.specs.DeviceFiles.{words_read}
-use Rattle.device_file.specs.Reading.{read_of}
+use Rattle.device_file.proofs.Prelude.{◌≡◌, ◌+◌, ◌<◌, ◌≤◌, ℕ, List, [], ◌∷◌, length, drop, map, get_or, ap, sym, ◌∙◌, arith, at_drop_more, drop_all, nat_tests, texts, words_read, read_of}
 use Rattle.device_file.proofs.Steps.{comment_begun, no_words, same_error, word_refused, word_taken}
 use Rattle.device_file.proofs.reader.Reader.words.Goals as goal
 

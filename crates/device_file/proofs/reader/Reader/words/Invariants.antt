@@ -1,7 +1,4 @@
-use Rattle.std.proofs.Common.{◌≡◌, drop}
-use Rattle.line_text.specs.Words.{texts}
-use Rattle.device_file.specs.DeviceFiles.{words_read}
-use Rattle.device_file.specs.Reading.{read_of}
+use Rattle.device_file.proofs.Prelude.{◌≡◌, drop, texts, words_read, read_of}
 use Rattle.device_file.proofs.reader.Reader.words.Given as goal
 
 -- the words that are left go on from what was read

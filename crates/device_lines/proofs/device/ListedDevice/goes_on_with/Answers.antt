@@ -1,8 +1,5 @@
-use Rattle.std.proofs.Common.{◌≡◌, List, Some, ap, sym, ◌∙◌}
-use Rattle.std.specs.Prelude.{map, option_map}
-use Rattle.device_lines.specs.declared.device.OwnedResource.{OwnedResource}
-use Rattle.device_lines.specs.Lines.{owned_node}
-use Rattle.device_lines.specs.Reading.{follows, last_of}
+use Rattle.device_lines.proofs.Prelude.{◌≡◌, List, Some, ap, sym, ◌∙◌, option_map, OwnedResource, owned_node, follows, last_of}
+use Rattle.std.specs.Prelude.{map}
 use Rattle.device_lines.proofs.ListLemmas.{last_mapped}
 use Rattle.device_lines.proofs.OwnerLemmas.{earlier_is}
 use Rattle.device_lines.proofs.device.ListedDevice.goes_on_with.Goals as goal

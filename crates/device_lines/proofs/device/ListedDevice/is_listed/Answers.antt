@@ -1,5 +1,4 @@
-use Rattle.std.proofs.Common.{◌∙◌}
-use Rattle.std.specs.Prelude.{option_map}
+use Rattle.device_lines.proofs.Prelude.{◌∙◌, option_map}
 use Rattle.device_lines.proofs.ListLemmas.{some_mapped}
 use Rattle.device_lines.proofs.OwnerLemmas.{found_some}
 use Rattle.device_lines.proofs.device.ListedDevice.is_listed.Goals as goal

@@ -1,7 +1,4 @@
-use Rattle.std.proofs.Common.{◌∙◌, ap, sym, [], ◌∷◌, map}
-use Rattle.std.proofs.lemmas.List.{map-append}
-use Rattle.device_lines.specs.Lines.{owned_node}
-use Rattle.device_lines.specs.Reading.{seen_of}
+use Rattle.device_lines.proofs.Prelude.{◌∙◌, ap, sym, [], ◌∷◌, map, map-append, owned_node, seen_of}
 use Rattle.device_lines.proofs.StepLemmas.{is_added, is_disordered}
 use Rattle.device_lines.proofs.reader.Reader.add.Goals as goal
 

@@ -1,7 +1,5 @@
-use Rattle.std.proofs.Common.{◌∙◌, ap, sym, Some}
+use Rattle.device_lines.proofs.Prelude.{◌∙◌, ap, sym, Some, listed_of, owned_node, is_owners, seen_of}
 use Rattle.std.specs.Prelude.{map, not}
-use Rattle.device_lines.specs.Lines.{listed_of, owned_node}
-use Rattle.device_lines.specs.Reading.{is_owners, seen_of}
 use Rattle.device_lines.proofs.ListLemmas.{position_mapped}
 use Rattle.device_lines.proofs.OwnerLemmas.{owners_are}
 use Rattle.device_lines.proofs.StepLemmas.{fault_foreign, fault_missing, fault_none}

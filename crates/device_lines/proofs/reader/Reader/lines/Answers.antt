@@ -1,6 +1,4 @@
-use Rattle.std.proofs.Common.{◌≡◌, List, ℕ, ap, ◌∙◌}
-use Rattle.std.specs.Prelude.{option_map}
-use Rattle.device_lines.specs.Reading.{later_lines, lines_of, lines_read, seen_of}
+use Rattle.device_lines.proofs.Prelude.{◌≡◌, List, ℕ, ap, ◌∙◌, option_map, later_lines, lines_of, lines_read, seen_of}
 use Rattle.device_lines.proofs.ReadLemmas.{line_first, line_refused, none_left}
 use Rattle.device_lines.proofs.reader.Reader.lines.Goals as goal
 

@@ -1,6 +1,4 @@
-use Rattle.std.proofs.Common.{◌≡◌}
-use Rattle.std.specs.Prelude.{option_map}
-use Rattle.device_lines.specs.Reading.{later_lines, lines_of, lines_read, nothing_seen, seen_of}
+use Rattle.device_lines.proofs.Prelude.{◌≡◌, option_map, later_lines, lines_of, lines_read, nothing_seen, seen_of}
 use Rattle.device_lines.proofs.ReadLemmas.{rest_size}
 use Rattle.device_lines.proofs.reader.Reader.lines.Given as goal
 

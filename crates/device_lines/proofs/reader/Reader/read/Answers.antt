@@ -1,5 +1,4 @@
-use Rattle.std.proofs.Common.{ap, sym, ◌∙◌}
-use Rattle.device_lines.specs.Reading.{device_in, end_of, unless_fault, lines_of, lines_read, nothing_seen, seen_of}
+use Rattle.device_lines.proofs.Prelude.{ap, sym, ◌∙◌, device_in, end_of, unless_fault, lines_of, lines_read, nothing_seen, seen_of}
 use Rattle.device_lines.proofs.ReadLemmas.{lines_refused}
 use Rattle.device_lines.proofs.reader.Reader.read.Goals as goal
 

@@ -1,5 +1,4 @@
-use Rattle.std.proofs.Common.{refl, sym, ◌∙◌}
-use Rattle.device_lines.specs.Reading.{seen_of}
+use Rattle.device_lines.proofs.Prelude.{refl, sym, ◌∙◌, seen_of}
 use Rattle.device_lines.proofs.StepLemmas.{is_silent_line, is_unknown}
 use Rattle.device_lines.proofs.reader.Reader.read_other.Goals as goal
 

@@ -1,4 +1,4 @@
-use Rattle.std.proofs.Common.{refl}
+use Rattle.device_lines.proofs.Prelude.{refl}
 use Rattle.device_lines.proofs.reader.Reader.read_silent.Goals as goal
 
 pub returns-in_default : goal.returns-in_default

@@ -1,4 +1,4 @@
-use Rattle.device_lines.specs.Reading.{seen_of}
+use Rattle.device_lines.proofs.Prelude.{seen_of}
 use Rattle.device_lines.proofs.StepLemmas.{reply_heading, reply_listed, reply_other}
 use Rattle.device_lines.proofs.reader.Reader.reply.Goals as goal
 

@@ -1,7 +1,4 @@
-use Rattle.std.proofs.Common.{◌∙◌, ap, sym, [], ◌∷◌, map}
-use Rattle.std.proofs.lemmas.List.{map-append}
-use Rattle.device_lines.specs.Lines.{listed_of}
-use Rattle.device_lines.specs.Reading.{are_parted, seen_of}
+use Rattle.device_lines.proofs.Prelude.{◌∙◌, ap, sym, [], ◌∷◌, map, map-append, listed_of, are_parted, seen_of}
 use Rattle.device_lines.proofs.ListLemmas.{all_mapped}
 use Rattle.device_lines.proofs.StepLemmas.{is_listed, is_refused}
 use Rattle.device_lines.proofs.reader.Reader.tenancy.Goals as goal

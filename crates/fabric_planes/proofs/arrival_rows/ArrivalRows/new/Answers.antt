@@ -1,7 +1,4 @@
-use Rattle.std.proofs.Common.{subst}
-use Rattle.fabric_planes.specs.declared.ends.Listed.{Listed}
-use Rattle.fabric_planes.specs.ArrivalRows.{arrival_at}
-use Rattle.fabric_planes.specs.Ends.{AddsRow}
+use Rattle.fabric_planes.proofs.Prelude.{subst, Listed, arrival_at, AddsRow}
 use Rattle.fabric_planes.proofs.ListedRows.{row_added}
 use Rattle.fabric_planes.proofs.arrival_rows.ArrivalRows.new.Goals as goal
 

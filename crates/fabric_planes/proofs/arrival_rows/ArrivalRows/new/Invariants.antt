@@ -1,5 +1,4 @@
-use Rattle.fabric_planes.specs.ArrivalRows.{arrival_at}
-use Rattle.fabric_planes.specs.Ends.{AreRowsBelow}
+use Rattle.fabric_planes.proofs.Prelude.{arrival_at, AreRowsBelow}
 use Rattle.fabric_planes.proofs.arrival_rows.ArrivalRows.new.Given as goal
 
 abbrev pub invariant-loop-number : goal.invariant-loop-number

@@ -1,7 +1,4 @@
-use Rattle.std.proofs.Common.{◌≡◌, ◌∙◌, ℕ, ◌+◌, ◌-◌, ◌*◌, ◌<◌, ◌≤◌, ap, drop, take, length, arith}
-use Rattle.std.specs.Prelude.{slice_index}
-use Rattle.std.proofs.lemmas.List.{get_or-take}
-use Rattle.fabric_planes.specs.BoundRows.{far_list}
+use Rattle.fabric_planes.proofs.Prelude.{◌≡◌, ◌∙◌, ℕ, ◌+◌, ◌-◌, ◌*◌, ◌<◌, ◌≤◌, ap, drop, take, length, arith, slice_index, get_or-take, far_list}
 use Rattle.fabric_planes.proofs.Lowered.{by_four}
 use Rattle.fabric_planes.proofs.RivalLists.{each_set, lowered_set}
 use Rattle.fabric_planes.proofs.SideRows.{part_at}

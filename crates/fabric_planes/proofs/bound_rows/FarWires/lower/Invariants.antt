@@ -1,6 +1,4 @@
-use Rattle.std.proofs.Common.{length}
-use Rattle.fabric_planes.specs.BoundRows.{IsFarRow}
-use Rattle.fabric_planes.specs.Bounds.{AreLowered}
+use Rattle.fabric_planes.proofs.Prelude.{length, IsFarRow, AreLowered}
 use Rattle.fabric_planes.proofs.bound_rows.FarWires.lower.Given as goal
 
 abbrev pub invariant-loop-track : goal.invariant-loop-track

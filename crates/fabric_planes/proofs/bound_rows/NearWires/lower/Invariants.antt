@@ -1,5 +1,4 @@
-use Rattle.fabric_planes.specs.BoundRows.{IsNearRow}
-use Rattle.fabric_planes.specs.Bounds.{AreLowered}
+use Rattle.fabric_planes.proofs.Prelude.{IsNearRow, AreLowered}
 use Rattle.fabric_planes.proofs.bound_rows.NearWires.lower.Given as goal
 
 abbrev pub invariant-loop-track : goal.invariant-loop-track

@@ -1,10 +1,4 @@
-use Rattle.std.proofs.Common.{◌≡◌, ◌+◌, ◌<◌, List, length, sym, subst, arith}
-use Rattle.std.specs.Prelude.{slice_index_or}
-use Rattle.std.proofs.lemmas.List.{get_or_read}
-use Rattle.plane_search.specs.declared.planes.Start.{Start}
-use Rattle.fabric_planes.specs.Layout.{Terminals, planes_of}
-use Rattle.fabric_planes.specs.Starts.{AddsWires, AreSomeStarts, KeepsStarts}
-use Rattle.fabric_planes.specs.declared.net_starts.StartWire.{StartWire}
+use Rattle.fabric_planes.proofs.Prelude.{◌≡◌, ◌+◌, ◌<◌, List, length, sym, subst, arith, slice_index_or, get_or_read, Start, Terminals, planes_of, AddsWires, AreSomeStarts, KeepsStarts, StartWire}
 use Rattle.fabric_planes.proofs.ListedStarts.{place_kept, some_more}
 use Rattle.fabric_planes.proofs.TrackStarts.{wire_entry, wires_more, wires_skip}
 use Rattle.fabric_planes.proofs.bounded_planes.BoundedPlanes.add_wires.Goals.{in-Some+in_ok-push, in_default}

@@ -1,5 +1,4 @@
-use Rattle.fabric_planes.specs.Layout.{Terminals, planes_of}
-use Rattle.fabric_planes.specs.Starts.{AddsWires, AreSomeStarts, KeepsStarts}
+use Rattle.fabric_planes.proofs.Prelude.{Terminals, planes_of, AddsWires, AreSomeStarts, KeepsStarts}
 use Rattle.fabric_planes.proofs.bounded_planes.BoundedPlanes.add_wires.Given as goal
 
 abbrev pub invariant-loop-index : goal.invariant-loop-index

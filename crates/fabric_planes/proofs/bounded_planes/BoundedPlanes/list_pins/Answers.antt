@@ -1,12 +1,4 @@
-use Rattle.std.proofs.Common.{◌≡◌, ℕ, ◌+◌, ◌<◌, List, length, map, sym, ap, subst, ◌∙◌, arith}
-use Rattle.std.specs.Prelude.{Contains, slice_index}
-use Rattle.std.proofs.lemmas.List.{get_or_read, get_or_default}
-use Rattle.std.proofs.lemmas.List.Elements.{All-contains}
-use Rattle.rr_graph.specs.Graph.{graph_of}
-use Rattle.plane_search.specs.declared.planes.Start.{Start}
-use Rattle.plane_search.specs.Planes.{IsPlaneBound}
-use Rattle.fabric_planes.specs.Layout.{Terminals, IsStart, place_of, planes_of}
-use Rattle.fabric_planes.specs.Starts.{AreSomeStarts}
+use Rattle.fabric_planes.proofs.Prelude.{◌≡◌, ℕ, ◌+◌, ◌<◌, List, length, map, sym, ap, subst, ◌∙◌, arith, Contains, slice_index, get_or_read, get_or_default, All-contains, graph_of, Start, IsPlaneBound, Terminals, IsStart, place_of, planes_of, AreSomeStarts}
 use Rattle.fabric_planes.proofs.ListedStarts.{IsShownIn, entry_of, entry_bound, pin_shows, shows_pin, some_more}
 use Rattle.fabric_planes.proofs.NetRoads.{tracks_of}
 use Rattle.fabric_planes.proofs.StartLists.{pin_of}

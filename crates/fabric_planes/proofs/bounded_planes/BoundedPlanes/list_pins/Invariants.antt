@@ -1,5 +1,4 @@
-use Rattle.fabric_planes.specs.Layout.{Terminals, planes_of}
-use Rattle.fabric_planes.specs.Starts.{AreSomeStarts}
+use Rattle.fabric_planes.proofs.Prelude.{Terminals, planes_of, AreSomeStarts}
 use Rattle.fabric_planes.proofs.TrackStarts.{HasPins}
 use Rattle.fabric_planes.proofs.bounded_planes.BoundedPlanes.list_pins.Given as goal
 

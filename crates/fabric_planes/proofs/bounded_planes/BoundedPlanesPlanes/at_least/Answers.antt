@@ -1,8 +1,5 @@
-use Rattle.std.proofs.Common.{ℕ, subst}
-use Rattle.fabric_planes.specs.Layout.{Terminals}
+use Rattle.fabric_planes.proofs.Prelude.{ℕ, subst, Terminals, IsLowerBound, planes_of}
 use Rattle.fabric_planes.proofs.NetRoads.{is_track, is_place, exit_of}
-use Rattle.least_path.specs.LowerBound.{IsLowerBound}
-use Rattle.fabric_planes.specs.Layout.{planes_of}
 use Rattle.fabric_planes.proofs.bounded_planes.BoundedPlanesPlanes.at_least.Goals as goal
 
 pub invariant_of-at : goal.invariant_of-at

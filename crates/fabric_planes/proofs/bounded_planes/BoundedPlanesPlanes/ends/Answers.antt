@@ -1,4 +1,4 @@
-use Rattle.fabric_planes.specs.Layout.{Terminals}
+use Rattle.fabric_planes.proofs.Prelude.{Terminals}
 use Rattle.fabric_planes.proofs.NetRoads.{is_track, is_place}
 use Rattle.fabric_planes.proofs.bounded_planes.BoundedPlanesPlanes.ends.Goals as goal
 

@@ -1,5 +1,4 @@
-use Rattle.std.proofs.Common.{◌∙◌, sym}
-use Rattle.fabric_planes.specs.Layout.{Terminals}
+use Rattle.fabric_planes.proofs.Prelude.{◌∙◌, sym, Terminals}
 use Rattle.fabric_planes.proofs.NetRoads.{tracks_of}
 use Rattle.fabric_planes.proofs.Strips.{strip_family}
 use Rattle.fabric_planes.proofs.bounded_planes.BoundedPlanesPlanes.tracks.Goals as goal

@@ -1,7 +1,4 @@
-use Rattle.std.proofs.Common.{◌≡◌, ℕ, ◌-◌, ◌^◌, List, length, sym, ap, ◌∙◌, subst, arith}
-use Rattle.fabric_planes.specs.Layout.{Terminals, planes_of}
-use Rattle.fabric_planes.specs.PlaneBounds.{AreBounds}
-use Rattle.fabric_planes.specs.declared.rivals.Head.{Head}
+use Rattle.fabric_planes.proofs.Prelude.{◌≡◌, ℕ, ◌-◌, ◌^◌, List, length, sym, ap, ◌∙◌, subst, arith, Terminals, planes_of, AreBounds, Head}
 use Rattle.fabric_planes.proofs.FirstPaths.{all_paths, written}
 use Rattle.fabric_planes.proofs.NetRoads.{is_track, tracks_of}
 use Rattle.fabric_planes.proofs.RivalPaths.{all_starts}

@@ -1,6 +1,4 @@
-use Rattle.std.proofs.Common.{◌≡◌, ◌∙◌, ℕ, List, length, drop, ap, sym, subst, arith}
-use Rattle.fabric_planes.specs.Layout.{Terminals, planes_of}
-use Rattle.fabric_planes.specs.PlaneBounds.{AreBounds, AreRivals}
+use Rattle.fabric_planes.proofs.Prelude.{◌≡◌, ◌∙◌, ℕ, List, length, drop, ap, sym, subst, arith, Terminals, planes_of, AreBounds, AreRivals}
 use Rattle.fabric_planes.proofs.NetRoads.{tracks_of}
 use Rattle.fabric_planes.proofs.RivalLists.{written}
 use Rattle.fabric_planes.proofs.RivalPaths.{with_own}

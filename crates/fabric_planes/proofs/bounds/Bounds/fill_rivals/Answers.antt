@@ -1,6 +1,4 @@
-use Rattle.std.proofs.Common.{◌∙◌, sym}
-use Rattle.std.proofs.lemmas.Result.{on_ok_weaker}
-use Rattle.fabric_planes.specs.Layout.{Terminals}
+use Rattle.fabric_planes.proofs.Prelude.{◌∙◌, sym, on_ok_weaker, Terminals}
 use Rattle.fabric_planes.proofs.NetRoads.{tracks_of}
 use Rattle.fabric_planes.proofs.RivalPaths.{from_all}
 use Rattle.fabric_planes.proofs.bounds.Bounds.fill_rivals.Goals as goal

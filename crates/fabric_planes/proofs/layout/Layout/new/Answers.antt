@@ -1,8 +1,4 @@
-use Rattle.std.proofs.Common.{◌≡◌, ℕ, ◌+◌, ◌*◌, ◌∙◌, ap, arith}
-use Rattle.fabric_planes.specs.declared.distances.Target.{Target}
-use Rattle.fabric_planes.specs.declared.distances.Target.TheVariants.{Level, Upright, Block}
-use Rattle.fabric_planes.specs.Differences.{far_table}
-use Rattle.fabric_planes.specs.Layout.{band_of, stride_of}
+use Rattle.fabric_planes.proofs.Prelude.{◌≡◌, ℕ, ◌+◌, ◌*◌, ◌∙◌, ap, arith, Target, Level, Upright, Block, far_table, band_of, stride_of}
 use Rattle.fabric_planes.proofs.layout.Layout.new.Goals as goal
 
 pub returns : goal.returns

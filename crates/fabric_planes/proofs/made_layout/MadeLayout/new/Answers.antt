@@ -1,4 +1,4 @@
-use Rattle.std.proofs.Common.{◌∙◌}
+use Rattle.fabric_planes.proofs.Prelude.{◌∙◌}
 use Rattle.fabric_planes.proofs.made_layout.MadeLayout.new.Goals as goal
 
 pub invariant_of-result : goal.invariant_of-result

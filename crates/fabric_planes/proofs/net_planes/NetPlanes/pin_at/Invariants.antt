@@ -1,6 +1,4 @@
-use Rattle.std.proofs.Common.{◌≡◌, ◌<◌, ℕ}
-use Rattle.std.specs.Prelude.{slice_index_or}
-use Rattle.fabric_planes.specs.declared.pins.PinAt.{PinAt}
+use Rattle.fabric_planes.proofs.Prelude.{◌≡◌, ◌<◌, ℕ, slice_index_or, PinAt}
 use Rattle.fabric_planes.proofs.net_planes.NetPlanes.pin_at.Given as goal
 
 abbrev pub invariant-loop-pin : goal.invariant-loop-pin

@@ -1,7 +1,4 @@
-use Rattle.std.proofs.Common.{◌≡◌, ◌∙◌, ap, sym}
-use Rattle.rr_graph.specs.declared.node.Node.{Node}
-use Rattle.rr_graph.specs.Graph.{graph_of}
-use Rattle.fabric_planes.specs.Layout.{Terminals, place_of}
+use Rattle.fabric_planes.proofs.Prelude.{◌≡◌, ◌∙◌, ap, sym, Node, graph_of, Terminals, place_of}
 use Rattle.fabric_planes.proofs.ListedStarts.{listed_shown, none_shown, other_listed}
 use Rattle.fabric_planes.proofs.Strips.{node_near}
 use Rattle.fabric_planes.proofs.net_planes.NetPlanes.pin_place.Goals as goal

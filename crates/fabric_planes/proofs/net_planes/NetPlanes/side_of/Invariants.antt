@@ -1,5 +1,4 @@
-use Rattle.std.proofs.Common.{◌≡◌, ◌<◌, ℕ}
-use Rattle.std.specs.Prelude.{slice_index}
+use Rattle.fabric_planes.proofs.Prelude.{◌≡◌, ◌<◌, ℕ, slice_index}
 use Rattle.fabric_planes.proofs.net_planes.NetPlanes.side_of.Given as goal
 
 abbrev pub invariant-loop-number : goal.invariant-loop-number

@@ -1,8 +1,4 @@
-use Rattle.std.proofs.Common.{◌∙◌, sym, ap, refl, subst}
-use Rattle.rr_graph.specs.declared.node.Node.{Node}
-use Rattle.rr_graph.specs.Geometry.{IsWire}
-use Rattle.rr_graph.specs.Graph.{graph_of}
-use Rattle.fabric_planes.specs.Layout.{place_of}
+use Rattle.fabric_planes.proofs.Prelude.{◌∙◌, sym, ap, refl, subst, Node, IsWire, graph_of, place_of}
 use Rattle.fabric_planes.proofs.StartLists.{with_pin, with_wire, wire_true}
 use Rattle.fabric_planes.proofs.net_starts.NetStarts.add.Goals as goal
 

@@ -1,5 +1,4 @@
-use Rattle.std.proofs.Common.{take}
-use Rattle.fabric_planes.specs.Starts.{HasStarts}
+use Rattle.fabric_planes.proofs.Prelude.{take, HasStarts}
 use Rattle.fabric_planes.proofs.net_starts.NetStarts.fill.Given as goal
 
 abbrev pub invariant-loop-index : goal.invariant-loop-index

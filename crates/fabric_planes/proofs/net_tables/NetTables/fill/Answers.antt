@@ -1,14 +1,4 @@
-use Rattle.std.proofs.Common.{◌≡◌, ◌∙◌, ap, subst, sym}
-use Rattle.std.proofs.lemmas.Result.{on_ok_weaker}
-use Rattle.rr_graph.specs.declared.node.Node.{Node}
-use Rattle.rr_graph.specs.declared.node.NodeKind.{NodeKind}
-use Rattle.rr_graph.specs.Geometry.{IsWire}
-use Rattle.rr_graph.specs.Graph.{graph_of}
-use Rattle.fabric_planes.specs.Aheads.{AreSides}
-use Rattle.fabric_planes.specs.Layout.{IsNetSearch, Terminals, planes_of}
-use Rattle.fabric_planes.specs.NetSearches.{terminals_of}
-use Rattle.fabric_planes.specs.Pins.{ArePins, HaveEnds}
-use Rattle.fabric_planes.specs.Shown.{ArePinsFor}
+use Rattle.fabric_planes.proofs.Prelude.{◌≡◌, ◌∙◌, ap, subst, sym, on_ok_weaker, Node, NodeKind, IsWire, graph_of, AreSides, IsNetSearch, Terminals, planes_of, terminals_of, ArePins, HaveEnds, ArePinsFor}
 use Rattle.fabric_planes.proofs.AheadWires.{node_there, sink_inside, terminal_inside}
 use Rattle.fabric_planes.proofs.Strips.{node_fields}
 use Rattle.fabric_planes.proofs.net_tables.NetTables.fill.Goals as goal

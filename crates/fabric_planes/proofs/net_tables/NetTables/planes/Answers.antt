@@ -1,8 +1,5 @@
-use Rattle.std.proofs.Common.{◌∙◌, ◌≤◌, ℕ, All, List, length, ap, subst, sym, arith}
-use Rattle.fabric_planes.specs.declared.pins.PinAt.{PinAt}
-use Rattle.fabric_planes.specs.Aheads.{AreLeast, AreSides, HaveBounds}
-use Rattle.fabric_planes.specs.Layout.{Terminals, planes_of}
-use Rattle.fabric_planes.specs.Pins.{AreArrivals, ArePins, HaveEnds}
+use Rattle.fabric_planes.proofs.Prelude.{◌∙◌, ◌≤◌, ℕ, List, length, ap, subst, sym, arith, PinAt, AreLeast, AreSides, HaveBounds, Terminals, planes_of, AreArrivals, ArePins, HaveEnds}
+use Rattle.std.proofs.Common.{All}
 use Rattle.fabric_planes.proofs.AheadWires.{node_there}
 use Rattle.fabric_planes.proofs.Strips.{node_fields}
 use Rattle.fabric_planes.proofs.net_tables.NetTables.planes.Goals as goal

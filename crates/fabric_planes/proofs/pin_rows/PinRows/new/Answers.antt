@@ -1,7 +1,4 @@
-use Rattle.std.proofs.Common.{subst}
-use Rattle.fabric_planes.specs.declared.ends.Listed.{Listed}
-use Rattle.fabric_planes.specs.Ends.{AddsRow}
-use Rattle.fabric_planes.specs.PinRows.{listed_at}
+use Rattle.fabric_planes.proofs.Prelude.{subst, Listed, AddsRow, listed_at}
 use Rattle.fabric_planes.proofs.ListedRows.{row_added}
 use Rattle.fabric_planes.proofs.pin_rows.PinRows.new.Goals as goal
 

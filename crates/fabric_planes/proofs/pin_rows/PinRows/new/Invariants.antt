@@ -1,5 +1,4 @@
-use Rattle.fabric_planes.specs.Ends.{AreRowsBelow}
-use Rattle.fabric_planes.specs.PinRows.{listed_at}
+use Rattle.fabric_planes.proofs.Prelude.{AreRowsBelow, listed_at}
 use Rattle.fabric_planes.proofs.pin_rows.PinRows.new.Given as goal
 
 abbrev pub invariant-loop-number : goal.invariant-loop-number

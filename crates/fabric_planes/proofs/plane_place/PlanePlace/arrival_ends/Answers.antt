@@ -1,5 +1,4 @@
-use Rattle.std.proofs.Common.{◌≡◌, ◌-◌, ◌*◌, ℕ, ap}
-use Rattle.fabric_planes.specs.Layout.{Terminals, stride_of}
+use Rattle.fabric_planes.proofs.Prelude.{◌≡◌, ◌-◌, ◌*◌, ℕ, ap, Terminals, stride_of}
 use Rattle.fabric_planes.proofs.Numbers.{class_there}
 use Rattle.fabric_planes.proofs.StepEnds.{arrivals_are, plane_rises, rising_before}
 use Rattle.fabric_planes.proofs.plane_place.PlanePlace.arrival_ends.Goals as goal

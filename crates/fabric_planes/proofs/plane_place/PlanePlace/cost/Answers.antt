@@ -1,8 +1,4 @@
-use Rattle.std.proofs.Common.{◌≡◌, ◌∙◌, ℕ, ◌+◌, ◌*◌, ◌≤◌, length, ap, arith}
-use Rattle.std.specs.Prelude.{slice_index}
-use Rattle.fabric_planes.specs.Layout.{Terminals}
-use Rattle.std.proofs.lemmas.Nat.{mul-le}
-use Rattle.fabric_planes.specs.Layout.{place_count}
+use Rattle.fabric_planes.proofs.Prelude.{◌≡◌, ◌∙◌, ℕ, ◌+◌, ◌*◌, ◌≤◌, length, ap, arith, slice_index, Terminals, mul-le, place_count}
 use Rattle.fabric_planes.proofs.Numbers.{price_is}
 use Rattle.fabric_planes.proofs.plane_place.PlanePlace.cost.Goals as goal
 

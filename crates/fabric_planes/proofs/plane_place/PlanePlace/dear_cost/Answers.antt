@@ -1,8 +1,4 @@
-use Rattle.std.proofs.Common.{◌≡◌, ◌<◌, ◌∙◌, length, sym, arith}
-use Rattle.std.specs.Prelude.{slice_index}
-use Rattle.std.proofs.lemmas.List.{get_or_default}
-use Rattle.fabric_planes.specs.Layout.{Terminals}
-use Rattle.fabric_planes.specs.Tables.{NO_WIRE}
+use Rattle.fabric_planes.proofs.Prelude.{◌≡◌, ◌<◌, ◌∙◌, length, sym, arith, slice_index, get_or_default, Terminals, NO_WIRE}
 use Rattle.fabric_planes.proofs.Numbers.{wire_few, wire_cost, pin_cost, pin_low, no_cost}
 use Rattle.fabric_planes.proofs.plane_place.PlanePlace.dear_cost.Goals as goal
 

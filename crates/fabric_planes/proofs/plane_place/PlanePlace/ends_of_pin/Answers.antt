@@ -1,7 +1,4 @@
-use Rattle.std.proofs.Common.{◌+◌, ◌*◌, ◌<◌, ◌≤◌, ◌^◌, ℕ, [], arith}
-use Rattle.std.proofs.lemmas.Nat.{mul-le}
-use Rattle.fabric_planes.specs.declared.pins.PinAt.{PinAt}
-use Rattle.fabric_planes.specs.Layout.{Terminals}
+use Rattle.fabric_planes.proofs.Prelude.{◌+◌, ◌*◌, ◌<◌, ◌≤◌, ◌^◌, ℕ, [], arith, mul-le, PinAt, Terminals}
 use Rattle.fabric_planes.proofs.StepEnds.{pin_within, pin_ends_are, no_ends, plane_rises, rising_before}
 use Rattle.fabric_planes.proofs.plane_place.PlanePlace.ends_of_pin.Goals as goal
 

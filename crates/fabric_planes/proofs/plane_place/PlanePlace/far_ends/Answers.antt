@@ -1,6 +1,4 @@
-use Rattle.std.proofs.Common.{◌≡◌, ◌<◌, ◌∙◌, length, sym, arith}
-use Rattle.std.specs.Prelude.{slice_index}
-use Rattle.std.proofs.lemmas.List.{get_or_default}
+use Rattle.fabric_planes.proofs.Prelude.{◌≡◌, ◌<◌, ◌∙◌, length, sym, arith, slice_index, get_or_default}
 use Rattle.fabric_planes.proofs.StepEnds.{is_aside}
 use Rattle.fabric_planes.proofs.plane_place.PlanePlace.far_ends.Goals as goal
 

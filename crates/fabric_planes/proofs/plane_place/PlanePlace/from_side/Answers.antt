@@ -1,4 +1,4 @@
-use Rattle.std.proofs.Common.{◌+◌, ◌∙◌, ap}
+use Rattle.fabric_planes.proofs.Prelude.{◌+◌, ◌∙◌, ap}
 use Rattle.fabric_planes.proofs.Bounded.{side_low}
 use Rattle.fabric_planes.proofs.plane_place.PlanePlace.from_side.Goals as goal
 

@@ -1,4 +1,4 @@
-use Rattle.fabric_planes.specs.Layout.{Terminals}
+use Rattle.fabric_planes.proofs.Prelude.{Terminals}
 use Rattle.fabric_planes.proofs.WireBounds.{wire_bound}
 use Rattle.fabric_planes.proofs.plane_place.PlanePlace.from_wire.Goals as goal
 

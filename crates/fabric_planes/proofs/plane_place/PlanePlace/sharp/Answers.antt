@@ -1,5 +1,4 @@
-use Rattle.std.proofs.Common.{[], ◌∷◌, arith}
-use Rattle.std.specs.Prelude.{slice_index}
+use Rattle.fabric_planes.proofs.Prelude.{[], ◌∷◌, arith, slice_index}
 use Rattle.fabric_planes.proofs.WireBounds.{sharp_low, far_aside, fars_near, least_sum}
 use Rattle.fabric_planes.proofs.plane_place.PlanePlace.sharp.Goals as goal
 

@@ -1,5 +1,4 @@
-use Rattle.std.proofs.Common.{◌≡◌, ◌-◌, ◌*◌, ℕ, ap}
-use Rattle.fabric_planes.specs.Layout.{Terminals, stride_of}
+use Rattle.fabric_planes.proofs.Prelude.{◌≡◌, ◌-◌, ◌*◌, ℕ, ap, Terminals, stride_of}
 use Rattle.fabric_planes.proofs.Found.{first_for}
 use Rattle.fabric_planes.proofs.Numbers.{class_there}
 use Rattle.fabric_planes.proofs.StepEnds.{steps_are, plane_rises, rising_before}

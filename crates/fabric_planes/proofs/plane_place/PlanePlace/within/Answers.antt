@@ -1,5 +1,4 @@
-use Rattle.std.proofs.Common.{◌+◌}
-use Rattle.fabric_planes.specs.Layout.{Terminals}
+use Rattle.fabric_planes.proofs.Prelude.{◌+◌, Terminals}
 use Rattle.fabric_planes.proofs.NetRoads.{exit_of}
 use Rattle.fabric_planes.proofs.WireBounds.{bound_at_exit}
 use Rattle.fabric_planes.proofs.plane_place.PlanePlace.within.Goals as goal

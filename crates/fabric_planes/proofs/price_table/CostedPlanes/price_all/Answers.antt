@@ -1,8 +1,4 @@
-use Rattle.std.proofs.Common.{◌≡◌, ◌<◌, ◌≤◌, ◌∙◌, ℕ, List, ap, sym, length, inl, inr, arith}
-use Rattle.std.specs.Prelude.{slice_index}
-use Rattle.fabric_planes.specs.Layout.{place_count}
-use Rattle.fabric_planes.specs.Prices.{ComesFrom}
-use Rattle.fabric_planes.specs.Tables.{NO_WIRE}
+use Rattle.fabric_planes.proofs.Prelude.{◌≡◌, ◌<◌, ◌≤◌, ◌∙◌, ℕ, List, ap, sym, length, inl, inr, arith, slice_index, place_count, ComesFrom, NO_WIRE}
 use Rattle.fabric_planes.proofs.Found.{firsts_cases}
 use Rattle.fabric_planes.proofs.Numbers.{number_some}
 use Rattle.fabric_planes.proofs.Priced.{begun_by_place, skip_place, none_after, all_by_place}

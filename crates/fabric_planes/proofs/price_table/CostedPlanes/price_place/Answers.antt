@@ -1,5 +1,4 @@
-use Rattle.std.proofs.Common.{◌+◌, inl, arith}
-use Rattle.fabric_planes.specs.Prices.{ComesFrom}
+use Rattle.fabric_planes.proofs.Prelude.{◌+◌, inl, arith, ComesFrom}
 use Rattle.fabric_planes.proofs.Numbers.{first_wire, track_there}
 use Rattle.fabric_planes.proofs.Priced.{repriced, repriced_by_place, all_but, all_told, next_wire, next_place}
 use Rattle.fabric_planes.proofs.price_table.CostedPlanes.price_place.Goals as goal

@@ -1,5 +1,4 @@
-use Rattle.fabric_planes.specs.Pins.{ArePrices}
-use Rattle.fabric_planes.specs.Prices.{AreByPlaceBut, ComesFrom}
+use Rattle.fabric_planes.proofs.Prelude.{ArePrices, AreByPlaceBut, ComesFrom}
 use Rattle.fabric_planes.proofs.price_table.CostedPlanes.price_place.Given as goal
 
 abbrev pub invariant-loop-track : goal.invariant-loop-track

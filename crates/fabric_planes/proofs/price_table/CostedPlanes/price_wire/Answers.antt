@@ -1,5 +1,4 @@
-use Rattle.std.proofs.Common.{◌∙◌, ℕ, ap, refl, subst, arith}
-use Rattle.fabric_planes.specs.Prices.{IsPrice}
+use Rattle.fabric_planes.proofs.Prelude.{◌∙◌, ℕ, ap, refl, subst, arith, IsPrice}
 use Rattle.fabric_planes.proofs.Found.{place_low}
 use Rattle.fabric_planes.proofs.Strips.{track_low}
 use Rattle.fabric_planes.proofs.price_table.CostedPlanes.price_wire.Goals as goal

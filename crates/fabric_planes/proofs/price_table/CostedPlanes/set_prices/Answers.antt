@@ -1,4 +1,4 @@
-use Rattle.std.proofs.Common.{◌+◌, ◌≤◌, length, refl, get_or, arith}
+use Rattle.fabric_planes.proofs.Prelude.{◌+◌, ◌≤◌, length, refl, get_or, arith}
 use Rattle.fabric_planes.proofs.Priced.{IsLeft, repriced, repriced_by_place, next_left, none_left, all_told, all_by_place}
 use Rattle.fabric_planes.proofs.price_table.CostedPlanes.set_prices.Goals as goal
 

@@ -1,4 +1,4 @@
-use Rattle.fabric_planes.specs.Prices.{AreByPlaceBut}
+use Rattle.fabric_planes.proofs.Prelude.{AreByPlaceBut}
 use Rattle.fabric_planes.proofs.Priced.{ArePricesBut, IsLeft}
 use Rattle.fabric_planes.proofs.price_table.CostedPlanes.set_prices.Given as goal
 

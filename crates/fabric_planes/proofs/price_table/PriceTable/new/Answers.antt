@@ -1,5 +1,4 @@
-use Rattle.std.proofs.Common.{◌≡◌, ◌∙◌, ◌*◌, arith}
-use Rattle.fabric_planes.specs.Layout.{place_count}
+use Rattle.fabric_planes.proofs.Prelude.{◌≡◌, ◌∙◌, ◌*◌, arith, place_count}
 use Rattle.fabric_planes.proofs.price_table.PriceTable.new.Goals as goal
 
 pub price_all-requires-clause-long_by_place : goal.price_all-requires-clause-long_by_place

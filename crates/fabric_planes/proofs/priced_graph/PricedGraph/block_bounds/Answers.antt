@@ -1,10 +1,4 @@
-use Rattle.std.proofs.Common.{◌≡◌, ◌+◌, ◌-◌, ◌∙◌, ℕ, List, length, ap, inl, inr, subst, false, arith}
-use Rattle.std.specs.Prelude.{slice_index_or}
-use Rattle.std.proofs.lemmas.Bool.{cases_lt}
-use Rattle.arch_file.specs.declared.arch.Sides.{Sides}
-use Rattle.rr_graph.specs.Geometry.{sides_at}
-use Rattle.rr_graph.specs.Graph.{graph_of}
-use Rattle.fabric_planes.specs.SideBounds.{AreLow}
+use Rattle.fabric_planes.proofs.Prelude.{◌≡◌, ◌+◌, ◌-◌, ◌∙◌, ℕ, List, length, ap, inl, inr, subst, false, arith, slice_index_or, cases_lt, Sides, sides_at, graph_of, AreLow}
 use Rattle.fabric_planes.proofs.Lowered.{low_still}
 use Rattle.fabric_planes.proofs.OwnPins.{own_at}
 use Rattle.fabric_planes.proofs.priced_graph.PricedGraph.block_bounds.Goals as goal

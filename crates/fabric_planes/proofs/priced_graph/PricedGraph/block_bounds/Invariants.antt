@@ -1,7 +1,4 @@
-use Rattle.std.proofs.Common.{◌<◌, ◌≤◌, ℕ}
-use Rattle.rr_graph.specs.Geometry.{sides_at}
-use Rattle.rr_graph.specs.Graph.{graph_of}
-use Rattle.fabric_planes.specs.SideBounds.{AreFew, AreLow}
+use Rattle.fabric_planes.proofs.Prelude.{◌<◌, ◌≤◌, ℕ, sides_at, graph_of, AreFew, AreLow}
 use Rattle.fabric_planes.proofs.priced_graph.PricedGraph.block_bounds.Given as goal
 
 abbrev pub invariant-loop-number : goal.invariant-loop-number

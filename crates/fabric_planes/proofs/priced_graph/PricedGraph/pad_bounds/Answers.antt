@@ -1,8 +1,4 @@
-use Rattle.std.proofs.Common.{◌≡◌, subst, arith, inl, inr}
-use Rattle.std.proofs.lemmas.Bool.{cases_lt}
-use Rattle.rr_graph.specs.Geometry.{sides_at}
-use Rattle.rr_graph.specs.Graph.{graph_of}
-use Rattle.fabric_planes.specs.SideBounds.{IsLowFor}
+use Rattle.fabric_planes.proofs.Prelude.{◌≡◌, subst, arith, inl, inr, cases_lt, sides_at, graph_of, IsLowFor}
 use Rattle.fabric_planes.proofs.Lowered.{low_still}
 use Rattle.fabric_planes.proofs.OwnPins.{own_at}
 use Rattle.fabric_planes.proofs.priced_graph.PricedGraph.pad_bounds.Goals as goal

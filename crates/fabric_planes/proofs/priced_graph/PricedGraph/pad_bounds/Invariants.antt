@@ -1,5 +1,4 @@
-use Rattle.std.proofs.Common.{◌<◌, ◌≤◌, ℕ}
-use Rattle.fabric_planes.specs.SideBounds.{AreFew, IsLowFor}
+use Rattle.fabric_planes.proofs.Prelude.{◌<◌, ◌≤◌, ℕ, AreFew, IsLowFor}
 use Rattle.fabric_planes.proofs.priced_graph.PricedGraph.pad_bounds.Given as goal
 
 abbrev pub invariant-loop-number : goal.invariant-loop-number

@@ -1,4 +1,4 @@
-use Rattle.std.proofs.Common.{refl, arith}
+use Rattle.fabric_planes.proofs.Prelude.{refl, arith}
 use Rattle.fabric_planes.proofs.AheadWires.{node_there, sink_inside, block_aheads, top_aheads, bottom_aheads}
 use Rattle.fabric_planes.proofs.PinsRowed.{sink_column}
 use Rattle.fabric_planes.proofs.quest.Quest.aheads.Goals as goal

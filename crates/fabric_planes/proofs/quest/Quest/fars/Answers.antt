@@ -1,7 +1,4 @@
-use Rattle.std.proofs.Common.{ap, refl, subst, arith}
-use Rattle.rr_graph.specs.declared.node.Node.{Node}
-use Rattle.fabric_planes.specs.declared.distances.Target.TheVariants.{Level, Upright}
-use Rattle.fabric_planes.specs.Fars.{AreFar}
+use Rattle.fabric_planes.proofs.Prelude.{ap, refl, subst, arith, Node, Level, Upright, AreFar}
 use Rattle.fabric_planes.proofs.AheadWires.{node_there, sink_inside}
 use Rattle.fabric_planes.proofs.FarWires.{level_fars, upright_fars}
 use Rattle.fabric_planes.proofs.quest.Quest.fars.Goals as goal

@@ -1,8 +1,4 @@
-use Rattle.std.proofs.Common.{◌≡◌, ℕ, ◌+◌, ◌++◌, ◌∷◌, [], ◌∙◌, List, map, sym, ap, subst, arith}
-use Rattle.std.specs.List.{range_with_len}
-use Rattle.std.proofs.lemmas.List.FromFn.{map-range_with_len_more}
-use Rattle.fabric_planes.specs.ArrivalRows.{first_row, first_rows}
-use Rattle.fabric_planes.specs.Pins.{AreArrivals}
+use Rattle.fabric_planes.proofs.Prelude.{◌≡◌, ℕ, ◌+◌, ◌++◌, ◌∷◌, [], ◌∙◌, List, map, sym, ap, subst, arith, range_with_len, map-range_with_len_more, first_row, first_rows, AreArrivals}
 use Rattle.fabric_planes.proofs.AheadWires.{node_there}
 use Rattle.fabric_planes.proofs.ArrivalNumbers.{are_arrivals}
 use Rattle.fabric_planes.proofs.Strips.{node_fields}

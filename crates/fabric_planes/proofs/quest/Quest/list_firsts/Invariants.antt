@@ -1,6 +1,4 @@
-use Rattle.std.proofs.Common.{◌≡◌, map}
-use Rattle.std.specs.List.{range_with_len}
-use Rattle.fabric_planes.specs.ArrivalRows.{first_row}
+use Rattle.fabric_planes.proofs.Prelude.{◌≡◌, map, range_with_len, first_row}
 use Rattle.fabric_planes.proofs.quest.Quest.list_firsts.Given as goal
 
 abbrev pub invariant-loop-number : goal.invariant-loop-number

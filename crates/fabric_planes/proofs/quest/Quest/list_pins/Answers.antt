@@ -1,11 +1,4 @@
-use Rattle.std.proofs.Common.{◌≡◌, ◌∙◌, ℕ, ◌⊎◌, List, [], ap, sym, subst}
-use Rattle.std.proofs.lemmas.Result.{on_ok_weaker}
-use Rattle.rr_graph.specs.declared.node.Node.{Node}
-use Rattle.rr_graph.specs.declared.node.NodeKind.TheVariants.{Sink, Source}
-use Rattle.rr_graph.specs.Graph.{graph_of}
-use Rattle.fabric_planes.specs.declared.pins.PinAt.{PinAt}
-use Rattle.fabric_planes.specs.Shown.{AddsPins, IsOutputOf}
-use Rattle.fabric_planes.specs.Sides.{IsOwnPin}
+use Rattle.fabric_planes.proofs.Prelude.{◌≡◌, ◌∙◌, ℕ, ◌⊎◌, List, [], ap, sym, subst, on_ok_weaker, Node, Sink, Source, graph_of, PinAt, AddsPins, IsOutputOf, IsOwnPin}
 use Rattle.fabric_planes.proofs.ShownPins.{both_added, are_pins}
 use Rattle.fabric_planes.proofs.quest.Quest.list_pins.Goals as goal
 

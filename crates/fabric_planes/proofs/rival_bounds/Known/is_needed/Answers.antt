@@ -1,9 +1,4 @@
-use Rattle.std.proofs.Common.{◌≡◌, ◌+◌, ◌<◌, sym, ◌∙◌, arith}
-use Rattle.std.specs.Prelude.{slice_index}
-use Rattle.std.proofs.lemmas.Bool.{leb-false}
-use Rattle.std.proofs.lemmas.List.{get_or_read}
-use Rattle.rr_graph.specs.Graph.{graph_of}
-use Rattle.fabric_planes.specs.Layout.{Terminals, place_of, place_count}
+use Rattle.fabric_planes.proofs.Prelude.{◌≡◌, ◌+◌, ◌<◌, sym, ◌∙◌, arith, slice_index, leb-false, get_or_read, graph_of, Terminals, place_of, place_count}
 use Rattle.fabric_planes.proofs.Found.{place_low}
 use Rattle.fabric_planes.proofs.Numbers.{number_some}
 use Rattle.fabric_planes.proofs.RivalSides.{met_place}

@@ -1,6 +1,4 @@
-use Rattle.std.proofs.Common.{arith}
-use Rattle.fabric_planes.specs.Layout.{planes_of}
-use Rattle.fabric_planes.specs.RivalBounds.{AreOverSide}
+use Rattle.fabric_planes.proofs.Prelude.{arith, planes_of, AreOverSide}
 use Rattle.fabric_planes.proofs.RivalLists.{lowered_itself, lowered_then, limited_then, each_more}
 use Rattle.fabric_planes.proofs.RivalStarts.{side_still}
 use Rattle.fabric_planes.proofs.rival_bounds.Known.lower_by_output.Goals as goal

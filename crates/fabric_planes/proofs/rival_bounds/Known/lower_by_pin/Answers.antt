@@ -1,8 +1,4 @@
-use Rattle.std.proofs.Common.{refl, sym, ◌≡◌, arith}
-use Rattle.std.proofs.lemmas.List.Elements.{All-contains}
-use Rattle.rr_graph.specs.Graph.{graph_of}
-use Rattle.rr_graph.specs.declared.node.NodeKind.TheVariants.{Source, Opin}
-use Rattle.fabric_planes.specs.Layout.{Terminals, IsStart, planes_of}
+use Rattle.fabric_planes.proofs.Prelude.{refl, sym, ◌≡◌, arith, All-contains, graph_of, Source, Opin, Terminals, IsStart, planes_of}
 use Rattle.fabric_planes.proofs.RivalStarts.{kind_by, from_source, from_output, from_other}
 use Rattle.fabric_planes.proofs.StartLists.{pin_of}
 use Rattle.fabric_planes.proofs.rival_bounds.Known.lower_by_pin.Goals as goal

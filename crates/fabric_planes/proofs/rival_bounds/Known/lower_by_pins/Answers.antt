@@ -1,8 +1,4 @@
-use Rattle.std.proofs.Common.{ℕ, ◌<◌, ◌≡◌, arith, length, sym, subst, ◌∙◌}
-use Rattle.std.specs.Prelude.{slice_index}
-use Rattle.std.proofs.lemmas.List.{get_or_default}
-use Rattle.fabric_planes.specs.Layout.{Terminals, planes_of}
-use Rattle.fabric_planes.specs.RivalBounds.{AreRivalsFrom}
+use Rattle.fabric_planes.proofs.Prelude.{ℕ, ◌<◌, ◌≡◌, arith, length, sym, subst, ◌∙◌, slice_index, get_or_default, Terminals, planes_of, AreRivalsFrom}
 use Rattle.fabric_planes.proofs.RivalLists.{lowered_then, limited_then, each_more}
 use Rattle.fabric_planes.proofs.RivalStarts.{contained_index, from_still}
 use Rattle.fabric_planes.proofs.rival_bounds.Known.lower_by_pins.Goals as goal

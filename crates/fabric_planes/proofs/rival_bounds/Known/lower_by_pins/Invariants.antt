@@ -1,8 +1,4 @@
-use Rattle.std.proofs.Common.{ℕ, ◌<◌}
-use Rattle.fabric_planes.specs.Bounds.{AreLowered}
-use Rattle.fabric_planes.specs.Layout.{planes_of}
-use Rattle.std.specs.Prelude.{slice_index}
-use Rattle.fabric_planes.specs.RivalBounds.{AreRivalsFrom}
+use Rattle.fabric_planes.proofs.Prelude.{ℕ, ◌<◌, AreLowered, planes_of, slice_index, AreRivalsFrom}
 use Rattle.fabric_planes.proofs.rival_bounds.Known.lower_by_pins.Given as goal
 
 abbrev pub invariant-loop-index : goal.invariant-loop-index

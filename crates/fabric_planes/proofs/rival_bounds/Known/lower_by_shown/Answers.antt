@@ -1,7 +1,4 @@
-use Rattle.std.proofs.Common.{sym, ◌≡◌, ◌≤◌, arith, subst, true}
-use Rattle.rr_graph.specs.Graph.{graph_of}
-use Rattle.rr_graph.specs.declared.node.NodeKind.TheVariants.{Opin}
-use Rattle.fabric_planes.specs.Layout.{Terminals, planes_of, shows}
+use Rattle.fabric_planes.proofs.Prelude.{sym, ◌≡◌, ◌≤◌, arith, subst, true, graph_of, Opin, Terminals, planes_of, shows}
 use Rattle.fabric_planes.proofs.RivalStarts.{kind_by, no_over, over_whole}
 use Rattle.fabric_planes.proofs.rival_bounds.Known.lower_by_shown.Goals as goal
 

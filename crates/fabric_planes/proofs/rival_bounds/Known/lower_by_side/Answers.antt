@@ -1,6 +1,4 @@
-use Rattle.std.proofs.Common.{◌+◌, arith}
-use Rattle.fabric_planes.specs.Layout.{planes_of}
-use Rattle.rr_graph.specs.Graph.{graph_of}
+use Rattle.fabric_planes.proofs.Prelude.{◌+◌, arith, planes_of, graph_of}
 use Rattle.fabric_planes.proofs.RivalSides.{over_first, bound_less, no_bound}
 use Rattle.fabric_planes.proofs.rival_bounds.Known.lower_by_side.Goals.{else-count-gt0-via-then-count-gt0+else-is_needed, else-count-gt0-via-else-count-gt0}
 use Rattle.fabric_planes.proofs.rival_bounds.Known.lower_by_side.Goals as goal

@@ -1,6 +1,4 @@
-use Rattle.std.proofs.Common.{◌<◌, arith, length}
-use Rattle.fabric_planes.specs.Layout.{planes_of}
-use Rattle.fabric_planes.specs.RivalBounds.{AreShownTo}
+use Rattle.fabric_planes.proofs.Prelude.{◌<◌, arith, length, planes_of, AreShownTo}
 use Rattle.fabric_planes.proofs.RivalLists.{lowered_then, limited_then, each_more}
 use Rattle.fabric_planes.proofs.RivalStarts.{index_in, shown_still, shown_here, all_shown}
 use Rattle.fabric_planes.proofs.rival_bounds.Known.lower_by_source.Goals as goal

@@ -1,4 +1,4 @@
-use Rattle.fabric_planes.specs.Layout.{Terminals, planes_of}
+use Rattle.fabric_planes.proofs.Prelude.{Terminals, planes_of}
 use Rattle.fabric_planes.proofs.RivalLists.{limited_then, lowered_then}
 use Rattle.fabric_planes.proofs.RivalPaths.{all_starts, rival_bound}
 use Rattle.fabric_planes.proofs.RivalStarts.{from_still}

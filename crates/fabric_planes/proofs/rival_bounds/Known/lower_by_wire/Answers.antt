@@ -1,6 +1,4 @@
-use Rattle.std.proofs.Common.{◌<◌, arith, length, sym}
-use Rattle.fabric_planes.specs.Laid.{IsWireOf}
-use Rattle.fabric_planes.specs.Layout.{Terminals, planes_of}
+use Rattle.fabric_planes.proofs.Prelude.{◌<◌, arith, length, sym, IsWireOf, Terminals, planes_of}
 use Rattle.fabric_planes.proofs.Found.{place_low}
 use Rattle.fabric_planes.proofs.Strips.{track_low}
 use Rattle.fabric_planes.proofs.RivalStarts.{wire_set}

@@ -1,7 +1,4 @@
-use Rattle.std.proofs.Common.{◌<◌, arith, length, sym, subst}
-use Rattle.fabric_planes.specs.Layout.{Terminals, planes_of}
-use Rattle.fabric_planes.specs.RivalBounds.{AreRivalsFrom, AreWiresTo}
-use Rattle.fabric_planes.specs.declared.net_starts.StartWire.{StartWire}
+use Rattle.fabric_planes.proofs.Prelude.{◌<◌, arith, length, sym, subst, Terminals, planes_of, AreRivalsFrom, AreWiresTo, StartWire}
 use Rattle.fabric_planes.proofs.RivalLists.{lowered_then, limited_then, each_more}
 use Rattle.fabric_planes.proofs.RivalStarts.{wires_here, wires_still}
 use Rattle.fabric_planes.proofs.rival_bounds.Known.lower_by_wires.Goals as goal

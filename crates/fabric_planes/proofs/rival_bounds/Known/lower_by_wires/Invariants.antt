@@ -1,7 +1,4 @@
-use Rattle.std.proofs.Common.{ℕ, ◌<◌}
-use Rattle.fabric_planes.specs.Bounds.{AreLowered}
-use Rattle.fabric_planes.specs.Layout.{planes_of}
-use Rattle.fabric_planes.specs.RivalBounds.{AreWiresTo}
+use Rattle.fabric_planes.proofs.Prelude.{ℕ, ◌<◌, AreLowered, planes_of, AreWiresTo}
 use Rattle.fabric_planes.proofs.rival_bounds.Known.lower_by_wires.Given as goal
 
 abbrev pub invariant-loop-index : goal.invariant-loop-index

@@ -1,11 +1,4 @@
-use Rattle.std.proofs.Common.{◌≡◌, ℕ, ◌+◌, ◌-◌, ◌*◌, ◌^◌, ◌≤◌, List, length, take, drop, sym, ap, ◌∙◌, subst, arith}
-use Rattle.std.specs.Prelude.{slice_index}
-use Rattle.std.proofs.lemmas.Nat.{mul-le}
-use Rattle.rr_graph.specs.declared.node.Node.{Node}
-use Rattle.rr_graph.specs.Graph.{graph_of}
-use Rattle.fabric_planes.specs.BoundRows.{far_list}
-use Rattle.fabric_planes.specs.Bounds.{IsMetAt}
-use Rattle.fabric_planes.specs.Layout.{Terminals, place_of, place_count}
+use Rattle.fabric_planes.proofs.Prelude.{◌≡◌, ℕ, ◌+◌, ◌-◌, ◌*◌, ◌^◌, ◌≤◌, List, length, take, drop, sym, ap, ◌∙◌, subst, arith, slice_index, mul-le, Node, graph_of, far_list, IsMetAt, Terminals, place_of, place_count}
 use Rattle.fabric_planes.proofs.RivalSides.{met_place}
 use Rattle.fabric_planes.proofs.Strips.{places_few, track_low}
 use Rattle.fabric_planes.proofs.SideRows.{far_met, near_met, part_at, part_long, row_within}

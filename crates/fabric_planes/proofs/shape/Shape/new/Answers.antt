@@ -1,7 +1,4 @@
-use Rattle.std.proofs.Common.{ap, arith, length}
-use Rattle.arch_file.proofs.FewPins.{few_pins}
-use Rattle.arch_file.specs.declared.arch.Arch.{Arch}
-use Rattle.grid.specs.declared.Strip.{Strip}
+use Rattle.fabric_planes.proofs.Prelude.{ap, arith, length, few_pins, Arch, Strip}
 use Rattle.fabric_planes.proofs.shape.Shape.new.Goals as goal
 
 pub overflow_cast-result : goal.overflow_cast-result

@@ -1,11 +1,4 @@
-use Rattle.std.proofs.Common.{◌≡◌, ℕ, ◌+◌, ◌-◌, ◌<◌, Bool, List, [], ◌∷◌, ◌++◌, length, map, take, append_assoc, sym, ap, ◌∙◌, subst, arith}
-use Rattle.std.specs.Prelude.{filter, slice_index_or}
-use Rattle.std.proofs.lemmas.List.{length-map, get_or-map, map-append, take_more}
-use Rattle.std.proofs.lemmas.List.Elements.{Contains-get_or, filter-append}
-use Rattle.rr_graph.specs.Graph.{Basis, IsRoutingGraph, graph_of}
-use Rattle.fabric_planes.specs.declared.ends.View.{View}
-use Rattle.fabric_planes.specs.Ends.{row_from, seen_from}
-use Rattle.fabric_planes.specs.Layout.{place_of, shows}
+use Rattle.fabric_planes.proofs.Prelude.{◌≡◌, ℕ, ◌+◌, ◌-◌, ◌<◌, Bool, List, [], ◌∷◌, ◌++◌, length, map, take, append_assoc, sym, ap, ◌∙◌, subst, arith, filter, slice_index_or, length-map, get_or-map, map-append, take_more, Contains-get_or, filter-append, Basis, IsRoutingGraph, graph_of, View, row_from, seen_from, place_of, shows}
 use Rattle.fabric_planes.proofs.shaped_graph.ShapedGraph.add_ends.Goals as goal
 
 -- an end by its number in the list

@@ -1,6 +1,4 @@
-use Rattle.std.proofs.Common.{◌≡◌, ◌++◌, take}
-use Rattle.rr_graph.specs.Graph.{graph_of}
-use Rattle.fabric_planes.specs.Ends.{row_from}
+use Rattle.fabric_planes.proofs.Prelude.{◌≡◌, ◌++◌, take, graph_of, row_from}
 use Rattle.fabric_planes.proofs.shaped_graph.ShapedGraph.add_ends.Given as goal
 
 abbrev pub invariant-loop-end : goal.invariant-loop-end

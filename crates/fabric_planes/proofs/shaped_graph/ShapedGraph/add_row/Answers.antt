@@ -1,9 +1,4 @@
-use Rattle.std.proofs.Common.{◌≡◌, ◌++◌, ◌∙◌, List, true, is_some, sym, ap, subst}
-use Rattle.std.proofs.lemmas.Bool.{false≢true}
-use Rattle.std.proofs.lemmas.Result.{IfOk-weaker}
-use Rattle.rr_graph.specs.declared.node.Node.{Node}
-use Rattle.rr_graph.specs.Geometry.{is_node}
-use Rattle.fabric_planes.specs.Ends.{IsRowFor, row_of}
+use Rattle.fabric_planes.proofs.Prelude.{◌≡◌, ◌++◌, ◌∙◌, List, true, is_some, sym, ap, subst, false≢true, IfOk-weaker, Node, is_node, IsRowFor, row_of}
 use Rattle.fabric_planes.proofs.Consecutive.{same_number}
 use Rattle.fabric_planes.proofs.shaped_graph.ShapedGraph.add_row.Goals.{in-Some+in_ok-add_ends-in-Some, in-None}
 use Rattle.fabric_planes.proofs.shaped_graph.ShapedGraph.add_row.Goals as goal

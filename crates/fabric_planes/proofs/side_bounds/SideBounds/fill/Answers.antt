@@ -1,10 +1,4 @@
-use Rattle.std.proofs.Common.{◌≡◌, ◌∙◌, ◌*◌, ◌++◌, ℕ, List, ap, sym, subst, length, arith}
-use Rattle.std.specs.Vec.{with_items}
-use Rattle.std.proofs.lemmas.List.{with_items_is}
-use Rattle.std.proofs.lemmas.Result.{on_ok_weaker}
-use Rattle.fabric_planes.specs.Aheads.{AreLeast}
-use Rattle.fabric_planes.specs.Layout.{place_count}
-use Rattle.fabric_planes.specs.SideBounds.{AreSidesBounded, by_side}
+use Rattle.fabric_planes.proofs.Prelude.{◌≡◌, ◌∙◌, ◌*◌, ◌++◌, ℕ, List, ap, sym, subst, length, arith, with_items, with_items_is, on_ok_weaker, AreLeast, place_count, AreSidesBounded, by_side}
 use Rattle.fabric_planes.proofs.BoundedSides.{few_by_side, bounds_from}
 use Rattle.fabric_planes.proofs.side_bounds.SideBounds.fill.Goals as goal
 

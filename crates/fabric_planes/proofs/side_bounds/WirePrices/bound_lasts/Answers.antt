@@ -1,4 +1,4 @@
-use Rattle.fabric_planes.specs.SideBounds.{by_side}
+use Rattle.fabric_planes.proofs.Prelude.{by_side}
 use Rattle.fabric_planes.proofs.BoundedSides.{no_side, one_side_more}
 use Rattle.fabric_planes.proofs.side_bounds.WirePrices.bound_lasts.Goals as goal
 

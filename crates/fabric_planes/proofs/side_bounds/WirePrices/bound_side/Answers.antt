@@ -1,4 +1,4 @@
-use Rattle.std.proofs.Common.{◌+◌, ◌*◌, ◌≤◌, length, arith}
+use Rattle.fabric_planes.proofs.Prelude.{◌+◌, ◌*◌, ◌≤◌, length, arith}
 use Rattle.fabric_planes.proofs.BoundedSides.{row_fits}
 use Rattle.fabric_planes.proofs.side_bounds.WirePrices.bound_side.Goals as goal
 

@@ -1,4 +1,4 @@
-use Rattle.std.proofs.Common.{inl, inr}
+use Rattle.fabric_planes.proofs.Prelude.{inl, inr}
 use Rattle.fabric_planes.proofs.Found.{firsts_cases}
 use Rattle.fabric_planes.proofs.StepRows.{class_skipped, none_first}
 use Rattle.fabric_planes.proofs.steps.Steps.add.Goals as goal

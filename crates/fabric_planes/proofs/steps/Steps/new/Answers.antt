@@ -1,6 +1,4 @@
-use Rattle.std.proofs.Common.{◌≡◌, subst, arith, ℕ}
-use Rattle.fabric_planes.specs.Layout.{place_count}
-use Rattle.fabric_planes.specs.Steps.{AreStepsBelow}
+use Rattle.fabric_planes.proofs.Prelude.{◌≡◌, subst, arith, ℕ, place_count, AreStepsBelow}
 use Rattle.fabric_planes.proofs.steps.Steps.new.Goals as goal
 
 pub returns : goal.returns

@@ -1,4 +1,4 @@
-use Rattle.fabric_planes.specs.Steps.{AreStepsBelow}
+use Rattle.fabric_planes.proofs.Prelude.{AreStepsBelow}
 use Rattle.fabric_planes.proofs.steps.Steps.new.Given as goal
 
 abbrev pub invariant-loop-place : goal.invariant-loop-place

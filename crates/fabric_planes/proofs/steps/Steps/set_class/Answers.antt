@@ -1,14 +1,4 @@
-use Rattle.std.proofs.Common.{◌≡◌, ◌-◌, ◌++◌, ◌<◌, ◌∙◌, ℕ, List, Some, refl, ap, length, arith}
-use Rattle.std.specs.Prelude.{slice_index}
-use Rattle.std.proofs.lemmas.List.{get_or_default}
-use Rattle.std.proofs.lemmas.Option.{slice_get_within}
-use Rattle.rr_graph.specs.declared.node.Node.{Node}
-use Rattle.rr_graph.specs.Geometry.{node_at_offset}
-use Rattle.rr_graph.specs.Graph.{graph_of}
-use Rattle.fabric_planes.specs.declared.ends.View.{View}
-use Rattle.fabric_planes.specs.Ends.{row_of}
-use Rattle.fabric_planes.specs.Layout.{stride_of}
-use Rattle.fabric_planes.specs.Steps.{step_view}
+use Rattle.fabric_planes.proofs.Prelude.{◌≡◌, ◌-◌, ◌++◌, ◌<◌, ◌∙◌, ℕ, List, Some, refl, ap, length, arith, slice_index, get_or_default, slice_get_within, Node, node_at_offset, graph_of, View, row_of, stride_of, step_view}
 use Rattle.fabric_planes.proofs.StepRows.{class_copied, class_set, column_before, first_low, row_more, rows_few}
 use Rattle.fabric_planes.proofs.steps.Steps.set_class.Goals.{else-wire-gt2-via-then-wire-gt2+else-wire-shape, else-wire-gt2-via-else-wire-gt2}
 use Rattle.fabric_planes.proofs.steps.Steps.set_class.Goals as goal

@@ -1,10 +1,4 @@
-use Rattle.std.proofs.Common.{◌≡◌, ◌∙◌, ℕ, ◌+◌, ◌<◌, ◌⊎◌, true, ap, sym, subst, inl, inr, arith}
-use Rattle.std.proofs.lemmas.Bool.{cases_eq}
-use Rattle.grid.specs.declared.Strip.{Strip}
-use Rattle.rr_graph.specs.declared.node.Node.{Node}
-use Rattle.rr_graph.specs.Geometry.{is_together}
-use Rattle.rr_graph.specs.Graph.{graph_of}
-use Rattle.fabric_planes.specs.Sides.{IsOwnPin}
+use Rattle.fabric_planes.proofs.Prelude.{◌≡◌, ◌∙◌, ℕ, ◌+◌, ◌<◌, ◌⊎◌, true, ap, sym, subst, inl, inr, arith, cases_eq, Strip, Node, is_together, graph_of, IsOwnPin}
 use Rattle.fabric_planes.proofs.OwnPins.{own_at}
 use Rattle.fabric_planes.proofs.ShownPins.{both_added, same_added}
 use Rattle.fabric_planes.proofs.strip_planes.StripPlanes.add_inputs.Goals as goal

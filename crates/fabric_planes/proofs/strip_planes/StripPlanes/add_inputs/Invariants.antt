@@ -1,6 +1,4 @@
-use Rattle.std.proofs.Common.{◌<◌}
-use Rattle.fabric_planes.specs.Shown.{AddsPins}
-use Rattle.fabric_planes.specs.Sides.{IsOwnPin}
+use Rattle.fabric_planes.proofs.Prelude.{◌<◌, AddsPins, IsOwnPin}
 use Rattle.fabric_planes.proofs.strip_planes.StripPlanes.add_inputs.Given as goal
 
 abbrev pub invariant-loop-number : goal.invariant-loop-number

@@ -1,5 +1,4 @@
-use Rattle.std.proofs.Common.{◌<◌}
-use Rattle.fabric_planes.specs.Shown.{AddsPins, IsOutputOf}
+use Rattle.fabric_planes.proofs.Prelude.{◌<◌, AddsPins, IsOutputOf}
 use Rattle.fabric_planes.proofs.strip_planes.StripPlanes.add_outputs.Given as goal
 
 abbrev pub invariant-loop-number : goal.invariant-loop-number

@@ -1,5 +1,4 @@
-use Rattle.std.proofs.Common.{◌≡◌, true}
-use Rattle.std.proofs.lemmas.Result.{on_ok_weaker}
+use Rattle.fabric_planes.proofs.Prelude.{◌≡◌, true, on_ok_weaker}
 use Rattle.fabric_planes.proofs.ShownPins.{same_added}
 use Rattle.fabric_planes.proofs.strip_planes.StripPlanes.add_own.Goals as goal
 

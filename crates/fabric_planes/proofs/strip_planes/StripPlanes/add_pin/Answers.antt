@@ -1,8 +1,4 @@
-use Rattle.std.proofs.Common.{◌∙◌, ℕ, ap, sym, subst}
-use Rattle.rr_graph.specs.Graph.{graph_of}
-use Rattle.fabric_planes.specs.Layout.{place_of}
-use Rattle.fabric_planes.specs.Pins.{IsShownPin}
-use Rattle.fabric_planes.specs.Shown.{IsPinAt}
+use Rattle.fabric_planes.proofs.Prelude.{◌∙◌, ℕ, ap, sym, subst, graph_of, place_of, IsShownPin, IsPinAt}
 use Rattle.fabric_planes.proofs.ShownPins.{one_added}
 use Rattle.fabric_planes.proofs.strip_planes.StripPlanes.add_pin.Goals as goal
 

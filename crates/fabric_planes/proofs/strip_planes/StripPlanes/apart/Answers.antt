@@ -1,5 +1,4 @@
-use Rattle.std.proofs.Common.{◌∙◌}
-use Rattle.rr_graph.specs.Graph.{graph_of}
+use Rattle.fabric_planes.proofs.Prelude.{◌∙◌, graph_of}
 use Rattle.fabric_planes.proofs.PinAparts.{aparts_few, aparts_within, apart_told}
 use Rattle.fabric_planes.proofs.Strips.{node_fields, track_low}
 use Rattle.fabric_planes.proofs.strip_planes.StripPlanes.apart.Goals as goal

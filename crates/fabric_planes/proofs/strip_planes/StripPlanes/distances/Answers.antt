@@ -1,8 +1,4 @@
-use Rattle.std.proofs.Common.{rules, ◌≡◌, ℕ, ◌+◌, ◌-◌, ◌<◌, ◌∙◌, List, length, take, drop, min, sym, ap, arith, subst}
-use Rattle.std.specs.Prelude.{slice_index}
-use Rattle.rr_graph.specs.Graph.{graph_of}
-use Rattle.fabric_planes.specs.Differences.{MOST_FAR, IsTargetAt, wires_to, shift_of}
-use Rattle.fabric_planes.specs.Layout.{band_of, place_of, place_count}
+use Rattle.fabric_planes.proofs.Prelude.{rules, ◌≡◌, ℕ, ◌+◌, ◌-◌, ◌<◌, ◌∙◌, List, length, take, drop, min, sym, ap, arith, subst, slice_index, graph_of, MOST_FAR, IsTargetAt, wires_to, shift_of, band_of, place_of, place_count}
 use Rattle.fabric_planes.proofs.Differences.{part_within, part_told, part_nothing, target_low}
 use Rattle.fabric_planes.proofs.Found.{place_low}
 use Rattle.fabric_planes.proofs.Offsets.{place_below}

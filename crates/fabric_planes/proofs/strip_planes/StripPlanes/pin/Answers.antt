@@ -1,9 +1,5 @@
-use Rattle.std.proofs.Common.{◌≡◌, ap, ◌∙◌, arith}
-use Rattle.rr_graph.specs.declared.node.Node.{Node}
-use Rattle.rr_graph.specs.Graph.{graph_of}
-use Rattle.fabric_planes.specs.declared.pins.PinAt.{PinAt}
-use Rattle.fabric_planes.specs.Layout.{place_of}
-use Rattle.fabric_planes.specs.PinRows.{first_row, rows_per_track}
+use Rattle.fabric_planes.proofs.Prelude.{◌≡◌, ap, ◌∙◌, arith, Node, graph_of, PinAt, place_of, rows_per_track}
+use Rattle.fabric_planes.specs.PinRows.{first_row}
 use Rattle.fabric_planes.proofs.PinsRowed.{IsMade, has_ends}
 use Rattle.fabric_planes.proofs.Strips.{node_near}
 use Rattle.fabric_planes.proofs.strip_planes.StripPlanes.pin.Goals as goal

@@ -1,7 +1,4 @@
-use Rattle.std.proofs.Common.{◌≡◌, ◌∙◌, ℕ, ◌+◌, ◌*◌, ◌<◌, ◌≤◌, ◌^◌, sym, ap, arith}
-use Rattle.std.proofs.lemmas.Nat.{mul-le}
-use Rattle.rr_graph.specs.Graph.{graph_of}
-use Rattle.fabric_planes.specs.Layout.{place_of, place_count}
+use Rattle.fabric_planes.proofs.Prelude.{◌≡◌, ◌∙◌, ℕ, ◌+◌, ◌*◌, ◌<◌, ◌≤◌, ◌^◌, sym, ap, arith, mul-le, graph_of, place_of, place_count}
 use Rattle.fabric_planes.proofs.Found.{place_low}
 use Rattle.fabric_planes.proofs.Priced.{spot_low, by_place_low}
 use Rattle.fabric_planes.proofs.Strips.{places_few, track_low}

@@ -1,9 +1,4 @@
-use Rattle.std.proofs.Common.{◌≡◌, ◌∙◌, ℕ, ◌+◌, ◌*◌, sym, ap, arith, length, List, subst, inl, inr}
-use Rattle.rr_graph.specs.declared.node.Node.{Node}
-use Rattle.rr_graph.specs.Geometry.{IsWire}
-use Rattle.rr_graph.specs.Graph.{graph_of}
-use Rattle.fabric_planes.specs.Layout.{place_of, place_count}
-use Rattle.fabric_planes.specs.Ways.{IsWireAt}
+use Rattle.fabric_planes.proofs.Prelude.{◌≡◌, ◌∙◌, ℕ, ◌+◌, ◌*◌, sym, ap, arith, length, List, subst, inl, inr, Node, IsWire, graph_of, place_of, place_count, IsWireAt}
 use Rattle.fabric_planes.proofs.Priced.{spot_low, by_place_low}
 use Rattle.fabric_planes.proofs.strip_planes.StripPlanes.spot_of.Goals as goal
 

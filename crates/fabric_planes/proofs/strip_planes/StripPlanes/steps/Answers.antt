@@ -1,7 +1,4 @@
-use Rattle.std.proofs.Common.{◌≡◌, ◌∙◌, [], sym, ap, arith}
-use Rattle.std.specs.Prelude.{slice_get, slice_index}
-use Rattle.std.proofs.lemmas.List.{get_or_default}
-use Rattle.std.proofs.lemmas.Option.{get_or_from_slice_get, slice_get_within}
+use Rattle.fabric_planes.proofs.Prelude.{◌≡◌, ◌∙◌, [], sym, ap, arith, slice_get, slice_index, get_or_default, get_or_from_slice_get, slice_get_within}
 use Rattle.fabric_planes.proofs.StepRows.{first_low}
 use Rattle.fabric_planes.proofs.strip_planes.StripPlanes.steps.Goals as goal
 

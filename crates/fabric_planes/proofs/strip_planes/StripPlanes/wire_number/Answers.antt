@@ -1,6 +1,4 @@
-use Rattle.std.proofs.Common.{◌≡◌, ◌<◌, ◌∙◌, length, arith}
-use Rattle.std.specs.Prelude.{slice_index}
-use Rattle.std.proofs.lemmas.List.{get_or_default}
+use Rattle.fabric_planes.proofs.Prelude.{◌≡◌, ◌<◌, ◌∙◌, length, arith, slice_index, get_or_default}
 use Rattle.fabric_planes.proofs.Found.{number_told}
 use Rattle.fabric_planes.proofs.strip_planes.StripPlanes.wire_number.Goals as goal
 

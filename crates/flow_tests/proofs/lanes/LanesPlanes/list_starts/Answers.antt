@@ -1,5 +1,4 @@
-use Rattle.std.proofs.Common.{◌∷◌, ◌++◌, [], List, ap, ◌∙◌}
-use Rattle.plane_search.specs.declared.planes.Start.{Start}
+use Rattle.flow_tests.proofs.Prelude.{◌∷◌, ◌++◌, [], List, ap, ◌∙◌, Start}
 use Rattle.flow_tests.proofs.TwoLanes.{the_starts}
 use Rattle.flow_tests.proofs.lanes.LanesPlanes.list_starts.Goals as goal
 

@@ -1,6 +1,4 @@
-use Rattle.std.proofs.Common.{◌++◌, List, ap, ◌∙◌}
-use Rattle.plane_search.specs.declared.planes.Start.{Start}
-use Rattle.flow_tests.specs.Tables.{pairs}
+use Rattle.flow_tests.proofs.Prelude.{◌++◌, List, ap, ◌∙◌, Start, pairs}
 use Rattle.flow_tests.proofs.Pairs.{the_starts}
 use Rattle.flow_tests.proofs.tables.TablePlanes.list_starts.Goals as goal
 

@@ -1,6 +1,4 @@
-use Rattle.std.proofs.Common.{length}
-use Rattle.plane_search.specs.Starts.{places_of}
-use Rattle.flow_tests.specs.Tables.{pairs}
+use Rattle.flow_tests.proofs.Prelude.{length, places_of, pairs}
 use Rattle.flow_tests.proofs.Pairs.{pairs_lawful, places_within, is_family}
 use Rattle.flow_tests.proofs.tables.TablePlanes.tracks.Goals as goal
 

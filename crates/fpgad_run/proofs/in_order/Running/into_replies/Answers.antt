@@ -1,10 +1,4 @@
-use Rattle.std.proofs.Common.{◌≡◌, ◌∙◌, ap}
-use Rattle.std.specs.Prelude.{map}
-use Rattle.line_text.specs.declared.memory_sink.MemorySink.{MemorySink}
-use Rattle.operator.specs.Held.{sink_text}
-use Rattle.script_text.specs.Replies.{output_of, section_of}
-use Rattle.fpgad_run.specs.Told.{sections_in}
-use Rattle.fpgad_run.specs.declared.sections.Sections.{Sections}
+use Rattle.fpgad_run.proofs.Prelude.{◌≡◌, ◌∙◌, ap, map, MemorySink, sink_text, output_of, section_of, sections_in, Sections}
 use Rattle.fpgad_run.proofs.SectionLemmas.{held_as}
 use Rattle.fpgad_run.proofs.in_order.Running.into_replies.Goals as goal
 

@@ -1,7 +1,4 @@
-use Rattle.std.proofs.Common.{◌∙◌, sym, append-nil}
-use Rattle.sessions.specs.SessionText.{answer_text}
-use Rattle.operator.specs.Held.{sink_text}
-use Rattle.operator.proofs.OperatorLemmas.{on_ok}
+use Rattle.fpgad_run.proofs.Prelude.{◌∙◌, sym, append-nil, answer_text, sink_text, on_ok}
 use Rattle.fpgad_run.proofs.Telling.{session_answers, lengths-answered}
 use Rattle.fpgad_run.proofs.in_order.Running.serve.Goals as goal
 

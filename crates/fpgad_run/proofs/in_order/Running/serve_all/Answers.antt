@@ -1,15 +1,4 @@
-use Rattle.std.proofs.Common.{◌≡◌, ℕ, List, [], ◌∙◌, ap, refl, sym, subst, rules}
-use Rattle.std.specs.Prelude.{map}
-use Rattle.std.proofs.lemmas.Iterator.Adapters.{YieldsList-from_vec}
-use Rattle.std.proofs.lemmas.Iterator.Consumers.{YieldsList-end}
-use Rattle.std.proofs.lemmas.List.{map-id, map_push}
-use Rattle.rr_graph.specs.Graph.{Basis}
-use Rattle.service_core.specs.Service.{ServiceState, empty_service}
-use Rattle.script_text.specs.declared.act.Act.{Act}
-use Rattle.operator.specs.Serving.{Stage}
-use Rattle.script_text.specs.Script.{named_act}
-use Rattle.fpgad_run.specs.Program.{device_of}
-use Rattle.fpgad_run.specs.Told.{told_so_far}
+use Rattle.fpgad_run.proofs.Prelude.{◌≡◌, ℕ, List, [], ◌∙◌, ap, refl, sym, subst, rules, map, YieldsList-from_vec, YieldsList-end, map-id, map_push, Basis, ServiceState, empty_service, Act, Stage, named_act, device_of, told_so_far}
 use Rattle.fpgad_run.proofs.Telling.{Progress, progress_more, replies_all}
 use Rattle.fpgad_run.proofs.in_order.Running.serve_all.Goals as goal
 

@@ -1,6 +1,4 @@
-use Rattle.std.proofs.Common.{[]}
-use Rattle.std.specs.Prelude.{map}
-use Rattle.script_text.specs.Script.{named_act}
+use Rattle.fpgad_run.proofs.Prelude.{[], map, named_act}
 use Rattle.fpgad_run.proofs.Telling.{Progress}
 use Rattle.fpgad_run.proofs.in_order.Running.serve_all.Given as goal
 

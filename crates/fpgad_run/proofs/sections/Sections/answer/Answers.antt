@@ -1,12 +1,4 @@
-use Rattle.std.proofs.Common.{◌≡◌, ◌≤◌, ◌<◌, ◌++◌, ◌∷◌, [], ◌∙◌, get_or, length, length-append, add-one, suc, true, sym, ap, rules, arith}
-use Rattle.std.specs.Prelude.{is_ok}
-use Rattle.std.proofs.lemmas.List.{get_or_default, length-set}
-use Rattle.line_text.specs.declared.memory_sink.MemorySink.{MemorySink}
-use Rattle.sessions.specs.SessionText.{answer_text}
-use Rattle.operator.specs.Held.{sink_text}
-use Rattle.line_text.specs.Names.{number_of, with_name}
-use Rattle.fpgad_run.specs.Run.{with_text}
-use Rattle.fpgad_run.specs.Zipped.{named_sections}
+use Rattle.fpgad_run.proofs.Prelude.{◌≡◌, ◌≤◌, ◌<◌, ◌++◌, ◌∷◌, [], ◌∙◌, get_or, length, length-append, add-one, suc, true, sym, ap, rules, arith, is_ok, get_or_default, length-set, MemorySink, answer_text, sink_text, number_of, with_name, with_text, named_sections}
 use Rattle.fpgad_run.proofs.SectionLemmas.{on_told, is_told, zipped-set, zipped-push, length-found, length-new}
 use Rattle.fpgad_run.proofs.sections.Sections.answer.Goals as goal
 

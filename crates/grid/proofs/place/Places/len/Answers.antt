@@ -1,4 +1,4 @@
-use Rattle.std.proofs.Common.{◌∙◌, ◌*◌, sym, ap}
+use Rattle.grid.proofs.Prelude.{◌∙◌, ◌*◌, sym, ap}
 use Rattle.grid.proofs.Columns.{length-places_of}
 use Rattle.grid.proofs.place.Places.len.Goals as goal
 

@@ -1,5 +1,4 @@
-use Rattle.std.proofs.Common.{◌∙◌, Some, sym, ap, arith}
-use Rattle.grid.specs.declared.place.Place.{Place}
+use Rattle.grid.proofs.Prelude.{◌∙◌, Some, sym, ap, arith, Place}
 use Rattle.grid.proofs.Columns.{column_found, place_found}
 use Rattle.grid.proofs.place.Places.place.Goals as goal
 

@@ -1,7 +1,4 @@
-use Rattle.std.proofs.Common.{◌≡◌, ◌-◌, arith, ap, sym, ◌∙◌}
-use Rattle.job_state.specs.Held.{steps_made}
-use Rattle.job_state.specs.Job.{JobState}
-use Rattle.job_state.specs.JobValue.{basis_in}
+use Rattle.job_state.proofs.Prelude.{◌≡◌, ◌-◌, arith, ap, sym, ◌∙◌, steps_made, JobState, basis_in}
 use Rattle.job_state.proofs.Keeping.{left, stepped}
 use Rattle.job_state.proofs.NextStep.{own_graph}
 use Rattle.job_state.proofs.Stands.{stands_kind}

@@ -1,6 +1,4 @@
-use Rattle.std.proofs.Common.{◌≡◌, true, sym, subst}
-use Rattle.job_state.specs.JobValue.{is_last, step_count}
-use Rattle.job_state.specs.declared.step.JobStep.{JobStep}
+use Rattle.job_state.proofs.Prelude.{◌≡◌, true, sym, subst, is_last, step_count, JobStep}
 use Rattle.job_state.proofs.StepCounts.{step_count_is}
 use Rattle.job_state.proofs.job.Done.progress.Goals as goal
 

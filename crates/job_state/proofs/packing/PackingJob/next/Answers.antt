@@ -1,5 +1,4 @@
-use Rattle.std.proofs.Common.{◌≡◌, IfErr, ap, sym, subst, ◌∙◌}
-use Rattle.job_state.specs.Unshared.{packing_made}
+use Rattle.job_state.proofs.Prelude.{◌≡◌, IfErr, ap, sym, subst, ◌∙◌, packing_made}
 use Rattle.job_state.proofs.Sharing.{before_last_is}
 use Rattle.job_state.proofs.packing.PackingJob.next.Goals as goal
 

@@ -1,6 +1,4 @@
-use Rattle.std.proofs.Common.{◌∙◌, refl, ap}
-use Rattle.cluster.specs.Clusters.{packing_steps}
-use Rattle.job_state.specs.declared.sources.Sources.{Sources}
+use Rattle.job_state.proofs.Prelude.{◌∙◌, refl, ap, packing_steps, Sources}
 use Rattle.job_state.proofs.Beginnings.{packing_begins, packing_ends}
 use Rattle.job_state.proofs.parked.Parked.pack.Goals as goal
 

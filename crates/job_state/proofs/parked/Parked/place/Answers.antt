@@ -1,8 +1,5 @@
-use Rattle.std.proofs.Common.{◌≡◌, ◌∙◌, arith, ap, sym, subst}
-use Rattle.strip_place.specs.Anneal.{PlacingUnderWay}
-use Rattle.job_state.specs.declared.sources.Sources.{Sources}
-use Rattle.job_state.specs.declared.work.Work.TheVariants.{Packed, Placing}
-use Rattle.job_state.specs.JobValue.{end_value, packing_sources, step_count}
+use Rattle.job_state.proofs.Prelude.{◌≡◌, ◌∙◌, arith, ap, sym, subst, PlacingUnderWay, Sources, Packed, end_value, packing_sources, step_count}
+use Rattle.job_state.specs.declared.work.Work.TheVariants.{Placing}
 use Rattle.job_state.proofs.Beginnings.{over_past_last, placing_begins}
 use Rattle.job_state.proofs.NextStep.{as_value}
 use Rattle.job_state.proofs.parked.Parked.place.Goals as goal

@@ -1,7 +1,4 @@
-use Rattle.std.proofs.Common.{◌-◌, ◌∙◌, sym, ap, subst}
-use Rattle.rr_graph.specs.Graph.{Basis}
-use Rattle.rr_graph.specs.Resources.{has}
-use Rattle.job_state.specs.RoutedCircuits.{AreThere}
+use Rattle.job_state.proofs.Prelude.{◌-◌, ◌∙◌, sym, ap, subst, Basis, has, AreThere}
 use Rattle.job_state.proofs.HeldAtEnd.{held_is, nothing_held}
 use Rattle.job_state.proofs.Keeping.{ended, kept_over}
 use Rattle.job_state.proofs.Routings.{routed_on_strip}

@@ -1,4 +1,4 @@
-use Rattle.std.proofs.Common.{arith, refl}
+use Rattle.job_state.proofs.Prelude.{arith, refl}
 use Rattle.job_state.proofs.Routings.{over_by_thirty}
 use Rattle.job_state.proofs.parked.Parked.route.Goals as goal
 

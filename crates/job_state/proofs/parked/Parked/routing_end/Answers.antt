@@ -1,4 +1,4 @@
-use Rattle.std.proofs.Common.{◌-◌}
+use Rattle.job_state.proofs.Prelude.{◌-◌}
 use Rattle.job_state.proofs.Keeping.{ended, kept_over}
 use Rattle.job_state.proofs.Routings.{no_path_made, routed_made}
 use Rattle.job_state.proofs.parked.Parked.routing_end.Goals as goal

@@ -1,5 +1,4 @@
-use Rattle.std.proofs.Common.{subst}
-use Rattle.job_state.specs.RoutedCircuits.{AreThere, RoutedCircuit}
+use Rattle.job_state.proofs.Prelude.{subst, AreThere, RoutedCircuit}
 use Rattle.job_state.proofs.routed.Listed.resources.Goals as goal
 
 pub returns-clause-there : goal.returns-clause-there

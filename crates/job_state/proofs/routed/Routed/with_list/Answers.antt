@@ -1,7 +1,4 @@
-use Rattle.std.proofs.Common.{◌≡◌, ◌++◌, List, subst}
-use Rattle.rr_graph.specs.declared.resource.Resource.{Resource}
-use Rattle.job_state.specs.RoutedCircuits.{AreThere, ListsAll, RoutedCircuit, held_by}
-use Rattle.job_state.specs.Gathered.{on_trees}
+use Rattle.job_state.proofs.Prelude.{◌≡◌, ◌++◌, List, subst, Resource, AreThere, ListsAll, RoutedCircuit, held_by, on_trees}
 use Rattle.job_state.proofs.There.{listed_there}
 use Rattle.job_state.proofs.routed.Routed.with_list.Goals as goal
 

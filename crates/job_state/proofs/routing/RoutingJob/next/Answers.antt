@@ -1,13 +1,4 @@
-use Rattle.std.proofs.Common.{◌≡◌, ◌+◌, ◌∙◌, arith, ap, sym, subst}
-use Rattle.std.proofs.lemmas.Result.{IfErr-weaker, IfOk-weaker}
-use Rattle.pathfinder.specs.Routings.{IsDone}
-use Rattle.job_state.specs.declared.work.Work.TheVariants.{Routing, Routed, Unlisted}
-use Rattle.job_state.specs.JobValue.{routing_after}
-use Rattle.job_state.specs.RoutedCircuits.{AreThere, on_strip}
-use Rattle.job_state.specs.Gathered.{on_trees}
-use Rattle.job_state.specs.Stages.{state_at}
-use Rattle.job_state.specs.Steps.{IsLeft}
-use Rattle.job_state.specs.UnderWay.{RoutingUnderWay}
+use Rattle.job_state.proofs.Prelude.{◌≡◌, ◌+◌, ◌∙◌, arith, ap, sym, subst, IfErr-weaker, IfOk-weaker, IsDone, Routing, Routed, Unlisted, routing_after, AreThere, on_strip, on_trees, state_at, IsLeft, RoutingUnderWay}
 use Rattle.job_state.proofs.There.{done_there}
 use Rattle.job_state.proofs.RoutingSteps.{few_nets, found_on}
 use Rattle.job_state.proofs.routing.RoutingJob.next.Goals as goal

@@ -1,10 +1,4 @@
-use Rattle.std.proofs.Common.{None, refl, sym, subst}
-use Rattle.pathfinder.specs.Overuse.{IsOveruse}
-use Rattle.pathfinder.specs.PlacedNets.{nets_to_route}
-use Rattle.pathfinder.specs.declared.overuse.Overuse.{Overuse}
-use Rattle.pathfinder.proofs.Overuses.{no_overuse}
-use Rattle.job_state.specs.RoutedCircuits.{on_strip}
-use Rattle.job_state.specs.UnderWay.{RoutingUnderWay}
+use Rattle.job_state.proofs.Prelude.{None, refl, sym, subst, IsOveruse, nets_to_route, Overuse, no_overuse, on_strip, RoutingUnderWay}
 use Rattle.job_state.proofs.Stages.{none_begun}
 use Rattle.job_state.proofs.routing.RoutingJob.overuse.Goals as goal
 

@@ -1,6 +1,4 @@
-use Rattle.std.proofs.Common.{◌≡◌, ◌++◌, take}
-use Rattle.std.specs.List.{flat_map}
-use Rattle.json_text.specs.Values.{member_of, member_tokens}
+use Rattle.json_text.proofs.Prelude.{◌≡◌, ◌++◌, take, flat_map, member_of, member_tokens}
 use Rattle.json_text.proofs.pen.JsonPen.members.Given as goal
 
 -- the members before this one are written

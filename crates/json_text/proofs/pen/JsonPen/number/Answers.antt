@@ -1,5 +1,4 @@
-use Rattle.std.proofs.Common.{rules}
-use Rattle.json.proofs.Printed.Decimals.{IsNumber-decimal}
+use Rattle.json_text.proofs.Prelude.{rules, IsNumber-decimal}
 use Rattle.json_text.proofs.pen.JsonPen.number.Goals as goal
 
 pub token-requires : goal.token-requires

@@ -1,6 +1,4 @@
-use Rattle.std.specs.List.{flat_map}
-use Rattle.json.specs.Token.{begin_object, end_object}
-use Rattle.json_text.specs.Values.{member_of, member_tokens}
+use Rattle.json_text.proofs.Prelude.{flat_map, begin_object, end_object, member_of, member_tokens}
 use Rattle.json_text.proofs.Tokens.{between, ok_then}
 use Rattle.json_text.proofs.pen.JsonPen.object.Goals as goal
 

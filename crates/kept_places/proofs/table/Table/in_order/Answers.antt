@@ -1,9 +1,5 @@
-use Rattle.std.proofs.Common.{◌≡◌, ◌<◌, ◌∙◌, arith, length, rules, subst, sym, IsTrue}
-use Rattle.std.specs.FinMap.{is_sorted}
-use Rattle.cluster.specs.Keys.{key_order}
-use Rattle.kept_places.specs.Kept.{KeptPlaces}
-use Rattle.kept_places.specs.Rows.{entries_at}
-use Rattle.kept_places.specs.Table.{entries_of}
+use Rattle.kept_places.proofs.Prelude.{◌≡◌, ◌<◌, ◌∙◌, arith, length, rules, subst, sym, is_sorted, key_order, KeptPlaces, entries_at, entries_of}
+use Rattle.std.proofs.Common.{IsTrue}
 use Rattle.kept_places.proofs.Filling.{filling_none, filling_next, filling_all}
 use Rattle.kept_places.proofs.table.Table.in_order.Goals as goal
 

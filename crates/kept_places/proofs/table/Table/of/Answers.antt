@@ -1,9 +1,4 @@
-use Rattle.std.proofs.Common.{◌≡◌, ◌∙◌, List, IfOk, Result, Ok, Err, rules, ap, sym, subst}
-use Rattle.std.specs.List.Sorted.{IsPermutation}
-use Rattle.std.proofs.lemmas.List.Sorted.{IsPermutation-map}
-use Rattle.kept_places.specs.declared.table.KeptPlace.{KeptPlace}
-use Rattle.kept_places.specs.Kept.{KeptPlaces, in_order}
-use Rattle.kept_places.specs.Table.{entries_of, entry_of}
+use Rattle.kept_places.proofs.Prelude.{◌≡◌, ◌∙◌, List, IfOk, Result, Ok, Err, rules, ap, sym, subst, IsPermutation, IsPermutation-map, KeptPlace, KeptPlaces, in_order, entries_of, entry_of}
 use Rattle.kept_places.proofs.Entries.{apart_too, as_they_stand}
 use Rattle.kept_places.proofs.Sorting.{in_key_order}
 use Rattle.kept_places.proofs.table.Table.of.Goals as goal

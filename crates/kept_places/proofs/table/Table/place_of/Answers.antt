@@ -1,5 +1,4 @@
-use Rattle.std.proofs.Common.{◌≡◌, ◌∙◌, arith, rules, sym}
-use Rattle.kept_places.specs.Table.{key_of}
+use Rattle.kept_places.proofs.Prelude.{◌≡◌, ◌∙◌, arith, rules, sym, key_of}
 use Rattle.kept_places.proofs.Orders.{by_key}
 use Rattle.kept_places.proofs.Entries.{found, lower_half, missed, upper_half}
 use Rattle.kept_places.proofs.table.Table.place_of.Goals as goal

@@ -1,5 +1,4 @@
-use Rattle.std.proofs.Common.{◌-◌}
-use Rattle.kept_places.specs.Table.{key_of}
+use Rattle.kept_places.proofs.Prelude.{◌-◌, key_of}
 use Rattle.kept_places.proofs.Entries.{IsBetween}
 use Rattle.kept_places.proofs.table.Table.place_of.Given as goal
 

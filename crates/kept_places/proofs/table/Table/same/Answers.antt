@@ -1,10 +1,4 @@
-use Rattle.std.proofs.Common.{◌≡◌, ◌+◌, ◌<◌, ◌++◌, ◌∷◌, [], ◌∙◌, List, Some, length, take, get_or, slice_get, arith, ap, sym, rules}
-use Rattle.std.proofs.lemmas.List.{take_more}
-use Rattle.std.proofs.lemmas.Option.{get_or_from_slice_get, slice_get_within}
-use Rattle.cluster.specs.Keys.{BlockKey}
-use Rattle.grid.specs.declared.place.Place.{Place}
-use Rattle.kept_places.specs.Kept.{KeptPlaces}
-use Rattle.kept_places.specs.Table.{entry_of}
+use Rattle.kept_places.proofs.Prelude.{◌≡◌, ◌+◌, ◌<◌, ◌++◌, ◌∷◌, [], ◌∙◌, List, Some, length, take, get_or, slice_get, arith, ap, sym, rules, take_more, get_or_from_slice_get, slice_get_within, BlockKey, Place, KeptPlaces, entry_of}
 use Rattle.kept_places.proofs.table.Table.same.Goals as goal
 
 -- one more entry is equal

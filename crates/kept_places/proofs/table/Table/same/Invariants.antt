@@ -1,4 +1,4 @@
-use Rattle.std.proofs.Common.{◌≡◌, take}
+use Rattle.kept_places.proofs.Prelude.{◌≡◌, take}
 use Rattle.kept_places.proofs.table.Table.same.Given as goal
 
 abbrev pub invariant-loop-number : goal.invariant-loop-number

@@ -1,5 +1,4 @@
-use Rattle.std.proofs.Common.{◌<◌, ◌∙◌, ◌++◌, [], ◌∷◌, List, ℕ, ap, length, set, subst, sym}
-use Rattle.layout_check.specs.NetBlocks.{list_at}
+use Rattle.layout_check.proofs.Prelude.{◌<◌, ◌∙◌, ◌++◌, [], ◌∷◌, List, ℕ, ap, length, set, subst, sym, list_at}
 use Rattle.layout_check.proofs.ByNet.{added_to}
 use Rattle.layout_check.proofs.lists.Lists.add.Goals as goal
 

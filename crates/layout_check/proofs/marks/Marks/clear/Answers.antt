@@ -1,6 +1,4 @@
-use Rattle.std.proofs.Common.{◌∙◌, ◌+◌, ◌≡◌, ap, map, eqb, arith, length, replicate, false, sym, subst, Bool, ℕ, List}
-use Rattle.std.proofs.lemmas.List.{length-map, length-replicate}
-use Rattle.layout_check.specs.Marks.{IsClear, is_in}
+use Rattle.layout_check.proofs.Prelude.{◌∙◌, ◌+◌, ◌≡◌, ap, map, eqb, arith, length, replicate, false, sym, subst, Bool, ℕ, List, length-map, length-replicate, IsClear, is_in}
 use Rattle.layout_check.proofs.Stamps.{all_old, in_empty, none_stamped}
 use Rattle.layout_check.proofs.marks.Marks.clear.Goals as goal
 

@@ -1,4 +1,4 @@
-use Rattle.std.proofs.Common.{◌∙◌, set, true, ap}
+use Rattle.layout_check.proofs.Prelude.{◌∙◌, set, true, ap}
 use Rattle.layout_check.proofs.Stamps.{stamped}
 use Rattle.layout_check.proofs.marks.Marks.insert.Goals as goal
 

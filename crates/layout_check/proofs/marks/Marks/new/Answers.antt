@@ -1,5 +1,5 @@
 use Rattle.layout_check.proofs.Stamps.{none_stamped}
-use Rattle.std.proofs.Common.{◌∙◌, ap, map, eqb}
+use Rattle.layout_check.proofs.Prelude.{◌∙◌, ap, map, eqb}
 use Rattle.layout_check.proofs.marks.Marks.new.Goals as goal
 
 pub returns : goal.returns

@@ -1,4 +1,4 @@
-use Rattle.std.proofs.Common.{◌∙◌, None, Some, cond, ap, sym}
+use Rattle.layout_files.proofs.Prelude.{◌∙◌, None, Some, cond, ap, sym}
 use Rattle.layout_files.proofs.Fronts.{number_front}
 use Rattle.layout_files.proofs.Printing.{same_inside}
 use Rattle.layout_files.proofs.cursor.Cursor.number.Goals as goal

@@ -1,6 +1,4 @@
-use Rattle.std.proofs.Common.{arith, [], Bor, List, ℕ}
-use Rattle.text_parts.specs.declared.parts.Part.TheVariants.{Text}
-use Rattle.text_parts.specs.Parts.{bytes_of_part}
+use Rattle.layout_files.proofs.Prelude.{arith, [], Bor, List, ℕ, Text, bytes_of_part}
 use Rattle.layout_files.proofs.Printing.{next_printed}
 use Rattle.layout_files.proofs.cursor.Cursor.print.Goals as goal
 

@@ -1,7 +1,4 @@
-use Rattle.std.proofs.Common.{◌≡◌, ◌≤◌, take}
-use Rattle.std.specs.List.{flat_map}
-use Rattle.text_parts.specs.Parts.{bytes_of_part}
-use Rattle.layout_files.specs.Cursors.{left_after, size}
+use Rattle.layout_files.proofs.Prelude.{◌≡◌, ◌≤◌, take, flat_map, bytes_of_part, left_after, size}
 use Rattle.layout_files.proofs.cursor.Cursor.print.Given as goal
 
 -- the parts before this one are printed, and nothing is put back

@@ -1,7 +1,4 @@
-use Rattle.std.proofs.Common.{◌∙◌, None, Some, cond, ap, sym}
-use Rattle.std.specs.Option.{is_some}
-use Rattle.std.proofs.lemmas.Bool.Decides.{Decides-eqb}
-use Rattle.std.proofs.lemmas.Slice.Eq.{strip_prefix_is}
+use Rattle.layout_files.proofs.Prelude.{◌∙◌, None, Some, cond, ap, sym, is_some, Decides-eqb, strip_prefix_is}
 use Rattle.layout_files.proofs.Printing.{in_None, in_Some, take_none, take_some}
 use Rattle.layout_files.proofs.cursor.Cursor.takes_bytes.Goals as goal
 

@@ -1,4 +1,4 @@
-use Rattle.std.proofs.Common.{◌∙◌, None, Some, cond, ap, sym}
+use Rattle.layout_files.proofs.Prelude.{◌∙◌, None, Some, cond, ap, sym}
 use Rattle.layout_files.proofs.Fronts.{word_front}
 use Rattle.layout_files.proofs.cursor.Cursor.word.Goals as goal
 

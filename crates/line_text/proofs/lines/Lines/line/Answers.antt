@@ -1,9 +1,4 @@
-use Rattle.std.proofs.Common.{◌≡◌, ℕ, zero, suc, ◌-◌, ◌<◌, List, [], ◌∷◌, Some, map, take, drop, length, get_or, slice_get, ap, sym, ◌∙◌, arith, Bor}
-use Rattle.std.specs.List.{take-map, drop-map}
-use Rattle.std.proofs.lemmas.List.{length-map}
-use Rattle.line_text.specs.declared.lines.Span.{Span}
-use Rattle.line_text.specs.Spans.{seen_line, seen_lines}
-use Rattle.line_text.specs.Words.{texts}
+use Rattle.line_text.proofs.Prelude.{◌≡◌, ℕ, zero, suc, ◌-◌, ◌<◌, List, [], ◌∷◌, Some, map, take, drop, length, get_or, slice_get, ap, sym, ◌∙◌, arith, Bor, take-map, drop-map, length-map, Span, seen_line, seen_lines, texts}
 use Rattle.line_text.proofs.lines.Lines.line.Goals as goal
 
 slice_get-map : {X Y : Type 0} (f : X → Y) (xs : List X) (i : ℕ) (x : X) → i < length xs → x ≡ get_or xs i x → slice_get (map f xs) i ≡ Some (f x)

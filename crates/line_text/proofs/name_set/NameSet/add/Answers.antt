@@ -1,6 +1,4 @@
-use Rattle.std.proofs.Common.{◌∙◌, ap, not}
-use Rattle.line_text.specs.Names.{has_name, with_name}
-use Rattle.line_text.specs.Words.{texts}
+use Rattle.line_text.proofs.Prelude.{◌∙◌, ap, not, has_name, with_name, texts}
 use Rattle.line_text.proofs.NameLemmas.{has_name-texts, with_name-texts}
 use Rattle.line_text.proofs.name_set.NameSet.add.Goals as goal
 

@@ -1,6 +1,4 @@
-use Rattle.std.proofs.Common.{◌≡◌, drop}
-use Rattle.line_text.specs.Names.{with_names}
-use Rattle.line_text.specs.Words.{texts}
+use Rattle.line_text.proofs.Prelude.{◌≡◌, drop, with_names, texts}
 use Rattle.line_text.proofs.name_set.NameSet.add_all.Given as goal
 
 -- adding the remaining names to the set so far has the result of adding all names to the first set

@@ -1,6 +1,4 @@
-use Rattle.std.proofs.Common.{◌∙◌, ap}
-use Rattle.line_text.specs.Words.{texts}
-use Rattle.line_text.specs.Names.{number_of, with_name}
+use Rattle.line_text.proofs.Prelude.{◌∙◌, ap, texts, number_of, with_name}
 use Rattle.line_text.proofs.NameLemmas.{number_of-texts, with_name-texts}
 use Rattle.line_text.proofs.name_set.NameSet.add_numbered.Goals as goal
 

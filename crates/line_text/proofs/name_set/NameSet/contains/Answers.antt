@@ -1,5 +1,4 @@
-use Rattle.std.proofs.Common.{◌∙◌, ap}
-use Rattle.line_text.specs.Names.{has_name}
+use Rattle.line_text.proofs.Prelude.{◌∙◌, ap, has_name}
 use Rattle.line_text.proofs.NameLemmas.{has_name-texts}
 use Rattle.line_text.proofs.name_set.NameSet.contains.Goals as goal
 

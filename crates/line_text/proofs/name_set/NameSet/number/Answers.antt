@@ -1,6 +1,4 @@
-use Rattle.std.proofs.Common.{◌∙◌, ap, unwrap_or, position, rules, arith}
-use Rattle.std.specs.Str.{bytes_eq}
-use Rattle.line_text.specs.Names.{number_of}
+use Rattle.line_text.proofs.Prelude.{◌∙◌, ap, unwrap_or, position, rules, arith, bytes_eq, number_of}
 use Rattle.line_text.proofs.NameLemmas.{number_of-found, number_of-within}
 use Rattle.line_text.proofs.name_set.NameSet.number.Goals as goal
 

@@ -1,5 +1,4 @@
-use Rattle.std.proofs.Common.{arith}
-use Rattle.line_text.specs.Words.{texts}
+use Rattle.line_text.proofs.Prelude.{arith, texts}
 use Rattle.line_text.proofs.ReaderLemmas.{ended-too_long, started_within}
 use Rattle.line_text.proofs.reader.Reader.end_line.Goals as goal
 

@@ -1,6 +1,4 @@
-use Rattle.std.proofs.Common.{ap, ◌∙◌}
-use Rattle.line_text.specs.Spans.{seen_lines}
-use Rattle.line_text.specs.Words.{texts, words_of}
+use Rattle.line_text.proofs.Prelude.{ap, ◌∙◌, seen_lines, texts, words_of}
 use Rattle.line_text.proofs.ReaderLemmas.{AreWithin-map, seen_lines-append}
 use Rattle.line_text.proofs.reader.Reader.extend.Goals as goal
 

@@ -1,6 +1,4 @@
-use Rattle.std.proofs.Common.{◌≡◌, sym, ap, ◌∙◌}
-use Rattle.line_text.specs.Lines.{trim_end}
-use Rattle.line_text.specs.Reader.{line_if, open_line, reading_of}
+use Rattle.line_text.proofs.Prelude.{◌≡◌, sym, ap, ◌∙◌, trim_end, line_if, open_line, reading_of}
 use Rattle.line_text.proofs.ReaderLemmas.{after-continued, from_three, read_on}
 use Rattle.line_text.proofs.reader.Reader.read_line.Goals as goal
 

@@ -1,5 +1,5 @@
-use Rattle.std.proofs.Common.{◌<◌, ◌∙◌, sym, ap, arith, length, slice_get}
-use Rattle.line_text.specs.Names.{number_of}
+use Rattle.live_lines.proofs.Prelude.{◌<◌, ◌∙◌, sym, ap, arith, length, number_of}
+use Rattle.std.proofs.Common.{slice_get}
 use Rattle.live_lines.proofs.KeptNames.{kept_at}
 use Rattle.live_lines.proofs.lasting.Lasting.name.Goals as goal
 

@@ -1,7 +1,4 @@
-use Rattle.std.proofs.Common.{ap, subst, arith}
-use Rattle.live_lines.specs.declared.said.LastName.{LastName}
-use Rattle.live_lines.specs.Ends.{IsNamed, ending_for}
-use Rattle.live_lines.specs.Live.{stage_of, state_of}
+use Rattle.live_lines.proofs.Prelude.{ap, subst, arith, LastName, IsNamed, ending_for, stage_of, state_of}
 use Rattle.live_lines.proofs.EndSteps.{ending_begins, ending_refuses}
 use Rattle.live_lines.proofs.live.Live.end.Goals as goal
 

@@ -1,6 +1,4 @@
-use Rattle.std.proofs.Common.{length}
-use Rattle.live_lines.specs.Ends.{IsWithin}
-use Rattle.live_lines.specs.Live.{stage_of, state_of}
+use Rattle.live_lines.proofs.Prelude.{length, IsWithin, stage_of, state_of}
 use Rattle.live_lines.proofs.EndSteps.{Ending}
 use Rattle.live_lines.proofs.live.Live.end.Given as goal
 

@@ -1,8 +1,4 @@
-use Rattle.std.proofs.Common.{◌≡◌, [], refl, ◌∙◌, true, rules}
-use Rattle.std.specs.Prelude.{is_ok}
-use Rattle.sessions.specs.SessionText.{answer_text}
-use Rattle.script_text.specs.declared.act.Act.TheVariants.{Session}
-use Rattle.operator.specs.Held.{sink_text}
+use Rattle.live_lines.proofs.Prelude.{◌≡◌, [], refl, ◌∙◌, true, rules, is_ok, answer_text, Session, sink_text}
 use Rattle.live_lines.proofs.ItemLemmas.{held_as, is_told, item_answers, item_writes, lengths_answered}
 use Rattle.live_lines.proofs.live.Live.take_item.Goals as goal
 

@@ -1,6 +1,4 @@
-use Rattle.std.proofs.Common.{◌∙◌, [], ◌∷◌, refl}
-use Rattle.service_core.specs.Run.Call.{Take}
-use Rattle.operator.proofs.Stepping.{lengths-run}
+use Rattle.live_lines.proofs.Prelude.{◌∙◌, [], ◌∷◌, refl, Take, lengths-run}
 use Rattle.live_lines.proofs.live.Live.take_job.Goals as goal
 
 pub returns-clause-steady : goal.returns-clause-steady

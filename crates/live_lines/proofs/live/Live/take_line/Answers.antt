@@ -1,11 +1,5 @@
-use Rattle.std.proofs.Common.{sym, ap, subst, ◌∙◌}
-use Rattle.operator.proofs.OperatorLemmas.{on_ok}
-use Rattle.script_text.specs.Script.{named_operator}
+use Rattle.live_lines.proofs.Prelude.{sym, ap, subst, ◌∙◌, on_ok, named_operator, tag_of, TakesItem, asks, stage_of, state_of, Echoes, Figures, NoForm, Nothing, Operates, Says, texts_of}
 use Rattle.std.specs.Prelude.{ℕ, List}
-use Rattle.tagged_lines.specs.Tags.{tag_of}
-use Rattle.live_lines.specs.Live.{TakesItem, asks, stage_of, state_of}
-use Rattle.live_lines.specs.Live.Asked.{Echoes, Figures, NoForm, Nothing, Operates, Says}
-use Rattle.live_lines.specs.Said.{texts_of}
 use Rattle.live_lines.proofs.LineLemmas.{own_tag, takes_as, takes_echo, takes_figures, takes_item, takes_no_form, takes_none, takes_nothing, takes_operator}
 use Rattle.live_lines.proofs.live.Live.take_line.Goals as goal
 

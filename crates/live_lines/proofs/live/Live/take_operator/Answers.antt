@@ -1,11 +1,4 @@
-use Rattle.std.proofs.Common.{◌≡◌, ℕ, List, [], refl, ap, subst, ◌∙◌, rules}
-use Rattle.std.specs.Io.KnownBytes.{Appends}
-use Rattle.script_text.specs.declared.act.Act.TheVariants.{Operator}
-use Rattle.script_text.specs.Script.{named_operator}
-use Rattle.operator.specs.Held.{sink_text}
-use Rattle.operator.proofs.OperatorLemmas.{on_ok}
-use Rattle.tagged_lines.specs.Tags.{output_of}
-use Rattle.live_lines.specs.Live.{is_open, operator_told, told_by}
+use Rattle.live_lines.proofs.Prelude.{◌≡◌, ℕ, List, [], refl, ap, subst, ◌∙◌, rules, Appends, Operator, named_operator, sink_text, on_ok, output_of, is_open, operator_told, told_by}
 use Rattle.live_lines.proofs.ItemLemmas.{held_as, line_served}
 use Rattle.live_lines.proofs.live.Live.take_operator.Goals as goal
 

@@ -1,11 +1,4 @@
-use Rattle.std.proofs.Common.{rules, ◌≡◌, ◌≢◌, [], ◌∷◌, ◌++◌, ◌&&◌, length, true, false, nat_eq, Some, refl, sym, ap, ◌∙◌, arith}
-use Rattle.std.specs.Prelude.{is_some, slice_get}
-use Rattle.std.proofs.lemmas.Bool.{false≢true}
-use Rattle.std.proofs.lemmas.Bool.Decides.{nat_tests}
-use Rattle.line_text.specs.Names.{number_of}
-use Rattle.script_text.specs.Script.{is_name}
-use Rattle.sessions.specs.Reading.{items_to_come}
-use Rattle.live_lines.specs.Said.{text_in}
+use Rattle.live_lines.proofs.Prelude.{rules, ◌≡◌, ◌≢◌, [], ◌∷◌, ◌++◌, ◌&&◌, length, true, false, nat_eq, Some, refl, sym, ap, ◌∙◌, arith, is_some, slice_get, false≢true, nat_tests, number_of, is_name, items_to_come, text_in}
 use Rattle.live_lines.proofs.EndSteps.{all_named, items_none, items_stay, last_open, stay_by}
 use Rattle.live_lines.proofs.said.Said.end_last.Goals as goal
 

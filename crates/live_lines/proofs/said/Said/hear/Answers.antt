@@ -1,8 +1,4 @@
-use Rattle.std.proofs.Common.{◌≡◌, ◌∙◌, ℕ, get_or, sym, ap, subst, ◌<◌, length}
-use Rattle.std.proofs.Math.ListN.{set}
-use Rattle.std.proofs.lemmas.List.{get_or_default}
-use Rattle.line_text.specs.Names.{number_of}
-use Rattle.live_lines.specs.Said.{text_in, texts_of}
+use Rattle.live_lines.proofs.Prelude.{◌≡◌, ◌∙◌, ℕ, get_or, sym, ap, subst, ◌<◌, length, set, get_or_default, number_of, text_in, texts_of}
 use Rattle.live_lines.proofs.SaidLemmas.{hears_by, text_at, text_set, text_set-other}
 use Rattle.live_lines.proofs.said.Said.hear.Goals as goal
 

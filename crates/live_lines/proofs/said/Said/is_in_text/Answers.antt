@@ -1,6 +1,4 @@
-use Rattle.std.proofs.Common.{◌≡◌, ◌∙◌, ℕ, ◌<◌, ◌≤◌, get_or, length, false, sym, ap, subst, rules}
-use Rattle.std.specs.Prelude.{is_some, nat_lt}
-use Rattle.line_text.specs.Names.{number_of}
+use Rattle.live_lines.proofs.Prelude.{◌≡◌, ◌∙◌, ℕ, ◌<◌, ◌≤◌, get_or, length, false, sym, ap, subst, rules, is_some, nat_lt, number_of}
 use Rattle.live_lines.proofs.SaidLemmas.{text_at, text_past}
 use Rattle.live_lines.proofs.said.Said.is_in_text.Goals as goal
 

@@ -1,5 +1,4 @@
-use Rattle.std.proofs.Common.{◌≡◌, ◌≤◌, ◌++◌, ◌∷◌, ◌∙◌, [], None, length, sym, ap, rules}
-use Rattle.line_text.specs.Names.{number_of, with_name}
+use Rattle.live_lines.proofs.Prelude.{◌≡◌, ◌≤◌, ◌++◌, ◌∷◌, ◌∙◌, [], None, length, sym, ap, rules, number_of, with_name}
 use Rattle.live_lines.proofs.SaidLemmas.{number_of-added, text_in-more}
 use Rattle.live_lines.proofs.said.Said.number_for.Goals as goal
 

@@ -1,7 +1,4 @@
-use Rattle.std.proofs.Common.{◌+◌, ◌++◌, ◌∷◌, [], get_or, take, subst, sym}
-use Rattle.std.proofs.lemmas.List.{take_all, take_more}
-use Rattle.live_log.specs.Choice.{FitFlags}
-use Rattle.live_log.specs.declared.marks.Mark.TheVariants.{Kept}
+use Rattle.live_log.proofs.Prelude.{◌+◌, ◌++◌, ◌∷◌, [], get_or, take, subst, sym, take_all, take_more, FitFlags, Kept}
 use Rattle.live_log.proofs.ChoiceSteps.{fit_push}
 use Rattle.live_log.proofs.marks.Marks.kept_flags.Goals as goal
 

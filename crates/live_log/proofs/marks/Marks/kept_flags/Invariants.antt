@@ -1,5 +1,4 @@
-use Rattle.std.proofs.Common.{take}
-use Rattle.live_log.specs.Choice.{FitFlags}
+use Rattle.live_log.proofs.Prelude.{take, FitFlags}
 use Rattle.live_log.proofs.marks.Marks.kept_flags.Given as goal
 
 -- each line so far has the flag that fits its mark

@@ -1,7 +1,4 @@
-use Rattle.std.proofs.Common.{◌≡◌, ◌++◌, true, length, map, replicate, append-nil, rules, arith, ap, ◌∙◌}
-use Rattle.line_text.specs.Lines.{physical_lines}
-use Rattle.line_text.specs.Words.{texts}
-use Rattle.live_log.specs.Kept.{lines_kept, last_line}
+use Rattle.live_log.proofs.Prelude.{◌≡◌, ◌++◌, true, length, map, replicate, append-nil, rules, arith, ap, ◌∙◌, physical_lines, texts, lines_kept, last_line}
 use Rattle.live_log.proofs.ServingSteps.{all_chosen}
 use Rattle.live_log.proofs.short_log.ShortLog.into_whole.Goals as goal
 

@@ -1,10 +1,4 @@
-use Rattle.std.proofs.Common.{◌++◌, map, ap, ◌∙◌}
-use Rattle.std.specs.List.{flat_map}
-use Rattle.line_text.proofs.WritingLemmas.{writes_same, writes_then}
-use Rattle.line_text.specs.Lines.{physical_lines}
-use Rattle.line_text.specs.Words.{texts}
-use Rattle.tagged_lines.specs.Tags.{with_feed}
-use Rattle.live_log.specs.Kept.{lines_kept, last_line}
+use Rattle.live_log.proofs.Prelude.{◌++◌, map, ap, ◌∙◌, flat_map, writes_same, writes_then, physical_lines, texts, with_feed, lines_kept, last_line}
 use Rattle.live_log.proofs.WritingSteps.{both_written}
 use Rattle.live_log.proofs.short_log.ShortLog.write.Goals as goal
 

@@ -1,6 +1,4 @@
-use Rattle.std.proofs.Common.{◌≡◌, ◌∷◌, rules}
-use Rattle.line_text.specs.Lines.{physical_lines}
-use Rattle.line_text.proofs.WritingLemmas.{writes_part}
+use Rattle.live_log.proofs.Prelude.{◌≡◌, ◌∷◌, rules, physical_lines, writes_part}
 use Rattle.live_log.proofs.WritingSteps.{written_all, written_more, written_part}
 use Rattle.live_log.proofs.short_log.ShortLog.write_kept.Goals as goal
 

@@ -1,4 +1,4 @@
-use Rattle.std.proofs.Common.{length}
+use Rattle.live_log.proofs.Prelude.{length}
 use Rattle.live_log.proofs.WritingSteps.{Written}
 use Rattle.live_log.proofs.short_log.ShortLog.write_kept.Given as goal
 

@@ -1,5 +1,4 @@
-use Rattle.std.proofs.Common.{◌≡◌, sym, ap, subst}
-use Rattle.live_machine.specs.Held.{Held, HearsHeld, IsSaidBy}
+use Rattle.live_machine.proofs.Prelude.{◌≡◌, sym, ap, subst, Held, HearsHeld, IsSaidBy}
 use Rattle.live_machine.proofs.HoldLemmas.{said_after}
 use Rattle.live_machine.proofs.held.Hold.hear.Goals as goal
 

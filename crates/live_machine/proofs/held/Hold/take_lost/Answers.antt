@@ -1,4 +1,4 @@
-use Rattle.live_machine.specs.Held.{IsSaidItem}
+use Rattle.live_machine.proofs.Prelude.{IsSaidItem}
 use Rattle.live_machine.proofs.LostLemmas.{all_left}
 use Rattle.live_machine.proofs.held.Hold.take_lost.Goals as goal
 

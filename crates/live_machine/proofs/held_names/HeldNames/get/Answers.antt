@@ -1,6 +1,4 @@
-use Rattle.std.proofs.Common.{◌≡◌, ◌∙◌, Some, None, sym, ap}
-use Rattle.std.specs.List.{position}
-use Rattle.live_machine.specs.Held.{held_of}
+use Rattle.live_machine.proofs.Prelude.{◌≡◌, ◌∙◌, Some, None, sym, ap, position, held_of}
 use Rattle.live_machine.proofs.NameLemmas.{at_none, at_place, is_of}
 use Rattle.live_machine.proofs.held_names.HeldNames.get.Goals as goal
 

@@ -1,8 +1,4 @@
-use Rattle.std.proofs.Common.{◌≡◌, ◌∙◌, List, Some, None, refl, sym, ap, subst}
-use Rattle.std.specs.List.{position}
-use Rattle.std.proofs.Math.ListN.{set}
-use Rattle.std.proofs.lemmas.Result.{on_ok_weaker}
-use Rattle.live_machine.specs.Held.{Held, HearsOf, IsSaidBy, held_of}
+use Rattle.live_machine.proofs.Prelude.{◌≡◌, ◌∙◌, List, Some, None, refl, sym, ap, subst, position, set, on_ok_weaker, Held, HearsOf, IsSaidBy, held_of}
 use Rattle.live_machine.proofs.NameLemmas.{at_none, at_place, hears_at, is_of, named_at}
 use Rattle.live_machine.proofs.held_names.HeldNames.hear.Goals as goal
 

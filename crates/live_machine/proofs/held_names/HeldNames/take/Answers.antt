@@ -1,8 +1,5 @@
-use Rattle.std.proofs.Common.{◌≡◌, ◌∙◌, List, Some, None, refl, sym, ap, subst}
-use Rattle.std.specs.List.{position}
-use Rattle.std.proofs.Math.ListN.{set}
+use Rattle.live_machine.proofs.Prelude.{◌≡◌, ◌∙◌, List, Some, None, refl, sym, ap, subst, position, set, Held, TakesOf, held_of}
 use Rattle.backlog.specs.declared.backlog.Turn.TheVariants.{Nothing}
-use Rattle.live_machine.specs.Held.{Held, TakesOf, held_of}
 use Rattle.live_machine.proofs.NameLemmas.{at_none, at_place, is_of, takes_at}
 use Rattle.live_machine.proofs.held_names.HeldNames.take.Goals as goal
 

@@ -1,7 +1,4 @@
-use Rattle.std.proofs.Common.{◌≡◌, ◌∙◌, List, Some, None, refl, sym, ap, subst}
-use Rattle.std.specs.List.{position}
-use Rattle.std.proofs.Math.ListN.{set}
-use Rattle.live_machine.specs.Held.{Held, TakesLostOf, held_of}
+use Rattle.live_machine.proofs.Prelude.{◌≡◌, ◌∙◌, List, Some, None, refl, sym, ap, subst, position, set, Held, TakesLostOf, held_of}
 use Rattle.live_machine.proofs.NameLemmas.{at_none, at_place, is_of, takes_lost_at}
 use Rattle.live_machine.proofs.held_names.HeldNames.take_lost.Goals as goal
 

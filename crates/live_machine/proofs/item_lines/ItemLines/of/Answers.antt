@@ -1,7 +1,4 @@
-use Rattle.std.proofs.Common.{◌≡◌, ◌∙◌, ◌++◌, [], refl, sym, ap, subst}
-use Rattle.line_text.specs.Lines.{physical_lines}
-use Rattle.tagged_lines.specs.Tags.{with_feed}
-use Rattle.live_machine.specs.Fed.{IsFed}
+use Rattle.live_machine.proofs.Prelude.{◌≡◌, ◌∙◌, ◌++◌, [], refl, sym, ap, subst, physical_lines, with_feed, IsFed}
 use Rattle.live_machine.proofs.ItemLemmas.{fed_more, lines_more}
 use Rattle.live_machine.proofs.item_lines.ItemLines.of.Goals as goal
 

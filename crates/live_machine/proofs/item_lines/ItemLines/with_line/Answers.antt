@@ -1,6 +1,4 @@
-use Rattle.std.proofs.Common.{◌∙◌, ◌++◌, ◌∷◌, [], sym, ap, subst}
-use Rattle.line_text.specs.Lines.{physical_lines}
-use Rattle.live_machine.specs.Fed.{IsFed}
+use Rattle.live_machine.proofs.Prelude.{◌∙◌, ◌++◌, ◌∷◌, [], sym, ap, subst, physical_lines, IsFed}
 use Rattle.live_machine.proofs.ItemLemmas.{fed_more, lines_more}
 use Rattle.live_machine.proofs.item_lines.ItemLines.with_line.Goals as goal
 

@@ -1,4 +1,4 @@
-use Rattle.live_machine.specs.Held.{held_of}
+use Rattle.live_machine.proofs.Prelude.{held_of}
 use Rattle.live_machine.proofs.MachineLemmas.{called_off, on_ok}
 use Rattle.live_machine.proofs.machine.Machine.call_off.Goals as goal
 

@@ -1,4 +1,4 @@
-use Rattle.std.proofs.Common.{◌≡◌}
+use Rattle.live_machine.proofs.Prelude.{◌≡◌}
 use Rattle.live_machine.proofs.machine.Machine.find_steps.Given as goal
 
 abbrev pub invariant-loop-place : goal.invariant-loop-place

@@ -1,10 +1,4 @@
-use Rattle.std.specs.Prelude.{IfSome}
-use Rattle.std.proofs.Common.{◌≡◌, ℕ, List, refl, subst, sym, ◌∙◌}
-use Rattle.live_machine.specs.Held.{held_of}
-use Rattle.live_machine.specs.declared.held.OpenText.{OpenText}
-use Rattle.live_machine.specs.declared.held.OpenText.TheVariants.{Begun}
-use Rattle.live_machine.specs.Machine.{ServesAll}
-use Rattle.live_machine.specs.Parts.{state_with}
+use Rattle.live_machine.proofs.Prelude.{IfSome, ◌≡◌, ℕ, List, refl, subst, sym, ◌∙◌, held_of, OpenText, Begun, ServesAll, state_with}
 use Rattle.live_machine.proofs.MachineLemmas.{freed_as, frees_by, if_some, on_ok, text_if}
 use Rattle.live_machine.proofs.machine.Machine.free.Goals as goal
 

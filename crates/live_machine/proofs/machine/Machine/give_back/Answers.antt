@@ -1,6 +1,4 @@
-use Rattle.std.proofs.Common.{◌≡◌, Some, None, rules}
-use Rattle.operator.specs.OperatorText.{name_of}
-use Rattle.live_machine.specs.Parts.{machine_of}
+use Rattle.live_machine.proofs.Prelude.{◌≡◌, Some, None, rules, name_of, machine_of}
 use Rattle.live_machine.proofs.WorkLemmas.{gives_by, puts_none}
 use Rattle.live_machine.proofs.machine.Machine.give_back.Goals as goal
 

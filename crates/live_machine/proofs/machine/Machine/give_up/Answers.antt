@@ -1,6 +1,4 @@
-use Rattle.std.proofs.Common.{◌≡◌, true, refl, rules}
-use Rattle.live_machine.specs.Parts.{has_wait}
-use Rattle.live_machine.specs.Held.{held_of}
+use Rattle.live_machine.proofs.Prelude.{◌≡◌, true, refl, rules, has_wait, held_of}
 use Rattle.live_machine.proofs.MachineLemmas.{gave_up, taken_as}
 use Rattle.live_machine.proofs.machine.Machine.give_up.Goals as goal
 

@@ -1,8 +1,4 @@
-use Rattle.std.proofs.Common.{◌≡◌, ◌∙◌, Bool, false, sym, subst}
-use Rattle.live_input.specs.Serving.{state_in}
-use Rattle.live_machine.specs.Machine.{HearsFree, ServesSaid, must_wait}
-use Rattle.live_machine.specs.Parts.{machine_of}
-use Rattle.live_machine.specs.Workers.{without_workers}
+use Rattle.live_machine.proofs.Prelude.{◌≡◌, ◌∙◌, Bool, false, sym, subst, state_in, HearsFree, ServesSaid, must_wait, machine_of, without_workers}
 use Rattle.live_machine.proofs.MachineLemmas.{on_ok}
 use Rattle.live_machine.proofs.machine.Machine.hear_free.Goals as goal
 

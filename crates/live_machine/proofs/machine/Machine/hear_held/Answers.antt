@@ -1,5 +1,4 @@
-use Rattle.std.proofs.Common.{refl}
-use Rattle.live_machine.specs.Held.{held_of}
+use Rattle.live_machine.proofs.Prelude.{refl, held_of}
 use Rattle.live_machine.proofs.MachineLemmas.{heard_last, on_ok}
 use Rattle.live_machine.proofs.machine.Machine.hear_held.Goals as goal
 

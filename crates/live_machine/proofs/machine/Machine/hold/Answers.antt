@@ -1,7 +1,4 @@
-use Rattle.std.proofs.Common.{List, subst, inr}
-use Rattle.live_machine.specs.Held.{Held}
-use Rattle.live_machine.specs.Machine.{TellsLost}
-use Rattle.live_machine.specs.Parts.{state_with}
+use Rattle.live_machine.proofs.Prelude.{List, subst, inr, Held, TellsLost, state_with}
 use Rattle.live_machine.proofs.MachineLemmas.{on_ok}
 use Rattle.live_machine.proofs.machine.Machine.hold.Goals as goal
 

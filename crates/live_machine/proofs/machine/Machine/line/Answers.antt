@@ -1,5 +1,4 @@
-use Rattle.std.proofs.Common.{sym, ap, ◌∙◌}
-use Rattle.live_lines.specs.Live.{asks}
+use Rattle.live_machine.proofs.Prelude.{sym, ap, ◌∙◌, asks}
 use Rattle.live_machine.proofs.MachineLemmas.{is_said}
 use Rattle.live_machine.proofs.machine.Machine.line.Goals as goal
 

@@ -1,6 +1,4 @@
-use Rattle.std.proofs.Common.{◌≡◌, None, rules}
-use Rattle.operator.specs.OperatorText.{name_of}
-use Rattle.live_machine.specs.Parts.{machine_of}
+use Rattle.live_machine.proofs.Prelude.{◌≡◌, None, rules, name_of, machine_of}
 use Rattle.live_machine.proofs.WorkLemmas.{puts_none}
 use Rattle.live_machine.proofs.machine.Machine.put.Goals as goal
 

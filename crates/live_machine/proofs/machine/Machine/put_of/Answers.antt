@@ -1,5 +1,4 @@
-use Rattle.std.proofs.Common.{◌≡◌, Bool, Option, Some, true, subst, rules}
-use Rattle.live_machine.specs.Parts.{EndsStep, machine_of}
+use Rattle.live_machine.proofs.Prelude.{◌≡◌, Bool, Option, Some, true, subst, rules, EndsStep, machine_of}
 use Rattle.live_machine.proofs.machine.Machine.put_of.Goals as goal
 
 pub returns-in_ok-go_on-in-Some-true-clause-puts : goal.returns-in_ok-go_on-in-Some-true-clause-puts

@@ -1,9 +1,4 @@
-use Rattle.std.proofs.Common.{◌≡◌, false, true, sym, subst, ◌∙◌, rules}
-use Rattle.std.proofs.lemmas.Bool.{false≢true}
-use Rattle.job_state.specs.Job.{JobState}
-use Rattle.service_core.specs.Calls.{IsGivenBack}
-use Rattle.live_input.specs.Serving.{state_in}
-use Rattle.live_machine.specs.Machine.{is_busy}
+use Rattle.live_machine.proofs.Prelude.{◌≡◌, false, true, sym, subst, ◌∙◌, rules, false≢true, JobState, IsGivenBack, state_in, is_busy}
 use Rattle.live_machine.proofs.CountLemmas.{counts_after}
 use Rattle.live_machine.proofs.WorkLemmas.{ends_by}
 use Rattle.live_machine.proofs.machine.Machine.put_step.Goals as goal

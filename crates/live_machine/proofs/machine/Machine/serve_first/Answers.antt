@@ -1,6 +1,4 @@
-use Rattle.std.proofs.Common.{◌≡◌, Bool, true, refl, subst, sym, ◌∙◌, rules}
-use Rattle.live_machine.specs.Parts.{ServesOne, machine_of}
-use Rattle.live_machine.specs.Held.{held_of}
+use Rattle.live_machine.proofs.Prelude.{◌≡◌, Bool, true, refl, subst, sym, ◌∙◌, rules, ServesOne, machine_of, held_of}
 use Rattle.live_machine.proofs.MachineLemmas.{first_served, if_some}
 use Rattle.live_machine.proofs.machine.Machine.serve_first.Goals as goal
 

@@ -1,10 +1,6 @@
-use Rattle.std.proofs.Common.{ℕ, List, refl, sym, subst}
-use Rattle.std.specs.List.{AllByRecursion}
+use Rattle.live_machine.proofs.Prelude.{ℕ, List, refl, sym, subst, AllByRecursion, Item, IsSaidBy, TakesOf, held_of, ServesAll, machine_of, state_with}
 use Rattle.backlog.specs.declared.backlog.Turn.{Turn}
-use Rattle.backlog.specs.declared.backlog.Turn.TheVariants.{Item, Lost, Nothing}
-use Rattle.live_machine.specs.Held.{IsSaidBy, TakesOf, held_of}
-use Rattle.live_machine.specs.Machine.{ServesAll}
-use Rattle.live_machine.specs.Parts.{machine_of, state_with}
+use Rattle.backlog.specs.declared.backlog.Turn.TheVariants.{Lost, Nothing}
 use Rattle.live_machine.proofs.MachineLemmas.{none_taken, one_item, one_lost, taken_as, taken_said}
 use Rattle.live_machine.proofs.machine.Machine.serve_item.Goals as goal
 

@@ -1,6 +1,4 @@
-use Rattle.std.proofs.Common.{◌≡◌, Bool, true, subst, rules}
-use Rattle.live_machine.specs.Held.{held_of}
-use Rattle.live_machine.specs.Parts.{ServesNext, machine_of}
+use Rattle.live_machine.proofs.Prelude.{◌≡◌, Bool, true, subst, rules, held_of, ServesNext, machine_of}
 use Rattle.live_machine.proofs.LostLemmas.{next_before}
 use Rattle.live_machine.proofs.machine.Machine.serve_items.Goals as goal
 

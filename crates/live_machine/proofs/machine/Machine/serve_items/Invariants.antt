@@ -1,8 +1,4 @@
-use Rattle.std.proofs.Common.{length}
-use Rattle.live_machine.specs.Parts.{AreServed, items_in, machine_of}
-use Rattle.live_machine.specs.Machine.{MachineState}
-use Rattle.live_machine.specs.Held.{held_of}
-use Rattle.live_input.specs.Serving.{is_ready}
+use Rattle.live_machine.proofs.Prelude.{length, AreServed, items_in, machine_of, MachineState, held_of, is_ready}
 use Rattle.live_machine.proofs.machine.Machine.serve_items.Given as goal
 
 -- what is served from here on are the items that are left

@@ -1,7 +1,4 @@
-use Rattle.std.proofs.Common.{◌≡◌, ◌<◌, ℕ, refl, subst, arith, rules}
-use Rattle.std.proofs.lemmas.Result.{IfOk-weaker}
-use Rattle.live_machine.specs.Held.{TakesLostOf, held_of}
-use Rattle.live_machine.specs.Parts.{machine_of}
+use Rattle.live_machine.proofs.Prelude.{◌≡◌, ◌<◌, ℕ, refl, subst, arith, rules, IfOk-weaker, TakesLostOf, held_of, machine_of}
 use Rattle.live_machine.proofs.LostLemmas.{lost_served, next_alone}
 use Rattle.live_machine.proofs.machine.Machine.serve_next.Goals as goal
 

@@ -1,4 +1,4 @@
-use Rattle.std.proofs.Common.{◌≡◌, true, rules}
+use Rattle.live_machine.proofs.Prelude.{◌≡◌, true, rules}
 use Rattle.live_machine.proofs.WorkLemmas.{turn_more}
 use Rattle.live_machine.proofs.machine.Machine.serve_turns.Goals as goal
 

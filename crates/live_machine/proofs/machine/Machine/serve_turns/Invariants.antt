@@ -1,6 +1,4 @@
-use Rattle.std.proofs.Common.{◌-◌}
-use Rattle.live_machine.specs.Parts.{HasTurns, machine_of}
-use Rattle.live_input.specs.Serving.{is_ready}
+use Rattle.live_machine.proofs.Prelude.{◌-◌, HasTurns, machine_of, is_ready}
 use Rattle.live_machine.proofs.machine.Machine.serve_turns.Given as goal
 
 abbrev pub invariant-loop-served : goal.invariant-loop-served

@@ -1,4 +1,4 @@
-use Rattle.std.proofs.Common.{◌∙◌}
+use Rattle.live_machine.proofs.Prelude.{◌∙◌}
 use Rattle.live_machine.proofs.machine.Machine.take.Goals as goal
 
 pub returns-in-Some-take_job-clause-same : goal.returns-in-Some-take_job-clause-same

@@ -1,6 +1,4 @@
-use Rattle.std.proofs.Common.{◌≡◌, length}
-use Rattle.live_machine.specs.Parts.{machine_of}
-use Rattle.live_input.specs.Serving.{is_ready}
+use Rattle.live_machine.proofs.Prelude.{◌≡◌, length, machine_of, is_ready}
 use Rattle.live_machine.proofs.machine.Machine.take.Given as goal
 
 abbrev pub invariant-loop-id : goal.invariant-loop-id

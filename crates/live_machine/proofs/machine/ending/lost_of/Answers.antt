@@ -1,10 +1,4 @@
-use Rattle.std.specs.Prelude.{option_copied, option_map, slice_get}
-use Rattle.std.proofs.Common.{◌≡◌, ◌<◌, [], ◌∷◌, ◌++◌, Some, None, length, take, sym, ap, ◌∙◌, arith, rules}
-use Rattle.sessions.specs.SessionText.{no_memory_text}
-use Rattle.tagged_lines.specs.Tags.{output_of}
-use Rattle.live_lines.specs.Live.{for_name}
-use Rattle.live_machine.specs.Held.{Held}
-use Rattle.live_machine.specs.Parts.{lost_texts}
+use Rattle.live_machine.proofs.Prelude.{option_copied, option_map, slice_get, ◌≡◌, ◌<◌, [], ◌∷◌, ◌++◌, Some, None, length, take, sym, ap, ◌∙◌, arith, rules, no_memory_text, output_of, for_name, Held, lost_texts}
 use Rattle.live_machine.proofs.EndLemmas.{next_lost, none_past}
 use Rattle.live_machine.proofs.machine.ending.lost_of.Goals as goal
 use Rattle.live_machine.proofs.machine.ending.lost_of.Goals.{in-Some+in_ok-lost+in_ok-extend_from_slice, in_default}

@@ -1,5 +1,4 @@
-use Rattle.std.proofs.Common.{◌≡◌, take}
-use Rattle.live_machine.specs.Parts.{lost_texts}
+use Rattle.live_machine.proofs.Prelude.{◌≡◌, take, lost_texts}
 use Rattle.live_machine.proofs.machine.ending.lost_of.Given as goal
 
 abbrev pub invariant-loop-place : goal.invariant-loop-place

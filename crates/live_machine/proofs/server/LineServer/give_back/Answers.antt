@@ -1,5 +1,4 @@
-use Rattle.std.proofs.Common.{refl}
-use Rattle.live_input.specs.Serving.{state_in}
+use Rattle.live_machine.proofs.Prelude.{refl, state_in}
 use Rattle.live_machine.proofs.Here.{given}
 use Rattle.live_machine.proofs.ServerLemmas.{lent_same, same_by}
 use Rattle.live_machine.proofs.server.LineServer.give_back.Goals as goal

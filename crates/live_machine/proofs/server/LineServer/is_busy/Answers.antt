@@ -1,11 +1,5 @@
-use Rattle.std.proofs.Common.{◌≡◌, ℕ, sym, ap, ◌∙◌}
-use Rattle.operator.specs.OperatorText.{last_id}
-use Rattle.service_core.specs.Calls.{takeable_in}
-use Rattle.service_core.specs.Service.{ServiceState, live_of}
+use Rattle.live_machine.proofs.Prelude.{◌≡◌, ℕ, sym, ap, ◌∙◌, last_id, takeable_in, ServiceState, live_of, Live, state_in, all_here}
 use Rattle.live_lines.specs.Live.{state_of}
-use Rattle.live_lines.specs.declared.live.Live.{Live}
-use Rattle.live_input.specs.Serving.{state_in}
-use Rattle.live_machine.specs.Workers.{all_here}
 use Rattle.live_machine.proofs.RunningLemmas.{runs_here}
 use Rattle.live_machine.proofs.server.LineServer.is_busy.Goals as goal
 

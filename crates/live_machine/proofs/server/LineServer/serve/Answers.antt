@@ -1,4 +1,4 @@
-use Rattle.std.proofs.Common.{◌≡◌, ◌++◌, rules}
+use Rattle.live_machine.proofs.Prelude.{◌≡◌, ◌++◌, rules}
 use Rattle.live_machine.proofs.HereLines.{line_here}
 use Rattle.live_machine.proofs.ServerLemmas.{serves_by}
 use Rattle.live_machine.proofs.server.LineServer.serve.Goals as goal

@@ -1,9 +1,4 @@
-use Rattle.std.proofs.Common.{◌≡◌, ◌<◌, ℕ, List, ◌∷◌, length, sym, subst, rules}
-use Rattle.std.specs.List.{AllByRecursion}
-use Rattle.line_text.specs.Lines.{physical_lines}
-use Rattle.live_machine.specs.Held.{IsSaidBy}
-use Rattle.live_machine.specs.Machine.{ServesAll}
-use Rattle.live_machine.specs.Parts.{state_with}
+use Rattle.live_machine.proofs.Prelude.{◌≡◌, ◌<◌, ℕ, List, ◌∷◌, length, sym, subst, rules, AllByRecursion, physical_lines, IsSaidBy, ServesAll, state_with}
 use Rattle.live_machine.proofs.server.LineServer.serve_lines.Goals as goal
 
 pub loop-rest-preserved : goal.loop-rest-preserved

@@ -1,10 +1,4 @@
-use Rattle.std.specs.List.{AllByRecursion}
-use Rattle.std.proofs.Common.{List, length}
-use Rattle.line_text.specs.Lines.{physical_lines}
-use Rattle.live_machine.specs.Held.{Held, IsSaidBy}
-use Rattle.live_machine.specs.Machine.{MachineState, ServesAll}
-use Rattle.live_machine.specs.Parts.{state_with}
-use Rattle.live_input.specs.Serving.{is_ready}
+use Rattle.live_machine.proofs.Prelude.{AllByRecursion, List, length, physical_lines, Held, IsSaidBy, MachineState, ServesAll, state_with, is_ready}
 use Rattle.live_machine.proofs.server.LineServer.serve_lines.Given as goal
 
 -- what is served from here on is what is left of all lines

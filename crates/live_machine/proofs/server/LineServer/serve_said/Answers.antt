@@ -1,8 +1,4 @@
-use Rattle.std.proofs.Common.{◌≡◌, Bool, true, sym, subst, ◌∙◌}
-use Rattle.live_input.specs.Serving.{state_in}
-use Rattle.live_machine.specs.Machine.{ServesSaid, must_wait}
-use Rattle.live_machine.specs.Parts.{state_with}
-use Rattle.live_machine.specs.Workers.{without_workers}
+use Rattle.live_machine.proofs.Prelude.{◌≡◌, Bool, true, sym, subst, ◌∙◌, state_in, ServesSaid, must_wait, state_with, without_workers}
 use Rattle.live_machine.proofs.MachineLemmas.{on_ok}
 use Rattle.live_machine.proofs.server.LineServer.serve_said.Goals as goal
 

@@ -1,9 +1,4 @@
-use Rattle.std.proofs.Common.{◌≡◌, List, ℕ, false, sym, ap, subst, ◌∙◌}
-use Rattle.tagged_lines.specs.Tags.{tag_of}
-use Rattle.live_lines.specs.Live.{asked_of}
-use Rattle.live_input.specs.Serving.{state_in}
-use Rattle.live_machine.specs.Machine.{IsLine, IsStatusFor, is_by_hand}
-use Rattle.live_machine.specs.Workers.{NeedNotWait, without_workers}
+use Rattle.live_machine.proofs.Prelude.{◌≡◌, List, ℕ, false, sym, ap, subst, ◌∙◌, tag_of, asked_of, state_in, IsLine, IsStatusFor, is_by_hand, NeedNotWait, without_workers}
 use Rattle.live_machine.proofs.MachineLemmas.{on_ok}
 use Rattle.live_machine.proofs.MadeLemmas.{status_by_hand, status_for, status_line, status_need_not, status_text}
 use Rattle.live_machine.proofs.server.LineServer.serve_status.Goals as goal

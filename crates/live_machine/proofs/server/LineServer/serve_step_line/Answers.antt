@@ -1,6 +1,4 @@
-use Rattle.std.proofs.Common.{◌≡◌, ◌++◌, refl, rules, sym, ◌∙◌}
-use Rattle.tagged_lines.specs.Tags.{with_feed}
-use Rattle.live_machine.specs.Workers.{nomemory_reply}
+use Rattle.live_machine.proofs.Prelude.{◌≡◌, ◌++◌, refl, rules, sym, ◌∙◌, with_feed, nomemory_reply}
 use Rattle.live_machine.proofs.HereStepLines.{nomemory_here, step_here}
 use Rattle.live_machine.proofs.ServerLemmas.{same_by, works_by}
 use Rattle.live_machine.proofs.server.LineServer.serve_step_line.Goals as goal

@@ -1,5 +1,4 @@
-use Rattle.std.proofs.lemmas.Result.{on_ok_weaker}
-use Rattle.live_machine.specs.Parts.{state_with}
+use Rattle.live_machine.proofs.Prelude.{on_ok_weaker, state_with}
 use Rattle.live_machine.proofs.LostLemmas.{told_once}
 use Rattle.live_machine.proofs.server.LineServer.tell_lost.Goals as goal
 

@@ -1,5 +1,4 @@
-use Rattle.std.proofs.Common.{◌≡◌}
-use Rattle.rtrb.specs.Ring.{SameProducer, sent}
+use Rattle.live_threads.proofs.Prelude.{◌≡◌, SameProducer, sent}
 use Rattle.live_threads.proofs.mailbox.Mailbox.await_room.Given as goal
 
 abbrev pub invariant-loop : goal.invariant-loop

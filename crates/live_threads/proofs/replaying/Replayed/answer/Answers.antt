@@ -1,6 +1,4 @@
-use Rattle.std.proofs.Common.{ℕ, ap, subst, ◌∙◌, arith}
-use Rattle.live_input.specs.Serving.{AnswersLine, state_in}
-use Rattle.live_threads.specs.Replays.{moves_job}
+use Rattle.live_threads.proofs.Prelude.{ℕ, ap, subst, ◌∙◌, arith, AnswersLine, state_in, moves_job}
 use Rattle.live_threads.proofs.ReplayLemmas.{HomeLaws, reply_line}
 use Rattle.live_threads.proofs.replaying.Replayed.answer.Goals as goal
 

@@ -1,6 +1,4 @@
-use Rattle.std.proofs.Common.{◌≡◌}
-use Rattle.live_input.specs.Serving.{is_ready, state_in}
-use Rattle.live_machine.specs.Workers.{without_workers}
+use Rattle.live_threads.proofs.Prelude.{◌≡◌, is_ready, state_in, without_workers}
 use Rattle.live_threads.proofs.replaying.Replayed.await_jobs.Given as goal
 
 -- others see no change

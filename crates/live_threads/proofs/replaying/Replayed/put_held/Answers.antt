@@ -1,4 +1,4 @@
-use Rattle.std.proofs.Common.{◌++◌, ap, ◌∙◌}
+use Rattle.live_threads.proofs.Prelude.{◌++◌, ap, ◌∙◌}
 use Rattle.live_threads.proofs.ReplayLemmas.{puts_push}
 use Rattle.live_threads.proofs.replaying.Replayed.put_held.Goals as goal
 

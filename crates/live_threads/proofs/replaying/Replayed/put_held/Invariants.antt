@@ -1,5 +1,4 @@
-use Rattle.live_input.specs.Serving.{is_ready}
-use Rattle.live_threads.specs.Replays.{ArePuts}
+use Rattle.live_threads.proofs.Prelude.{is_ready, ArePuts}
 use Rattle.live_threads.proofs.replaying.Replayed.put_held.Given as goal
 
 -- the lines so far put jobs

@@ -1,9 +1,4 @@
-use Rattle.std.proofs.Common.{◌≡◌, List, ℕ, subst, sym}
-use Rattle.line_feed.specs.Feed.{line_of}
-use Rattle.line_feed.specs.Pieces.{kept_of}
-use Rattle.live_input.specs.Serving.{state_in}
-use Rattle.live_machine.specs.Workers.{without_workers}
-use Rattle.live_threads.specs.Replays.{ReplaysSome, ServesLine, StopsLine}
+use Rattle.live_threads.proofs.Prelude.{◌≡◌, List, ℕ, subst, sym, line_of, kept_of, state_in, without_workers, ReplaysSome, ServesLine, StopsLine}
 use Rattle.live_threads.proofs.FedLemmas.{read_ok}
 use Rattle.live_threads.proofs.ReplayLemmas.{err_so, if_ok_so, replayed, some_cut, some_fails, some_line, some_none, some_read, some_stops}
 use Rattle.live_threads.proofs.replaying.Replayed.serve_log.Goals as goal

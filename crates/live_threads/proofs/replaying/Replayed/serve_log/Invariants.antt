@@ -1,7 +1,4 @@
-use Rattle.live_input.specs.Serving.{is_ready, state_in}
-use Rattle.line_feed.specs.Feed.{ahead_of, line_of}
-use Rattle.live_machine.specs.Workers.{without_workers}
-use Rattle.live_threads.specs.Replays.{ReplaysSome}
+use Rattle.live_threads.proofs.Prelude.{is_ready, state_in, ahead_of, line_of, without_workers, ReplaysSome}
 use Rattle.live_threads.proofs.replaying.Replayed.serve_log.Given as goal
 
 -- the lines so far were served

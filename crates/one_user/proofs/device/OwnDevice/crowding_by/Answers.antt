@@ -1,6 +1,4 @@
-use Rattle.std.proofs.Common.{ap, subst, ◌∙◌}
-use Rattle.rr_graph.specs.Graph.{Basis}
-use Rattle.one_user.specs.Crowding.{AreCrowdedNodes}
+use Rattle.one_user.proofs.Prelude.{ap, subst, ◌∙◌, Basis, AreCrowdedNodes}
 use Rattle.one_user.proofs.Bases.{same_basis}
 use Rattle.one_user.proofs.device.OwnDevice.crowding_by.Goals as goal
 

@@ -1,7 +1,4 @@
-use Rattle.std.proofs.Common.{subst}
-use Rattle.pathfinder.specs.declared.routing.IterEnd.{IterEnd}
-use Rattle.one_user.specs.PlacedRuns.{nets_on_device}
-use Rattle.one_user.specs.RoutingEnds.{IsLastIteration}
+use Rattle.one_user.proofs.Prelude.{subst, IterEnd, nets_on_device, IsLastIteration}
 use Rattle.one_user.proofs.PinnedRuns.{routed_whole}
 use Rattle.one_user.proofs.device.OwnDevice.run_whole.Goals as goal
 

@@ -1,6 +1,4 @@
-use Rattle.std.proofs.Common.{◌≡◌, ◌∷◌, [], Some, None, refl, ◌∙◌, rules}
-use Rattle.service_core.specs.Calls.{IsGivenBack}
-use Rattle.service_core.specs.Run.{Run}
+use Rattle.operator.proofs.Prelude.{◌≡◌, ◌∷◌, [], Some, None, refl, ◌∙◌, rules, IsGivenBack, Run}
 use Rattle.operator.proofs.HeldLemmas.{given, given_more}
 use Rattle.operator.proofs.held_jobs.HeldJobs.give_back.Goals as goal
 

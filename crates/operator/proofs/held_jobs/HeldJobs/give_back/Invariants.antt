@@ -1,8 +1,5 @@
-use Rattle.std.specs.Prelude.{◌≡◌, ◌++◌, vec_len, option_map, reverse}
-use Rattle.std.specs.List.{filter_map}
-use Rattle.service_core.specs.Run.{Run}
-use Rattle.service_core.specs.Run.Call.{GiveBack}
-use Rattle.operator.specs.HeldJobs.{HeldList}
+use Rattle.operator.proofs.Prelude.{vec_len, option_map, reverse, filter_map, Run, GiveBack, HeldList}
+use Rattle.std.specs.Prelude.{◌≡◌, ◌++◌}
 use Rattle.operator.proofs.held_jobs.HeldJobs.give_back.Given as goal
 
 -- the jobs after the remaining ones were given back

@@ -1,9 +1,4 @@
-use Rattle.std.proofs.Common.{◌≡◌, ◌∷◌, [], Option, Some, None, inl, inr, refl, subst, rules}
-use Rattle.job_state.specs.Job.{JobState}
-use Rattle.service_core.specs.Calls.{IsTaken}
-use Rattle.service_core.specs.Run.Call.{Take, GiveBack}
-use Rattle.sessions.proofs.Fitting.{none_never, taken_fits}
-use Rattle.sessions.proofs.StepLemmas.{given_runs, take_happens}
+use Rattle.operator.proofs.Prelude.{◌≡◌, ◌∷◌, [], Option, Some, None, inl, inr, refl, subst, rules, JobState, IsTaken, Take, GiveBack, none_never, taken_fits, given_runs, take_happens}
 use Rattle.operator.proofs.held_jobs.HeldJobs.take.Goals as goal
 
 pub returns-in-Some-window_of-clause-taken : goal.returns-in-Some-window_of-clause-taken

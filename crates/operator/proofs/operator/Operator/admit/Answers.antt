@@ -1,8 +1,4 @@
-use Rattle.std.proofs.Common.{◌≡◌, [], ◌∷◌, codes, length, inl, inr, refl, ap, ◌∙◌}
-use Rattle.service_core.specs.Run.Call.{Admit as AdmitCall}
-use Rattle.service_core.specs.Service.{live_of}
-use Rattle.operator.specs.Ids.{newest_first}
-use Rattle.operator.specs.OperatorText.{admitted_text, last_id, names_after, refused_text}
+use Rattle.operator.proofs.Prelude.{◌≡◌, [], ◌∷◌, codes, length, inl, inr, refl, ap, ◌∙◌, Admit as AdmitCall, live_of, newest_first, admitted_text, last_id, names_after, refused_text}
 use Rattle.operator.proofs.OperatorLemmas.{on_err, on_ok, refuses, admits, lengths-admitted}
 use Rattle.operator.proofs.operator.Operator.admit.Goals as goal
 

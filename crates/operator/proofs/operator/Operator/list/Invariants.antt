@@ -1,7 +1,4 @@
-use Rattle.std.proofs.Common.{◌≡◌, ◌++◌, take}
-use Rattle.operator.specs.Held.{sink_text}
-use Rattle.operator.specs.Ids.{newest_first}
-use Rattle.operator.specs.OperatorText.{list_text}
+use Rattle.operator.proofs.Prelude.{◌≡◌, ◌++◌, take, sink_text, newest_first, list_text}
 use Rattle.operator.proofs.operator.Operator.list.Given as goal
 
 -- the lines of the ids so far

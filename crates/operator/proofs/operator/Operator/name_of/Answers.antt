@@ -1,5 +1,4 @@
-use Rattle.std.proofs.Common.{◌-◌, ap, ◌∙◌}
-use Rattle.std.specs.Prelude.{slice_get}
+use Rattle.operator.proofs.Prelude.{◌-◌, ap, ◌∙◌, slice_get}
 use Rattle.operator.proofs.OperatorLemmas.{name_by, read_at}
 use Rattle.operator.proofs.operator.Operator.name_of.Goals as goal
 

@@ -1,11 +1,5 @@
-use Rattle.std.proofs.Common.{ℕ, ◌≡◌, [], ◌∷◌, ◌++◌, None, inl, inr, refl, sym, ap, subst, ◌∙◌}
-use Rattle.service_core.specs.Run.Call.{Evict as EvictCall, Move as MoveCall, Owners as OwnersCall, Take}
-use Rattle.operator.specs.OwnersText.{owners_text}
-use Rattle.operator.specs.OperatorText.{evicted_text, list_text, moved_text, outcome_text, taken_text}
+use Rattle.operator.proofs.Prelude.{ℕ, ◌≡◌, [], ◌∷◌, ◌++◌, None, inl, inr, refl, sym, ap, subst, ◌∙◌, Evict as EvictCall, Move as MoveCall, Owners as OwnersCall, Take, owners_text, evicted_text, list_text, moved_text, outcome_text, taken_text, sink_text, Holds, tried_calls, tried_text}
 use Rattle.operator.proofs.OperatorLemmas.{on_err, on_err_more, on_ok, lengths-evicted, lengths-moved, evicts, moves}
-use Rattle.operator.specs.Held.{sink_text}
-use Rattle.operator.specs.HeldJobs.{Holds}
-use Rattle.operator.specs.Serving.{tried_calls, tried_text}
 use Rattle.operator.proofs.Stepping.{lengths-run, steady_held, steady_take}
 use Rattle.operator.proofs.operator.Operator.serve.Goals as goal
 

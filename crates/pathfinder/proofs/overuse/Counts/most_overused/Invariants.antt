@@ -1,5 +1,4 @@
-use Rattle.std.proofs.Common.{◌≡◌}
-use Rattle.pathfinder.specs.Overuse.{IsMost, over_at, over_in}
+use Rattle.pathfinder.proofs.Prelude.{◌≡◌, IsMost, over_at, over_in}
 use Rattle.pathfinder.proofs.overuse.Counts.most_overused.Given as goal
 
 abbrev pub invariant-loop-node : goal.invariant-loop-node

@@ -1,5 +1,4 @@
-use Rattle.std.proofs.Common.{arith, ◌∙◌}
-use Rattle.pathfinder.specs.Overuse.{over_in}
+use Rattle.pathfinder.proofs.Prelude.{arith, ◌∙◌, over_in}
 use Rattle.pathfinder.proofs.Overuses.{counts_none, counts_one}
 use Rattle.pathfinder.proofs.overuse.Counts.overused_count.Goals as goal
 use Rattle.pathfinder.proofs.overuse.Counts.overused_count.Goals.{then-held-node, else-held-node}

@@ -1,5 +1,4 @@
-use Rattle.std.proofs.Common.{◌≡◌, ◌≤◌}
-use Rattle.pathfinder.specs.Overuse.{count_over, over_in}
+use Rattle.pathfinder.proofs.Prelude.{◌≡◌, ◌≤◌, count_over, over_in}
 use Rattle.pathfinder.proofs.overuse.Counts.overused_count.Given as goal
 
 abbrev pub invariant-loop-node : goal.invariant-loop-node

@@ -1,7 +1,4 @@
-use Rattle.std.proofs.Common.{◌∙◌, get_or, take, arith, sym}
-use Rattle.least_path.specs.Path.{cost_of}
-use Rattle.pathfinder.specs.PlacedNets.{wiring_of}
-use Rattle.pathfinder.specs.Tables.{tabled_graph}
+use Rattle.pathfinder.proofs.Prelude.{◌∙◌, get_or, take, arith, sym, cost_of, wiring_of, tabled_graph}
 use Rattle.pathfinder.proofs.Searches.{price_few}
 use Rattle.pathfinder.proofs.Ways.{cost_first, cost_more, cost_step, cost_whole}
 use Rattle.pathfinder.proofs.prices.Prices.cost_of.Goals as goal

@@ -1,7 +1,4 @@
-use Rattle.std.proofs.Common.{◌≡◌, ◌≤◌, ◌*◌, ◌^◌, take}
-use Rattle.least_path.specs.Path.{cost_of}
-use Rattle.pathfinder.specs.PlacedNets.{wiring_of}
-use Rattle.pathfinder.specs.Tables.{tabled_graph}
+use Rattle.pathfinder.proofs.Prelude.{◌≡◌, ◌≤◌, ◌*◌, ◌^◌, take, cost_of, wiring_of, tabled_graph}
 use Rattle.pathfinder.proofs.prices.Prices.cost_of.Given as goal
 
 abbrev pub invariant-loop-place : goal.invariant-loop-place

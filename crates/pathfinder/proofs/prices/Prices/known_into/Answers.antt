@@ -1,7 +1,4 @@
-use Rattle.std.proofs.Common.{◌≡◌, ◌∙◌, ◌++◌, List, ℕ, ap, subst, sym}
-use Rattle.least_path.specs.Path.{IsPath, cost_of}
-use Rattle.pathfinder.specs.PlacedNets.{wiring_of}
-use Rattle.pathfinder.specs.Tables.{tabled_graph}
+use Rattle.pathfinder.proofs.Prelude.{◌≡◌, ◌∙◌, ◌++◌, List, ℕ, ap, subst, sym, IsPath, cost_of, wiring_of, tabled_graph}
 use Rattle.pathfinder.proofs.prices.Prices.known_into.Goals as goal
 
 pub returns : goal.returns

@@ -1,10 +1,4 @@
-use Rattle.std.proofs.Common.{◌≡◌, ◌∙◌, ◌+◌, ◌<◌, ◌≤◌, length, take, arith, cond, subst}
-use Rattle.std.specs.List.{slice_index}
-use Rattle.std.proofs.lemmas.List.{take_all}
-use Rattle.std.proofs.lemmas.List.Elements.{All-from_get_or}
-use Rattle.pathfinder.specs.Negotiation.{Tree}
-use Rattle.pathfinder.specs.PlacedNets.{wiring_of}
-use Rattle.pathfinder.specs.Tables.{holds}
+use Rattle.pathfinder.proofs.Prelude.{◌≡◌, ◌∙◌, ◌+◌, ◌<◌, ◌≤◌, length, take, arith, cond, subst, slice_index, take_all, All-from_get_or, Tree, wiring_of, holds}
 use Rattle.pathfinder.proofs.Adding.{news_held, news_released, news_within}
 use Rattle.pathfinder.proofs.InRange.{index_low}
 use Rattle.pathfinder.proofs.round.Round.give_up.Goals as goal

@@ -1,8 +1,4 @@
-use Rattle.std.proofs.Common.{◌≡◌, ◌+◌, ℕ, length, take, cond}
-use Rattle.std.specs.List.{slice_index}
-use Rattle.pathfinder.specs.PlacedNets.{wiring_of}
-use Rattle.pathfinder.specs.Priced.{ArePriced}
-use Rattle.pathfinder.specs.Tables.{IsTable, holds}
+use Rattle.pathfinder.proofs.Prelude.{◌≡◌, ◌+◌, ℕ, length, take, cond, slice_index, wiring_of, ArePriced, IsTable, holds}
 use Rattle.pathfinder.proofs.round.Round.give_up.Given as goal
 
 abbrev pub invariant-loop-number : goal.invariant-loop-number

@@ -1,9 +1,4 @@
-use Rattle.std.proofs.Common.{◌≡◌, ◌∙◌, ◌<◌, ◌||◌, [], List, ℕ, get_or, length, sym, ap, subst, true, false, eqb, arith}
-use Rattle.std.specs.List.{list_any}
-use Rattle.std.proofs.lemmas.List.{take_all}
-use Rattle.std.proofs.lemmas.Option.{get_or_from_slice_get}
-use Rattle.pathfinder.specs.Negotiation.{Tree}
-use Rattle.pathfinder.specs.Tables.{holds}
+use Rattle.pathfinder.proofs.Prelude.{◌≡◌, ◌∙◌, ◌<◌, ◌||◌, [], List, ℕ, get_or, length, sym, ap, subst, true, false, eqb, arith, list_any, take_all, get_or_from_slice_get, Tree, holds}
 use Rattle.pathfinder.proofs.Adding.{holds_at, holds_more}
 use Rattle.pathfinder.proofs.route.Route.has.Goals as goal
 

@@ -1,5 +1,4 @@
-use Rattle.std.proofs.Common.{◌≡◌, take, false}
-use Rattle.pathfinder.specs.Tables.{holds}
+use Rattle.pathfinder.proofs.Prelude.{◌≡◌, take, false, holds}
 use Rattle.pathfinder.proofs.route.Route.has.Given as goal
 
 abbrev pub invariant-loop-number : goal.invariant-loop-number

@@ -1,6 +1,4 @@
-use Rattle.std.proofs.Common.{◌∙◌, [], ℕ, get_or, drop, sym, ap, subst}
-use Rattle.std.proofs.lemmas.List.{take_rest}
-use Rattle.pathfinder.specs.Tables.{AreAdded}
+use Rattle.pathfinder.proofs.Prelude.{◌∙◌, [], ℕ, get_or, drop, sym, ap, subst, take_rest, AreAdded}
 use Rattle.pathfinder.proofs.Adding.{later_some, news_later, part_is}
 use Rattle.pathfinder.proofs.route.Route.news.Goals as goal
 

@@ -1,8 +1,4 @@
-use Rattle.std.proofs.Common.{◌≡◌, ◌++◌, ◌∷◌, [], length, map, subst, arith, rules, sym}
-use Rattle.std.proofs.lemmas.Grind.{common_steps}
-use Rattle.rows.specs.Spans.{AreWithin, part_of}
-use Rattle.rows.proofs.Growing.{parts_push}
-use Rattle.pathfinder.specs.Tables.{AreAdded}
+use Rattle.pathfinder.proofs.Prelude.{◌≡◌, ◌++◌, ◌∷◌, [], length, map, subst, arith, rules, sym, common_steps, AreWithin, part_of, parts_push, AreAdded}
 use Rattle.pathfinder.proofs.Adding.{added_push, within_push}
 use Rattle.pathfinder.proofs.route.Route.push.Goals as goal
 

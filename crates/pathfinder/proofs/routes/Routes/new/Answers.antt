@@ -1,6 +1,4 @@
-use Rattle.std.proofs.Common.{◌∙◌, ap, map}
-use Rattle.rr_graph.specs.Graph.{graph_of}
-use Rattle.pathfinder.specs.Negotiation.{Tree}
+use Rattle.pathfinder.proofs.Prelude.{◌∙◌, ap, map, graph_of, Tree}
 use Rattle.pathfinder.proofs.Lists.{shown_more}
 use Rattle.pathfinder.proofs.routes.Routes.new.Goals as goal
 

@@ -1,5 +1,4 @@
-use Rattle.std.proofs.Common.{◌≡◌, map, take}
-use Rattle.rr_graph.specs.Graph.{graph_of}
+use Rattle.pathfinder.proofs.Prelude.{◌≡◌, map, take, graph_of}
 use Rattle.pathfinder.proofs.routes.Routes.new.Given as goal
 
 abbrev pub invariant-loop-tree : goal.invariant-loop-tree

@@ -1,8 +1,5 @@
-use Rattle.std.proofs.Common.{◌<◌, ◌∙◌, [], length, ap, subst, sym, slice_index_or}
-use Rattle.std.proofs.lemmas.List.{get_or_default}
-use Rattle.pathfinder.specs.Negotiation.{Tree}
-use Rattle.pathfinder.specs.Overuse.{has_node}
-use Rattle.pathfinder.specs.Routings.{RoutingState}
+use Rattle.pathfinder.proofs.Prelude.{◌<◌, ◌∙◌, [], length, ap, subst, sym, get_or_default, Tree, has_node, RoutingState}
+use Rattle.std.proofs.Common.{slice_index_or}
 use Rattle.pathfinder.proofs.routing.Routing.has_node.Goals as goal
 
 pub returns : goal.returns

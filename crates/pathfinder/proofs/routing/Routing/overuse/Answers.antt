@@ -1,11 +1,5 @@
-use Rattle.std.proofs.Common.{ℕ, List, ◌≡◌, ◌<◌, length, ap, subst, ◌∙◌, arith}
+use Rattle.pathfinder.proofs.Prelude.{ℕ, List, ◌≡◌, ◌<◌, length, ap, subst, ◌∙◌, arith, graph_of, occupancy, IsMost, count_over, over_in, wiring_of, RoutingState, Tells}
 use Rattle.std.specs.Prelude.{IfSome, slice_index}
-use Rattle.rr_graph.specs.Graph.{graph_of}
-use Rattle.pathfinder.specs.Negotiation.{occupancy}
-use Rattle.pathfinder.specs.Overuse.{IsMost, count_over, over_in}
-use Rattle.pathfinder.specs.PlacedNets.{wiring_of}
-use Rattle.pathfinder.specs.Routings.{RoutingState}
-use Rattle.pathfinder.specs.Tables.{Tells}
 use Rattle.pathfinder.proofs.Overuses.{long_history, most_within, overuse_told}
 use Rattle.pathfinder.proofs.routing.Routing.overuse.Goals as goal
 

@@ -1,7 +1,4 @@
-use Rattle.std.proofs.Common.{◌≡◌, ◌+◌, ℕ, List, ap}
-use Rattle.pathfinder.specs.Negotiation.{accumulated_overuse}
-use Rattle.pathfinder.specs.PlacedNets.{wiring_of}
-use Rattle.pathfinder.specs.Routings.{RoutingState}
+use Rattle.pathfinder.proofs.Prelude.{◌≡◌, ◌+◌, ℕ, List, ap, accumulated_overuse, wiring_of, RoutingState}
 use Rattle.pathfinder.proofs.state.State.next.Goals as goal
 
 pub returns : goal.returns

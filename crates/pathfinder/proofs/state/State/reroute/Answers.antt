@@ -1,10 +1,4 @@
-use Rattle.std.proofs.Common.{◌≡◌, ◌∙◌, ℕ, List, [], Ok, length, arith, sym, ap, subst}
-use Rattle.std.specs.Vec.{with_items}
-use Rattle.std.proofs.lemmas.List.{with_items_is}
-use Rattle.pathfinder.specs.declared.state.NewTrees.{NewTrees}
-use Rattle.pathfinder.specs.Negotiation.{rerouted_trees}
-use Rattle.pathfinder.specs.PlacedNets.{wiring_of}
-use Rattle.pathfinder.specs.Tables.{Tells}
+use Rattle.pathfinder.proofs.Prelude.{◌≡◌, ◌∙◌, ℕ, List, [], Ok, length, arith, sym, ap, subst, with_items, with_items_is, NewTrees, rerouted_trees, wiring_of, Tells}
 use Rattle.pathfinder.proofs.NextTrees.{round, past, routed, found, found_none}
 use Rattle.pathfinder.proofs.state.State.reroute.Goals as goal
 

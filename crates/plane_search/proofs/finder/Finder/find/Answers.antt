@@ -1,4 +1,4 @@
-use Rattle.std.proofs.Common.{arith}
+use Rattle.plane_search.proofs.Prelude.{arith}
 use Rattle.plane_search.proofs.Bests.{none_within}
 use Rattle.plane_search.proofs.Staying.{is_met}
 use Rattle.plane_search.proofs.finder.Finder.find.Goals as goal

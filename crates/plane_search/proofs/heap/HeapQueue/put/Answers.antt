@@ -1,6 +1,4 @@
-use Rattle.std.proofs.Common.{◌∷◌, heap_items}
-use Rattle.std.proofs.lemmas.List.Sorted.{IsPermutation-map}
-use Rattle.plane_search.specs.Heap.{open_of}
+use Rattle.plane_search.proofs.Prelude.{◌∷◌, heap_items, IsPermutation-map, open_of}
 use Rattle.plane_search.proofs.heap.HeapQueue.put.Goals as goal
 
 pub returns : goal.returns

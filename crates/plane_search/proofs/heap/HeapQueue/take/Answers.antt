@@ -1,7 +1,4 @@
-use Rattle.std.proofs.Common.{◌∷◌, heap_items, ◌∙◌, sym}
-use Rattle.std.proofs.lemmas.List.{nil_from_length}
-use Rattle.std.proofs.lemmas.List.Sorted.{IsPermutation-map}
-use Rattle.plane_search.specs.Heap.{open_of}
+use Rattle.plane_search.proofs.Prelude.{◌∷◌, heap_items, ◌∙◌, sym, nil_from_length, IsPermutation-map, open_of}
 use Rattle.plane_search.proofs.Nearest.{all_above, none_above}
 use Rattle.plane_search.proofs.heap.HeapQueue.take.Goals as goal
 

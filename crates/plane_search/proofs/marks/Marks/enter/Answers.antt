@@ -1,4 +1,4 @@
-use Rattle.std.proofs.Common.{arith}
+use Rattle.plane_search.proofs.Prelude.{arith}
 use Rattle.plane_search.proofs.Marking.{marked}
 use Rattle.plane_search.proofs.marks.Marks.enter.Goals as goal
 

@@ -1,8 +1,4 @@
-use Rattle.std.proofs.Common.{◌≤◌, arith}
-use Rattle.std.specs.List.{All}
-use Rattle.std.proofs.lemmas.List.Elements.{All-nil}
-use Rattle.plane_search.specs.Walk.{AreCells}
-use Rattle.plane_search.specs.declared.marks.Marks.TheInside.{Inside}
+use Rattle.plane_search.proofs.Prelude.{◌≤◌, arith, All, All-nil, AreCells, Inside}
 use Rattle.plane_search.proofs.Marking.{all_unmarked, low_still}
 use Rattle.plane_search.proofs.marks.Marks.renew.Goals as goal
 use Rattle.plane_search.proofs.marks.Marks.renew.Goals.{then-LAST-SPAN, else-LAST-SPAN, then-len-count+in_ok-resize, else-len-count}

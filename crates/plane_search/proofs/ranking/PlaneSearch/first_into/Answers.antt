@@ -1,8 +1,4 @@
-use Rattle.std.proofs.Common.{◌≡◌, ℕ, List, get_or, sym, subst}
-use Rattle.plane_search.specs.declared.ranking.Ranked.{Ranked}
-use Rattle.plane_search.specs.Planes.{IsLeastOfTrack}
-use Rattle.plane_search.specs.Best.{HoldsNone}
-use Rattle.plane_search.specs.Ranking.{tracks_in, AreRanked}
+use Rattle.plane_search.proofs.Prelude.{◌≡◌, ℕ, List, get_or, sym, subst, Ranked, IsLeastOfTrack, HoldsNone, tracks_in, AreRanked}
 use Rattle.plane_search.proofs.Rankings.{done_first, done_next, done_end, track_below}
 use Rattle.plane_search.proofs.Split.{none_of_all}
 use Rattle.plane_search.proofs.ranking.PlaneSearch.first_into.Goals as goal

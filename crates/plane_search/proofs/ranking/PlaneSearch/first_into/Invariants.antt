@@ -1,5 +1,4 @@
-use Rattle.plane_search.specs.Best.{HoldsNone}
-use Rattle.plane_search.specs.Ranking.{tracks_in, AreDone}
+use Rattle.plane_search.proofs.Prelude.{HoldsNone, tracks_in, AreDone}
 use Rattle.plane_search.proofs.ranking.PlaneSearch.first_into.Given as goal
 
 abbrev pub invariant-loop-ranked : goal.invariant-loop-ranked

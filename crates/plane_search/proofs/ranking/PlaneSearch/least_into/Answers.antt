@@ -1,7 +1,4 @@
-use Rattle.std.proofs.Common.{List, sym, subst}
-use Rattle.plane_search.specs.declared.ranking.Ranked.{Ranked}
-use Rattle.plane_search.specs.Planes.{HoldsNothingLess}
-use Rattle.plane_search.specs.Ranking.{tracks_in, AreRanked}
+use Rattle.plane_search.proofs.Prelude.{List, sym, subst, Ranked, HoldsNothingLess, tracks_in, AreRanked}
 use Rattle.plane_search.proofs.Rankings.{way_first, way_on, way_end, track_below}
 use Rattle.plane_search.proofs.ranking.PlaneSearch.least_into.Goals as goal
 

@@ -1,4 +1,4 @@
-use Rattle.plane_search.specs.Ranking.{tracks_in, IsUnderWay}
+use Rattle.plane_search.proofs.Prelude.{tracks_in, IsUnderWay}
 use Rattle.plane_search.proofs.ranking.PlaneSearch.least_into.Given as goal
 
 abbrev pub invariant-loop-ranked : goal.invariant-loop-ranked

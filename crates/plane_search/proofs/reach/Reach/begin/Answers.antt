@@ -1,5 +1,4 @@
-use Rattle.std.proofs.Common.{arith}
-use Rattle.std.proofs.lemmas.List.Elements.{Contains-get_or}
+use Rattle.plane_search.proofs.Prelude.{arith, Contains-get_or}
 use Rattle.plane_search.proofs.Reaching.{beginning, begun}
 use Rattle.plane_search.proofs.Starting.{no_start, place_at, as_many}
 use Rattle.plane_search.proofs.reach.Reach.begin.Goals as goal

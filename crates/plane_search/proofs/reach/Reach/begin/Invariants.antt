@@ -1,5 +1,4 @@
-use Rattle.plane_search.specs.Starts.{places_of}
-use Rattle.plane_search.specs.Reach.{IsBeginning}
+use Rattle.plane_search.proofs.Prelude.{places_of, IsBeginning}
 use Rattle.plane_search.proofs.reach.Reach.begin.Given as goal
 
 abbrev pub invariant-loop-start : goal.invariant-loop-start

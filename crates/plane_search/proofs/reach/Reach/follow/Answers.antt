@@ -1,4 +1,4 @@
-use Rattle.std.proofs.Common.{arith}
+use Rattle.plane_search.proofs.Prelude.{arith}
 use Rattle.plane_search.proofs.Members.{listed_end, past_listed}
 use Rattle.plane_search.proofs.Reaching.{taken_next, taken_over, all_followed}
 use Rattle.plane_search.proofs.Walking.{end_within}

@@ -1,5 +1,4 @@
-use Rattle.std.proofs.Common.{ℕ, ◌≤◌, List, length}
-use Rattle.plane_search.specs.Reach.{IsFollowing, measure_of}
+use Rattle.plane_search.proofs.Prelude.{ℕ, ◌≤◌, List, length, IsFollowing, measure_of}
 use Rattle.plane_search.proofs.reach.Reach.follow.Given as goal
 
 -- what is so of the pass as it was before the first edge stays so

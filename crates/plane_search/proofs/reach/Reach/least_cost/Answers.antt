@@ -1,10 +1,4 @@
-use Rattle.std.proofs.Common.{ℕ, ◌<◌, ◌∷◌, arith}
-use Rattle.std.specs.List.{All}
-use Rattle.std.specs.List.Sorted.{IsPermutation}
-use Rattle.std.proofs.lemmas.List.Elements.{All-contains}
-use Rattle.std.proofs.lemmas.List.Sorted.{length_permutation}
-use Rattle.plane_search.specs.Starts.{places_of}
-use Rattle.plane_search.specs.declared.queue.Open.{Open}
+use Rattle.plane_search.proofs.Prelude.{ℕ, ◌<◌, ◌∷◌, arith, All, IsPermutation, All-contains, length_permutation, places_of, Open}
 use Rattle.plane_search.proofs.Members.{Contains-first}
 use Rattle.plane_search.proofs.Reaching.{moved, none_cheaper}
 use Rattle.plane_search.proofs.reach.Reach.least_cost.Goals as goal

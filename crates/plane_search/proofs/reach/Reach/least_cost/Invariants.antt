@@ -1,6 +1,5 @@
-use Rattle.std.proofs.Common.{◌≤◌}
-use Rattle.plane_search.specs.Starts.{places_of}
-use Rattle.plane_search.specs.Reach.{IsUnderWay, measure_of}
+use Rattle.plane_search.proofs.Prelude.{◌≤◌, places_of, measure_of}
+use Rattle.plane_search.specs.Reach.{IsUnderWay}
 use Rattle.plane_search.proofs.reach.Reach.least_cost.Given as goal
 
 abbrev pub invariant-loop-item : goal.invariant-loop-item

@@ -1,4 +1,4 @@
-use Rattle.std.proofs.Common.{arith, ◌∙◌, inl, inr, sym, length-set}
+use Rattle.plane_search.proofs.Prelude.{arith, ◌∙◌, inl, inr, sym, length-set}
 use Rattle.plane_search.proofs.Reaching.{end_passed, met_at_goal, end_entered, measure_falls}
 use Rattle.plane_search.proofs.reach.Reach.offer.Goals as goal
 

@@ -1,7 +1,4 @@
-use Rattle.std.proofs.Common.{ℕ, ◌≢◌, [], arith, inr, sym, subst}
-use Rattle.std.specs.List.{Contains}
-use Rattle.plane_search.specs.Starts.{places_of}
-use Rattle.plane_search.specs.Walk.{IsUnfit}
+use Rattle.plane_search.proofs.Prelude.{ℕ, ◌≢◌, [], arith, inr, sym, subst, Contains, places_of, IsUnfit}
 use Rattle.plane_search.proofs.Reaching.{start_passed, start_entered}
 use Rattle.plane_search.proofs.Sorting.{place_to}
 use Rattle.plane_search.proofs.Starting.{place_within}

@@ -1,6 +1,4 @@
-use Rattle.std.proofs.Common.{◌-◌, ◌^◌, arith}
-use Rattle.least_path.specs.LeastPath.{least_path}
-use Rattle.plane_search.specs.Starts.{places_of}
+use Rattle.plane_search.proofs.Prelude.{◌-◌, ◌^◌, arith, least_path, places_of}
 use Rattle.plane_search.proofs.Staying.{none_so_dear}
 use Rattle.plane_search.proofs.search.Finders.find.Goals as goal
 

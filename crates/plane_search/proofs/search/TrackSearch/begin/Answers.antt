@@ -1,6 +1,4 @@
-use Rattle.std.proofs.Common.{refl, sym, subst}
-use Rattle.least_path.specs.declared.path.Path.{Path}
-use Rattle.plane_search.specs.Planes.{IsLeastOfTrack}
+use Rattle.plane_search.proofs.Prelude.{refl, sym, subst, Path, IsLeastOfTrack}
 use Rattle.plane_search.proofs.Embedding.{path_there}
 use Rattle.plane_search.proofs.Bests.{of_track}
 use Rattle.plane_search.proofs.search.TrackSearch.begin.Goals as goal

@@ -1,8 +1,4 @@
-use Rattle.std.proofs.Common.{ℕ, List, arith, sym, subst}
-use Rattle.std.specs.List.{Contains}
-use Rattle.plane_search.specs.Starts.{places_of}
-use Rattle.plane_search.specs.Walk.{AreNoCheaper, AreOrderedStarts}
-use Rattle.plane_search.specs.declared.planes.Start.{Start}
+use Rattle.plane_search.proofs.Prelude.{ℕ, List, arith, sym, subst, Contains, places_of, AreNoCheaper, AreOrderedStarts, Start}
 use Rattle.plane_search.proofs.Bests.{none_below, among_nodes, ordered}
 use Rattle.plane_search.proofs.Staying.{starts_apart, stays_on}
 use Rattle.plane_search.proofs.search.TrackSearch.find.Goals as goal

@@ -1,6 +1,4 @@
-use Rattle.std.proofs.Common.{arith, inl, inr}
-use Rattle.least_path.specs.LeastPath.{least_path}
-use Rattle.plane_search.specs.Starts.{places_of}
+use Rattle.plane_search.proofs.Prelude.{arith, inl, inr, least_path, places_of}
 use Rattle.plane_search.proofs.Bests.{on_all, none_of_all, among_nodes}
 use Rattle.plane_search.proofs.Staying.{none_so_dear}
 use Rattle.plane_search.proofs.search.TrackSearch.find_first.Goals as goal

@@ -1,4 +1,4 @@
-use Rattle.std.proofs.Common.{refl}
+use Rattle.plane_search.proofs.Prelude.{refl}
 use Rattle.plane_search.proofs.Embedding.{path_there}
 use Rattle.plane_search.proofs.Bests.{among_path, numbered}
 use Rattle.plane_search.proofs.search.TrackSearch.find_nodes.Goals as goal

@@ -1,6 +1,4 @@
-use Rattle.std.proofs.Common.{◌∙◌, sym, subst}
-use Rattle.least_path.specs.declared.path.Path.{Path}
-use Rattle.plane_search.specs.Best.{Improves}
+use Rattle.plane_search.proofs.Prelude.{◌∙◌, sym, subst, Path, Improves}
 use Rattle.plane_search.proofs.Bests.{stays, gets_less, nothing_less, none_found, here_if_less, here_if_not, less_by}
 use Rattle.plane_search.proofs.search.TrackSearch.improve.Goals as goal
 

@@ -1,7 +1,4 @@
-use Rattle.std.proofs.Common.{◌≡◌, ℕ, ◌∷◌, ◌++◌, [], List, get_or, arith, ◌∙◌, ap, sym, subst}
-use Rattle.std.proofs.lemmas.List.Elements.{Contains-get_or}
-use Rattle.plane_search.specs.Starts.{places_of}
-use Rattle.plane_search.specs.Walk.{CostsMore, IsLeastFrom, places_in}
+use Rattle.plane_search.proofs.Prelude.{◌≡◌, ℕ, ◌∷◌, ◌++◌, [], List, get_or, arith, ◌∙◌, ap, sym, subst, Contains-get_or, places_of, CostsMore, IsLeastFrom, places_in}
 use Rattle.plane_search.proofs.Starting.{no_start, least_of_starts, all_dear, one_dearer, place_at, as_many}
 use Rattle.plane_search.proofs.walk.Walk.least_into.Goals as goal
 

@@ -1,5 +1,4 @@
-use Rattle.plane_search.specs.Starts.{places_of}
-use Rattle.plane_search.specs.Walk.{IsBetween}
+use Rattle.plane_search.proofs.Prelude.{places_of, IsBetween}
 use Rattle.plane_search.proofs.Starting.{AreDearStarts}
 use Rattle.plane_search.proofs.walk.Walk.least_into.Given as goal
 

@@ -1,5 +1,4 @@
-use Rattle.std.proofs.Common.{◌≢◌, arith, reverse, ◌∙◌, sym}
-use Rattle.plane_search.specs.Walk.{after_step}
+use Rattle.plane_search.proofs.Prelude.{◌≢◌, arith, reverse, ◌∙◌, sym, after_step}
 use Rattle.plane_search.proofs.Sorting.{place_to}
 use Rattle.plane_search.proofs.Starting.{place_within}
 use Rattle.plane_search.proofs.Walking.{begins, goes_on, goes_back, completed, reverse-push, taken_back}

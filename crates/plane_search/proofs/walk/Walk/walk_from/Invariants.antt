@@ -1,5 +1,4 @@
-use Rattle.std.proofs.Common.{ℕ, ◌+◌, ◌*◌, length}
-use Rattle.std.specs.List.{sum_by}
+use Rattle.plane_search.proofs.Prelude.{ℕ, ◌+◌, ◌*◌, length, sum_by}
 use Rattle.plane_search.proofs.Walking.{IsOnWay, stack_of, count_of}
 use Rattle.plane_search.proofs.walk.Walk.walk_from.Given as goal
 

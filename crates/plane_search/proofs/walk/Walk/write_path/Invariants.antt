@@ -1,5 +1,4 @@
-use Rattle.std.proofs.Common.{◌≡◌, take}
-use Rattle.plane_search.specs.Walk.{places_in}
+use Rattle.plane_search.proofs.Prelude.{◌≡◌, take, places_in}
 use Rattle.plane_search.proofs.walk.Walk.write_path.Given as goal
 
 abbrev pub invariant-loop-stop : goal.invariant-loop-stop

@@ -1,5 +1,4 @@
-use Rattle.std.proofs.Common.{arith, rules}
-use Rattle.std.proofs.lemmas.Grind.{common_steps}
+use Rattle.rows.proofs.Prelude.{arith, rules, common_steps}
 use Rattle.rows.proofs.Growing.{parts_push}
 use Rattle.rows.proofs.rows.Rows.push.Goals as goal
 

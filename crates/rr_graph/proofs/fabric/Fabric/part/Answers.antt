@@ -1,5 +1,4 @@
-use Rattle.std.proofs.Common.{◌≤◌, sym, subst}
-use Rattle.rr_graph.specs.Graph.{Basis}
+use Rattle.rr_graph.proofs.Prelude.{◌≤◌, sym, subst, Basis}
 use Rattle.rr_graph.proofs.Widths.{part_of}
 use Rattle.rr_graph.proofs.fabric.Fabric.part.Goals as goal
 

@@ -1,8 +1,4 @@
-use Rattle.std.proofs.Common.{◌+◌, ◌*◌, ◌∙◌, ◌&&◌, ◌||◌, nat_le, sym, subst, arith}
-use Rattle.std.proofs.lemmas.Bool.{and_parts}
-use Rattle.rr_graph.specs.Node.{rank_of}
-use Rattle.rr_graph.specs.Column.{AreOrdered, Separates}
-use Rattle.rr_graph.specs.Geometry.{is_slot, is_chan_y}
+use Rattle.rr_graph.proofs.Prelude.{◌+◌, ◌*◌, ◌∙◌, ◌&&◌, ◌||◌, nat_le, sym, subst, arith, and_parts, rank_of, AreOrdered, Separates, is_slot, is_chan_y}
 use Rattle.rr_graph.proofs.Numberings.{all_small}
 use Rattle.rr_graph.proofs.Graphs.{there_small}
 use Rattle.rr_graph.proofs.Tracks.{track_index}

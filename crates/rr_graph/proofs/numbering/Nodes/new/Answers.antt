@@ -1,5 +1,4 @@
-use Rattle.std.proofs.Common.{sym, subst}
-use Rattle.rr_graph.specs.Column.{AreOrdered}
+use Rattle.rr_graph.proofs.Prelude.{sym, subst, AreOrdered}
 use Rattle.rr_graph.proofs.Columns.{member_small}
 use Rattle.rr_graph.proofs.numbering.Nodes.new.Goals as goal
 

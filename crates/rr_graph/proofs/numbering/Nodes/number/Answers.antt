@@ -1,5 +1,4 @@
-use Rattle.std.proofs.Common.{◌≡◌, ◌+◌, ◌*◌, ◌-◌, arith, rules}
-use Rattle.rr_graph.specs.Numbering.{column_count}
+use Rattle.rr_graph.proofs.Prelude.{◌≡◌, ◌+◌, ◌*◌, ◌-◌, arith, rules, column_count}
 use Rattle.rr_graph.proofs.Graphs.{node_indexed, node_numbered}
 use Rattle.rr_graph.proofs.numbering.Nodes.number.Goals as goal
 

@@ -1,8 +1,4 @@
-use Rattle.std.proofs.Common.{◌≡◌, ◌+◌, ◌∙◌, ◌||◌, nat_le, arith, rules, sym}
-use Rattle.std.proofs.lemmas.Bool.{and_parts, false≢true}
-use Rattle.rr_graph.specs.Geometry.{is_chan_y}
-use Rattle.rr_graph.specs.Numbering.{column_count}
-use Rattle.rr_graph.specs.Fabric.{with_width}
+use Rattle.rr_graph.proofs.Prelude.{◌≡◌, ◌+◌, ◌∙◌, ◌||◌, nat_le, arith, rules, sym, and_parts, false≢true, is_chan_y, column_count, with_width}
 use Rattle.rr_graph.proofs.Widths.{numbering_of_width}
 use Rattle.rr_graph.proofs.Places.{indexed, found, room, has_place}
 use Rattle.rr_graph.proofs.numbering.Nodes.numbers_at.Goals as goal

@@ -1,5 +1,4 @@
-use Rattle.std.proofs.Common.{◌∙◌}
-use Rattle.rr_graph.specs.Fabric.{with_width}
+use Rattle.rr_graph.proofs.Prelude.{◌∙◌, with_width}
 use Rattle.rr_graph.proofs.Fabrics.{fabric_within, fabric_columns, fabric_ends, row_place}
 use Rattle.rr_graph.proofs.part.GraphPart.all_ends.Goals as goal
 

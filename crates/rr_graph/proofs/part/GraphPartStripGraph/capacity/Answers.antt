@@ -1,7 +1,4 @@
-use Rattle.std.proofs.Common.{ap, ◌∙◌}
-use Rattle.rr_graph.specs.Geometry.{capacity_of}
-use Rattle.rr_graph.specs.Graph.{graph_of}
-use Rattle.rr_graph.specs.Fabric.{with_width}
+use Rattle.rr_graph.proofs.Prelude.{ap, ◌∙◌, capacity_of, graph_of, with_width}
 use Rattle.rr_graph.proofs.Fabrics.{fabric_columns, fabric_node}
 use Rattle.rr_graph.proofs.part.GraphPartStripGraph.capacity.Goals as goal
 

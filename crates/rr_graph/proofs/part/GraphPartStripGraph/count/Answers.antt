@@ -1,5 +1,4 @@
-use Rattle.std.proofs.Common.{arith}
-use Rattle.rr_graph.specs.Fabric.{with_width}
+use Rattle.rr_graph.proofs.Prelude.{arith, with_width}
 use Rattle.rr_graph.proofs.Fabrics.{fabric_count, fabric_basis, fabric_few}
 use Rattle.rr_graph.proofs.Definition.{definition_lawful}
 use Rattle.rr_graph.proofs.part.GraphPartStripGraph.count.Goals as goal

@@ -1,9 +1,4 @@
-use Rattle.std.proofs.Common.{◌≡◌, ◌≤◌, sym, subst, ◌∙◌, ◌&&◌, ◌||◌, nat_le, true}
-use Rattle.std.proofs.lemmas.Bool.{and_parts, leb-true}
-use Rattle.grid.specs.declared.Strip.{Strip}
-use Rattle.rr_graph.specs.Geometry.{is_node, is_slot, is_chan_y}
-use Rattle.rr_graph.specs.Numbering.{column_count}
-use Rattle.rr_graph.specs.Fabric.{with_width}
+use Rattle.rr_graph.proofs.Prelude.{◌≡◌, ◌≤◌, sym, subst, ◌∙◌, ◌&&◌, ◌||◌, nat_le, true, and_parts, leb-true, Strip, is_node, is_slot, is_chan_y, column_count, with_width}
 use Rattle.rr_graph.proofs.Fabrics.{fabric_numbered, fabric_node}
 use Rattle.rr_graph.proofs.Widths.{node_of_all, number_of_width}
 use Rattle.rr_graph.proofs.part.GraphPartStripGraph.number.Goals as goal

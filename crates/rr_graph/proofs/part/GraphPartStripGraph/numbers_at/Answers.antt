@@ -1,8 +1,4 @@
-use Rattle.std.proofs.Common.{◌≡◌, ◌≤◌, ◌+◌, ◌-◌, ◌*◌, sym, subst, arith}
-use Rattle.std.proofs.lemmas.Nat.{mul-le}
-use Rattle.rr_graph.specs.Graph.{IsAt}
-use Rattle.rr_graph.specs.Numbering.{column_count}
-use Rattle.rr_graph.specs.Fabric.{with_width}
+use Rattle.rr_graph.proofs.Prelude.{◌≡◌, ◌≤◌, ◌+◌, ◌-◌, ◌*◌, sym, subst, arith, mul-le, IsAt, column_count, with_width}
 use Rattle.rr_graph.proofs.Fabrics.{fabric_within, fabric_numbered, fabric_node, fabric_count}
 use Rattle.rr_graph.proofs.part.GraphPartStripGraph.numbers_at.Goals as goal
 

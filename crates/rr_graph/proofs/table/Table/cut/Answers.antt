@@ -1,8 +1,4 @@
-use Rattle.std.proofs.Common.{◌≡◌, ◌+◌, ◌*◌, ◌++◌, ◌∷◌, [], List, ℕ, length, subst, sym, ap, ◌∙◌, arith, rules}
-use Rattle.std.specs.Prelude.{filter, nat_lt}
-use Rattle.rr_graph.specs.declared.node.Node.{Node}
-use Rattle.rr_graph.specs.Numbering.{column_count, node_of}
-use Rattle.rr_graph.specs.Table.{IsRowBeside, IsTable}
+use Rattle.rr_graph.proofs.Prelude.{◌≡◌, ◌+◌, ◌*◌, ◌++◌, ◌∷◌, [], List, ℕ, length, subst, sym, ap, ◌∙◌, arith, rules, filter, nat_lt, Node, column_count, node_of, IsRowBeside, IsTable}
 use Rattle.rr_graph.proofs.Rows.{column_few, row_cut}
 use Rattle.rr_graph.proofs.Tables.{table_push}
 use Rattle.rr_graph.proofs.table.Table.cut.Goals as goal

@@ -1,4 +1,4 @@
-use Rattle.rr_graph.specs.Table.{IsTable}
+use Rattle.rr_graph.proofs.Prelude.{IsTable}
 use Rattle.rr_graph.proofs.table.Table.cut.Given as goal
 
 abbrev pub invariant-loop-i : goal.invariant-loop-i

@@ -1,4 +1,4 @@
-use Rattle.std.proofs.Common.{sym, ◌∙◌}
+use Rattle.rr_graph.proofs.Prelude.{sym, ◌∙◌}
 use Rattle.rr_graph.proofs.Tracks.{kind_none}
 use Rattle.rr_graph.proofs.targets.Targets.add_kind.Goals as goal
 

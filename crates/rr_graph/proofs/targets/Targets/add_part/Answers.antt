@@ -1,9 +1,4 @@
-use Rattle.std.proofs.Common.{◌≡◌, ◌+◌, ◌*◌, ◌<◌, ◌≤◌, arith, ◌∙◌, sym, ap, subst, rules}
-use Rattle.rr_graph.specs.declared.node.Member.{Member}
-use Rattle.rr_graph.specs.Geometry.{joins}
-use Rattle.rr_graph.specs.Numbering.{in_column, member_at, column_count, no_member}
-use Rattle.std.proofs.lemmas.List.{get_or_read}
-use Rattle.rr_graph.specs.Table.{IsRowBelow}
+use Rattle.rr_graph.proofs.Prelude.{◌≡◌, ◌+◌, ◌*◌, ◌<◌, ◌≤◌, arith, ◌∙◌, sym, ap, subst, rules, Member, joins, in_column, member_at, column_count, no_member, get_or_read, IsRowBelow}
 use Rattle.rr_graph.proofs.Rows.{part_push, part_skip}
 use Rattle.rr_graph.proofs.targets.Targets.add_part.Goals as goal
 use Rattle.rr_graph.proofs.targets.Targets.add_part.Goals.{then-joins+in_ok-push, else-joins}

@@ -1,5 +1,4 @@
-use Rattle.std.proofs.Common.{arith}
-use Rattle.std.proofs.lemmas.Result.{on_ok_weaker}
+use Rattle.rr_graph.proofs.Prelude.{arith, on_ok_weaker}
 use Rattle.rr_graph.proofs.Columns.{separates_order}
 use Rattle.rr_graph.proofs.Rows.{kind_begins, kind_ends, kind_there}
 use Rattle.rr_graph.proofs.targets.Targets.add_rows.Goals as goal

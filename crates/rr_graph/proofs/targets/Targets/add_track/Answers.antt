@@ -1,6 +1,4 @@
-use Rattle.std.proofs.Common.{◌≡◌, ◌+◌, arith, subst, ◌*◌}
-use Rattle.rr_graph.specs.Node.{rank_of}
-use Rattle.rr_graph.specs.Table.{IsRowAt, rows_above}
+use Rattle.rr_graph.proofs.Prelude.{◌≡◌, ◌+◌, arith, subst, ◌*◌, rank_of, IsRowAt, rows_above}
 use Rattle.rr_graph.proofs.Tracks.{track_begins, track_ends}
 use Rattle.rr_graph.proofs.targets.Targets.add_track.Goals as goal
 

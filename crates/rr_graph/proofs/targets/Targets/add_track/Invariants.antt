@@ -1,6 +1,4 @@
-use Rattle.std.proofs.Common.{◌+◌, ◌*◌}
-use Rattle.rr_graph.specs.Node.{rank_of}
-use Rattle.rr_graph.specs.Table.{IsRowAt}
+use Rattle.rr_graph.proofs.Prelude.{◌+◌, ◌*◌, rank_of, IsRowAt}
 use Rattle.rr_graph.proofs.targets.Targets.add_track.Given as goal
 
 abbrev pub invariant-loop-y : goal.invariant-loop-y

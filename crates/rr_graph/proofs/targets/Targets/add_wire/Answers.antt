@@ -1,6 +1,4 @@
-use Rattle.std.proofs.Common.{◌≡◌, sym, ◌∙◌, rules}
-use Rattle.std.proofs.lemmas.Bool.{false≢true}
-use Rattle.rr_graph.specs.Numbering.{column_count}
+use Rattle.rr_graph.proofs.Prelude.{◌≡◌, sym, ◌∙◌, rules, false≢true, column_count}
 use Rattle.rr_graph.proofs.Tracks.{wire_there, wire_added, wire_none}
 use Rattle.rr_graph.proofs.targets.Targets.add_wire.Goals as goal
 use Rattle.rr_graph.proofs.targets.Targets.add_wire.Goals.{else-is_slot-via-then-is_slot+else-joins, else-is_slot-via-else-is_slot}

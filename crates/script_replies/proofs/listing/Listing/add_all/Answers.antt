@@ -1,5 +1,4 @@
-use Rattle.std.proofs.Common.{List, map, arith}
-use Rattle.script_replies.specs.LineReplies.{LineReply, line_reply}
+use Rattle.script_replies.proofs.Prelude.{List, map, arith, LineReply, line_reply}
 use Rattle.script_replies.proofs.ToldLines.{told_all, told_next}
 use Rattle.script_replies.proofs.listing.Listing.add_all.Goals as goal
 

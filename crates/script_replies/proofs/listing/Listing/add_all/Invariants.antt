@@ -1,6 +1,4 @@
-use Rattle.std.proofs.Common.{◌≡◌, ◌++◌, take, map}
-use Rattle.printed_replies.specs.Replies.{answered_line}
-use Rattle.script_replies.specs.LineReplies.{line_replies, line_reply}
+use Rattle.script_replies.proofs.Prelude.{◌≡◌, ◌++◌, take, map, answered_line, line_replies, line_reply}
 use Rattle.script_replies.proofs.listing.Listing.add_all.Given as goal
 
 -- the lines so far

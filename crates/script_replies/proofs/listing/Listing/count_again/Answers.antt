@@ -1,5 +1,4 @@
-use Rattle.std.proofs.Common.{◌∙◌, ap, arith}
-use Rattle.script_replies.specs.LineReplies.{line_reply}
+use Rattle.script_replies.proofs.Prelude.{◌∙◌, ap, arith, line_reply}
 use Rattle.script_replies.proofs.ToldLines.{told_again}
 use Rattle.script_replies.proofs.listing.Listing.count_again.Goals as goal
 

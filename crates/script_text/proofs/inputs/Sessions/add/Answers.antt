@@ -1,11 +1,4 @@
-use Rattle.std.proofs.Common.{◌≡◌, ◌≤◌, ◌<◌, ◌++◌, ◌∷◌, [], ◌∙◌, ℕ, List, get_or, length, sym, ap, rules, arith}
-use Rattle.std.specs.Borrow.{Bor}
-use Rattle.std.proofs.Math.ListN.{set}
-use Rattle.std.proofs.lemmas.List.{get_or_default}
-use Rattle.script_text.specs.declared.inputs.SessionInput.{SessionInput}
-use Rattle.line_text.specs.Names.{number_of, with_name}
-use Rattle.script_text.specs.Names.{names_in}
-use Rattle.script_text.specs.Threaded.{with_feed}
+use Rattle.script_text.proofs.Prelude.{◌≡◌, ◌≤◌, ◌<◌, ◌++◌, ◌∷◌, [], ◌∙◌, ℕ, List, get_or, length, sym, ap, rules, arith, Bor, set, get_or_default, SessionInput, number_of, with_name, names_in, with_feed}
 use Rattle.script_text.proofs.InputLemmas.{length-names, names_in-set, on_ok, on_ok_any, with_input-push, with_input-set, with_name-found}
 use Rattle.script_text.proofs.inputs.Sessions.add.Goals as goal
 

@@ -1,8 +1,4 @@
-use Rattle.std.proofs.Common.{◌≡◌, ◌++◌, ap, codes, append_assoc, rules}
-use Rattle.std.specs.Prelude.{map}
-use Rattle.std.specs.List.{flat_map}
-use Rattle.line_text.proofs.WritingLemmas.{all_same, part_first, part_same, writes_part, writes_same, writes_then}
-use Rattle.script_text.specs.Replies.{heading, section_of, section_text}
+use Rattle.script_text.proofs.Prelude.{◌≡◌, ◌++◌, ap, codes, append_assoc, rules, map, flat_map, all_same, part_first, part_same, writes_part, writes_same, writes_then, heading, section_of, section_text}
 use Rattle.script_text.proofs.replies.RunReplies.write_to.Goals as goal
 
 pub returns-in_err-write_section : goal.returns-in_err-write_section

@@ -1,7 +1,4 @@
-use Rattle.std.proofs.Common.{◌≡◌, ◌∷◌, ◌<◌, length, rules, arith}
-use Rattle.line_text.specs.Lines.{physical_lines}
-use Rattle.script_text.specs.Script.{form_in, named_form}
-use Rattle.sessions.specs.Items.{without_cr}
+use Rattle.script_text.proofs.Prelude.{◌≡◌, ◌∷◌, ◌<◌, length, rules, arith, physical_lines, form_in, named_form, without_cr}
 use Rattle.script_text.proofs.ReadingLemmas.{asks_step, begins_step}
 use Rattle.script_text.proofs.Walked.{shorter}
 use Rattle.script_text.proofs.script.Reader.read_line.Goals as goal

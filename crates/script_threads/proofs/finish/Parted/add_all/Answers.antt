@@ -1,5 +1,5 @@
-use Rattle.std.specs.Prelude.{◌≡◌, map, true}
-use Rattle.script_text.specs.Replies.{section_of}
+use Rattle.script_threads.proofs.Prelude.{map, section_of}
+use Rattle.std.specs.Prelude.{◌≡◌, true}
 use Rattle.script_threads.proofs.FinishLemmas.{parts_more}
 use Rattle.script_threads.proofs.finish.Parted.add_all.Goals as goal
 

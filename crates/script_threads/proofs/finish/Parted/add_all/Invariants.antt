@@ -1,6 +1,5 @@
-use Rattle.std.specs.Prelude.{◌≡◌, map, true}
-use Rattle.script_threads.specs.Parts.{AreParts}
-use Rattle.script_text.specs.Replies.{section_of}
+use Rattle.script_threads.proofs.Prelude.{map, AreParts, section_of}
+use Rattle.std.specs.Prelude.{◌≡◌, true}
 use Rattle.script_threads.proofs.finish.Parted.add_all.Given as goal
 
 -- the parts so far

@@ -1,8 +1,4 @@
-use Rattle.std.proofs.Common.{◌≡◌, ◌<◌, ◌+◌, ◌++◌, ◌∷◌, [], length, List, Ok, None, rules, refl}
-use Rattle.strips.specs.Plan.{FitsAt, strip_of, offset_of}
-use Rattle.service_core.specs.History.{History}
-use Rattle.service_core.specs.Service.{admitted_history}
-use Rattle.service_core.specs.Kept.{ChecksAdmission}
+use Rattle.service_core.proofs.Prelude.{◌≡◌, ◌<◌, ◌+◌, ◌++◌, ◌∷◌, [], length, List, Ok, None, rules, refl, FitsAt, strip_of, offset_of, History, admitted_history, ChecksAdmission}
 use Rattle.service_core.proofs.Booking.{sound_admitted}
 use Rattle.service_core.proofs.Keeps.{no_strip-next}
 use Rattle.service_core.proofs.service.Service.admit.Goals as goal

@@ -1,6 +1,4 @@
-use Rattle.std.proofs.Common.{◌<◌, length, Some, None, arith, rules}
-use Rattle.std.proofs.lemmas.Bool.Decides.{nat_tests}
-use Rattle.strips.specs.Plan.{IsFirstFit}
+use Rattle.service_core.proofs.Prelude.{◌<◌, length, Some, None, arith, rules, nat_tests, IsFirstFit}
 use Rattle.service_core.proofs.service.Service.check_admission.Goals as goal
 
 pub returns-in-Some : goal.returns-in-Some

@@ -1,9 +1,4 @@
-use Rattle.std.proofs.Common.{◌≡◌, ◌-◌, get_or, rules, refl}
-use Rattle.device_book.specs.Owners.{Releases}
-use Rattle.service_core.specs.History.{History, state_of}
-use Rattle.service_core.specs.Tenancy.{closed_history}
-use Rattle.service_core.specs.Kept.{IsLiveIn, IsPlaceOf, held_at}
-use Rattle.tenant_slot.specs.RoutedSet.{routed_set}
+use Rattle.service_core.proofs.Prelude.{◌≡◌, ◌-◌, get_or, rules, refl, Releases, History, state_of, closed_history, IsLiveIn, IsPlaceOf, held_at, routed_set}
 use Rattle.service_core.proofs.Booking.{in_book_there, released_held, sound_evicted, stand_in}
 use Rattle.service_core.proofs.Keeps.{live_is, set-live}
 use Rattle.service_core.proofs.service.Service.evict.Goals as goal

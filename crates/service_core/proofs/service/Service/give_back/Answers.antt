@@ -1,6 +1,4 @@
-use Rattle.std.proofs.Common.{◌≡◌, ◌-◌, get_or, rules, sym, ◌∙◌}
-use Rattle.service_core.specs.History.{History}
-use Rattle.service_core.specs.Kept.{IsLiveIn}
+use Rattle.service_core.proofs.Prelude.{◌≡◌, ◌-◌, get_or, rules, sym, ◌∙◌, History, IsLiveIn}
 use Rattle.service_core.proofs.Keeps.{history-live}
 use Rattle.service_core.proofs.Booking.{sound_given}
 use Rattle.service_core.proofs.Serving.{IsGivenBack-live}

@@ -1,10 +1,4 @@
-use Rattle.std.proofs.Common.{◌≡◌, ◌-◌, ◌∙◌, List, get_or, rules, sym, subst}
-use Rattle.strips.specs.declared.placed_strip.PlacedStrip.{PlacedStrip}
-use Rattle.strips.specs.Plan.{IsParted, Plan, with_moved}
-use Rattle.tenant_slot.specs.RoutedSet.{routed_set}
-use Rattle.service_core.specs.declared.device.Device.{Device}
-use Rattle.service_core.specs.History.{History, state_of}
-use Rattle.service_core.specs.Kept.{IsLiveIn, IsPlaceOf, IsSound}
+use Rattle.service_core.proofs.Prelude.{◌≡◌, ◌-◌, ◌∙◌, List, get_or, rules, sym, subst, PlacedStrip, IsParted, Plan, with_moved, routed_set, Device, History, state_of, IsLiveIn, IsPlaceOf, IsSound}
 use Rattle.service_core.proofs.Booking.{in_book_there, stand_in}
 use Rattle.service_core.proofs.Keeps.{live_is}
 use Rattle.service_core.proofs.Moving.{moved_there, no_one_elses, owns_held, shifted_held, sound_moved, stands_moved}

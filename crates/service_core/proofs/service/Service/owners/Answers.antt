@@ -1,5 +1,5 @@
 use Rattle.service_core.proofs.Booking.{listed_owners, one_in_book}
-use Rattle.std.proofs.lemmas.Result.{IfOk-weaker}
+use Rattle.service_core.proofs.Prelude.{IfOk-weaker}
 use Rattle.service_core.proofs.service.Service.owners.Goals as goal
 
 pub returns-clause-value : goal.returns-clause-value

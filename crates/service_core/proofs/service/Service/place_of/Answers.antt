@@ -1,6 +1,4 @@
-use Rattle.std.proofs.Common.{◌≡◌, Some, refl, subst, sym, ◌∙◌}
-use Rattle.std.specs.Option.{IsSome}
-use Rattle.strips.specs.Plan.{offset_of}
+use Rattle.service_core.proofs.Prelude.{◌≡◌, Some, refl, subst, sym, ◌∙◌, IsSome, offset_of}
 use Rattle.service_core.proofs.Booking.{has_offset, live_some, stands_there}
 use Rattle.service_core.proofs.service.Service.place_of.Goals as goal
 

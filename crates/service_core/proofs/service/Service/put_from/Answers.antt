@@ -1,8 +1,4 @@
-use Rattle.std.proofs.Common.{◌≡◌, ◌-◌, ◌<◌, length, get_or, true, Ok, Err, rules, sym, ap, subst, ◌∙◌, arith}
-use Rattle.service_core.specs.History.{History}
-use Rattle.service_core.specs.Kept.{IsLiveIn, IsPlaceOf}
-use Rattle.service_core.specs.Tenancy.{PutsHistory, StandsIn}
-use Rattle.device_book.specs.Owners.{extent_of}
+use Rattle.service_core.proofs.Prelude.{◌≡◌, ◌-◌, ◌<◌, length, get_or, true, Ok, Err, rules, sym, ap, subst, ◌∙◌, arith, History, IsLiveIn, IsPlaceOf, PutsHistory, StandsIn, extent_of}
 use Rattle.service_core.proofs.Booking.{in_book_there, put_free, put_live, sound_back, sound_put}
 use Rattle.service_core.proofs.Keeps.{history-live, live_is}
 use Rattle.service_core.proofs.Serving.{Puts-recorded, Puts-no_memory, origin_at}

@@ -1,10 +1,6 @@
-use Rattle.std.proofs.Common.{◌≡◌, ◌-◌, get_or, rules, subst}
-use Rattle.service_core.specs.History.{History}
-use Rattle.service_core.specs.Kept.{IsLiveIn}
+use Rattle.service_core.proofs.Prelude.{◌≡◌, ◌-◌, get_or, rules, subst, History, IsLiveIn, IsTaken, ServiceState}
 use Rattle.service_core.proofs.Keeps.{history-live}
 use Rattle.service_core.proofs.Booking.{sound_taken}
-use Rattle.service_core.specs.Calls.{IsTaken}
-use Rattle.service_core.specs.Service.{ServiceState}
 use Rattle.service_core.proofs.Serving.{IsTaken-live, written}
 use Rattle.service_core.proofs.service.Service.take.Goals as goal
 

@@ -1,6 +1,4 @@
-use Rattle.std.proofs.Common.{◌≡◌, ◌-◌, get_or, true, rules, ap, ◌∙◌}
-use Rattle.service_core.specs.History.{History}
-use Rattle.service_core.specs.Kept.{IsLiveIn, IsPlaceOf}
+use Rattle.service_core.proofs.Prelude.{◌≡◌, ◌-◌, get_or, true, rules, ap, ◌∙◌, History, IsLiveIn, IsPlaceOf}
 use Rattle.service_core.proofs.Booking.{in_book_there, sound_served}
 use Rattle.service_core.proofs.Keeps.{live_is}
 use Rattle.service_core.proofs.Serving.{IsServed-ok, IsServed-full, IsServed-no_memory}

@@ -1,6 +1,4 @@
-use Rattle.std.proofs.Common.{◌≡◌, refl, rules}
-use Rattle.tenant_slot.specs.SingleUser.{start, state_after}
-use Rattle.service_core.specs.History.{events_of, slot_of}
+use Rattle.service_core.proofs.Prelude.{◌≡◌, refl, rules, start, state_after, events_of, slot_of}
 use Rattle.service_core.proofs.Slots.{gives_back, slot_is}
 use Rattle.service_core.proofs.tenancy.Tenancy.give_back.Goals as goal
 

@@ -1,10 +1,5 @@
-use Rattle.std.proofs.Common.{◌≡◌, [], ◌∷◌, ◌++◌, true, rules, refl, subst, sym}
+use Rattle.service_core.proofs.Prelude.{◌≡◌, [], ◌∷◌, ◌++◌, true, rules, refl, subst, sym, Step, start, state_after, IsOrigin, SlotState, Entry, events_of, slot_of}
 use Rattle.tenant_slot.specs.declared.event.Event.TheVariants.{Advance as Stepped}
-use Rattle.tenant_slot.specs.declared.reply.Reply.TheVariants.{Step}
-use Rattle.tenant_slot.specs.SingleUser.{start, state_after}
-use Rattle.tenant_slot.specs.Slot.{IsOrigin, SlotState}
-use Rattle.service_core.specs.declared.entry.Entry.{Entry}
-use Rattle.service_core.specs.History.{events_of, slot_of}
 use Rattle.service_core.proofs.Histories.{IsHistory-push}
 use Rattle.service_core.proofs.JournalTexts.{CountAs-push}
 use Rattle.service_core.proofs.Slots.{Stands, history_is, put_stands, slot_is}

@@ -1,6 +1,4 @@
-use Rattle.std.proofs.Common.{◌≡◌, rules, sym, subst}
-use Rattle.tenant_slot.specs.SingleUser.{start, state_after}
-use Rattle.service_core.specs.History.{events_of}
+use Rattle.service_core.proofs.Prelude.{◌≡◌, rules, sym, subst, start, state_after, events_of}
 use Rattle.service_core.proofs.Booking.{there_for}
 use Rattle.service_core.proofs.Held.{IsOnStrip, events_stay}
 use Rattle.service_core.proofs.tenancy.Tenancy.routed_resources.Goals as goal

@@ -1,13 +1,4 @@
-use Rattle.std.proofs.Common.{◌≡◌, ◌+◌, ◌≤◌, List, [], ◌∷◌, ◌++◌, Ok, Option, Some, true, rules, ap, arith, sym, subst}
-use Rattle.tenant_slot.specs.declared.event.Event.TheVariants.{Command as Asked}
-use Rattle.tenant_slot.specs.Answer.{Answers}
-use Rattle.tenant_slot.specs.SingleUser.{State, state_after, start, step}
-use Rattle.tenant_slot.specs.declared.reply.Reply.{Reply}
-use Rattle.tenant_slot.proofs.Runs.{step-accepted}
-use Rattle.service_core.specs.declared.entry.Entry.{Entry}
-use Rattle.service_core.specs.History.{events_of}
-use Rattle.service_core.specs.History.{state_of}
-use Rattle.service_core.specs.Texts.{CountAs}
+use Rattle.service_core.proofs.Prelude.{◌≡◌, ◌+◌, ◌≤◌, List, [], ◌∷◌, ◌++◌, Ok, Option, Some, true, rules, ap, arith, sym, subst, Command as Asked, Answers, State, state_after, start, step, Reply, step-accepted, Entry, events_of, state_of, CountAs}
 use Rattle.service_core.proofs.Booking.{slot_gives_up, stands_for}
 use Rattle.service_core.proofs.Held.{IsOnStrip, events_stay}
 use Rattle.service_core.proofs.Histories.{IsHistory-push, state_after-push}

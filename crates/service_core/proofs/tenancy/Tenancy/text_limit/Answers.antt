@@ -1,4 +1,4 @@
-use Rattle.std.proofs.Common.{refl}
+use Rattle.service_core.proofs.Prelude.{refl}
 use Rattle.service_core.proofs.JournalTexts.{FitInto-more}
 use Rattle.service_core.proofs.tenancy.Tenancy.text_limit.Goals as goal
 

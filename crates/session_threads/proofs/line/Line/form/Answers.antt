@@ -1,6 +1,4 @@
-use Rattle.std.proofs.Common.{ap, ◌∙◌}
-use Rattle.sessions.specs.Items.{without_cr}
-use Rattle.sessions.specs.SessionLines.{line_form}
+use Rattle.session_threads.proofs.Prelude.{ap, ◌∙◌, without_cr, line_form}
 use Rattle.session_threads.proofs.HeadLemmas.{head_form}
 use Rattle.session_threads.proofs.line.Line.form.Goals as goal
 

@@ -1,6 +1,4 @@
-use Rattle.std.proofs.Common.{ℕ, Option, Ok, subst}
-use Rattle.std.specs.Io.KnownBytes.{prepend_known}
-use Rattle.session_threads.specs.Inputs.{GivesByte}
+use Rattle.session_threads.proofs.Prelude.{ℕ, Option, Ok, subst, prepend_known, GivesByte}
 use Rattle.session_threads.proofs.LineLemmas.{reads_more}
 use Rattle.session_threads.proofs.lines.LineReader.read_line.Goals as goal
 

@@ -1,4 +1,4 @@
-use Rattle.std.specs.Io.KnownBytes.{prepend_known}
+use Rattle.session_threads.proofs.Prelude.{prepend_known}
 use Rattle.session_threads.proofs.LineLemmas.{Reading}
 use Rattle.session_threads.proofs.lines.LineReader.read_line.Given as goal
 

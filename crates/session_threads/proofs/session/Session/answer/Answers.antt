@@ -1,7 +1,4 @@
-use Rattle.std.proofs.Common.{◌≡◌, refl, rules}
-use Rattle.std.specs.Prelude.{option_copied}
-use Rattle.line_text.specs.Writing.{Writes}
-use Rattle.session_threads.specs.Told.{last_place}
+use Rattle.session_threads.proofs.Prelude.{◌≡◌, refl, rules, option_copied, Writes, last_place}
 use Rattle.session_threads.proofs.ToldLemmas.{tells_placed}
 use Rattle.session_threads.proofs.session.Session.answer.Goals as goal
 

@@ -1,5 +1,4 @@
-use Rattle.std.proofs.Common.{◌≡◌, ◌<◌, ℕ, List, [], length, refl}
-use Rattle.session_threads.specs.Lines.{IsLine}
+use Rattle.session_threads.proofs.Prelude.{◌≡◌, ◌<◌, ℕ, List, [], length, refl, IsLine}
 use Rattle.session_threads.proofs.TurnLemmas.{last_line_served, last_line_unwritten, no_last_line}
 use Rattle.session_threads.proofs.session.Session.end_input.Goals as goal
 

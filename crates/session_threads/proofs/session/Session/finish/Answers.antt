@@ -1,5 +1,4 @@
-use Rattle.transcripts.specs.declared.item.SessionEnd.TheVariants.{Ended, WriterFailed}
-use Rattle.session_threads.specs.WholeSession.{Wrote}
+use Rattle.session_threads.proofs.Prelude.{Ended, WriterFailed, Wrote}
 use Rattle.session_threads.proofs.ToldLemmas.{finishes}
 use Rattle.session_threads.proofs.session.Session.finish.Goals as goal
 

@@ -1,4 +1,4 @@
-use Rattle.std.proofs.Common.{◌∙◌, refl}
+use Rattle.session_threads.proofs.Prelude.{◌∙◌, refl}
 use Rattle.session_threads.proofs.SessionLemmas.{going_begins, goes_on, stops}
 use Rattle.session_threads.proofs.session.Session.read_all.Goals as goal
 

@@ -1,5 +1,4 @@
-use Rattle.std.proofs.Common.{◌≡◌}
-use Rattle.std.specs.Io.KnownBytes.{prepend_known}
+use Rattle.session_threads.proofs.Prelude.{◌≡◌, prepend_known}
 use Rattle.session_threads.proofs.SessionLemmas.{Going}
 use Rattle.session_threads.proofs.session.Session.read_all.Given as goal
 

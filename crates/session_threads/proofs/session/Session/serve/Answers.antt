@@ -1,6 +1,4 @@
-use Rattle.std.proofs.Common.{◌∙◌, ap}
-use Rattle.line_text.specs.Writing.{Writes}
-use Rattle.transcripts.specs.Transcripts.{with_no_memory}
+use Rattle.session_threads.proofs.Prelude.{◌∙◌, ap, Writes, with_no_memory}
 use Rattle.session_threads.proofs.ToldLemmas.{serves_item, serves_none}
 use Rattle.session_threads.proofs.session.Session.serve.Goals as goal
 

@@ -1,4 +1,4 @@
-use Rattle.line_text.specs.Writing.{Writes}
+use Rattle.session_threads.proofs.Prelude.{Writes}
 use Rattle.session_threads.proofs.ItemLemmas.{serves_line}
 use Rattle.session_threads.proofs.session.Session.serve_line.Goals as goal
 

@@ -1,7 +1,4 @@
-use Rattle.std.proofs.Common.{Ok, subst}
-use Rattle.std.specs.Io.KnownBytes.{prepend_known}
-use Rattle.session_threads.specs.declared.lines.LineEnd.{LineEnd}
-use Rattle.session_threads.specs.Inputs.{ReadsLine}
+use Rattle.session_threads.proofs.Prelude.{Ok, subst, prepend_known, LineEnd, ReadsLine}
 use Rattle.session_threads.proofs.KnownLemmas.{end_of_ahead}
 use Rattle.session_threads.proofs.TurnLemmas.{ends_reading, input_ended, line_served, line_unwritten, none_ahead, reader_fails}
 use Rattle.session_threads.proofs.session.Session.turn.Goals as goal

@@ -1,4 +1,4 @@
-use Rattle.std.proofs.Common.{◌≡◌}
+use Rattle.session_threads.proofs.Prelude.{◌≡◌}
 use Rattle.session_threads.proofs.session.Session.wait.Given as goal
 
 -- nothing is noted while the wait goes on

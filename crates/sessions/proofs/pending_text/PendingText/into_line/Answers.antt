@@ -1,6 +1,4 @@
-use Rattle.std.proofs.Common.{◌≡◌, ◌≤◌, length, sym, ap, ◌∙◌, rules}
-use Rattle.sessions.specs.declared.line.SessionLine.TheVariants.{Command}
-use Rattle.sessions.specs.SessionLines.{text_command}
+use Rattle.sessions.proofs.Prelude.{◌≡◌, ◌≤◌, length, sym, ap, ◌∙◌, rules, Command, text_command}
 use Rattle.sessions.proofs.KeptLemmas.{kept-all}
 use Rattle.sessions.proofs.pending_text.PendingText.into_line.Goals as goal
 

@@ -1,5 +1,4 @@
-use Rattle.std.proofs.Common.{◌≡◌, ◌++◌, ◌∷◌, [], ap, ◌∙◌, rules}
-use Rattle.sessions.specs.Items.{kept_part}
+use Rattle.sessions.proofs.Prelude.{◌≡◌, ◌++◌, ◌∷◌, [], ap, ◌∙◌, rules, kept_part}
 use Rattle.sessions.proofs.KeptLemmas.{kept-kept}
 use Rattle.sessions.proofs.pending_text.PendingText.with_line.Goals as goal
 

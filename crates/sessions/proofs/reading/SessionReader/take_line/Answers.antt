@@ -1,5 +1,4 @@
-use Rattle.std.proofs.Common.{◌≡◌, Some, false, rules}
-use Rattle.sessions.specs.Items.{ends_text}
+use Rattle.sessions.proofs.Prelude.{◌≡◌, Some, false, rules, ends_text}
 use Rattle.sessions.proofs.ReadingLemmas.{continued}
 use Rattle.sessions.proofs.reading.SessionReader.take_line.Goals as goal
 

@@ -1,4 +1,4 @@
-use Rattle.std.proofs.Common.{rules, ◌≡◌, ◌∙◌}
+use Rattle.shared_core.proofs.Prelude.{rules, ◌≡◌, ◌∙◌}
 use Rattle.shared_core.proofs.Searching.{found}
 use Rattle.shared_core.proofs.lease_marks.LeaseMarks.has.Goals as goal
 

@@ -1,5 +1,4 @@
-use Rattle.std.proofs.Common.{rules, refl, ◌≡◌, ◌++◌, ◌∷◌, []}
-use Rattle.shared_core.specs.CoreState.{no_marks}
+use Rattle.shared_core.proofs.Prelude.{rules, refl, ◌≡◌, ◌++◌, ◌∷◌, [], no_marks}
 use Rattle.shared_core.proofs.Kept.{IsAccount-admitted}
 use Rattle.shared_core.proofs.shared.Core.admit.Goals as goal
 

@@ -1,6 +1,4 @@
-use Rattle.std.proofs.Common.{rules, ◌≡◌, Some}
-use Rattle.shared_core.specs.CoreState.{marked_of}
-use Rattle.shared_core.specs.Accounts.{entries_of}
+use Rattle.shared_core.proofs.Prelude.{rules, ◌≡◌, Some, marked_of, entries_of}
 use Rattle.shared_core.proofs.Sums.{rising-from_zero}
 use Rattle.shared_core.proofs.shared.Core.is_marked.Goals as goal
 

@@ -1,5 +1,4 @@
-use Rattle.std.proofs.Common.{rules, arith, ◌≡◌, ◌-◌, true, false, get_or, set, refl}
-use Rattle.shared_core.specs.CoreState.{Marked, can_lease, with_lease, is_leased, is_live, with_changed_marks}
+use Rattle.shared_core.proofs.Prelude.{rules, arith, ◌≡◌, ◌-◌, true, false, get_or, set, refl, Marked, can_lease, with_lease, is_leased, is_live, with_changed_marks}
 use Rattle.shared_core.proofs.Kept.{IsAccount-leased, leasable, lease_is, live_within, core_is, part_left}
 use Rattle.shared_core.proofs.Marks.{set-remarked}
 use Rattle.shared_core.proofs.shared.Core.lease.Goals as goal

@@ -1,6 +1,4 @@
-use Rattle.std.proofs.Common.{rules, arith, ◌≡◌, ◌-◌, true, false, get_or, set, refl}
-use Rattle.service_core.specs.Service.{AreAlone, live_of}
-use Rattle.shared_core.specs.CoreState.{Marked, has_room_in, with_changed_marks, with_place}
+use Rattle.shared_core.proofs.Prelude.{rules, arith, ◌≡◌, ◌-◌, true, false, get_or, set, refl, AreAlone, live_of, Marked, has_room_in, with_changed_marks, with_place}
 use Rattle.shared_core.proofs.Kept.{IsAccount-marked, Unserved, core_is, live_within, room_live, unserved}
 use Rattle.shared_core.proofs.Marks.{set-remarked}
 use Rattle.shared_core.proofs.shared.Core.lease_command.Goals as goal

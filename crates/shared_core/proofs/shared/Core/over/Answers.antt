@@ -1,4 +1,4 @@
-use Rattle.std.proofs.Common.{arith, sym, ◌∙◌}
+use Rattle.shared_core.proofs.Prelude.{arith, sym, ◌∙◌}
 use Rattle.shared_core.proofs.Wrapped.{IsAccount-wrapped}
 use Rattle.shared_core.proofs.shared.Core.over.Goals as goal
 

@@ -1,5 +1,4 @@
-use Rattle.std.proofs.Common.{Ok}
-use Rattle.service_core.specs.declared.put_reply.PutReply.TheVariants.{Recorded}
+use Rattle.shared_core.proofs.Prelude.{Ok, Recorded}
 use Rattle.shared_core.proofs.Journals.{put}
 use Rattle.shared_core.proofs.Kept.{IsAccount-grown}
 use Rattle.shared_core.proofs.Reaching.{reached_put}

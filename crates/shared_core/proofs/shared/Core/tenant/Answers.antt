@@ -1,4 +1,4 @@
-use Rattle.std.proofs.Common.{arith}
+use Rattle.shared_core.proofs.Prelude.{arith}
 use Rattle.shared_core.proofs.Journals.{served}
 use Rattle.shared_core.proofs.Kept.{IsAccount-grown}
 use Rattle.shared_core.proofs.shared.Core.tenant.Goals as goal

@@ -1,4 +1,4 @@
-use Rattle.std.proofs.Common.{◌≡◌}
+use Rattle.strip_files.proofs.Prelude.{◌≡◌}
 use Rattle.strip_files.proofs.net_text.Listed.pin_list.Given as goal
 
 -- blocks and BLEs stay as they were

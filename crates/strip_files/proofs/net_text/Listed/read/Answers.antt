@@ -1,12 +1,5 @@
-use Rattle.std.proofs.Common.{◌≡◌, ◌<◌, ◌∙◌, ◌++◌, List, [], ℕ, length, ap, arith, sym, subst, filter, append-nil}
-use Rattle.std.proofs.lemmas.Bool.Decides.{nat_tests}
-use Rattle.line_text.specs.Lines.{physical_lines}
-use Rattle.line_text.specs.Words.{texts}
-use Rattle.strip_files.specs.BlockLines.{IsLineOfBlock, IsLineOfElement, block_lines, element_lines, listed_names}
-use Rattle.strip_files.specs.EachLine.{AreEachFrom}
-use Rattle.strip_files.specs.declared.block.BlockKind.{BlockKind}
+use Rattle.strip_files.proofs.Prelude.{◌≡◌, ◌<◌, ◌∙◌, ◌++◌, List, [], ℕ, length, ap, arith, sym, subst, filter, append-nil, nat_tests, physical_lines, texts, IsLineOfBlock, IsLineOfElement, block_lines, element_lines, listed_names, AreEachFrom, BlockKind, is_block_line, is_element_line, listed_elements, starts_of}
 use Rattle.strip_files.proofs.Nets.{each_step}
-use Rattle.strip_files.specs.Starts.{is_block_line, is_element_line, listed_elements, starts_of}
 use Rattle.strip_files.proofs.Begun.{begun_step}
 use Rattle.strip_files.proofs.Told.{nothing}
 use Rattle.strip_files.proofs.net_text.Listed.read.Goals as goal

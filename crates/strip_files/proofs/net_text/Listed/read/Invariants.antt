@@ -1,10 +1,4 @@
-use Rattle.std.proofs.Common.{ℕ, List, ◌≡◌, ◌++◌, length}
-use Rattle.line_text.specs.Lines.{physical_lines}
-use Rattle.line_text.specs.Words.{texts}
-use Rattle.strip_files.specs.BlockLines.{IsLineOfBlock, IsLineOfElement, block_lines, element_lines, listed_names}
-use Rattle.strip_files.specs.EachLine.{AreEachFrom}
-use Rattle.strip_files.specs.declared.block.BlockKind.{BlockKind}
-use Rattle.strip_files.specs.Starts.{block_starts, is_block_line, is_element_line, listed_elements, starts_of}
+use Rattle.strip_files.proofs.Prelude.{ℕ, List, ◌≡◌, ◌++◌, length, physical_lines, texts, IsLineOfBlock, IsLineOfElement, block_lines, element_lines, listed_names, AreEachFrom, BlockKind, block_starts, is_block_line, is_element_line, listed_elements, starts_of}
 use Rattle.strip_files.proofs.net_text.Listed.read.Given as goal
 
 -- the first BLEs of the blocks so far, with those of the remaining lines' blocks, are those of all

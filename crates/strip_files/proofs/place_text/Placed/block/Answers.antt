@@ -1,10 +1,4 @@
-use Rattle.std.proofs.Common.{ℕ, List, ◌≡◌, ◌∙◌, ◌++◌, [], ◌∷◌, length, ap, sym, subst, refl, arith}
-use Rattle.std.proofs.lemmas.Bool.Decides.{nat_tests}
-use Rattle.std.proofs.lemmas.List.{length-map, map_push}
-use Rattle.std.proofs.lemmas.Slice.Eq.{bytes_eq-Decides}
-use Rattle.grid.specs.declared.place.Place.{Place}
-use Rattle.strip_files.specs.PlaceLines.{IsPlaceLine, places_of}
-use Rattle.strip_files.specs.declared.block.PlacedBlock.{PlacedBlock}
+use Rattle.strip_files.proofs.Prelude.{ℕ, List, ◌≡◌, ◌∙◌, ◌++◌, [], ◌∷◌, length, ap, sym, subst, refl, arith, nat_tests, length-map, map_push, bytes_eq-Decides, Place, IsPlaceLine, places_of, PlacedBlock}
 use Rattle.strip_files.proofs.Begun.{named_push, placed_push}
 use Rattle.strip_files.proofs.place_text.Placed.block.Goals as goal
 

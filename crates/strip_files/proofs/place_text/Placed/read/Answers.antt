@@ -1,10 +1,4 @@
-use Rattle.std.proofs.Common.{ℕ, Bool, false, List, ◌≡◌, ◌<◌, ◌+◌, ◌-◌, ◌++◌, [], drop, filter, length, ap, sym, subst, arith, append-nil}
-use Rattle.std.proofs.lemmas.Bool.Decides.{nat_tests}
-use Rattle.std.specs.Prelude.{nat_lt, if◌then◌else◌}
-use Rattle.grid.specs.declared.place.Place.{Place}
-use Rattle.line_text.specs.Lines.{physical_lines}
-use Rattle.strip_files.specs.EachLine.{AddsNext, AreEachFrom}
-use Rattle.strip_files.specs.PlaceLines.{IsLineOfPlace, has_place, is_place_line, place_lines, places_of}
+use Rattle.strip_files.proofs.Prelude.{ℕ, Bool, false, List, ◌≡◌, ◌<◌, ◌+◌, ◌-◌, ◌++◌, [], drop, filter, length, ap, sym, subst, arith, append-nil, nat_tests, nat_lt, if◌then◌else◌, Place, physical_lines, AddsNext, AreEachFrom, IsLineOfPlace, has_place, is_place_line, place_lines, places_of}
 use Rattle.strip_files.proofs.Places.{no_place, place_step}
 use Rattle.strip_files.proofs.Told.{nothing}
 use Rattle.strip_files.proofs.place_text.Placed.read.Goals as goal

@@ -1,11 +1,4 @@
-use Rattle.std.proofs.Common.{ℕ, List, ◌≡◌, ◌-◌, ◌++◌, drop, filter, length}
-use Rattle.std.specs.Prelude.{is_some, nat_lt}
-use Rattle.grid.specs.declared.place.Place.{Place}
-use Rattle.line_text.specs.Lines.{physical_lines}
-use Rattle.strip_files.specs.BlockLines.{AreFirstNamed}
-use Rattle.strip_files.specs.EachLine.{AreEachFrom}
-use Rattle.strip_files.specs.PlaceLines.{IsLineOfPlace, is_place_line, place_lines, places_of}
-use Rattle.strip_files.specs.Starts.{ArePlaced}
+use Rattle.strip_files.proofs.Prelude.{ℕ, List, ◌≡◌, ◌-◌, ◌++◌, drop, filter, length, is_some, nat_lt, Place, physical_lines, AreFirstNamed, AreEachFrom, IsLineOfPlace, is_place_line, place_lines, places_of, ArePlaced}
 use Rattle.strip_files.proofs.place_text.Placed.read.Given as goal
 
 -- the size is there after two lines; and the blocks so far, with those of the remaining lines, are

@@ -1,6 +1,4 @@
-use Rattle.std.proofs.Common.{◌≡◌, ◌∙◌, ◌++◌, List, ℕ, true, false, sym, subst}
-use Rattle.strip_files.specs.declared.route_node.RouteNode.{RouteNode}
-use Rattle.strip_files.specs.NodeLines.{IsReadOn, is_node_line, kind_start}
+use Rattle.strip_files.proofs.Prelude.{◌≡◌, ◌∙◌, ◌++◌, List, ℕ, true, false, sym, subst, RouteNode, IsReadOn, is_node_line, kind_start}
 use Rattle.strip_files.proofs.Told.{always_ok, on_ok, other_line, told_line}
 use Rattle.strip_files.proofs.route_text.Routed.line.Goals as goal
 

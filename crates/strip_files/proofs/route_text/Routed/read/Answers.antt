@@ -1,12 +1,4 @@
-use Rattle.std.proofs.Common.{◌≡◌, ◌<◌, ◌∙◌, ◌++◌, List, [], ℕ, length, ap, arith, sym, subst, filter, append-nil}
-use Rattle.std.proofs.lemmas.Bool.Decides.{nat_tests}
-use Rattle.line_text.specs.Lines.{physical_lines}
-use Rattle.strip_files.specs.declared.route_node.RouteNode.{RouteNode}
-use Rattle.strip_files.specs.declared.route_text.Net.{Net}
-use Rattle.strip_files.specs.NodeLines.{AreTold, IsReadOn, is_node_line, node_lines}
-use Rattle.strip_files.specs.Starts.{first_nodes, is_net_line, starts_of}
-use Rattle.strip_files.specs.EachLine.{AreEachFrom}
-use Rattle.strip_files.specs.NetLines.{AreNamed, IsLineOfNet, net_lines}
+use Rattle.strip_files.proofs.Prelude.{◌≡◌, ◌<◌, ◌∙◌, ◌++◌, List, [], ℕ, length, ap, arith, sym, subst, filter, append-nil, nat_tests, physical_lines, RouteNode, Net, AreTold, IsReadOn, is_node_line, node_lines, first_nodes, is_net_line, starts_of, AreEachFrom, AreNamed, IsLineOfNet, net_lines}
 use Rattle.strip_files.proofs.Nets.{each_step}
 use Rattle.strip_files.proofs.Begun.{begun_step}
 use Rattle.strip_files.proofs.Told.{nothing, told_step}

@@ -1,11 +1,4 @@
-use Rattle.std.proofs.Common.{List, ◌≡◌, ◌++◌, length}
-use Rattle.line_text.specs.Lines.{physical_lines}
-use Rattle.strip_files.specs.declared.route_node.RouteNode.{RouteNode}
-use Rattle.strip_files.specs.declared.route_text.Net.{Net}
-use Rattle.strip_files.specs.EachLine.{AreEachFrom}
-use Rattle.strip_files.specs.NetLines.{AreNamed, IsLineOfNet, net_lines}
-use Rattle.strip_files.specs.NodeLines.{AreTold, is_node_line, node_lines}
-use Rattle.strip_files.specs.Starts.{first_nodes, is_net_line, net_starts, starts_of}
+use Rattle.strip_files.proofs.Prelude.{List, ◌≡◌, ◌++◌, length, physical_lines, RouteNode, Net, AreEachFrom, AreNamed, IsLineOfNet, net_lines, AreTold, is_node_line, node_lines, first_nodes, is_net_line, net_starts, starts_of}
 use Rattle.strip_files.proofs.route_text.Routed.read.Given as goal
 
 -- the nodes read so far, with those of the remaining lines, are the nodes of all lines; and so are

@@ -1,5 +1,4 @@
-use Rattle.std.proofs.Common.{refl, subst}
-use Rattle.strip_place.specs.Boards.{IsLawfulBoard}
+use Rattle.strip_place.proofs.Prelude.{refl, subst, IsLawfulBoard}
 use Rattle.strip_place.proofs.board.Board.len.Goals as goal
 
 pub returns-clause-lawful : goal.returns-clause-lawful

@@ -1,10 +1,5 @@
-use Rattle.std.proofs.Common.{◌≡◌, ◌-◌, ◌≤◌, ◌∙◌, Some, length, slice_get, ap, sym, subst, arith}
+use Rattle.strip_place.proofs.Prelude.{◌≡◌, ◌-◌, ◌≤◌, ◌∙◌, Some, length, slice_get, ap, sym, subst, arith, slice_get-map, Logic, Pad, places_of, site_place, Board}
 use Rattle.std.specs.Option.{option_map}
-use Rattle.std.proofs.lemmas.Option.{slice_get-map}
-use Rattle.grid.specs.declared.place.Kind.TheVariants.{Logic, Pad}
-use Rattle.grid.specs.Places.{places_of}
-use Rattle.strip_place.specs.Sites.{site_place}
-use Rattle.strip_place.specs.Boards.{Board}
 use Rattle.strip_place.proofs.Starts.{place_logic, place_pad}
 use Rattle.strip_place.proofs.board.Board.place.Goals as goal
 

@@ -1,5 +1,4 @@
-use Rattle.std.proofs.Common.{◌≡◌, ◌+◌, ◌*◌, ◌/◌, ◌<◌, ◌≤◌, ℕ, arith, sym, subst}
-use Rattle.std.proofs.Math.Nat.{div-mul-le_self, lt-div-mul-add}
+use Rattle.strip_place.proofs.Prelude.{◌≡◌, ◌+◌, ◌*◌, ◌/◌, ◌<◌, ◌≤◌, ℕ, arith, sym, subst, div-mul-le_self, lt-div-mul-add}
 use Rattle.strip_place.proofs.Remainders.{is_rest, is_rest_past, not_above, not_far_below}
 use Rattle.strip_place.proofs.divisor.Divisor.rest_of.Goals as goal
 

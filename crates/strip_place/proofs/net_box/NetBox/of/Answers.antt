@@ -1,8 +1,4 @@
-use Rattle.std.proofs.Common.{◌≡◌, ◌+◌, ◌<◌, ◌≤◌, length, take, get_or, arith}
-use Rattle.std.proofs.lemmas.List.{get_or_read, take_all}
-use Rattle.strip_place.specs.declared.net_box.NetBox.{NetBox}
-use Rattle.strip_place.specs.Boxes.{at_column, at_row}
-use Rattle.strip_place.specs.Wiring.{no_point, point_at}
+use Rattle.strip_place.proofs.Prelude.{◌≡◌, ◌+◌, ◌<◌, ◌≤◌, length, take, get_or, arith, get_or_read, take_all, NetBox, at_column, at_row, no_point, point_at}
 use Rattle.strip_place.proofs.Ends.{column_more, row_more}
 use Rattle.strip_place.proofs.Nearness.{box_all, box_more}
 use Rattle.strip_place.proofs.net_box.NetBox.of.Goals as goal

@@ -1,5 +1,4 @@
-use Rattle.std.proofs.Common.{take}
-use Rattle.strip_place.specs.Boxes.{at_column, at_row}
+use Rattle.strip_place.proofs.Prelude.{take, at_column, at_row}
 use Rattle.strip_place.proofs.Nearness.{IsBoxSoFar}
 use Rattle.strip_place.proofs.net_box.NetBox.of.Given as goal
 

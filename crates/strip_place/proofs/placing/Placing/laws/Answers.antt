@@ -1,9 +1,4 @@
-use Rattle.std.proofs.Common.{◌≡◌, ap, sym, ◌∙◌, subst}
-use Rattle.strip_place.specs.Start.{places_at_start}
-use Rattle.strip_place.specs.Task.{Task, task_of}
-use Rattle.strip_place.specs.Sites.{AreOneToOne}
-use Rattle.strip_place.specs.Anneal.{PlacingUnderWay, places_by_block, placed_after}
-use Rattle.block_places.specs.Placed.{ArePlaced}
+use Rattle.strip_place.proofs.Prelude.{◌≡◌, ap, sym, ◌∙◌, subst, places_at_start, Task, task_of, AreOneToOne, PlacingUnderWay, places_by_block, placed_after, ArePlaced}
 use Rattle.strip_place.proofs.Standing.{placed_by}
 use Rattle.strip_place.proofs.placing.Placing.laws.Goals as goal
 

@@ -1,9 +1,4 @@
-use Rattle.std.proofs.Common.{◌≡◌, List, Some, length, slice_get, arith, ap, sym, ◌∙◌, subst}
-use Rattle.cluster.specs.Blocks.{blocks_of}
-use Rattle.grid.specs.declared.place.Place.{Place}
-use Rattle.strip_place.specs.Start.{places_at_start}
-use Rattle.strip_place.specs.Task.{Task, task_of}
-use Rattle.strip_place.specs.Anneal.{PlacingUnderWay, places_by_block, placed_after}
+use Rattle.strip_place.proofs.Prelude.{◌≡◌, List, Some, length, slice_get, arith, ap, sym, ◌∙◌, subst, blocks_of, Place, places_at_start, Task, task_of, PlacingUnderWay, places_by_block, placed_after}
 use Rattle.strip_place.proofs.Annealing.{kinds_long}
 use Rattle.strip_place.proofs.placing.Placing.place_of.Goals as goal
 

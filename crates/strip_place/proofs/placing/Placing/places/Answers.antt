@@ -1,10 +1,4 @@
-use Rattle.std.proofs.Common.{◌≡◌, ◌∙◌, ◌<◌, ◌++◌, ◌∷◌, List, [], ap, sym, arith, length, get_or, take}
-use Rattle.std.proofs.lemmas.List.{take_all, take_more}
-use Rattle.std.proofs.lemmas.Option.{get_or_from_slice_get}
-use Rattle.cluster.specs.Clusters.{PackedCircuit}
-use Rattle.cluster.specs.Blocks.{blocks_of}
-use Rattle.grid.specs.declared.place.Place.{Place}
-use Rattle.strip_place.specs.Anneal.{places_by_block}
+use Rattle.strip_place.proofs.Prelude.{◌≡◌, ◌∙◌, ◌<◌, ◌++◌, ◌∷◌, List, [], ap, sym, arith, length, get_or, take, take_all, take_more, get_or_from_slice_get, PackedCircuit, blocks_of, Place, places_by_block}
 use Rattle.strip_place.proofs.placing.Placing.places.Goals as goal
 
 pub loop-block-preserved : goal.loop-block-preserved

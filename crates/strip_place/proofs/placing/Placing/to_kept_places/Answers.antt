@@ -1,11 +1,4 @@
-use Rattle.std.proofs.Common.{◌≡◌, ◌≢◌, ◌∙◌, length, slice_get, arith, ap, subst, sym}
-use Rattle.std.specs.Prelude.{AllPairs}
-use Rattle.cluster.specs.Clusters.{PackedCircuit}
-use Rattle.cluster.specs.Blocks.{blocks_of}
-use Rattle.cluster.specs.Keys.{keys_of}
-use Rattle.kept_places.specs.Table.{entries_of}
-use Rattle.block_places.specs.Placed.{ArePlaced}
-use Rattle.strip_place.specs.Anneal.{places_by_block}
+use Rattle.strip_place.proofs.Prelude.{◌≡◌, ◌≢◌, ◌∙◌, length, slice_get, arith, ap, subst, sym, AllPairs, PackedCircuit, blocks_of, keys_of, entries_of, ArePlaced, places_by_block}
 use Rattle.strip_place.proofs.Keeping.{gathered, gathered_all, kept_exact, kept_lawfully, keys_distinct}
 use Rattle.strip_place.proofs.placing.Placing.to_kept_places.Goals as goal
 

@@ -1,8 +1,4 @@
-use Rattle.std.proofs.Common.{◌≡◌, take}
-use Rattle.std.specs.List.{zip}
-use Rattle.cluster.specs.Keys.{keys_of}
-use Rattle.kept_places.specs.Table.{entries_of}
-use Rattle.strip_place.specs.Anneal.{places_by_block}
+use Rattle.strip_place.proofs.Prelude.{◌≡◌, take, zip, keys_of, entries_of, places_by_block}
 use Rattle.strip_place.proofs.placing.Placing.to_kept_places.Given as goal
 
 abbrev pub invariant-loop-block : goal.invariant-loop-block

@@ -1,5 +1,4 @@
-use Rattle.std.proofs.Common.{◌≡◌, ◌<◌, ◌∙◌, Bool, List, length, ap, arith, subst, sym}
-use Rattle.strip_place.specs.Vacancies.{Vacancies, first_from, lowest_vacant}
+use Rattle.strip_place.proofs.Prelude.{◌≡◌, ◌<◌, ◌∙◌, Bool, List, length, ap, arith, subst, sym, Vacancies, first_from, lowest_vacant}
 use Rattle.strip_place.proofs.vacancies.Vacancies.take.Goals as goal
 
 pub index_mut-requires : goal.index_mut-requires

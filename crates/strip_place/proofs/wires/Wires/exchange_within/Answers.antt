@@ -1,13 +1,4 @@
-use Rattle.std.proofs.Common.{◌≡◌, ◌+◌, ◌<◌, ◌≤◌, ◌++◌, List, [], length, take, drop, get_or, ap, sym, subst, ◌∙◌, ◌⊎◌, rules, set, arith}
-use Rattle.std.specs.Prelude.{nat_le}
-use Rattle.std.proofs.lemmas.List.{get_or_read}
-use Rattle.std.proofs.lemmas.Option.{get_or_from_slice_get}
-use Rattle.strip_place.specs.declared.net_box.NetBox.{NetBox}
-use Rattle.strip_place.specs.Points.{Point}
-use Rattle.strip_place.specs.declared.sides.Sides.{Sides}
-use Rattle.strip_place.specs.Boxes.{AreBothRenewed, boxed_length, length_after, reached_length}
-use Rattle.strip_place.specs.Sides.{sides_of}
-use Rattle.strip_place.specs.Wiring.{IsOnNone, Wiring, length_of, no_point, point_at, points_after, wiring_after}
+use Rattle.strip_place.proofs.Prelude.{◌≡◌, ◌+◌, ◌<◌, ◌≤◌, ◌++◌, List, [], length, take, drop, get_or, ap, sym, subst, ◌∙◌, ◌⊎◌, rules, set, arith, nat_le, get_or_read, get_or_from_slice_get, NetBox, Point, Sides, AreBothRenewed, boxed_length, length_after, reached_length, sides_of, IsOnNone, Wiring, length_of, no_point, point_at, points_after, wiring_after}
 use Rattle.strip_place.proofs.Rewiring.{few_first, few_second, grown_is, kept_is, least_first, least_second, points_back, sums_small, touched_back, touched_there, whole_back, wired_after, wired_again, wiring_of}
 use Rattle.strip_place.proofs.wires.Wires.exchange_within.Goals as goal
 

@@ -1,5 +1,4 @@
-use Rattle.std.proofs.Common.{length, ap, arith, ◌∙◌}
-use Rattle.strip_place.specs.Wiring.{length_of}
+use Rattle.strip_place.proofs.Prelude.{length, ap, arith, ◌∙◌, length_of}
 use Rattle.strip_place.proofs.Lengths.{boxes_length, small_boxes}
 use Rattle.strip_place.proofs.wires.Wires.whole_length.Goals as goal
 

@@ -1,8 +1,4 @@
-use Rattle.std.proofs.Common.{arith, below_more, ap, subst, ◌∙◌, sym, ◌≡◌, ◌+◌, ◌<◌, ◌≤◌, false, true, refl}
-use Rattle.std.proofs.lemmas.Bool.Decides.{nat_tests}
-use Rattle.std.proofs.lemmas.List.Elements.{All-same}
-use Rattle.strips.specs.declared.placed_strip.PlacedStrip.{PlacedStrip}
-use Rattle.strips.specs.Plan.{Plan, AreApart, IsParted}
+use Rattle.strips.proofs.Prelude.{arith, below_more, ap, subst, ◌∙◌, sym, ◌≡◌, ◌+◌, ◌<◌, ◌≤◌, false, true, refl, nat_tests, All-same, PlacedStrip, Plan, AreApart, IsParted}
 use Rattle.strips.proofs.Laid.{IsParted-with, IsParted-with-apart, IsParted-with-inside}
 use Rattle.strips.proofs.layout.StripPlan.first_fit.Goals as goal
 

@@ -1,5 +1,4 @@
-use Rattle.std.proofs.Common.{ℕ, ◌<◌}
-use Rattle.strips.specs.Plan.{FitsAt}
+use Rattle.strips.proofs.Prelude.{ℕ, ◌<◌, FitsAt}
 use Rattle.strips.proofs.layout.StripPlan.first_fit.Given as goal
 
 -- it fits at no offset tried so far

@@ -1,9 +1,4 @@
-use Rattle.std.proofs.Common.{◌≡◌, ◌∙◌, ◌+◌, ◌≤◌, ◌⊎◌, ◌++◌, true, false, List, Some, length, take, map, refl, ap, sym, subst, arith}
-use Rattle.std.specs.List.{refill}
-use Rattle.std.proofs.lemmas.List.{append-nil, drop_all, length-map, take_all}
-use Rattle.std.proofs.lemmas.List.Elements.{All-same}
-use Rattle.strips.specs.declared.placed_strip.PlacedStrip.{PlacedStrip}
-use Rattle.strips.specs.Plan.{Plan, AreApart, IsLaidOut, IsParted, moved_strip, strip_of, with_moved}
+use Rattle.strips.proofs.Prelude.{◌≡◌, ◌∙◌, ◌+◌, ◌≤◌, ◌⊎◌, ◌++◌, true, false, List, Some, length, take, map, refl, ap, sym, subst, arith, refill, append-nil, drop_all, length-map, take_all, All-same, PlacedStrip, Plan, AreApart, IsLaidOut, IsParted, moved_strip, strip_of, with_moved}
 use Rattle.strips.proofs.Laid.{found_id, found_is, others_by, laid_moved, moved_apart, moved_inside, parted_moved}
 use Rattle.strips.proofs.layout.StripPlan.move_to.Goals as goal
 use Rattle.strips.proofs.layout.StripPlan.move_to.Goals.{then-self-strip-via-then-self-strip, then-self-strip-via-else-self-strip+then-self-strip-2}

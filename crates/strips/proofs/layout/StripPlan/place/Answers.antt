@@ -1,4 +1,4 @@
-use Rattle.strips.specs.Plan.{HasRoomFor, Plan}
+use Rattle.strips.proofs.Prelude.{HasRoomFor, Plan}
 use Rattle.strips.proofs.Laid.{IsLaidOut-with}
 use Rattle.strips.proofs.layout.StripPlan.place.Goals as goal
 

@@ -1,6 +1,4 @@
-use Rattle.std.proofs.Common.{◌≡◌, rules, refl}
-use Rattle.arrayvec.proofs.ArrayVecLemmas.{filter-from_retain}
-use Rattle.strips.specs.Plan.{strips_without}
+use Rattle.strips.proofs.Prelude.{◌≡◌, rules, refl, filter-from_retain, strips_without}
 use Rattle.strips.proofs.Laid.{IsLaidOut-without}
 use Rattle.strips.proofs.layout.StripPlan.remove.Goals as goal
 

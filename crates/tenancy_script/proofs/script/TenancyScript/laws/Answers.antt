@@ -1,6 +1,4 @@
-use Rattle.std.proofs.Common.{rules}
-use Rattle.tenancy_script.specs.Printed.{printed_script}
-use Rattle.tenancy_script.specs.Says.{acts_of}
+use Rattle.tenancy_script.proofs.Prelude.{rules, printed_script, acts_of}
 use Rattle.tenancy_script.proofs.SaysLemmas.{printed_ends, printed_says, printed_some, says_behind, whole_behind}
 use Rattle.tenancy_script.proofs.script.TenancyScript.laws.Goals as goal
 

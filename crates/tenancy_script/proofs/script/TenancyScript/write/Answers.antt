@@ -1,6 +1,4 @@
-use Rattle.std.proofs.Common.{◌++◌}
-use Rattle.line_text.proofs.WritingLemmas.{part_first, part_then, writes_part, writes_then}
-use Rattle.tenancy_script.specs.Printed.{printed_commands, printed_upload}
+use Rattle.tenancy_script.proofs.Prelude.{◌++◌, part_first, part_then, writes_part, writes_then, printed_commands, printed_upload}
 use Rattle.tenancy_script.proofs.script.TenancyScript.write.Goals as goal
 
 pub returns-in_err-write_upload-clause-written : goal.returns-in_err-write_upload-clause-written

@@ -1,6 +1,4 @@
-use Rattle.std.proofs.Common.{sym, subst}
-use Rattle.tenant_slot.specs.Answer.{IsAnswerTo, Outcome}
-use Rattle.tenant_slot.specs.Slot.{SlotState}
+use Rattle.tenant_slot.proofs.Prelude.{sym, subst, IsAnswerTo, Outcome, SlotState}
 use Rattle.tenant_slot.proofs.Accepting.{accept_slot}
 use Rattle.tenant_slot.proofs.slot.Slot.accept.Goals as goal
 

@@ -1,8 +1,4 @@
-use Rattle.std.proofs.Common.{◌≡◌, ◌∙◌, IfOk, Some, ap, subst}
-use Rattle.arch_file.specs.declared.arch.Arch.{Arch}
-use Rattle.blif.specs.CircuitOf.{circuit_of}
-use Rattle.tenant_slot.specs.Outcomes.{load_outcome}
-use Rattle.tenant_slot.specs.Slot.{SlotState}
+use Rattle.tenant_slot.proofs.Prelude.{◌≡◌, ◌∙◌, IfOk, Some, ap, subst, Arch, circuit_of, load_outcome, SlotState}
 use Rattle.tenant_slot.proofs.Serving.{change_result}
 use Rattle.tenant_slot.proofs.slot.Slot.change.Goals as goal
 

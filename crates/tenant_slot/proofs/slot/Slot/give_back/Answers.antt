@@ -1,7 +1,4 @@
-use Rattle.std.proofs.Common.{◌≡◌, Some, true, false, refl, sym, ap, ◌∙◌}
-use Rattle.tenant_slot.specs.Slot.{IsAdvanceOf, SlotState, next_job}
-use Rattle.tenant_slot.specs.SingleUser.{is_next}
-use Rattle.tenant_slot.specs.Standing.{slot_state, seen_state}
+use Rattle.tenant_slot.proofs.Prelude.{◌≡◌, Some, true, false, refl, sym, ap, ◌∙◌, IsAdvanceOf, SlotState, next_job, is_next, slot_state, seen_state}
 use Rattle.tenant_slot.proofs.Taking.{is_back, is_given_back, is_not_back, is_stood, written_of}
 use Rattle.tenant_slot.proofs.slot.Slot.give_back.Goals as goal
 

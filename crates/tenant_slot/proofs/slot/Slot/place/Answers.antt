@@ -1,9 +1,4 @@
-use Rattle.std.proofs.Common.{◌≡◌, ◌<◌, true, sym, subst}
-use Rattle.tenant_slot.specs.declared.command.Command.TheVariants.{Place}
-use Rattle.tenant_slot.specs.Answer.{Answers}
-use Rattle.tenant_slot.specs.SingleUser.{is_lawful}
-use Rattle.tenant_slot.specs.Slot.{SlotState}
-use Rattle.tenant_slot.specs.Standing.{slot_state}
+use Rattle.tenant_slot.proofs.Prelude.{◌≡◌, ◌<◌, true, sym, subst, Place, Answers, is_lawful, SlotState, slot_state}
 use Rattle.tenant_slot.proofs.Kept.{netlist_kept}
 use Rattle.tenant_slot.proofs.Serving.{place_result}
 use Rattle.tenant_slot.proofs.slot.Slot.place.Goals as goal

@@ -1,10 +1,5 @@
-use Rattle.std.proofs.Common.{◌≡◌, ◌+◌, Some, subst}
-use Rattle.job_state.specs.Job.{next_step}
+use Rattle.tenant_slot.proofs.Prelude.{◌≡◌, ◌+◌, Some, subst, next_step, Step, step, SlotState, after_event, put_in, put_reply, slot_state}
 use Rattle.tenant_slot.specs.declared.event.Event.TheVariants.{Advance as Stepped}
-use Rattle.tenant_slot.specs.declared.reply.Reply.TheVariants.{Step}
-use Rattle.tenant_slot.specs.SingleUser.{step}
-use Rattle.tenant_slot.specs.Slot.{SlotState, after_event}
-use Rattle.tenant_slot.specs.Standing.{put_in, put_reply, slot_state}
 use Rattle.tenant_slot.proofs.Putting.{IsPut, put_of}
 use Rattle.tenant_slot.proofs.slot.Slot.put_from.Goals as goal
 

@@ -1,6 +1,4 @@
-use Rattle.std.proofs.Common.{subst}
-use Rattle.tenant_slot.specs.declared.origin.Origin.{Origin}
-use Rattle.tenant_slot.specs.Slot.{IsOrigin}
+use Rattle.tenant_slot.proofs.Prelude.{subst, Origin, IsOrigin}
 use Rattle.tenant_slot.proofs.Taking.{written_next, written_of}
 use Rattle.tenant_slot.proofs.slot.Slot.recorded_advance.Goals as goal
 

@@ -1,8 +1,4 @@
-use Rattle.std.proofs.Common.{◌≡◌, [], ◌∙◌, sym, ap, subst}
-use Rattle.rr_graph.specs.Resources.{has}
-use Rattle.job_state.specs.RoutedSet.{resources_of}
-use Rattle.tenant_slot.specs.RoutedSet.{routed_set}
-use Rattle.tenant_slot.specs.Slot.{SlotState}
+use Rattle.tenant_slot.proofs.Prelude.{◌≡◌, [], ◌∙◌, sym, ap, subst, has, resources_of, routed_set, SlotState}
 use Rattle.tenant_slot.proofs.RoutedSets.{none_held, routed_is}
 use Rattle.tenant_slot.proofs.slot.Slot.routed_resources.Goals as goal
 

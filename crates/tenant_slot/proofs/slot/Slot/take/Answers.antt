@@ -1,9 +1,4 @@
-use Rattle.std.proofs.Common.{◌≡◌, Some, None, true, sym, ap, subst, ◌∙◌, arith}
-use Rattle.std.specs.Prelude.{nat_lt}
-use Rattle.std.proofs.lemmas.Bool.Decides.{nat_tests}
-use Rattle.job_state.specs.Job.{JobState}
-use Rattle.tenant_slot.specs.Slot.{SlotState, is_takeable, next_job}
-use Rattle.tenant_slot.specs.Standing.{ready_of}
+use Rattle.tenant_slot.proofs.Prelude.{◌≡◌, Some, None, true, sym, ap, subst, ◌∙◌, arith, nat_lt, nat_tests, JobState, SlotState, is_takeable, next_job, ready_of}
 use Rattle.tenant_slot.proofs.Taking.{IsTaken, is_taken}
 use Rattle.tenant_slot.proofs.slot.Slot.take.Goals as goal
 

@@ -1,7 +1,0 @@
-use Rattle.std.proofs.Common.{◌≡◌, length}
-use Rattle.implements.specs.Implements.{drives}
-use Rattle.layout_check.proofs.ByNet.{AreListsUpTo}
-use Rattle.layout_check.proofs.net_blocks.note_drivers.Given as goal
-
-abbrev pub invariant-loop-number : goal.invariant-loop-number
-invariant-loop-number l = (length l.marks ≡ l.limit) × AreListsUpTo drives l.blocks l.limit l.number l.lists

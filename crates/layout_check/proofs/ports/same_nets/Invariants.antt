@@ -1,5 +1,0 @@
-use Rattle.std.proofs.Common.{◌≡◌, ◌<◌, ℕ, get_or}
-use Rattle.layout_check.proofs.ports.same_nets.Given as goal
-
-abbrev pub invariant-loop-i : goal.invariant-loop-i
-invariant-loop-i l = (k : ℕ) → k < l.i → get_or l.nets k 0 ≡ get_or l.others k 0

@@ -1,0 +1,5 @@
+use Rattle.live_machine.specs.Parts.{IsReady}
+use Rattle.machine_tests.proofs.day.Day.serve_all.Given as goal
+
+abbrev pub invariant-loop-line : goal.invariant-loop-line
+invariant-loop-line l = IsReady l.machine

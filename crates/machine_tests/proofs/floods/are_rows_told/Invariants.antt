@@ -1,5 +1,0 @@
-use Rattle.live_machine.specs.Parts.{IsReady}
-use Rattle.machine_tests.proofs.floods.are_rows_told.Given as goal
-
-abbrev pub invariant-loop-row : goal.invariant-loop-row
-invariant-loop-row l = IsReady l.machine
