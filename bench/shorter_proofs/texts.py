@@ -2,6 +2,7 @@
 import functools
 import os
 import re
+import shutil
 
 from wrong_bodies.edits import read
 from wrong_bodies.imports import Preludes
@@ -13,7 +14,7 @@ NAME_OF_DEFINITION = re.compile(r"(?:pub )?(?:abbrev|unfoldable|record|data|opaq
 # What a definition gives, where a lemma would give a proof.
 DATA = re.compile(r"(?:^|→ |: )(Type 0|Bool|ℕ|(?:List|Option|Bor) [^≡≢≤<×⊎→]*)$")
 UNFOLDED = re.compile(r"^[^\n-]*\bunfold(?:ing)? ([^\n]*?)(?: in\b|$)", re.M)
-# Words of std that no tactic wants to be told of.
+# Words of std that no tactic needs.
 KNOWN = set(
     "sym ap subst refl arith rules tt inl inr absurd ap₂ cong transport true false zero suc length take drop get_or map codes filter".split()
     + "nat_lt nat_le nat_eq slice_get is_some from_option add-one list_any slice_index slice_index_or option_map".split()
@@ -144,7 +145,9 @@ def is_import(line):
 def definitions(top, module):
     """The names of a module of lemmas that are definitions."""
     steps = module.split(".")
-    paths = [f"{at}/{'/'.join(steps[1:])}.antt" for at in (f"{top}/crates", "/opt/rattle/rattle")]
+    # The kit's libraries stand beside its command.
+    kit = os.path.dirname(os.path.dirname(os.path.realpath(shutil.which("rt"))))
+    paths = [f"{at}/{'/'.join(steps[1:])}.antt" for at in (f"{top}/crates", f"{kit}/rattle")]
     found = set()
     for line in next((read(it).split("\n") for it in paths if os.path.isfile(it)), []):
         defined, signature = NAME_OF_DEFINITION.match(line), SIGNATURE.match(line)
